@@ -1,0 +1,32 @@
+# The two commands of the README, `make run` and `make test`, and the benchmark, `make bench`.
+
+# The script that `make run` runs.
+SCRIPT = crates/mdlsim/stdin
+
+PROGRAM = crates/mdlsim/out/mdlsim
+
+.PHONY: run test bench examples build kit
+
+# Builds mdlsim, proved, and prints its answers to the script.
+run: build
+	@$(PROGRAM) lock < $(SCRIPT)
+
+# The gate: the examples have their answers, and everything is proved and tested from nothing.
+test: examples
+	@rt ci
+
+# Lines a second and peak memory, at three sizes.
+bench: build
+	@sh bench/lock.sh $(PROGRAM)
+
+# Each example gives the answers that lie beside it.
+examples: build
+	@sh examples/check.sh $(PROGRAM)
+
+# Proves mdlsim and what it stands on, and builds it.
+build: kit
+	@mkdir -p crates/mdlsim/out
+	@cd crates/mdlsim && rt run < stdin > out/build.log 2>&1 || { cat out/build.log >&2; exit 1; }
+
+kit:
+	@command -v rt > /dev/null || { echo "rt is missing: put the folder bin of the Rattle kit on the path" >&2; exit 1; }

@@ -1,0 +1,40 @@
+#!/bin/sh
+# Times `mdlsim lock` on seeded scripts of three sizes: lines a second, and peak memory against the size of the script.
+# Usage: sh bench/lock.sh PROGRAM
+# It needs awk and GNU time (the Debian package time).
+program=$1
+folder=$(dirname "$0")
+scripts=$(mktemp -d)
+trap 'rm -rf "$scripts"' EXIT
+
+if [ ! -x /usr/bin/time ]; then
+    echo "GNU time is missing: install the package time" >&2
+    exit 1
+fi
+
+# Runs a script so many times, and prints the time of one run and the peak memory.
+measure() {
+    lines=$1
+    turns=$2
+    script="$scripts/$lines.lock"
+    awk -v LINES="$lines" -v SEED=7 -v WRITERS=5 -f "$folder/lock_scripts.awk" > "$script"
+    bytes=$(wc -c < "$script")
+    /usr/bin/time -f '%M' -o "$scripts/memory" "$program" lock < "$script" > "$scripts/answers"
+    began=$(date +%s%N)
+    turn=0
+    while [ "$turn" -lt "$turns" ]; do
+        "$program" lock < "$script" > "$scripts/answers"
+        turn=$((turn + 1))
+    done
+    ended=$(date +%s%N)
+    awk -v lines="$lines" -v bytes="$bytes" -v spent="$((ended - began))" -v turns="$turns" \
+        -v memory="$(cat "$scripts/memory")" 'BEGIN {
+        seconds = spent / turns / 1e9
+        printf "%9d lines  %9d bytes  %8.4f s  %9.0f lines/s  %6d KiB, %.1f times the script\n",
+            lines, bytes, seconds, lines / seconds, memory, memory * 1024 / bytes
+    }'
+}
+
+measure 10000 100
+measure 100000 20
+measure 1000000 5

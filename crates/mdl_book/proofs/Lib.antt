@@ -1,0 +1,3 @@
+pub mod GrantingLemmas
+pub mod SessionLemmas
+pub mod TicketLemmas

@@ -1,0 +1,13 @@
+-- A ticket that clashes with none is granted, so the granted ones stay lawful.
+use Rattle.std.proofs.Common.{◌≡◌, true, ◌++◌, [], ◌∷◌, rules}
+use Rattle.mdl_key.specs.Modes.{kind_of}
+use Rattle.mdl_book.specs.Granting.{is_compatible}
+use Rattle.mdl_book.proofs.GrantingLemmas.{lawful_push}
+use Rattle.mdl_book.proofs.book.Book.grant.Goals as goal
+
+pub returns-clause-lawful : goal.returns-clause-lawful
+returns-clause-lawful c =
+    let granted = c.self.inside.granted.items in
+    let compatible : is_compatible (kind_of c.self.inside.key.namespace) granted c.args.ticket.session c.args.ticket.mode ≡ true = search rules in
+    let pushed : c.push.new.self.items ≡ granted ++ c.args.ticket ∷ [] = search rules in
+    rw (pushed, ← c.self.view_is) (lawful_push (kind_of c.self.inside.key.namespace) granted c.args.ticket compatible)

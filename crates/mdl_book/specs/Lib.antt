@@ -1,0 +1,5 @@
+pub mod Books
+pub mod Granting
+pub mod SessionBits
+pub mod SessionSets
+pub mod Tickets

@@ -1,0 +1,20 @@
+-- Tickets: that a session holds a lock or waits for it, after MySQL 5.7: `MDL_ticket` of sql/mdl.h.
+use Rattle.std.specs.Prelude.{ℕ, Bool, ◌&&◌, ◌==◌, List, ◌++◌, Option, find}
+use Rattle.std.specs.List.{before_first, after_first}
+use Rattle.mdl_book.specs.declared.ticket.Ticket.{Ticket}
+
+-- the ticket that a session gave this number
+abbrev pub is_ticket : ℕ → ℕ → Ticket → Bool
+is_ticket session number ticket = ticket.session == session && ticket.number == number
+
+-- what tells a ticket from others: its session, and the number that the session gave it
+abbrev pub ticket_id : Ticket → ℕ × ℕ
+ticket_id ticket = (ticket.session, ticket.number)
+
+-- the first ticket of this session and number, where there is one
+abbrev pub ticket_of : ℕ → ℕ → List Ticket → Option Ticket
+ticket_of session number tickets = find (is_ticket session number) tickets
+
+-- the list without that ticket
+abbrev pub without : ℕ → ℕ → List Ticket → List Ticket
+without session number tickets = before_first (is_ticket session number) tickets ++ after_first (is_ticket session number) tickets

@@ -1,0 +1,18 @@
+//! The book of one lock: its granted tickets, and its waiting ones in order of arrival.
+//!
+//! A [`Book`] says who holds a lock and who waits for it. It grants a wish where no granted ticket of another session
+//! clashes with it and no waiting one goes before it ([`Book::can_grant`]), keeps those that wait ([`Book::enqueue`]),
+//! and names the next of them that can be granted ([`Book::next_grantable`]). Contracts see it as its [`Lists`].
+#![tactic(auto)]
+
+mod book;
+mod book_error;
+mod lists;
+mod sessions;
+mod ticket;
+
+pub use book::Book;
+pub use book_error::BookError;
+pub use lists::Lists;
+pub use sessions::Sessions;
+pub use ticket::Ticket;

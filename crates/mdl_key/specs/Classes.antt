@@ -1,0 +1,39 @@
+-- How modes are counted, compared and weighed, after MySQL 5.7: sql/mdl.cc, the unobtrusive lock increments, and
+-- sql/mdl.h, the weight of a request in a search for deadlocks.
+use Rattle.std.specs.Prelude.{ℕ, Bool, not, nat_le, if◌then◌else◌, Option, Some, None, IsTrue, is_some}
+use Rattle.mdl_key.specs.declared.namespace.Namespace.{Namespace}
+use Rattle.mdl_key.specs.declared.namespace.Namespace.TheVariants.{Global}
+use Rattle.mdl_key.specs.declared.namespace.Kind.{Kind}
+use Rattle.mdl_key.specs.declared.namespace.Kind.TheVariants.{Scoped, Object}
+use Rattle.mdl_key.specs.declared.mode.Mode.{Mode}
+use Rattle.mdl_key.specs.declared.mode.Mode.TheVariants.{IX, S, SH, SR, SW, SWLP, SU}
+use Rattle.mdl_key.specs.Modes.{mode_rank}
+use Rattle.mdl_key.specs.Matrices.{clashes}
+
+-- the class in which tickets of a mode are counted together, for IX of scoped locks and S, SH, SR, SW, SWLP of object locks
+abbrev pub class_of : Kind → Mode → Option ℕ
+class_of Scoped IX = Some 0
+class_of Scoped _ = None
+class_of Object S = Some 0
+class_of Object SH = Some 0
+class_of Object SR = Some 1
+class_of Object SW = Some 2
+class_of Object SWLP = Some 2
+class_of Object _ = None
+
+-- all other modes are obtrusive: such a ticket has to be looked at by all who ask, and is never merely counted
+abbrev pub is_obtrusive : Kind → Mode → Bool
+is_obtrusive kind mode = not (is_some (class_of kind mode))
+
+-- the same as a fact
+abbrev pub IsObtrusive : Kind → Mode → Type 0
+IsObtrusive kind mode = IsTrue (is_obtrusive kind mode)
+
+-- a is at least as strong as b, both being modes of the kind: whatever clashes with b clashes with a
+abbrev pub IsAtLeast : Kind → Mode → Mode → Type 0
+IsAtLeast kind a b = (held : Mode) → IsTrue (clashes kind b held) → IsTrue (clashes kind a held)
+
+-- the weight of a wish: 100 in the namespace of the global lock, or for a mode from SU upwards in the order of modes, else 0
+abbrev pub weight_of : Namespace → Mode → ℕ
+weight_of Global mode = 100
+weight_of _ mode = if nat_le (mode_rank SU) (mode_rank mode) then 100 else 0

@@ -1,0 +1,77 @@
+-- The names of locks, after MySQL 5.7: `MDL_key` of sql/mdl.h. What a name is made of is this project's own choice.
+use Rattle.std.specs.Prelude.{ℕ, Bool, not, ◌&&◌, ◌||◌, List, [], ◌++◌, length, codes, ◌==◌, nat_lt, nat_le, if◌then◌else◌, Option, Some, position}
+use Rattle.std.specs.Option.{option_map, option_or}
+use Rattle.std.specs.Ordering.{nat_cmp, on, then_cmp, eq_of_both}
+use lib.Pointwise.{pointwise}
+use Rattle.std.specs.Cmp.Lexicographic.{slice_cmp}
+use Rattle.std.specs.declared.cmp.Ordering.{Ordering}
+use Rattle.mdl_key.specs.declared.namespace.Namespace.{Namespace}
+use Rattle.mdl_key.specs.declared.namespace.Namespace.TheVariants.{Global, Schema, Table, Commit}
+use Rattle.mdl_key.specs.declared.key_error.KeyError.{KeyError}
+use Rattle.mdl_key.specs.declared.key_error.KeyError.TheVariants.{EmptyName, LongName, BadByte}
+
+-- a letter from a to z, a digit, or an underscore
+abbrev pub is_name_byte : ℕ → Bool
+is_name_byte b = (nat_le 97 b && nat_le b 122) || (nat_le 48 b && nat_le b 57) || b == 95
+
+-- why a text is no name, if it is none: a name has 1 to 64 such bytes
+abbrev pub name_fault : List ℕ → Option KeyError
+name_fault text =
+    if length text == 0 then Some EmptyName
+    else (if nat_lt 64 (length text) then Some LongName else option_map (λ at. BadByte at) (position (λ b. not (is_name_byte b)) text))
+
+-- what a key says: its namespace, and the names of its schema and its table where it has them
+pub record KeyName : Type 0 where
+  pub namespace : Namespace
+  pub schema : List ℕ
+  pub table : List ℕ
+
+-- the key of the global read lock
+abbrev pub global_key : KeyName
+global_key = record { namespace = Global; schema = []; table = [] }
+
+-- the key that commits take
+abbrev pub commit_key : KeyName
+commit_key = record { namespace = Commit; schema = []; table = [] }
+
+-- the key of a schema
+abbrev pub schema_key : List ℕ → KeyName
+schema_key schema = record { namespace = Schema; schema = schema; table = [] }
+
+-- the key of a table
+abbrev pub table_key : List ℕ → List ℕ → KeyName
+table_key schema table = record { namespace = Table; schema = schema; table = table }
+
+-- the fault of a table's two names: the schema is looked at first
+abbrev pub table_fault : List ℕ → List ℕ → Option KeyError
+table_fault schema table = option_or (name_fault schema) (name_fault table)
+
+-- the place of a namespace in the order of keys
+abbrev pub namespace_rank : Namespace → ℕ
+namespace_rank Global = 0
+namespace_rank Schema = 1
+namespace_rank Table = 2
+namespace_rank Commit = 3
+
+-- keys are ordered by namespace, then by the bytes of the schema, then by those of the table
+abbrev pub key_cmp : KeyName → KeyName → Ordering
+key_cmp =
+    then_cmp (on (λ k. namespace_rank k.namespace) nat_cmp)
+    (then_cmp (on (λ k. k.schema) (slice_cmp nat_cmp))
+    (on (λ k. k.table) (slice_cmp nat_cmp)))
+
+-- keys are equal where all three are
+abbrev pub key_eq : KeyName → KeyName → Bool
+key_eq =
+    eq_of_both (on (λ k. namespace_rank k.namespace) ◌==◌)
+    (eq_of_both (on (λ k. k.schema) (pointwise ◌==◌))
+    (on (λ k. k.table) (pointwise ◌==◌)))
+
+-- a key as it is printed: GLOBAL, SCHEMA s, TABLE s.t or COMMIT
+abbrev pub key_text : KeyName → List ℕ
+key_text key = text_in key.namespace where
+  text_in : Namespace → List ℕ
+  text_in Global = codes "GLOBAL"
+  text_in Schema = codes "SCHEMA " ++ key.schema
+  text_in Table = codes "TABLE " ++ key.schema ++ codes "." ++ key.table
+  text_in Commit = codes "COMMIT"

@@ -1,0 +1,231 @@
+//! Keys: the names of locks.
+ghost use Rattle.std.specs.Prelude.{◌≡◌, ℕ, Some, [], ◌∷◌, IfOk, IsOkUnless, not, position};
+ghost use Rattle.std.specs.String.{string_bytes};
+ghost use Rattle.std.proofs.Common.{rules};
+ghost use Rattle.std.specs.Ordering.{as_partial_cmp};
+ghost use Rattle.std.specs.Cmp.{partial_order_from_own_ties};
+ghost use Rattle.std.specs.Cmp.Rules.{comparing};
+ghost use Rattle.mdl_key.specs.Modes.{kind_of};
+ghost use Rattle.mdl_key.specs.Keys.{global_key, commit_key, schema_key, table_key, name_fault, table_fault, is_name_byte, key_eq, key_cmp, key_text};
+ghost use Rattle.mdl_key.specs.Refusals.{Refuses, RefusesJust};
+
+use crate::{KeyError, Kind, Namespace};
+use std::alloc::{AllocError, Global};
+use std::cmp::Ordering;
+use std::fmt;
+use std::marker::Model;
+
+// The longest name, in bytes.
+const LONGEST_NAME: usize = 64;
+
+/// The name of a lock: a namespace, and within it a schema or a table.
+///
+/// A name has 1 to 64 bytes of `a-z 0-9 _`. Keys are ordered by namespace, then by the bytes of the schema's name, then
+/// by those of the table's. After MySQL 5.7, `MDL_key` of `sql/mdl.h`.
+#[derive(Drop)]
+pub struct Key {
+    namespace: Namespace,
+    schema: String,
+    table: String,
+}
+
+impl Model for Key {
+    ghost use Rattle.std.specs.String.{string_bytes};
+    ghost use Rattle.mdl_key.specs.Keys.{KeyName};
+
+    ghost Value = { KeyName };
+
+    ghost view = { λ key. record { namespace = key.namespace; schema = string_bytes key.schema; table = string_bytes key.table } };
+}
+
+impl Key {
+    /// The key of the global read lock. It takes no memory.
+    pub fn global(alloc: Global) -> Key
+        ensures { result ≡ global_key }
+    {
+        Key::unnamed(alloc, Namespace::Global)
+    }
+
+    /// The key that commits take. It takes no memory.
+    pub fn commit(alloc: Global) -> Key
+        ensures { result ≡ commit_key }
+    {
+        Key::unnamed(alloc, Namespace::Commit)
+    }
+
+    /// The key of a schema.
+    pub fn schema(alloc: Global, schema: &str) -> Result<Key, KeyError>
+        ensures made { IfOk result (λ key. key ≡ schema_key schema.now) }
+        ensures refused { Refuses (name_fault schema.now) KeyError.OutOfMemory result }
+    {
+        check_name(schema)?;
+        Ok(Key {
+            namespace: Namespace::Schema,
+            schema: text(alloc, schema)?,
+            table: String::new(alloc),
+        })
+    }
+
+    /// The key of a table. The schema's name is looked at first.
+    pub fn table(alloc: Global, schema: &str, table: &str) -> Result<Key, KeyError>
+        ensures made { IfOk result (λ key. key ≡ table_key schema.now table.now) }
+        ensures refused { Refuses (table_fault schema.now table.now) KeyError.OutOfMemory result }
+    {
+        check_name(schema)?;
+        check_name(table)?;
+        Ok(Key {
+            namespace: Namespace::Table,
+            schema: text(alloc, schema)?,
+            table: text(alloc, table)?,
+        })
+    }
+
+    fn unnamed(alloc: Global, namespace: Namespace) -> Key
+        ensures { result ≡ record { namespace = namespace; schema = []; table = [] } }
+    {
+        Key {
+            namespace,
+            schema: String::new(alloc),
+            table: String::new(alloc),
+        }
+    }
+
+    /// Where the key lives.
+    pub fn namespace(&self) -> Namespace
+        ensures { result ≡ self.now.namespace }
+    {
+        self.namespace
+    }
+
+    /// How the key is locked.
+    pub fn kind(&self) -> Kind
+        ensures { result ≡ kind_of self.now.namespace }
+    {
+        self.namespace.kind()
+    }
+
+    /// The name of the key's schema. It is empty for a key that has none.
+    pub fn schema_name(&self) -> &str
+        ensures { result.now ≡ self.now.schema }
+    {
+        self.schema.as_str()
+    }
+
+    /// The name of the key's table. It is empty for a key that has none.
+    pub fn table_name(&self) -> &str
+        ensures { result.now ≡ self.now.table }
+    {
+        self.table.as_str()
+    }
+}
+
+impl Clone for Key {
+    ghost is_clone = { λ key copy. copy ≡ key };
+
+    fn clone(&self) -> Result<Key, AllocError> {
+        Ok(Key {
+            namespace: self.namespace,
+            schema: self.schema.clone()?,
+            table: self.table.clone()?,
+        })
+    }
+}
+
+impl PartialEq for Key {
+    ghost eq = { key_eq };
+
+    ghost laws = { Prim.search (comparing, rules) depth 9 };
+
+    fn eq(&self, other: &Key) -> bool {
+        self.namespace == other.namespace
+            && self.schema.as_str() == other.schema.as_str()
+            && self.table.as_str() == other.table.as_str()
+    }
+}
+
+impl Eq for Key {
+    ghost laws = { Prim.search (comparing, rules) depth 9 };
+}
+
+impl PartialOrd for Key {
+    ghost partial_cmp = { as_partial_cmp key_cmp };
+
+    ghost laws = { partial_order_from_own_ties (Prim.search (comparing, rules) depth 9) (Prim.search (comparing, rules) depth 9) };
+
+    fn partial_cmp(&self, other: &Key) -> Option<Ordering> {
+        Some(self.cmp(other))
+    }
+}
+
+impl Ord for Key {
+    ghost cmp = { key_cmp };
+
+    ghost total = { Prim.search (comparing, rules) depth 9 };
+
+    ghost matches_partial_cmp = { Prim.search (comparing, rules) depth 9 };
+
+    ghost matches_eq = { Prim.search (comparing, rules) depth 9 };
+
+    fn cmp(&self, other: &Key) -> Ordering {
+        self.namespace
+            .cmp(&other.namespace)
+            .then_with(|| self.schema.as_str().cmp(other.schema.as_str()))
+            .then_with(|| self.table.as_str().cmp(other.table.as_str()))
+    }
+}
+
+/// `GLOBAL`, `SCHEMA s`, `TABLE s.t` or `COMMIT`.
+impl fmt::Display for Key {
+    ghost output = { λ key. Some (key_text key) };
+
+    fn fmt<W: fmt::Write>(&self, f: &mut fmt::Formatter<W>) -> fmt::Result {
+        let schema = self.schema.as_str();
+        let table = self.table.as_str();
+        match self.namespace {
+            Namespace::Global => f.write_str("GLOBAL"),
+            Namespace::Schema => write!(f, "SCHEMA {schema}"),
+            Namespace::Table => write!(f, "TABLE {schema}.{table}"),
+            Namespace::Commit => f.write_str("COMMIT"),
+        }
+    }
+}
+
+/// Looks whether a text is a name: 1 to 64 bytes of `a-z 0-9 _`. The causes are looked for in the order of `KeyError`.
+pub fn check_name(name: &str) -> Result<(), KeyError>
+    ensures { RefusesJust (name_fault name.now) result }
+{
+    if name.is_empty() {
+        return Err(KeyError::EmptyName);
+    }
+    if name.len() > LONGEST_NAME {
+        return Err(KeyError::LongName);
+    }
+    match first_bad_byte(name.as_bytes()) {
+        Some(at) => Err(KeyError::BadByte(at)),
+        None => Ok(()),
+    }
+}
+
+// The place of the first byte that no name has.
+fn first_bad_byte(name: &[u8]) -> Option<usize>
+    ensures { result ≡ position (λ b. not (is_name_byte b)) name.now }
+{
+    name.iter().position(|b| !is_name_byte(*b))
+}
+
+fn is_name_byte(byte: u8) -> bool
+    ensures { result ≡ is_name_byte byte }
+{
+    matches!(byte, b'a'..=b'z' | b'0'..=b'9' | b'_')
+}
+
+// A copy of a name.
+fn text(alloc: Global, name: &str) -> Result<String, KeyError>
+    ensures copy { IfOk result (λ text. string_bytes text ≡ name.now) }
+    ensures memory { IsOkUnless result KeyError.OutOfMemory }
+{
+    match String::from_str(alloc, name) {
+        Ok(text) => Ok(text),
+        Err(AllocError) => Err(KeyError::OutOfMemory),
+    }
+}

@@ -1,0 +1,19 @@
+//! Why a key can't be made.
+use thiserror::Error;
+
+/// Why a key can't be made of the names given.
+#[derive(Clone, Copy, Debug, PartialEq, Eq, Error)]
+pub enum KeyError {
+    /// A name is empty.
+    #[error("empty name")]
+    EmptyName,
+    /// A name has more than 64 bytes.
+    #[error("name of more than 64 bytes")]
+    LongName,
+    /// The byte of a name at this place, counted from 0, is none of `a-z 0-9 _`.
+    #[error("bad byte at {0} of a name")]
+    BadByte(usize),
+    /// Memory ran out.
+    #[error("out of memory")]
+    OutOfMemory,
+}

@@ -1,0 +1,18 @@
+//! Keys and modes of metadata locks: what can be locked, how strongly, and which locks stand beside each other.
+//!
+//! A lock is named by a [`Key`], whose [`Namespace`] says whether it is locked as a scope or as an object ([`Kind`]).
+//! A request asks for a [`Mode`]. [`conflicts_granted`] and [`conflicts_waiting`] are the two matrices of metadata
+//! locking in MySQL 5.7: what a request may not stand beside, and what it waits behind.
+#![tactic(auto)]
+
+mod key;
+mod key_error;
+mod matrix;
+mod mode;
+mod namespace;
+
+pub use key::{Key, check_name};
+pub use key_error::KeyError;
+pub use matrix::{conflicts_granted, conflicts_waiting};
+pub use mode::{Duration, Mode, ModeError};
+pub use namespace::{Kind, Namespace};

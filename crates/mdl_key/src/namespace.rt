@@ -1,0 +1,53 @@
+//! Where a key lives, and how what lives there is locked.
+ghost use Rattle.std.specs.Prelude.{◌≡◌};
+ghost use Rattle.mdl_key.specs.Modes.{kind_of, is_mode_of};
+
+use crate::Mode;
+
+/// The namespace of a key. Keys are ordered by it first, in this order.
+///
+/// After MySQL 5.7, `MDL_key::enum_mdl_namespace` of `sql/mdl.h`.
+#[derive(Clone, Copy, Debug, PartialEq, Eq, PartialOrd, Ord, Hash)]
+pub enum Namespace {
+    /// The one key of the global read lock.
+    Global,
+    /// Schemas, each by its name.
+    Schema,
+    /// Tables, each by the names of its schema and its own.
+    Table,
+    /// The one key that commits take.
+    Commit,
+}
+
+impl Namespace {
+    /// How the keys of this namespace are locked.
+    pub fn kind(self) -> Kind
+        ensures { result ≡ kind_of self }
+    {
+        match self {
+            Namespace::Table => Kind::Object,
+            Namespace::Global | Namespace::Schema | Namespace::Commit => Kind::Scoped,
+        }
+    }
+}
+
+/// The kind of a lock: each has modes and matrices of its own.
+#[derive(Clone, Copy, Debug, PartialEq, Eq, PartialOrd, Ord, Hash)]
+pub enum Kind {
+    /// A scope that holds other things, as a schema holds tables: locked in IX, S and X.
+    Scoped,
+    /// A single thing, as a table: locked in all modes but IX.
+    Object,
+}
+
+impl Kind {
+    /// Whether locks of this kind use the mode.
+    pub fn has_mode(self, mode: Mode) -> bool
+        ensures { result ≡ is_mode_of self mode }
+    {
+        match self {
+            Kind::Scoped => matches!(mode, Mode::IX | Mode::S | Mode::X),
+            Kind::Object => mode != Mode::IX,
+        }
+    }
+}

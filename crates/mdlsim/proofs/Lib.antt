@@ -1,0 +1,10 @@
+pub mod Actions
+pub mod Ascii
+pub mod DeviceLemmas
+pub mod LawfulLemmas
+pub mod LockLemmas
+pub mod LockWords
+pub mod Reading
+pub mod RunLemmas
+pub mod Sessions
+pub mod Words

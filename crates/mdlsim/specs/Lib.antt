@@ -1,0 +1,9 @@
+pub mod Answering
+pub mod Answers
+pub mod CommandLine
+pub mod Devices
+pub mod Faults
+pub mod Lines
+pub mod Locks
+pub mod Output
+pub mod Scripts

@@ -1,0 +1,135 @@
+//! Reads lock scripts.
+ghost use Rattle.std.specs.Prelude.{◌≡◌, ◌≤◌, Ok, IfOk, IfErr};
+ghost use Rattle.std.specs.List.{All};
+ghost use Rattle.mdlsim.specs.Faults.{IsFaultOf};
+ghost use Rattle.mdlsim.specs.Scripts.{parsed};
+
+use crate::fault::Fault;
+use crate::lines::{line_says, strip_carriage_return};
+use crate::lock_command::LockCommand;
+use mdl_key::Kind;
+use std::alloc::Global;
+
+/// The commands of a script, or the number and the error of its first bad line.
+pub fn parse(alloc: Global, kind: Kind, text: &[u8]) -> Result<Vec<LockCommand>, Fault>
+    ensures parsed { IfOk result (λ commands. parsed kind text.now ≡ Ok commands.items) }
+    ensures refused { IfErr result (λ fault. IsFaultOf kind text.now fault) }
+    ensures sessions { IfOk result (λ commands. All (λ command. (1 ≤ command.session) × (command.session ≤ 64)) commands.items) }
+{
+    let mut commands = Vec::new(alloc);
+    let mut number = 0;
+    for line in text.split(|byte| *byte == b'\n') {
+        number += 1;
+        match line_says(kind, strip_carriage_return(line)) {
+            Ok(Some(command)) => commands.push(command).map_err(|_| Fault::Memory)?,
+            Ok(None) => {}
+            Err(error) => return Err(Fault::Refused(number, error)),
+        }
+    }
+    Ok(commands)
+}
+
+#[cfg(test)]
+mod tests {
+    use super::*;
+    use crate::fault::LineError;
+    use crate::lock_command::Action;
+    use mdl_key::Mode;
+    use std::test::Fail;
+
+    fn parsed(rt: &HostRuntime, text: &[u8]) -> Result<Vec<LockCommand>, Fault> {
+        parse(rt.alloc(), Kind::Object, text)
+    }
+
+    #[test]
+    fn reads_commands(rt: HostRuntime) -> Result<(), Fail> {
+        let shared_read = LockCommand {
+            session: 1,
+            action: Action::Ask(Mode::SR),
+        };
+        for text in [
+            "1 SR",
+            "1 SR\n",
+            "\t 1 \t  SR \r\n",
+            "# 1 X\n\n \t\n#\r\n1 SR",
+            "1\tSR\r\n\r\n",
+        ] {
+            assert_eq!(rt;
+                parsed(&rt, text.as_bytes())?.as_slice(),
+                [shared_read].as_slice(),
+                "{text:?}"
+            );
+        }
+        let script = "64 X\n7 RELEASE\n10 TIMEOUT";
+        let commands = [
+            LockCommand {
+                session: 64,
+                action: Action::Ask(Mode::X),
+            },
+            LockCommand {
+                session: 7,
+                action: Action::Release,
+            },
+            LockCommand {
+                session: 10,
+                action: Action::Timeout,
+            },
+        ];
+        assert_eq!(rt;
+            parsed(&rt, script.as_bytes())?.as_slice(),
+            commands.as_slice()
+        );
+        Ok(())
+    }
+
+    #[test]
+    fn reads_no_commands(rt: HostRuntime) -> Result<(), Fail> {
+        for text in ["", "\n", "\r\n", "# 0 S", "#", " \t\r\n\n"] {
+            assert!(rt; parsed(&rt, text.as_bytes())?.is_empty(), "{text:?}");
+        }
+        Ok(())
+    }
+
+    #[test]
+    fn refuses_lines(rt: HostRuntime) {
+        for (text, line, error) in [
+            ("0 S", 1, LineError::BadSession),
+            ("01 S", 1, LineError::BadSession),
+            ("+1 S", 1, LineError::BadSession),
+            ("65 S", 1, LineError::BadSession),
+            ("100 S", 1, LineError::BadSession),
+            (" # x", 1, LineError::BadSession),
+            ("S 1", 1, LineError::BadSession),
+            ("1", 1, LineError::BadWord),
+            ("1 s", 1, LineError::BadWord),
+            ("1 S S", 1, LineError::BadWord),
+            ("1 SU", 1, LineError::BadWord),
+            ("1 IX", 1, LineError::BadWord),
+            ("1 RELEASED", 1, LineError::BadWord),
+            ("1 S\r\r\n", 1, LineError::BadWord),
+            ("1 S\n# 0\n0 S\n1", 3, LineError::BadSession),
+            ("#\u{e9}", 1, LineError::NotAscii),
+        ] {
+            assert_eq!(rt;
+                parsed(&rt, text.as_bytes()).err(),
+                Some(Fault::Refused(line, error)),
+                "{text:?}"
+            );
+        }
+    }
+
+    #[test]
+    fn measures_lines(rt: HostRuntime) -> Result<(), Fail> {
+        let mut text = Vec::new(rt.alloc());
+        text.resize(4096, b'#')?;
+        text.extend_from_slice(b"\r\n")?;
+        assert!(rt; parsed(&rt, text.as_slice())?.is_empty());
+        text.resize(4096, b'#')?;
+        text.push(0x80)?;
+        assert_eq!(rt;
+            parsed(&rt, text.as_slice()).err(),
+            Some(Fault::Refused(1, LineError::LongLine))
+        );
+        Ok(())
+    }
+}
