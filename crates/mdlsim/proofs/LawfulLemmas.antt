@@ -1,6 +1,5 @@
 -- The granted tickets of a lock are lawful after every command.
-use Rattle.std.proofs.Common.{◌≡◌, ℕ, zero, suc, Bool, true, false, cond, List, [], ◌∷◌, ◌++◌, length, take, Option, Some, None, Result, Ok, Err, IfSome, refl, subst}
-use Rattle.std.specs.List.{find}
+use Rattle.std.proofs.Common.{◌≡◌, ℕ, zero, suc, Bool, true, false, cond, List, [], ◌∷◌, ◌++◌, length, take, Option, Some, None, Result, Ok, Err, IfSome, refl}
 use Rattle.mdl_key.specs.declared.namespace.Kind.{Kind}
 use Rattle.mdl_key.specs.declared.mode.Mode.{Mode}
 use Rattle.mdl_book.specs.declared.ticket.Ticket.{Ticket}
@@ -14,19 +13,11 @@ use Rattle.mdlsim.specs.declared.lock_command.LockCommand.{LockCommand}
 use Rattle.mdlsim.specs.declared.fault.LineError.{LineError}
 use Rattle.mdlsim.specs.Scripts.{parsed}
 use Rattle.mdlsim.specs.Output.{IsLawfulThroughout, StaysLawful}
+use Rattle.mdlsim.proofs.FindLemmas.{find-passes}
 use Rattle.mdlsim.specs.Answers.{Lock, Outcome, free_lock, new_ticket, holds_or_waits, grantable_in, asked, next_waiter, admitted, granted_then, grants_at_most, released, timed_out, outcome_of, obeyed, all_obeyed}
 
 abbrev IsLawfulLock : Kind → Lock → Type 0
 IsLawfulLock kind lock = is_lawful kind lock.granted ≡ true
-
--- what is found passes
-find-passes : {X : Type 0} (p : X → Bool) (xs : List X) (x : X) → find p xs ≡ Some x → p x ≡ true
-find-passes p [] x found = cc
-find-passes p (y ∷ ys) x found =
-    elim (p y) as (λ b. p y ≡ b → cond b (Some y) (find p ys) ≡ Some x → p x ≡ true) [
-      | true ↦ λ passes e. let same : y ≡ x = cc in subst (λ z. p z ≡ true) same passes
-      | false ↦ λ _ e. find-passes p ys x e
-    ] refl found
 
 granted_then-lawful : (kind : Kind) (next : Option Ticket) (rest : Lock → Outcome) (lock : Lock)
     → ((l : Lock) → IsLawfulLock kind l → IsLawfulLock kind (rest l).lock)

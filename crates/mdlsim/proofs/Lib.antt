@@ -1,9 +1,12 @@
 pub mod Actions
 pub mod Ascii
 pub mod DeviceLemmas
+pub mod FindLemmas
+pub mod ForgottenLemmas
 pub mod LawfulLemmas
 pub mod LockLemmas
 pub mod LockWords
+pub mod OrderLemmas
 pub mod Reading
 pub mod RunLemmas
 pub mod Sessions

@@ -1,97 +1,62 @@
--- Waiting tickets stay orderly, and the waiter that is found first is the one that is admitted.
-use Rattle.std.proofs.Common.{◌≡◌, ℕ, ◌+◌, ◌<◌, Bool, true, false, cond, ◌&&◌, ◌||◌, List, [], ◌∷◌, ◌++◌, length, get_or, Option, Some, None, refl, sym, ◌∙◌, ap, subst, inl, inr, arith, add-one, append_assoc, zero, suc}
-use Rattle.std.specs.List.{list_any, find, All, AllPairs, before_first, after_first, position_or_len}
-use Rattle.std.proofs.lemmas.List.Elements.{All-push, All-head, All-tail}
-use Rattle.std.proofs.lemmas.List.Quantifiers.{all_pairs_push, all_pairs_remove}
+-- The waiter that is found first is the one that is admitted.
+use Rattle.std.proofs.Common.{◌≡◌, ℕ, ◌≤◌, Bool, true, false, cond, ◌&&◌, List, [], ◌∷◌, ◌++◌, Option, Some, None, refl, sym, ◌∙◌, ap, subst, arith, append_assoc, append-nil, zero, suc}
+use Rattle.std.specs.List.{find, All, count_by}
+use Rattle.std.proofs.lemmas.List.Elements.{All-head, All-tail}
+use Rattle.std.proofs.lemmas.List.Sums.{sum_by-cons}
+use Rattle.std.proofs.lemmas.Bool.{false_from_ne_true}
 use Rattle.std.proofs.lemmas.Bool.Decides.{nat_tests}
-use Rattle.std.proofs.lemmas.Bool.{cases_lt}
-use Rattle.std.proofs.lemmas.List.{take_all, drop_all, append-nil}
 use Rattle.std.specs.Option.{option_map}
 use Rattle.std.specs.FinSet as set
 use Rattle.std.specs.Ordering.{nat_cmp}
-use Rattle.mdl_key.specs.declared.mode.Mode.{Mode}
 use Rattle.mdl_book.specs.declared.ticket.Ticket.{Ticket}
-use Rattle.mdl_book.specs.Tickets.{is_ticket, ticket_id, ticket_of, without}
+use Rattle.mdl_book.specs.Tickets.{is_ticket, ticket_id, ticket_of}
 use Rattle.mdl_book.specs.SessionSets.{is_session, IsEverySession}
-use Rattle.mdl_book.proofs.TicketLemmas.{All-without}
 use Rattle.mdl_book.specs.declared.lists.Lists.{Lists}
 use Rattle.mdl_book.specs.Books.{lock_kind, next_grantable, admitting}
 use Rattle.mdl_key.specs.declared.namespace.Kind.{Kind}
 use Rattle.mdlsim.specs.declared.answer.Answer.TheVariants.{Granted}
 use Rattle.mdlsim.specs.Answering.{answer_text, text_of}
-use Rattle.mdlsim.specs.Answers.{Lock, silent, after_answers, new_ticket, next_waiter, admitted, grants_at_most}
-use Rattle.mdlsim.specs.Locks.{IsOther, IsOrderly, lock_of}
+use Rattle.mdlsim.specs.Answers.{Lock, silent, after_answers, next_waiter, admitted, grants_at_most}
+use Rattle.mdlsim.specs.Locks.{IsScriptTicket, IsOrderly, lock_of}
+use Rattle.mdlsim.proofs.FindLemmas.{All-find, count-first}
 
-or_false : (a b : Bool) → (a || b) ≡ false → (a ≡ false) × (b ≡ false)
-or_false true b e = cc
-or_false false b e = (refl, e)
-
--- where none passes, an element doesn't
-none_passes : {X : Type 0} (p : X → Bool) (xs : List X) → list_any p xs ≡ false → (k : ℕ) (d : X) → k < length xs → p (get_or xs k d) ≡ false
-none_passes p [] none k d inside = absurd (omega arith)
-none_passes p (x ∷ xs) none zero d inside = (or_false _ _ none).0
-none_passes p (x ∷ xs) none (suc k) d inside = none_passes p xs (or_false (p x) _ none).1 k d (omega arith)
-
--- being another ticket is symmetric
-is_ticket-symmetric : (a b : Ticket) → is_ticket a.session a.number b ≡ is_ticket b.session b.number a
-is_ticket-symmetric a b = grind (arith, nat_tests)
-
--- a session that has no ticket among these joins them at the end
-pub orderly_push : (waiting : List Ticket) (session : ℕ) (mode : Mode) → is_session session ≡ true → list_any (is_ticket session 1) waiting ≡ false → IsOrderly waiting
-    → IsOrderly (waiting ++ new_ticket session mode ∷ [])
-orderly_push waiting session mode numbered absent orderly =
-    let ticket = new_ticket session mode in
-    record {
-      numbered = All-push (λ t. is_session t.session ≡ true) waiting ticket orderly.numbered numbered;
-      apart = all_pairs_push IsOther waiting ticket orderly.apart
-          (λ k d inside. is_ticket-symmetric (get_or waiting k d) ticket ∙ none_passes (is_ticket session 1) waiting absent k d inside);
-    }
-
--- with one element less, or none where none passes
-pairs_without : {X : Type 0} (R : X → X → Type 0) (p : X → Bool) (xs : List X) → AllPairs R xs → AllPairs R (before_first p xs ++ after_first p xs)
-pairs_without R p xs apart =
-    let n = position_or_len p xs in
-    elim (cases_lt n (length xs)) [
-      | inl inside ↦ rw add-one (all_pairs_remove R xs n inside apart)
-      | inr past ↦ rw (take_all n xs past, drop_all (n + 1) xs (omega arith), append-nil) apart
-    ]
-
--- a ticket goes
-pub orderly_without : (session number : ℕ) (waiting : List Ticket) → IsOrderly waiting → IsOrderly (without session number waiting)
-orderly_without session number waiting orderly = record {
-  numbered = All-without (λ t. is_session t.session ≡ true) (is_ticket session number) waiting orderly.numbered;
-  apart = pairs_without IsOther (is_ticket session number) waiting orderly.apart;
-}
-
--- what holds of all holds of what is found
-All-find : {X : Type 0} (P : X → Type 0) (p : X → Bool) (xs : List X) (x : X) → All P xs → find p xs ≡ Some x → P x
-All-find P p [] x all found = cc
-All-find P p (y ∷ ys) x all found =
-    elim (p y) as (λ b. cond b (Some y) (find p ys) ≡ Some x → P x) [
-      | true ↦ λ e. let same : y ≡ x = cc in subst P same (All-head P y ys all)
-      | false ↦ λ e. All-find P p ys x (All-tail P y ys all) e
+-- where a ticket is found, there is one of its session and number
+one_counted : (p : Ticket → Bool) (waiting : List Ticket) (ticket : Ticket) → find p waiting ≡ Some ticket
+    → 1 ≤ count_by (is_ticket ticket.session ticket.number) waiting
+one_counted p [] ticket found = cc
+one_counted p (x ∷ xs) ticket found =
+    let test = is_ticket ticket.session ticket.number in
+    let counted = sum_by-cons (λ t. cond (test t) 1 0) x xs in
+    elim (p x) as (λ b. cond b (Some x) (find p xs) ≡ Some ticket → 1 ≤ count_by test (x ∷ xs)) [
+      | true ↦ λ e. let same : x ≡ ticket = cc in
+          let itself : test x ≡ true = grind (arith, nat_tests) in omega (arith, count-first test x xs itself)
+      | false ↦ λ e. let later = one_counted p xs ticket e in omega arith
     ] found
 
--- a ticket that is found is the one of its session and number
-pub ticket_of-found : (p : Ticket → Bool) (waiting : List Ticket) (ticket : Ticket) → AllPairs IsOther waiting → find p waiting ≡ Some ticket
-    → ticket_of ticket.session ticket.number waiting ≡ Some ticket
-ticket_of-found p [] ticket apart found = found
-ticket_of-found p (x ∷ xs) ticket apart found =
+-- where a ticket is found, it is the one of its session and number if there is one only
+pub ticket_of-found : (p : Ticket → Bool) (waiting : List Ticket) (ticket : Ticket) → count_by (is_ticket ticket.session ticket.number) waiting ≤ 1
+    → find p waiting ≡ Some ticket → ticket_of ticket.session ticket.number waiting ≡ Some ticket
+ticket_of-found p [] ticket one found = found
+ticket_of-found p (x ∷ xs) ticket one found =
+    let test = is_ticket ticket.session ticket.number in
+    let counted = sum_by-cons (λ t. cond (test t) 1 0) x xs in
     elim (p x) as (λ b. cond b (Some x) (find p xs) ≡ Some ticket → ticket_of ticket.session ticket.number (x ∷ xs) ≡ Some ticket) [
       | true ↦ λ e. let same : x ≡ ticket = cc in grind (arith, nat_tests)
       | false ↦ λ e.
-          let others : All (λ y. IsOther x y) xs = λ k d inside. apart 0 (suc k) d (omega arith) (omega arith) in
-          let other : is_ticket ticket.session ticket.number x ≡ false = is_ticket-symmetric ticket x ∙ All-find (λ y. IsOther x y) p xs ticket others e in
-          rw other (ticket_of-found p xs ticket (λ i j d below inside. apart (suc i) (suc j) d (omega arith) (omega arith)) e)
+          let later = one_counted p xs ticket e in
+          let other : test x ≡ false = false_from_ne_true _ (λ passes. omega (arith, count-first test x xs passes)) in
+          rw other (ticket_of-found p xs ticket (omega arith) e)
     ] found
 
 -- where all are of sessions, it makes no difference to ask for it
-pub find-numbered : (everyone : set.FinSet nat_cmp) (p : Ticket → Bool) (waiting : List Ticket) → IsEverySession everyone → All (λ ticket. is_session ticket.session ≡ true) waiting
+pub find-numbered : (everyone : set.FinSet nat_cmp) (p : Ticket → Bool) (waiting : List Ticket) → IsEverySession everyone → All IsScriptTicket waiting
     → find (λ ticket. set.contains everyone ticket.session && p ticket) waiting ≡ find p waiting
 find-numbered everyone p [] every numbered = refl
 find-numbered everyone p (x ∷ xs) every numbered =
-    let known : set.contains everyone x.session ≡ true = every x.session ∙ All-head (λ t. is_session t.session ≡ true) x xs numbered in
-    let rest = find-numbered everyone p xs every (All-tail (λ t. is_session t.session ≡ true) x xs numbered) in
+    let this = All-head IsScriptTicket x xs numbered in
+    let one : is_session x.session ≡ true = grind (arith, nat_tests) in
+    let known : set.contains everyone x.session ≡ true = every x.session ∙ one in
+    let rest = find-numbered everyone p xs every (All-tail IsScriptTicket x xs numbered) in
     rw (known, rest)
 
 -- nothing more is granted where none can be
@@ -105,9 +70,9 @@ pub grants_more : (kind : Kind) (n m : ℕ) (lock : Lock) (ticket : Ticket) → 
 grants_more kind n m lock ticket same some = rw (same, some)
 
 -- what a book names as next, where all sessions are asked for
-pub next-lock_of : (everyone : set.FinSet nat_cmp) (lists : Lists) → IsEverySession everyone → IsOrderly lists.waiting
+pub next-lock_of : (everyone : set.FinSet nat_cmp) (lists : Lists) → IsEverySession everyone → IsOrderly (lock_of lists)
     → next_grantable everyone lists ≡ next_waiter (lock_kind lists) (lock_of lists)
-next-lock_of everyone lists every orderly = find-numbered everyone _ lists.waiting every orderly.numbered
+next-lock_of everyone lists every orderly = find-numbered everyone _ lists.waiting every orderly.waiters
 
 -- the waiter that a session and a number name
 pub record IsNamed (lists : Lists) (id : ℕ × ℕ) (ticket : Ticket) : Type 0 where
@@ -115,15 +80,17 @@ pub record IsNamed (lists : Lists) (id : ℕ × ℕ) (ticket : Ticket) : Type 0 
   pub there : ticket_of id.0 id.1 lists.waiting ≡ Some ticket
   pub admits : lock_of (admitting id.0 id.1 lists) ≡ admitted ticket (lock_of lists)
 
-named_by : (lists : Lists) (id : ℕ × ℕ) (next : Option Ticket) → next_waiter (lock_kind lists) (lock_of lists) ≡ next → IsOrderly lists.waiting
+named_by : (lists : Lists) (id : ℕ × ℕ) (next : Option Ticket) → next_waiter (lock_kind lists) (lock_of lists) ≡ next → IsOrderly (lock_of lists)
     → Some id ≡ option_map ticket_id next → (ticket : Ticket) × IsNamed lists id ticket
 named_by lists id None is orderly named = cc
 named_by lists id (Some ticket) is orderly named =
     let same : id ≡ ticket_id ticket = cc in
-    let there : ticket_of id.0 id.1 lists.waiting ≡ Some ticket = rw same (ticket_of-found _ lists.waiting ticket orderly.apart is) in
+    let of_script = All-find IsScriptTicket _ lists.waiting ticket orderly.waiters is in
+    let one : count_by (is_ticket ticket.session ticket.number) lists.waiting ≤ 1 = rw of_script.1 (omega (arith, orderly.one_each ticket.session)) in
+    let there : ticket_of id.0 id.1 lists.waiting ≡ Some ticket = rw same (ticket_of-found _ lists.waiting ticket one is) in
     (ticket, record { next = is; there = there; admits = rw (there, same) })
 
-pub named-next : (everyone : set.FinSet nat_cmp) (lists : Lists) (id : ℕ × ℕ) → IsEverySession everyone → IsOrderly lists.waiting
+pub named-next : (everyone : set.FinSet nat_cmp) (lists : Lists) (id : ℕ × ℕ) → IsEverySession everyone → IsOrderly (lock_of lists)
     → Some id ≡ option_map ticket_id (next_grantable everyone lists) → (ticket : Ticket) × IsNamed lists id ticket
 named-next everyone lists id every orderly named = named_by lists id _ refl orderly (rw (← next-lock_of everyone lists every orderly) named)
 
@@ -132,7 +99,7 @@ map_none f None e = refl
 map_none f (Some x) e = cc
 
 -- a book of this kind names no waiter, so there is none to grant
-pub none-next : (kind : Kind) (everyone : set.FinSet nat_cmp) (lists : Lists) → lock_kind lists ≡ kind → IsEverySession everyone → IsOrderly lists.waiting
+pub none-next : (kind : Kind) (everyone : set.FinSet nat_cmp) (lists : Lists) → lock_kind lists ≡ kind → IsEverySession everyone → IsOrderly (lock_of lists)
     → None ≡ option_map ticket_id (next_grantable everyone lists) → next_waiter kind (lock_of lists) ≡ None
 none-next kind everyone lists same every orderly named =
     subst (λ k. next_waiter k (lock_of lists) ≡ None) same (sym (next-lock_of everyone lists every orderly) ∙ map_none ticket_id _ named)

@@ -14,7 +14,8 @@ use Rattle.mdlsim.specs.declared.fault.LineError.{LineError}
 use Rattle.mdlsim.specs.declared.fault.LineError.TheVariants.{LongLine, NotAscii}
 use Rattle.mdlsim.specs.Lines.{lines_of, words_of}
 use Rattle.mdlsim.specs.Scripts.{session_of, action_in, command_of, words_say, line_says, said_before, commands_from}
-use Rattle.mdlsim.proofs.Sessions.{IsSession, session_of-IsSession}
+use Rattle.mdlsim.specs.Locks.{IsScriptSession, IsNumbered}
+use Rattle.mdlsim.proofs.Sessions.{session_of-IsScriptSession}
 
 -- commands, before those that a reader gives of what follows them
 abbrev pub joined : List LockCommand → Result (List LockCommand) (ℕ × LineError) → Result (List LockCommand) (ℕ × LineError)
@@ -49,33 +50,30 @@ no_commands_left kind text n m same e = ap (commands_from kind (n + 1)) (drop_al
 pub lines-fit : (text : List ℕ) → length (pieces text) ≤ length text + 1
 lines-fit text = omega (arith, length-slice_split (λ byte. byte == 10) text, count_by-le-length (λ byte. byte == 10) text)
 
--- the session of a command that a reader gives is a session's number
-abbrev pub IsOfSession : LockCommand → Type 0
-IsOfSession command = IsSession command.session
-
-command_of-session : (session : Option ℕ) (action : Option Action) → IfSome session IsSession → IfOk (command_of session action) (λ said. IfSome said IsOfSession)
+-- a command that a reader gives is of a session
+command_of-session : (session : Option ℕ) (action : Option Action) → IfSome session IsScriptSession → IfOk (command_of session action) (λ said. IfSome said IsNumbered)
 command_of-session None action h = tt
 command_of-session (Some session) None h = tt
 command_of-session (Some session) (Some action) h = h
 
-words_say-session : (kind : Kind) (words : List (List ℕ)) → IfOk (words_say kind words) (λ said. IfSome said IsOfSession)
+words_say-session : (kind : Kind) (words : List (List ℕ)) → IfOk (words_say kind words) (λ said. IfSome said IsNumbered)
 words_say-session kind [] = tt
-words_say-session kind (first ∷ words) = command_of-session (session_of first) (action_in kind words) (session_of-IsSession first)
+words_say-session kind (first ∷ words) = command_of-session (session_of first) (action_in kind words) (session_of-IsScriptSession first)
 
-line_says-session : (kind : Kind) (line : List ℕ) → IfOk (line_says kind line) (λ said. IfSome said IsOfSession)
+line_says-session : (kind : Kind) (line : List ℕ) → IfOk (line_says kind line) (λ said. IfSome said IsNumbered)
 line_says-session kind line = by (nat_lt 4096 (length line)) (list_any (nat_le 128) line) (slice_index line 0 == 35) where
-  by : (long high comment : Bool) → IfOk (if long then Err LongLine else (if high then Err NotAscii else (if comment then Ok None else words_say kind (words_of line)))) (λ said. IfSome said IsOfSession)
+  by : (long high comment : Bool) → IfOk (if long then Err LongLine else (if high then Err NotAscii else (if comment then Ok None else words_say kind (words_of line)))) (λ said. IfSome said IsNumbered)
   by true high comment = tt
   by false true comment = tt
   by false false true = tt
   by false false false = words_say-session kind (words_of line)
 
-said_before-sessions : (number : ℕ) (said : Result (Option LockCommand) LineError) (rest : Result (List LockCommand) (ℕ × LineError)) → IfOk said (λ said. IfSome said IsOfSession) → IfOk rest (All IsOfSession) → IfOk (said_before number said rest) (All IsOfSession)
+said_before-sessions : (number : ℕ) (said : Result (Option LockCommand) LineError) (rest : Result (List LockCommand) (ℕ × LineError)) → IfOk said (λ said. IfSome said IsNumbered) → IfOk rest (All IsNumbered) → IfOk (said_before number said rest) (All IsNumbered)
 said_before-sessions number (Err error) rest h k = tt
 said_before-sessions number (Ok None) rest h k = k
-said_before-sessions number (Ok (Some command)) (Ok commands) h k = All-cons IsOfSession command commands h k
+said_before-sessions number (Ok (Some command)) (Ok commands) h k = All-cons IsNumbered command commands h k
 said_before-sessions number (Ok (Some command)) (Err refusal) h k = tt
 
-pub commands_from-sessions : (kind : Kind) (number : ℕ) (lines : List (List ℕ)) → IfOk (commands_from kind number lines) (All IsOfSession)
-commands_from-sessions kind number [] = All-nil IsOfSession
+pub commands_from-sessions : (kind : Kind) (number : ℕ) (lines : List (List ℕ)) → IfOk (commands_from kind number lines) (All IsNumbered)
+commands_from-sessions kind number [] = All-nil IsNumbered
 commands_from-sessions kind number (line ∷ lines) = said_before-sessions number (line_says kind line) (commands_from kind (number + 1) lines) (line_says-session kind line) (commands_from-sessions kind (number + 1) lines)

@@ -3,11 +3,8 @@ use Rattle.std.proofs.Common.{◌≡◌, ℕ, ◌+◌, ◌-◌, ◌*◌, ◌≤�
 use Rattle.std.specs.Prelude.{Some, None, IfSome, fold}
 use Rattle.std.specs.List.{list_all}
 use Rattle.std.proofs.lemmas.Bool.{and_parts, leb-true}
+use Rattle.mdlsim.specs.Locks.{IsScriptSession}
 use Rattle.mdlsim.specs.Scripts.{is_digit, decimal_value, session_of}
-
--- the number of a session
-abbrev pub IsSession : ℕ → Type 0
-IsSession session = (1 ≤ session) × (session ≤ 64)
 
 -- more digits make no smaller number
 value_grows : (value : ℕ) (digits : List ℕ) → value ≤ fold (λ value digit. 10 * value + (digit - 48)) value digits
@@ -32,8 +29,8 @@ from_first : (word : List ℕ) → 49 ≤ slice_index word 0 → 1 ≤ decimal_v
 from_first [] h = absurd (omega (arith, h))
 from_first (digit ∷ digits) h = omega (arith, value_grows (10 * 0 + (digit - 48)) digits)
 
-pub session_of-IsSession : (word : List ℕ) → IfSome (session_of word) IsSession
-session_of-IsSession word = some_if IsSession _ (decimal_value word) (λ h. let t = tested word h in (from_first word t.0, t.1))
+pub session_of-IsScriptSession : (word : List ℕ) → IfSome (session_of word) IsScriptSession
+session_of-IsScriptSession word = some_if IsScriptSession _ (decimal_value word) (λ h. let t = tested word h in (from_first word t.0, t.1))
 
 -- three digits without a leading zero make 100 and more
 pub none_for_long : (word : List ℕ) → 3 ≤ length word → session_of word ≡ None

@@ -1,8 +1,7 @@
 -- What is true of a lock while sessions have one ticket or one wait each, and how a book is seen as a lock.
-use Rattle.std.specs.Prelude.{◌≡◌, false, List, All, AllPairs, IsTrue}
+use Rattle.std.specs.Prelude.{◌≡◌, ℕ, ◌+◌, ◌≤◌, All, count_by}
 use Rattle.mdl_book.specs.declared.lists.Lists.{Lists}
 use Rattle.mdl_book.specs.declared.ticket.Ticket.{Ticket}
-use Rattle.mdl_book.specs.SessionSets.{is_session}
 use Rattle.mdl_book.specs.Tickets.{is_ticket}
 use Rattle.mdlsim.specs.declared.lock_command.LockCommand.{LockCommand}
 use Rattle.mdlsim.specs.Answers.{Lock}
@@ -11,15 +10,24 @@ use Rattle.mdlsim.specs.Answers.{Lock}
 abbrev pub lock_of : Lists → Lock
 lock_of lists = record { granted = lists.granted; waiting = lists.waiting }
 
--- a command of a session
+-- a session that a script can name
+abbrev pub IsScriptSession : ℕ → Type 0
+IsScriptSession session = (1 ≤ session) × (session ≤ 64)
+
+-- a command of such a session
 abbrev pub IsNumbered : LockCommand → Type 0
-IsNumbered command = IsTrue (is_session command.session)
+IsNumbered command = IsScriptSession command.session
 
--- the second of two tickets is another one than the first
-abbrev pub IsOther : Ticket → Ticket → Type 0
-IsOther a b = is_ticket a.session a.number b ≡ false
+-- the ticket of such a session, whose number is 1
+abbrev pub IsScriptTicket : Ticket → Type 0
+IsScriptTicket ticket = (IsScriptSession ticket.session) × (ticket.number ≡ 1)
 
--- each waiting ticket is one of a session, and no two are the same one
-pub record IsOrderly (waiting : List Ticket) : Type 0 where
-  pub numbered : All (λ ticket. IsTrue (is_session ticket.session)) waiting
-  pub apart : AllPairs IsOther waiting
+-- how many tickets a session has, granted and waiting
+abbrev pub tickets_of : ℕ → Lock → ℕ
+tickets_of session lock = count_by (is_ticket session 1) lock.granted + count_by (is_ticket session 1) lock.waiting
+
+-- each that holds or waits does so by a session's ticket, and no session has two tickets
+pub record IsOrderly (lock : Lock) : Type 0 where
+  pub holders : All IsScriptTicket lock.granted
+  pub waiters : All IsScriptTicket lock.waiting
+  pub one_each : (session : ℕ) → tickets_of session lock ≤ 1

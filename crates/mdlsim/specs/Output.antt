@@ -1,5 +1,5 @@
 -- The defined output of a lock script, and what a run of it may leave. The script language is this project's own.
-use Rattle.std.specs.Prelude.{◌≡◌, ℕ, List, [], Option, Result, Ok, Err, IsOk, take, ⊤}
+use Rattle.std.specs.Prelude.{◌≡◌, ℕ, false, List, [], Option, Result, Ok, Err, IsOk, All, take, ⊤}
 use Rattle.std.specs.Io.KnownBytes.{Keeps}
 use Rattle.mdl_key.specs.declared.namespace.Kind.{Kind}
 use Rattle.mdl_book.specs.Granting.{IsLawful}
@@ -8,7 +8,7 @@ use Rattle.mdlsim.specs.declared.fault.Fault.{Fault}
 use Rattle.mdlsim.specs.declared.fault.Fault.TheVariants.{Refused, Write}
 use Rattle.mdlsim.specs.declared.fault.LineError.{LineError}
 use Rattle.mdlsim.specs.Answering.{text_of}
-use Rattle.mdlsim.specs.Answers.{free_lock, all_obeyed}
+use Rattle.mdlsim.specs.Answers.{Lock, free_lock, grantable_in, all_obeyed}
 use Rattle.mdlsim.specs.Devices.{AppendsFront}
 use Rattle.mdlsim.specs.Scripts.{parsed}
 
@@ -42,3 +42,16 @@ IsLawfulThroughout kind commands = (n : ℕ) → IsLawful kind (all_obeyed kind 
 abbrev pub StaysLawful : Kind → Result (List LockCommand) (ℕ × LineError) → Type 0
 StaysLawful kind (Ok commands) = IsLawfulThroughout kind commands
 StaysLawful kind (Err refusal) = ⊤
+
+-- nobody is forgotten: no ticket is left waiting whose wish could be granted
+abbrev pub ForgetsNobody : Kind → Lock → Type 0
+ForgetsNobody kind lock = All (λ ticket. grantable_in kind lock ticket.session ticket.mode ≡ false) lock.waiting
+
+-- nobody is forgotten after any command
+abbrev pub ForgetsNobodyThroughout : Kind → List LockCommand → Type 0
+ForgetsNobodyThroughout kind commands = (n : ℕ) → ForgetsNobody kind (all_obeyed kind (take n commands) free_lock).lock
+
+-- the same for a script, whose refused lines make it one of no commands
+abbrev pub NeverForgets : Kind → Result (List LockCommand) (ℕ × LineError) → Type 0
+NeverForgets kind (Ok commands) = ForgetsNobodyThroughout kind commands
+NeverForgets kind (Err refusal) = ⊤

@@ -1,9 +1,7 @@
 //! What can keep a script from being run.
 ghost use Rattle.std.specs.Prelude.{◌≡◌, Some};
-ghost use Rattle.mdlsim.specs.declared.fault.Fault.TheVariants.{Memory};
 ghost use Rattle.mdlsim.specs.Faults.{line_error_name, fault_text, fault_status};
 
-use mdl_book::BookError;
 use std::error::Error;
 use std::fmt;
 
@@ -72,15 +70,6 @@ impl fmt::Display for Fault {
 }
 
 impl Error for Fault {}
-
-/// A book of a script is never full, since a session has one ticket at most: all that it can want for is memory.
-impl From<BookError> for Fault {
-    ghost from_gives = { λ _ fault. fault ≡ Memory };
-
-    fn from(_error: BookError) -> Fault {
-        Fault::Memory
-    }
-}
 
 #[cfg(test)]
 mod tests {

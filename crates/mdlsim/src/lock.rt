@@ -1,20 +1,20 @@
 //! One lock that the sessions of a script ask for.
-ghost use Rattle.std.specs.Prelude.{◌≡◌, ◌++◌, ◌∷◌, [], OnOk, IfOk, IsOkUnless, IsTrue, All};
+ghost use Rattle.std.specs.Prelude.{◌≡◌, ◌++◌, ◌∷◌, [], OnOk, IfOk, IsOkUnless, All};
 ghost use Rattle.mdl_key.specs.Modes.{kind_of};
 ghost use Rattle.std.specs.List.{list_any};
 ghost use Rattle.std.specs.String.{string_bytes};
 ghost use Rattle.mdl_book.specs.Books.{lock_kind};
-ghost use Rattle.mdl_book.specs.SessionSets.{IsEverySession, is_session};
+ghost use Rattle.mdl_book.specs.SessionSets.{IsEverySession};
 ghost use Rattle.mdl_book.specs.Tickets.{is_ticket, ticket_of};
 ghost use Rattle.mdlsim.specs.Answering.{answer_text, text_of};
 ghost use Rattle.mdlsim.specs.Answers.{asked, released, timed_out, grants_until_none, obeyed, all_obeyed, free_lock};
-ghost use Rattle.mdlsim.specs.Locks.{lock_of, IsNumbered, IsOrderly};
-ghost use Rattle.mdlsim.specs.Output.{IsLawfulThroughout};
+ghost use Rattle.mdlsim.specs.Locks.{lock_of, IsScriptSession, IsNumbered, IsOrderly};
+ghost use Rattle.mdlsim.specs.Output.{IsLawfulThroughout, ForgetsNobodyThroughout};
 
 use crate::answer::Answer;
 use crate::fault::Fault;
 use crate::lock_command::{Action, LockCommand};
-use mdl_book::{Book, Sessions, Ticket};
+use mdl_book::{Book, BookError, Sessions, Ticket};
 use mdl_key::{Key, Kind, Mode};
 use std::alloc::Global;
 
@@ -26,6 +26,7 @@ pub fn answers_to(alloc: Global, kind: Kind, commands: &[LockCommand]) -> Result
     requires { All IsNumbered commands.now }
     ensures text { IfOk result (λ text. string_bytes text ≡ text_of (all_obeyed kind commands.now free_lock).answers) }
     ensures lawful { IsLawfulThroughout kind commands.now }
+    ensures none_forgotten { ForgetsNobodyThroughout kind commands.now }
     ensures memory { IsOkUnless result Fault.Memory }
 {
     let mut book = Book::new(alloc, key_of(alloc, kind)?);
@@ -45,13 +46,13 @@ fn obey(
     out: &mut String,
 ) -> Result<(), Fault>
     requires every { IsEverySession everyone.now }
-    requires session { IsTrue (is_session command.session) }
-    requires orderly { IsOrderly book.old.waiting }
+    requires session { IsNumbered command }
+    requires orderly { IsOrderly (lock_of book.old) }
 
     ensures told { OnOk result (string_bytes out.new
         ≡ string_bytes out.old ++ text_of (obeyed (lock_kind book.old) command (lock_of book.old)).answers) }
     ensures left { OnOk result (lock_of book.new ≡ (obeyed (lock_kind book.old) command (lock_of book.old)).lock) }
-    ensures orderly { OnOk result (IsOrderly book.new.waiting) }
+    ensures orderly { OnOk result (IsOrderly (lock_of book.new)) }
     ensures key { OnOk result (book.new.key ≡ book.old.key) }
     ensures memory { IsOkUnless result Fault.Memory }
 {
@@ -65,12 +66,12 @@ fn obey(
     }
 }
 
-// A session asks for a mode.
+// A session asks for a mode. The book has room for its ticket, since no session has two.
 fn ask(book: &mut Book, session: u16, mode: Mode) -> Result<Answer, Fault>
-    requires session { IsTrue (is_session session) }
-    requires orderly { IsOrderly book.old.waiting }
+    requires session { IsScriptSession session }
+    requires orderly { IsOrderly (lock_of book.old) }
     ensures answer { IfOk result (λ answer. asked (lock_kind book.old) session mode (lock_of book.old) ≡ record { answers = answer ∷ []; lock = lock_of book.new }) }
-    ensures orderly { OnOk result (IsOrderly book.new.waiting) }
+    ensures orderly { OnOk result (IsOrderly (lock_of book.new)) }
     ensures key { OnOk result (book.new.key ≡ book.old.key) }
     ensures memory { IsOkUnless result Fault.Memory }
 {
@@ -83,11 +84,22 @@ fn ask(book: &mut Book, session: u16, mode: Mode) -> Result<Answer, Fault>
         mode,
     };
     if book.can_grant(session, mode) {
-        book.grant(ticket)?;
+        book.grant(ticket).map_err(memory_fault)?;
         return Ok(Answer::Granted(session, mode));
     }
-    book.enqueue(ticket)?;
+    book.enqueue(ticket).map_err(memory_fault)?;
     Ok(Answer::Waits(session, mode))
+}
+
+// The fault of a book that can want for nothing but memory.
+fn memory_fault(error: BookError) -> Fault
+    requires { error ≡ BookError.OutOfMemory }
+    ensures { result ≡ Fault.Memory }
+{
+    match error {
+        BookError::OutOfMemory => Fault::Memory,
+        BookError::NotHere | BookError::WouldConflict | BookError::Full => unreachable!(),
+    }
 }
 
 // A session gives up what it holds, and waiters are granted.
@@ -98,11 +110,11 @@ fn release(
     out: &mut String,
 ) -> Result<(), Fault>
     requires every { IsEverySession everyone.now }
-    requires orderly { IsOrderly book.old.waiting }
+    requires orderly { IsOrderly (lock_of book.old) }
     ensures told { OnOk result (string_bytes out.new
         ≡ string_bytes out.old ++ text_of (released (lock_kind book.old) session (ticket_of session 1 book.old.granted) (lock_of book.old)).answers) }
     ensures left { OnOk result (lock_of book.new ≡ (released (lock_kind book.old) session (ticket_of session 1 book.old.granted) (lock_of book.old)).lock) }
-    ensures orderly { OnOk result (IsOrderly book.new.waiting) }
+    ensures orderly { OnOk result (IsOrderly (lock_of book.new)) }
     ensures key { OnOk result (book.new.key ≡ book.old.key) }
     ensures memory { IsOkUnless result Fault.Memory }
 {
@@ -123,11 +135,11 @@ fn time_out(
     out: &mut String,
 ) -> Result<(), Fault>
     requires every { IsEverySession everyone.now }
-    requires orderly { IsOrderly book.old.waiting }
+    requires orderly { IsOrderly (lock_of book.old) }
     ensures told { OnOk result (string_bytes out.new
         ≡ string_bytes out.old ++ text_of (timed_out (lock_kind book.old) session (ticket_of session 1 book.old.waiting) (lock_of book.old)).answers) }
     ensures left { OnOk result (lock_of book.new ≡ (timed_out (lock_kind book.old) session (ticket_of session 1 book.old.waiting) (lock_of book.old)).lock) }
-    ensures orderly { OnOk result (IsOrderly book.new.waiting) }
+    ensures orderly { OnOk result (IsOrderly (lock_of book.new)) }
     ensures key { OnOk result (book.new.key ≡ book.old.key) }
     ensures memory { IsOkUnless result Fault.Memory }
 {
@@ -143,10 +155,10 @@ fn time_out(
 // Grants waiters, first in order of arrival first, until none can be.
 fn grant_waiters(book: &mut Book, everyone: &Sessions, out: &mut String) -> Result<(), Fault>
     requires every { IsEverySession everyone.now }
-    requires orderly { IsOrderly book.old.waiting }
+    requires orderly { IsOrderly (lock_of book.old) }
     ensures told { OnOk result (string_bytes out.new ≡ string_bytes out.old ++ text_of (grants_until_none (lock_kind book.old) (lock_of book.old)).answers) }
     ensures left { OnOk result (lock_of book.new ≡ (grants_until_none (lock_kind book.old) (lock_of book.old)).lock) }
-    ensures orderly { OnOk result (IsOrderly book.new.waiting) }
+    ensures orderly { OnOk result (IsOrderly (lock_of book.new)) }
     ensures key { OnOk result (book.new.key ≡ book.old.key) }
     ensures memory { IsOkUnless result Fault.Memory }
 {

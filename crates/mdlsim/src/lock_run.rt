@@ -3,7 +3,7 @@ ghost use Rattle.std.specs.Prelude.{◌≡◌, OnOk, IfOk, IfErr, IfSome, IsOk};
 ghost use Rattle.std.specs.Io.KnownBytes.{Appends, IsAtEnd};
 ghost use Rattle.std.specs.String.{string_bytes};
 ghost use Rattle.mdlsim.specs.Faults.{IsFaultOf};
-ghost use Rattle.mdlsim.specs.Output.{lock_output_of, MayEnd, LeavesWritten, StaysLawful};
+ghost use Rattle.mdlsim.specs.Output.{lock_output_of, MayEnd, LeavesWritten, StaysLawful, NeverForgets};
 ghost use Rattle.mdlsim.specs.Scripts.{parsed};
 
 use crate::device::{read_all, write_all};
@@ -38,6 +38,9 @@ pub fn lock_run<R: Read, W: Write>(
 
     // By that output, no two sessions ever hold locks that clash.
     ensures lawful { IfSome (R.remaining reader.old) (λ input. StaysLawful kind (parsed kind input)) }
+
+    // And no session is ever left waiting that could be granted.
+    ensures none_forgotten { IfSome (R.remaining reader.old) (λ input. NeverForgets kind (parsed kind input)) }
 {
     let input = read_all(alloc, reader)?;
     let output = output(alloc, kind, &input)?;
@@ -51,6 +54,7 @@ fn output(alloc: Global, kind: Kind, script: &[u8]) -> Result<String, Fault>
     ensures accepted { OnOk result (IsOk (parsed kind script.now)) }
     ensures fault { IfErr result (IsFaultOf kind script.now) }
     ensures lawful { StaysLawful kind (parsed kind script.now) }
+    ensures none_forgotten { NeverForgets kind (parsed kind script.now) }
 {
     let commands = parse(alloc, kind, script)?;
     answers_to(alloc, kind, &commands)

@@ -1,10 +1,12 @@
 -- Each turn adds what comes of one command.
-use Rattle.std.proofs.Common.{◌+◌, refl, sym, ap, ◌∙◌, subst, arith}
+use Rattle.std.proofs.Common.{◌+◌, refl, sym, ap, ◌∙◌, subst}
 use Rattle.mdl_key.specs.Modes.{kind_of}
 use Rattle.mdl_book.specs.Granting.{IsLawful}
 use Rattle.mdlsim.specs.Answers.{Lock}
 use Rattle.mdlsim.specs.Locks.{lock_of}
+use Rattle.mdlsim.proofs.ForgottenLemmas.{forgets_nobody_throughout}
 use Rattle.mdlsim.proofs.LawfulLemmas.{lawful_throughout}
+use Rattle.mdlsim.proofs.OrderLemmas.{orderly_free}
 use Rattle.mdlsim.proofs.RunLemmas.{told_so_far, left_so_far}
 use Rattle.mdlsim.proofs.lock.answers_to.Goals as goal
 
@@ -17,12 +19,21 @@ returns-in_err-obey-clause-lawful c = lawful_throughout _ _
 pub returns-clause-lawful : goal.returns-clause-lawful
 returns-clause-lawful c = lawful_throughout _ _
 
+pub returns-in_err-key_of-clause-none_forgotten : goal.returns-in_err-key_of-clause-none_forgotten
+returns-in_err-key_of-clause-none_forgotten c = forgets_nobody_throughout _ _
+
+pub returns-in_err-obey-clause-none_forgotten : goal.returns-in_err-obey-clause-none_forgotten
+returns-in_err-obey-clause-none_forgotten c = forgets_nobody_throughout _ _
+
+pub returns-clause-none_forgotten : goal.returns-clause-none_forgotten
+returns-clause-none_forgotten c = forgets_nobody_throughout _ _
+
 pub loop-command-init : goal.loop-command-init
 loop-command-init c = rw c.new-book.ensures (record {
   told = c.new-text.ensures.bytes;
   left = refl;
   kind = c.in_ok-key_of.ensures.kind;
-  orderly = record { numbered = λ k d inside. absurd (omega arith); apart = λ i j d below inside. absurd (omega arith) };
+  orderly = orderly_free;
   lawful = refl;
 })
 

@@ -15,6 +15,6 @@ invariant-loop-command l =
       told : string_bytes l.text ≡ text_of so_far.answers;
       left : lock_of l.book ≡ so_far.lock;
       kind : lock_kind l.book ≡ l.fn.kind;
-      orderly : IsOrderly l.book.waiting;
+      orderly : IsOrderly (lock_of l.book);
       lawful : IsLawful l.fn.kind l.book.granted;
     }

@@ -6,7 +6,8 @@ use Rattle.mdl_book.specs.declared.book_error.BookError.TheVariants.{NotHere}
 use Rattle.mdl_book.specs.Books.{lock_kind}
 use Rattle.mdlsim.specs.Answers.{next_waiter, admitted}
 use Rattle.mdlsim.specs.Locks.{lock_of}
-use Rattle.mdlsim.proofs.LockLemmas.{named-next, none-next, told_end, left_end, told_more, left_more, orderly_without}
+use Rattle.mdlsim.proofs.LockLemmas.{named-next, none-next, told_end, left_end, told_more, left_more}
+use Rattle.mdlsim.proofs.OrderLemmas.{orderly_admit}
 use Rattle.mdlsim.proofs.lock.grant_waiters.Goals as goal
 
 pub returns-in_default-clause-told : goal.returns-in_default-clause-told
@@ -49,5 +50,5 @@ loop-turn-preserved c =
       told = rw after (told_more kind n m (lock_of book) ticket _ _ _ fewer some (rw (← is_ticket) c.in_ok-write_answer.ensures.told) c.loop-turn.invariant.told);
       left = rw after (left_more kind n m (lock_of book) _ ticket fewer some c.loop-turn.invariant.left);
       key = ap (λ lists. lists.key) c.admit.ensures.admitted ∙ c.loop-turn.invariant.key;
-      orderly = rw c.admit.ensures.admitted (orderly_without c.in-Some.session c.in-Some.number book.waiting c.loop-turn.invariant.orderly);
+      orderly = rw after (orderly_admit (lock_of book) _ ticket some c.loop-turn.invariant.orderly);
     }

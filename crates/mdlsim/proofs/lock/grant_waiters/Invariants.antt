@@ -16,5 +16,5 @@ invariant-loop-turn l =
       told : string_bytes l.out ++ text_of rest.answers ≡ string_bytes l.fn.out ++ text_of whole.answers;
       left : rest.lock ≡ whole.lock;
       key : l.book.key ≡ l.fn.book.key;
-      orderly : IsOrderly l.book.waiting;
+      orderly : IsOrderly (lock_of l.book);
     }

@@ -7,7 +7,8 @@ use Rattle.std.specs.List.{All}
 use Rattle.std.proofs.lemmas.Result.{IfOk-at_ok}
 use Rattle.mdlsim.specs.Lines.{lines_of}
 use Rattle.mdlsim.specs.Scripts.{line_says, commands_from}
-use Rattle.mdlsim.proofs.Reading.{joined, joined-said, pieces, commands_left, no_commands_left, lines-fit, IsOfSession, commands_from-sessions}
+use Rattle.mdlsim.specs.Locks.{IsNumbered}
+use Rattle.mdlsim.proofs.Reading.{joined, joined-said, pieces, commands_left, no_commands_left, lines-fit, commands_from-sessions}
 use Rattle.mdlsim.proofs.Words.{item_at, all_came}
 use Rattle.mdlsim.proofs.parse.parse.Goals as goal
 
@@ -42,4 +43,4 @@ pub returns : goal.returns
 returns c =
     let end = all_came c.loop-line.yielded _ c.loop-line.yielded_by c.next.result c.next.new.self c.in-None.is c.next.ensures.steps (pieces c.args.text.now) (YieldsList-at c.into_iter-line-iterator.ensures.into_iter_gives (YieldsList-from_slice_split _ (λ byte. byte == 10) c.args.text.now c.split-line-items.ensures.rest c.split-line-items.ensures.done c.split-line-items.ensures.closure (λ x b q k. search (rules, tests)))) in
     let read = c.loop-line.invariant.read ∙ ap (joined c.loop-line.commands.items) (no_commands_left c.args.kind c.args.text.now _ _ c.loop-line.invariant.counted end) ∙ ap Ok (append-nil _) in
-    record { parsed = read; refused = tt; sessions = IfOk-at_ok (All IsOfSession) read (commands_from-sessions c.args.kind 1 (lines_of c.args.text.now)) }
+    record { parsed = read; refused = tt; sessions = IfOk-at_ok (All IsNumbered) read (commands_from-sessions c.args.kind 1 (lines_of c.args.text.now)) }
