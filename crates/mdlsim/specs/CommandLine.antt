@@ -1,6 +1,7 @@
 -- What the words of a command line ask for.
 use Rattle.std.specs.Prelude.{◌≡◌, ◌⊎◌, ℕ, List, [], ◌∷◌, codes, true}
 use Rattle.clap.specs.Simple.{App, new_app, new_shape, on_top, with_subcommand}
+use Rattle.mdl_key.specs.declared.namespace.Kind.{Kind}
 use Rattle.mdl_key.specs.declared.namespace.Kind.TheVariants.{Scoped, Object}
 use Rattle.mdlsim.specs.declared.command_line.Run.{Run}
 use Rattle.mdlsim.specs.declared.command_line.Run.TheVariants.{Lock}
@@ -13,3 +14,7 @@ Asks words (Lock Scoped) = ⊥
 -- what a parse reads of the program: it has the subcommand `lock`, with no options, and wants a subcommand
 abbrev pub mdlsim : App
 mdlsim = with_subcommand (on_top (λ s. record s { subcommand_required = true }) (new_app (codes "mdlsim"))) (new_shape (codes "lock"))
+
+-- the kind of the lock that is driven
+abbrev pub kind_asked : Run → Kind
+kind_asked (Lock kind) = kind

@@ -59,3 +59,6 @@ fn output(alloc: Global, kind: Kind, script: &[u8]) -> Result<String, Fault>
     let commands = parse(alloc, kind, script)?;
     answers_to(alloc, kind, &commands)
 }
+
+#[cfg(test)]
+mod tests;

@@ -2,9 +2,17 @@
 //! what the lock answers.
 #![tactic(auto)]
 
+ghost use Rattle.std.specs.Prelude.{◌≡◌, ◌⊎◌, IfSome, IsErr};
+ghost use Rattle.std.specs.Io.KnownBytes.{Appends, Keeps};
+ghost use Rattle.mdlsim.specs.CommandLine.{kind_asked};
+ghost use Rattle.mdlsim.specs.Output.{lock_output_of};
+ghost use Rattle.mdlsim.specs.Scripts.{parsed};
+
 mod answer;
 mod command_line;
 mod device;
+#[cfg(test)]
+mod fakes;
 mod fault;
 mod lines;
 mod lock;
@@ -53,10 +61,22 @@ fn run<R: Read, W: Write, E: Write>(
     input: &mut R,
     output: &mut W,
     errors: &mut E,
-) -> u8 {
+) -> u8
+    // 0: what was written is the defined output of what was read.
+    ensures done { result ≡ 0 → IfSome (R.remaining input.old) (λ script.
+        Appends (W.contents output.old) (W.contents output.new) (lock_output_of (kind_asked asked) script)) }
+
+    // 1: a line is refused, and nothing was written. Else it is 3.
+    ensures refused { result ≡ 1 → IfSome (R.remaining input.old) (λ script. IsErr (parsed (kind_asked asked) script)) }
+    ensures kept { result ≡ 1 → IfSome (R.remaining input.old) (λ _. Keeps (W.contents output.old) (W.contents output.new)) }
+    ensures status { (result ≡ 0) ⊎ (result ≡ 1) ⊎ (result ≡ 3) }
+{
     let Run::Lock(kind) = asked;
     match lock_run(alloc, kind, input, output) {
         Ok(()) => 0,
         Err(fault) => report(&fault, errors),
     }
 }
+
+#[cfg(test)]
+mod tests;

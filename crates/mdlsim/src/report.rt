@@ -25,3 +25,6 @@ fn tell<W: Write>(fault: &Fault, writer: &mut W) -> io::Result<()>
 {
     writeln!(writer, "{fault}")
 }
+
+#[cfg(test)]
+mod tests;

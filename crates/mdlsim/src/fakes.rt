@@ -1,0 +1,125 @@
+//! Readers and writers for tests: they work in small steps, and slip once.
+ghost use Rattle.std.specs.Prelude.{◌≡◌, ◌≤◌, IfOk};
+
+use std::alloc::Global;
+use std::io;
+use std::io::{ErrorKind, Read, Write};
+
+/// What a call does in place of its work.
+#[derive(Clone, Copy, Debug)]
+pub enum Slip {
+    /// It fails with an error of this kind.
+    Fails(ErrorKind),
+    /// It says that it moved no byte.
+    MovesNothing,
+}
+
+impl Slip {
+    fn answer(self) -> io::Result<usize>
+        ensures { IfOk result (λ count. count ≡ 0) }
+    {
+        match self {
+            Slip::Fails(kind) => Err(io::Error::from(kind)),
+            Slip::MovesNothing => Ok(0),
+        }
+    }
+}
+
+/// When a device slips, and how many bytes it moves at a call.
+#[derive(Clone, Copy, Debug)]
+pub struct Habit {
+    step: usize,
+    // The bytes to go until the slip.
+    slip: Option<(usize, Slip)>,
+}
+
+impl Habit {
+    /// It moves at most so many bytes at a call.
+    pub fn steps_of(step: usize) -> Habit {
+        Habit { step, slip: None }
+    }
+
+    /// It slips once, after so many bytes.
+    pub fn slips_after(self, bytes: usize, slip: Slip) -> Habit {
+        Habit {
+            step: self.step,
+            slip: Some((bytes, slip)),
+        }
+    }
+
+    // How many of these bytes the next call moves, or its slip.
+    fn next(&mut self, bytes: usize) -> Result<usize, Slip>
+        ensures { IfOk result (λ count. count ≤ bytes) }
+    {
+        let count = bytes.min(self.step);
+        let Some((left, slip)) = self.slip else {
+            return Ok(count);
+        };
+        if left == 0 {
+            self.slip = None;
+            return Err(slip);
+        }
+        let count = count.min(left);
+        self.slip = Some((left - count, slip));
+        Ok(count)
+    }
+}
+
+/// A reader of a text.
+#[derive(Drop)]
+pub struct Source<'a> {
+    text: &'a [u8],
+    habit: Habit,
+}
+
+impl<'a> Source<'a> {
+    pub fn new(text: &'a [u8], habit: Habit) -> Source<'a> {
+        Source { text, habit }
+    }
+}
+
+impl Read for Source<'_> {
+    fn read(&mut self, buf: &mut [u8]) -> io::Result<usize> {
+        match self.habit.next(buf.len().min(self.text.len())) {
+            Ok(count) => {
+                let (given, rest) = self.text.split_at(count);
+                buf[..count].copy_from_slice(given);
+                self.text = rest;
+                Ok(count)
+            }
+            Err(slip) => slip.answer(),
+        }
+    }
+}
+
+/// A writer that keeps what it took.
+#[derive(Drop)]
+pub struct Target {
+    pub taken: Vec<u8>,
+    habit: Habit,
+}
+
+impl Target {
+    pub fn new(alloc: Global, habit: Habit) -> Target {
+        Target {
+            taken: Vec::new(alloc),
+            habit,
+        }
+    }
+}
+
+impl Write for Target {
+    fn write(&mut self, buf: &[u8]) -> io::Result<usize> {
+        match self.habit.next(buf.len()) {
+            Ok(count) => match self.taken.extend_from_slice(&buf[..count]) {
+                Ok(()) => Ok(count),
+                Err(_) => Err(io::Error::from(ErrorKind::OutOfMemory)),
+            },
+            Err(slip) => slip.answer(),
+        }
+    }
+
+    fn flush(&mut self) -> io::Result<()> {
+        Ok(())
+    }
+}

@@ -1,0 +1,38 @@
+use super::*;
+use crate::fakes::{Habit, Slip, Target};
+use crate::fault::LineError;
+use std::io::ErrorKind;
+
+const FAULTS: [(Fault, &str, u8); 4] = [
+    (
+        Fault::Refused(7, LineError::BadWord),
+        "line 7: BadWord\n",
+        1,
+    ),
+    (Fault::Memory, "fault: memory\n", 3),
+    (Fault::Read, "fault: device\n", 3),
+    (Fault::Write, "fault: device\n", 3),
+];
+
+#[test]
+fn tells_faults(rt: HostRuntime) {
+    for (fault, line, status) in FAULTS {
+        let mut errors = Vec::new(rt.alloc());
+        assert_eq!(rt; report(&fault, &mut errors), status, "{fault}");
+        assert_eq!(rt; errors.as_slice(), line.as_bytes());
+    }
+}
+
+#[test]
+fn a_line_that_is_lost_leaves_the_status(rt: HostRuntime) {
+    for (fault, line, status) in FAULTS {
+        for bytes in 0..line.len() {
+            let slip = Slip::Fails(ErrorKind::BrokenPipe);
+            let habit = Habit::steps_of(3).slips_after(bytes, slip);
+            let mut errors = Target::new(rt.alloc(), habit);
+            assert_eq!(rt; report(&fault, &mut errors), status, "{fault}");
+            assert_eq!(rt; errors.taken.len(), bytes);
+            assert!(rt; line.as_bytes().starts_with(&errors.taken));
+        }
+    }
+}
