@@ -138,3 +138,6 @@ fn waiting_row_object(ask: Mode) -> &'static [Mode]
         Mode::IX | Mode::SH | Mode::X => &[],
     }
 }
+
+#[cfg(test)]
+mod tests;

@@ -108,3 +108,35 @@ pub enum Duration {
     /// Until it is released.
     Explicit,
 }
+
+#[cfg(test)]
+mod tests {
+    use super::*;
+    use std::test::Fail;
+
+    #[test]
+    fn prints_and_parses(rt: HostRuntime) -> Result<(), Fail> {
+        let modes = [
+            (Mode::IX, "IX"),
+            (Mode::S, "S"),
+            (Mode::SH, "SH"),
+            (Mode::SR, "SR"),
+            (Mode::SW, "SW"),
+            (Mode::SWLP, "SWLP"),
+            (Mode::SU, "SU"),
+            (Mode::SRO, "SRO"),
+            (Mode::SNW, "SNW"),
+            (Mode::SNRW, "SNRW"),
+            (Mode::X, "X"),
+        ];
+        for (mode, name) in modes {
+            assert_eq!(rt; mode.as_str(), name);
+            assert_eq!(rt; mode.to_string(rt.alloc())?.as_str(), name);
+            assert_eq!(rt; name.parse::<Mode>(), Ok(mode));
+        }
+        for name in ["sr", "IXX", "", "I", " X", "X ", "SWL", "XI"] {
+            assert_eq!(rt; name.parse::<Mode>(), Err(ModeError), "reading {name}");
+        }
+        Ok(())
+    }
+}

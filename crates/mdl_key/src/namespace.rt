@@ -51,3 +51,40 @@ impl Kind {
         }
     }
 }
+
+#[cfg(test)]
+mod tests {
+    use super::*;
+
+    #[test]
+    fn locks_tables_as_objects(rt: HostRuntime) {
+        for (namespace, kind) in [
+            (Namespace::Global, Kind::Scoped),
+            (Namespace::Schema, Kind::Scoped),
+            (Namespace::Table, Kind::Object),
+            (Namespace::Commit, Kind::Scoped),
+        ] {
+            assert_eq!(rt; namespace.kind(), kind, "{namespace:?}");
+        }
+    }
+
+    #[test]
+    fn tells_modes_of_a_kind(rt: HostRuntime) {
+        for (mode, scoped, object) in [
+            (Mode::IX, true, false),
+            (Mode::S, true, true),
+            (Mode::SH, false, true),
+            (Mode::SR, false, true),
+            (Mode::SW, false, true),
+            (Mode::SWLP, false, true),
+            (Mode::SU, false, true),
+            (Mode::SRO, false, true),
+            (Mode::SNW, false, true),
+            (Mode::SNRW, false, true),
+            (Mode::X, true, true),
+        ] {
+            assert_eq!(rt; Kind::Scoped.has_mode(mode), scoped, "{mode} of a scope");
+            assert_eq!(rt; Kind::Object.has_mode(mode), object, "{mode} of an object");
+        }
+    }
+}

@@ -1,0 +1,239 @@
+use super::*;
+use std::alloc::AllocError;
+use std::test::Fail;
+
+fn ticket(session: u16, number: u64, mode: Mode) -> Ticket {
+    Ticket {
+        session,
+        number,
+        mode,
+    }
+}
+
+// The book of a table that nobody has locked.
+fn table_book(alloc: Global) -> Result<Book, Fail> {
+    Ok(Book::new(alloc, Key::table(alloc, "test", "t")?))
+}
+
+// The tickets of a list as SESSION.NUMBER MODE, each with a space behind it.
+fn text(alloc: Global, tickets: &[Ticket]) -> Result<String, AllocError> {
+    let mut text = String::new(alloc);
+    for held in tickets {
+        text.push_str(format!(in alloc;
+            "{}.{} {} ",
+            held.session, held.number, held.mode
+        )?.as_str())?;
+    }
+    Ok(text)
+}
+
+// A book's two lists.
+fn lists(alloc: Global, book: &Book) -> Result<String, AllocError> {
+    format!(in alloc;
+        "{}/ {}",
+        text(alloc, book.granted())?,
+        text(alloc, book.waiting())?
+    )
+}
+
+#[test]
+fn lives_an_ordinary_life(rt: HostRuntime) -> Result<(), Fail> {
+    let alloc = rt.alloc();
+    let everyone = Sessions::all();
+    let mut book = table_book(alloc)?;
+    assert_eq!(rt; lists(alloc, &book)?.as_str(), "/ ");
+    assert_eq!(rt; book.next_grantable(&everyone), None);
+    book.grant(ticket(1, 7, Mode::SR))?;
+    book.enqueue(ticket(2, 1, Mode::X))?;
+    book.enqueue(ticket(3, 4, Mode::SR))?;
+    assert_eq!(rt; lists(alloc, &book)?.as_str(), "1.7 SR / 2.1 X 3.4 SR ");
+    assert_eq!(rt; book.next_grantable(&everyone), None);
+
+    assert_eq!(rt; book.remove(1, 7), Ok(ticket(1, 7, Mode::SR)));
+    assert_eq!(rt; book.next_grantable(&everyone), Some((2, 1)));
+    assert_eq!(rt; book.admit(2, 1), Ok(ticket(2, 1, Mode::X)));
+    assert_eq!(rt; lists(alloc, &book)?.as_str(), "2.1 X / 3.4 SR ");
+    assert_eq!(rt; book.next_grantable(&everyone), None);
+
+    assert_eq!(rt; book.cancel(3, 4), Ok(ticket(3, 4, Mode::SR)));
+    assert_eq!(rt; book.remove(2, 1), Ok(ticket(2, 1, Mode::X)));
+    assert_eq!(rt; lists(alloc, &book)?.as_str(), "/ ");
+    assert_eq!(rt; book.key().to_string(alloc)?.as_str(), "TABLE test.t");
+    Ok(())
+}
+
+#[test]
+fn serves_a_schema_in_turn(rt: HostRuntime) -> Result<(), Fail> {
+    let alloc = rt.alloc();
+    let everyone = Sessions::all();
+    let mut book = Book::new(alloc, Key::schema(alloc, "test")?);
+    assert!(rt; book.can_grant(1, Mode::IX));
+    book.grant(ticket(1, 1, Mode::IX))?;
+    for (session, mode) in [(2, Mode::S), (3, Mode::IX), (4, Mode::X)] {
+        assert!(rt; !book.can_grant(session, mode), "{session} asks for {mode}");
+        book.enqueue(ticket(session, 1, mode))?;
+        assert_eq!(rt; book.next_grantable(&everyone), None);
+    }
+    for (leaving, next) in [(1, 4), (4, 2), (2, 3)] {
+        book.remove(leaving, 1)?;
+        assert_eq!(rt;
+            book.next_grantable(&everyone),
+            Some((next, 1)),
+            "{leaving} leaves"
+        );
+        book.admit(next, 1)?;
+        assert_eq!(rt; book.next_grantable(&everyone), None, "{next} has come");
+    }
+    assert_eq!(rt; lists(alloc, &book)?.as_str(), "3.1 IX / ");
+    Ok(())
+}
+
+#[test]
+fn looks_at_other_sessions_alone(rt: HostRuntime) -> Result<(), Fail> {
+    let mut book = table_book(rt.alloc())?;
+    book.grant(ticket(1, 1, Mode::SU))?;
+    book.grant(ticket(2, 1, Mode::SR))?;
+    book.enqueue(ticket(1, 2, Mode::SNW))?;
+    book.enqueue(ticket(3, 1, Mode::SNRW))?;
+    for (session, mode, want) in [
+        (1, Mode::SU, true),
+        (2, Mode::SU, false),
+        (1, Mode::X, false),
+        (2, Mode::X, false),
+        (1, Mode::SR, false),
+        (3, Mode::SR, true),
+        (1, Mode::SW, false),
+        (3, Mode::SW, false),
+        (4, Mode::SH, true),
+        (4, Mode::S, true),
+    ] {
+        assert_eq!(rt;
+            book.can_grant(session, mode),
+            want,
+            "{session} asks for {mode}"
+        );
+    }
+    book.remove(2, 1)?;
+    assert!(rt; book.can_grant(1, Mode::X));
+    Ok(())
+}
+
+#[test]
+fn lets_a_clone_overtake(rt: HostRuntime) -> Result<(), Fail> {
+    let alloc = rt.alloc();
+    let mut book = table_book(alloc)?;
+    book.grant(ticket(1, 1, Mode::SR))?;
+    book.enqueue(ticket(2, 1, Mode::X))?;
+    assert!(rt; !book.can_grant(1, Mode::SR));
+    book.grant(ticket(1, 2, Mode::SR))?;
+    assert_eq!(rt;
+        book.grant(ticket(2, 2, Mode::X)),
+        Err(BookError::WouldConflict)
+    );
+    assert_eq!(rt; lists(alloc, &book)?.as_str(), "1.1 SR 1.2 SR / 2.1 X ");
+    Ok(())
+}
+
+#[test]
+fn counts_later_and_settled_waiters(rt: HostRuntime) -> Result<(), Fail> {
+    let mut book = table_book(rt.alloc())?;
+    book.enqueue(ticket(1, 1, Mode::SR))?;
+    book.enqueue(ticket(2, 1, Mode::X))?;
+    book.enqueue(ticket(3, 1, Mode::X))?;
+    let mut unsettled = Sessions::all();
+    assert_eq!(rt; book.next_grantable(&unsettled), Some((2, 1)));
+    unsettled.remove(2);
+    assert_eq!(rt; book.next_grantable(&unsettled), Some((3, 1)));
+    unsettled.remove(3);
+    assert_eq!(rt; book.next_grantable(&unsettled), None);
+    book.cancel(2, 1)?;
+    assert_eq!(rt; book.next_grantable(&unsettled), None);
+    book.cancel(3, 1)?;
+    assert_eq!(rt; book.next_grantable(&unsettled), Some((1, 1)));
+    assert_eq!(rt; book.next_grantable(&Sessions::new()), None);
+    Ok(())
+}
+
+#[test]
+fn knows_its_tickets(rt: HostRuntime) -> Result<(), Fail> {
+    let alloc = rt.alloc();
+    let mut book = table_book(alloc)?;
+    book.grant(ticket(1, 1, Mode::S))?;
+    book.grant(ticket(1, 2, Mode::SH))?;
+    book.grant(ticket(1, 2, Mode::SR))?;
+    book.enqueue(ticket(2, 1, Mode::X))?;
+    book.enqueue(ticket(2, 2, Mode::SU))?;
+    book.enqueue(ticket(2, 2, Mode::SW))?;
+    let before = lists(alloc, &book)?;
+    for (session, number) in [(1, 1), (2, 3), (3, 1)] {
+        assert_eq!(rt; book.admit(session, number), Err(BookError::NotHere));
+        assert_eq!(rt; book.cancel(session, number), Err(BookError::NotHere));
+    }
+    for (session, number) in [(2, 1), (1, 3), (3, 1)] {
+        assert_eq!(rt; book.remove(session, number), Err(BookError::NotHere));
+    }
+    assert_eq!(rt;
+        book.grant(ticket(3, 1, Mode::X)),
+        Err(BookError::WouldConflict)
+    );
+    assert_eq!(rt; lists(alloc, &book)?.as_str(), before.as_str());
+
+    assert_eq!(rt; book.remove(1, 2), Ok(ticket(1, 2, Mode::SH)));
+    assert_eq!(rt; book.admit(2, 2), Ok(ticket(2, 2, Mode::SU)));
+    assert_eq!(rt; book.cancel(2, 1), Ok(ticket(2, 1, Mode::X)));
+    assert_eq!(rt;
+        lists(alloc, &book)?.as_str(),
+        "1.1 S 1.2 SR 2.2 SU / 2.2 SW "
+    );
+    Ok(())
+}
+
+#[test]
+fn is_full_at_65535_tickets(rt: HostRuntime) -> Result<(), Fail> {
+    let mut book = table_book(rt.alloc())?;
+    book.grant(ticket(1, 0, Mode::X))?;
+    for number in 1..65_535 {
+        book.enqueue(ticket(2, number, Mode::S))?;
+    }
+    assert_eq!(rt; book.enqueue(ticket(2, 0, Mode::S)), Err(BookError::Full));
+    assert_eq!(rt; book.grant(ticket(1, 1, Mode::S)), Err(BookError::Full));
+    assert_eq!(rt;
+        book.grant(ticket(2, 0, Mode::S)),
+        Err(BookError::WouldConflict)
+    );
+    assert_eq!(rt; book.granted().len(), 1);
+    assert_eq!(rt; book.waiting().len(), 65_534);
+
+    book.admit(2, 65_534)?;
+    assert_eq!(rt; book.grant(ticket(1, 1, Mode::SH)), Err(BookError::Full));
+    book.cancel(2, 1)?;
+    book.enqueue(ticket(3, 1, Mode::X))?;
+    assert_eq!(rt; book.enqueue(ticket(3, 2, Mode::X)), Err(BookError::Full));
+    book.remove(1, 0)?;
+    book.grant(ticket(2, 1, Mode::S))?;
+    assert_eq!(rt; book.grant(ticket(2, 0, Mode::S)), Err(BookError::Full));
+    Ok(())
+}
+
+// One refusal of memory in the whole life of the book changes nothing but the answer of the call that met it.
+#[test]
+fn outlives_want_of_memory(rt: HostRuntime) -> Result<(), Fail> {
+    let mut book = table_book(rt.alloc())?;
+    for number in 1..40 {
+        let (granted, waiting) = (book.granted().len(), book.waiting().len());
+        if book.enqueue(ticket(1, number, Mode::S)) == Err(BookError::OutOfMemory) {
+            assert_eq!(rt; book.granted().len(), granted);
+            assert_eq!(rt; book.waiting().len(), waiting);
+            assert_eq!(rt; book.enqueue(ticket(1, number, Mode::S)), Ok(()));
+        }
+        if book.grant(ticket(2, number, Mode::S)) == Err(BookError::OutOfMemory) {
+            assert_eq!(rt; book.granted().len(), granted);
+            assert_eq!(rt; book.grant(ticket(2, number, Mode::S)), Ok(()));
+        }
+    }
+    for number in 1..40 {
+        assert_eq!(rt; book.admit(1, number), Ok(ticket(1, number, Mode::S)));
+    }
+    assert_eq!(rt; book.granted().len(), 78);
+    Ok(())
+}

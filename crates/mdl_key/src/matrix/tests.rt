@@ -1,0 +1,59 @@
+use super::*;
+use std::test::Fail;
+
+// The matrices of MySQL 5.7, sql/mdl.cc: the mode asked for, and the modes that clash with it (GRANTED) or that it waits
+// behind (WAITING).
+const MATRICES: &str = "SCOPED GRANTED IX: S X
+SCOPED GRANTED S: IX X
+SCOPED GRANTED X: IX S X
+SCOPED WAITING IX: S X
+SCOPED WAITING S: X
+SCOPED WAITING X: -
+OBJECT GRANTED S: X
+OBJECT GRANTED SH: X
+OBJECT GRANTED SR: SNRW X
+OBJECT GRANTED SW: SRO SNW SNRW X
+OBJECT GRANTED SWLP: SRO SNW SNRW X
+OBJECT GRANTED SU: SU SNW SNRW X
+OBJECT GRANTED SRO: SW SWLP SNRW X
+OBJECT GRANTED SNW: SW SWLP SU SNW SNRW X
+OBJECT GRANTED SNRW: SR SW SWLP SU SRO SNW SNRW X
+OBJECT GRANTED X: S SH SR SW SWLP SU SRO SNW SNRW X
+OBJECT WAITING S: X
+OBJECT WAITING SH: -
+OBJECT WAITING SR: SNRW X
+OBJECT WAITING SW: SNW SNRW X
+OBJECT WAITING SWLP: SRO SNW SNRW X
+OBJECT WAITING SU: X
+OBJECT WAITING SRO: SW SNRW X
+OBJECT WAITING SNW: X
+OBJECT WAITING SNRW: X
+OBJECT WAITING X: -";
+
+const MODES: [&str; 11] = [
+    "IX", "S", "SH", "SR", "SW", "SWLP", "SU", "SRO", "SNW", "SNRW", "X",
+];
+
+#[test]
+fn each_entry_is_as_in_the_table(rt: HostRuntime) -> Result<(), Fail> {
+    let mut lines = 0usize;
+    for line in MATRICES.lines() {
+        let (asked, row) = line.split_once(": ").ok_or("no colon")?;
+        let (matrix, name) = asked.rsplit_once(' ').ok_or("no mode")?;
+        let ask = name.parse::<Mode>()?;
+        for other in MODES {
+            let mode = other.parse::<Mode>()?;
+            let answer = match matrix {
+                "SCOPED GRANTED" => conflicts_granted(Kind::Scoped, ask, mode),
+                "SCOPED WAITING" => conflicts_waiting(Kind::Scoped, ask, mode),
+                "OBJECT GRANTED" => conflicts_granted(Kind::Object, ask, mode),
+                _ => conflicts_waiting(Kind::Object, ask, mode),
+            };
+            let want = row.split(' ').any(|word| word == other);
+            assert_eq!(rt; answer, want, "{line}: {other}");
+        }
+        lines = lines.saturating_add(1);
+    }
+    assert_eq!(rt; lines, 26);
+    Ok(())
+}

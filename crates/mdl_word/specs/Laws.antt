@@ -1,0 +1,78 @@
+-- Laws of the packed word, after MySQL 5.7, sql/mdl.cc: the fast path adds a ticket's increment to the word, and subtracts
+-- it as the ticket is given up. The layout, and so the laws of its numbers, are this project's own.
+use Rattle.std.specs.Prelude.{◌≡◌, ℕ, ◌+◌, ◌-◌, ◌^◌, ◌<◌, ◌≤◌, Bool, true, false, List, [], ◌∷◌, length, sum, All, Some, bit_and, bit_or, slice_index, IsTrue, ◌↔◌}
+use Rattle.mdl_key.specs.declared.namespace.Kind.{Kind}
+use Rattle.mdl_key.specs.declared.mode.Mode.{Mode}
+use Rattle.mdl_key.specs.Matrices.{clashes, Clashes}
+use Rattle.mdl_key.specs.Classes.{class_of}
+use Rattle.mdl_word.specs.Words.{encode, Encodes, counts_of, slow_flag, obtrusive_flag, increment_of, one_in, count_with, blocks_by}
+
+-- a lawful word is below 2^62, and any such number is the lawful word of what is read off it
+abbrev pub LawfulWords : Type 0
+LawfulWords =
+    ((word a b c : ℕ) (slow obtrusive : Bool) → Encodes word a b c slow obtrusive → word < 2 ^ 62)
+    × ((word : ℕ) → word < 2 ^ 62 →
+    let counts = counts_of word in
+    Encodes word (slice_index counts 0) (slice_index counts 1) (slice_index counts 2) (slow_flag word) (obtrusive_flag word))
+
+-- two readings of one word are the same
+abbrev pub WordsAreReadOneWay : Type 0
+WordsAreReadOneWay =
+    (word a b c a′ b′ c′ : ℕ) (slow obtrusive slow′ obtrusive′ : Bool) →
+    Encodes word a b c slow obtrusive →
+    Encodes word a′ b′ c′ slow′ obtrusive′ →
+    (a ≡ a′) × (b ≡ b′) × (c ≡ c′) × (slow ≡ slow′) × (obtrusive ≡ obtrusive′)
+
+-- the increment of a mode, added, counts one ticket more in its class and changes nothing else, while that class has fewer
+-- than 1,048,575
+abbrev pub AddingCountsOneMore : Type 0
+AddingCountsOneMore =
+    (kind : Kind) (mode : Mode) (n word a b c : ℕ) (slow obtrusive : Bool) →
+    increment_of kind mode ≡ Some n →
+    Encodes word a b c slow obtrusive →
+    count_with (a ∷ b ∷ c ∷ []) kind mode < 1048575 →
+    Encodes (word + n) (a + one_in 0 kind mode) (b + one_in 1 kind mode) (c + one_in 2 kind mode) slow obtrusive
+
+-- the increment of a mode, subtracted from a word that counts a ticket in its class, undoes this and changes nothing else
+abbrev pub SubtractingCountsOneLess : Type 0
+SubtractingCountsOneLess =
+    (kind : Kind) (mode : Mode) (n word a b c : ℕ) (slow obtrusive : Bool) →
+    increment_of kind mode ≡ Some n →
+    Encodes word (a + one_in 0 kind mode) (b + one_in 1 kind mode) (c + one_in 2 kind mode) slow obtrusive →
+    (n ≤ word) × Encodes (word - n) a b c slow obtrusive
+
+-- any number of tickets in each class, added or subtracted at once
+abbrev pub ManyAreCountedAtOnce : Type 0
+ManyAreCountedAtOnce =
+    (word a b c x y z : ℕ) (slow obtrusive : Bool) →
+    a + x < 1048576 → b + y < 1048576 → c + z < 1048576 →
+    let many = encode x y z false false in
+    (Encodes word a b c slow obtrusive → Encodes (word + many) (a + x) (b + y) (c + z) slow obtrusive)
+    × (Encodes word (a + x) (b + y) (c + z) slow obtrusive → (many ≤ word) × Encodes (word - many) a b c slow obtrusive)
+
+-- a flag is raised by `|` with its bit and lowered by `&` with all 64 bits but its own, and nothing else changes
+abbrev pub FlagsAreRaisedAndLowered : Type 0
+FlagsAreRaisedAndLowered =
+    (word a b c : ℕ) (slow obtrusive : Bool) →
+    Encodes word a b c slow obtrusive →
+    Encodes (bit_or word (2 ^ 60)) a b c true obtrusive
+    × Encodes (bit_or word (2 ^ 61)) a b c slow true
+    × Encodes (bit_and word (2 ^ 64 - 1 - 2 ^ 60)) a b c false obtrusive
+    × Encodes (bit_and word (2 ^ 64 - 1 - 2 ^ 61)) a b c slow false
+
+-- up to 1,024 sessions with up to 1,023 tickets each have at most 1,047,552, and 64 sessions 65,472: a count of 20 bits has
+-- room for them
+abbrev pub CountsFit : Type 0
+CountsFit = (tickets : List ℕ) → All (λ n. n ≤ 1023) tickets → length tickets ≤ 1024 → sum tickets < 1048576
+
+-- modes of one class clash with the same requests
+abbrev pub ClassesClashAsOne : Type 0
+ClassesClashAsOne =
+    (kind : Kind) (ask a b : Mode) (class : ℕ) →
+    class_of kind a ≡ Some class → class_of kind b ≡ Some class → clashes kind ask a ≡ clashes kind ask b
+
+-- a word's counts block a request exactly where there is a mode that clashes with it, in whose class there are tickets
+abbrev pub BlocksWhereCountedTicketsClash : Type 0
+BlocksWhereCountedTicketsClash =
+    (counts : List ℕ) (kind : Kind) (ask : Mode) →
+    IsTrue (blocks_by counts kind ask) ↔ ((held : Mode) × (0 < count_with counts kind held) × Clashes kind ask held)

@@ -1,0 +1,49 @@
+//! Laws of the words. Each is proved as the contract of a function that does nothing.
+ghost use Rattle.mdl_word.specs.Laws.{LawfulWords, WordsAreReadOneWay, AddingCountsOneMore, SubtractingCountsOneLess, ManyAreCountedAtOnce, FlagsAreRaisedAndLowered, CountsFit, ClassesClashAsOne, BlocksWhereCountedTicketsClash};
+
+/// The lawful words are the numbers below 2^62.
+pub fn lawful_words()
+    ensures { LawfulWords }
+{}
+
+/// No two sets of counts and flags have the same word.
+pub fn words_are_read_one_way()
+    ensures { WordsAreReadOneWay }
+{}
+
+/// Adding an increment counts one ticket more in its class and changes nothing else, while that class has fewer than
+/// 1,048,575.
+pub fn adding_counts_one_more()
+    ensures { AddingCountsOneMore }
+{}
+
+/// Subtracting an increment undoes its addition.
+pub fn subtracting_counts_one_less()
+    ensures { SubtractingCountsOneLess }
+{}
+
+/// Any number of tickets in each class can be added or subtracted at once.
+pub fn many_are_counted_at_once()
+    ensures { ManyAreCountedAtOnce }
+{}
+
+/// Raising or lowering a flag, by `|` or `&`, changes that flag alone.
+pub fn flags_are_raised_and_lowered()
+    ensures { FlagsAreRaisedAndLowered }
+{}
+
+/// The tickets of up to 1,024 sessions, up to 1,023 of each, never fill a count, so that none runs into the next.
+pub fn counts_fit()
+    ensures { CountsFit }
+{}
+
+/// The modes of one class clash with the same requests, so that any one of them can stand for the class.
+pub fn classes_clash_as_one()
+    ensures { ClassesClashAsOne }
+{}
+
+/// [`Word::blocks`](crate::Word::blocks) is true exactly where a mode clashes with the request and tickets are counted in
+/// its class.
+pub fn blocks_where_counted_tickets_clash()
+    ensures { BlocksWhereCountedTicketsClash }
+{}

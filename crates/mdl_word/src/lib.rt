@@ -1,0 +1,16 @@
+//! The packed word of one lock: how many fast tickets it has, by class, and two flags.
+//!
+//! A fast ticket leaves no entry in a lock's lists. It is only counted, together with those in modes that clash with the
+//! same requests, so that gaining it or giving it up is a single addition to the lock's [`Word`]: see
+//! [`Word::increment`]. Whoever asks for a mode that may clash reads the counts back: [`Word::blocks`].
+#![tactic(auto)]
+
+mod laws;
+mod word;
+
+pub use laws::{
+    adding_counts_one_more, blocks_where_counted_tickets_clash, classes_clash_as_one, counts_fit,
+    flags_are_raised_and_lowered, lawful_words, many_are_counted_at_once,
+    subtracting_counts_one_less, words_are_read_one_way,
+};
+pub use word::Word;

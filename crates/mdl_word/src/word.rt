@@ -1,0 +1,187 @@
+//! The word, and what is read off it.
+ghost use Rattle.std.specs.Prelude.{◌≡◌, ℕ, Bool, ◌&&◌, nat_lt, List, [], ◌∷◌};
+ghost use Rattle.mdl_key.specs.Matrices.{clashes};
+ghost use Rattle.mdl_word.specs.Words.{Encodes, counts_of, slow_flag, obtrusive_flag, increment_of, blocks_by};
+
+use mdl_key::{Kind, Mode, conflicts_granted};
+
+const COUNT_BITS: u32 = 20;
+
+const COUNT_MASK: u64 = (1 << COUNT_BITS) - 1;
+
+// What one ticket adds, by the class in which it is counted.
+const FIRST: u64 = 1;
+
+const SECOND: u64 = 1 << COUNT_BITS;
+
+const THIRD: u64 = 1 << (2 * COUNT_BITS);
+
+/// The packed word of one lock.
+///
+/// Bits 0 to 19 count S and SH together, and IX where the lock is scoped. Bits 20 to 39 count SR, and bits 40 to 59 SW and
+/// SWLP together. Bit 60 is [`Word::SLOW`] and bit 61 [`Word::OBTRUSIVE`]; bits 62 and 63 are zero. Fast tickets alone are
+/// counted.
+///
+/// After MySQL 5.7, `MDL_lock::m_fast_path_state` of `sql/mdl.cc`. The layout is this project's own.
+#[derive(Clone, Copy, Debug, PartialEq, Eq)]
+pub struct Word(pub u64);
+
+impl Word {
+    /// The bit that says that a ticket stands in one of the lock's lists.
+    pub const SLOW: u64 = 1 << 60;
+
+    /// The bit that says that one of these tickets is in an obtrusive mode.
+    pub const OBTRUSIVE: u64 = 1 << 61;
+
+    /// The number that one fast ticket adds to the word. Tickets in obtrusive modes are not counted, nor in modes that are
+    /// none of the kind.
+    pub fn increment(kind: Kind, mode: Mode) -> Option<u64>
+        ensures { result ≡ increment_of kind mode }
+    {
+        match (kind, mode) {
+            (Kind::Scoped, Mode::IX) => Some(FIRST),
+            (Kind::Object, Mode::S | Mode::SH) => Some(FIRST),
+            (Kind::Object, Mode::SR) => Some(SECOND),
+            (Kind::Object, Mode::SW | Mode::SWLP) => Some(THIRD),
+            _ => None,
+        }
+    }
+
+    /// Whether [`Word::OBTRUSIVE`] is raised.
+    pub fn obtrusive(self) -> bool
+        ensures any_number { result ≡ obtrusive_flag self.0 }
+        ensures lawful_word { (a b c : ℕ) (slow obtrusive : Bool) →
+            Encodes self.0 a b c slow obtrusive → result ≡ obtrusive }
+    {
+        self.0 & Word::OBTRUSIVE != 0
+    }
+
+    /// Whether [`Word::SLOW`] is raised.
+    pub fn slow(self) -> bool
+        ensures any_number { result ≡ slow_flag self.0 }
+        ensures lawful_word { (a b c : ℕ) (slow obtrusive : Bool) →
+            Encodes self.0 a b c slow obtrusive → result ≡ slow }
+    {
+        self.0 & Word::SLOW != 0
+    }
+
+    /// How many fast tickets are counted in each class: S and SH, or IX; SR; SW and SWLP.
+    pub fn counts(self) -> [u32; 3]
+        ensures any_number { result ≡ counts_of self.0 }
+        ensures lawful_word { (a b c : ℕ) (slow obtrusive : Bool) →
+            Encodes self.0 a b c slow obtrusive → result ≡ a ∷ b ∷ c ∷ [] }
+    {
+        [
+            (self.0 & COUNT_MASK) as u32,
+            ((self.0 >> COUNT_BITS) & COUNT_MASK) as u32,
+            ((self.0 >> (2 * COUNT_BITS)) & COUNT_MASK) as u32,
+        ]
+    }
+
+    /// Whether a fast ticket stands in the way of a request for `ask`: a class has one, and its modes clash with `ask`.
+    pub fn blocks(self, kind: Kind, ask: Mode) -> bool
+        ensures any_number { result ≡ blocks_by (counts_of self.0) kind ask }
+        ensures lawful_word { (a b c : ℕ) (slow obtrusive : Bool) →
+            Encodes self.0 a b c slow obtrusive → result ≡ blocks_by (a ∷ b ∷ c ∷ []) kind ask }
+    {
+        let [first, second, third] = self.counts();
+        match kind {
+            Kind::Scoped => is_in_the_way(first, kind, ask, Mode::IX),
+            Kind::Object => {
+                is_in_the_way(first, kind, ask, Mode::S)
+                    || is_in_the_way(second, kind, ask, Mode::SR)
+                    || is_in_the_way(third, kind, ask, Mode::SW)
+            }
+        }
+    }
+}
+
+// Whether there are tickets in the mode `held`, by their count, and they clash with `ask`.
+fn is_in_the_way(count: u32, kind: Kind, ask: Mode, held: Mode) -> bool
+    ensures { result ≡ (nat_lt 0 count && clashes kind ask held) }
+{
+    count != 0 && conflicts_granted(kind, ask, held)
+}
+
+#[cfg(test)]
+mod tests {
+    use super::*;
+
+    // Two tickets in S, one in SR and one in SW.
+    const TWO_S_ONE_SR_ONE_SW: u64 = 0x0000_0100_0010_0002;
+
+    // A ticket in SU, in a list.
+    const ONE_SU: u64 = 0x3000_0000_0000_0000;
+
+    #[test]
+    fn increments(rt: HostRuntime) {
+        for (mode, scoped, object) in [
+            (Mode::IX, Some(0x1), None),
+            (Mode::S, None, Some(0x1)),
+            (Mode::SH, None, Some(0x1)),
+            (Mode::SR, None, Some(0x10_0000)),
+            (Mode::SW, None, Some(0x100_0000_0000)),
+            (Mode::SWLP, None, Some(0x100_0000_0000)),
+            (Mode::SU, None, None),
+            (Mode::SRO, None, None),
+            (Mode::SNW, None, None),
+            (Mode::SNRW, None, None),
+            (Mode::X, None, None),
+        ] {
+            assert_eq!(rt;
+                Word::increment(Kind::Scoped, mode),
+                scoped,
+                "{mode}, scoped"
+            );
+            assert_eq!(rt;
+                Word::increment(Kind::Object, mode),
+                object,
+                "{mode}, object"
+            );
+        }
+    }
+
+    #[test]
+    fn fields(rt: HostRuntime) {
+        for (word, counts, slow, obtrusive) in [
+            (0, [0, 0, 0], false, false),
+            (TWO_S_ONE_SR_ONE_SW, [2, 1, 1], false, false),
+            (ONE_SU, [0, 0, 0], true, true),
+            (Word::SLOW, [0, 0, 0], true, false),
+            (Word::OBTRUSIVE, [0, 0, 0], false, true),
+            (
+                0x0fff_ffff_ffff_ffff,
+                [1_048_575, 1_048_575, 1_048_575],
+                false,
+                false,
+            ),
+        ] {
+            assert_eq!(rt; Word(word).counts(), counts, "counts of {word}");
+            assert_eq!(rt; Word(word).slow(), slow, "slow flag of {word}");
+            assert_eq!(rt;
+                Word(word).obtrusive(),
+                obtrusive,
+                "obtrusive flag of {word}"
+            );
+        }
+    }
+
+    #[test]
+    fn blocked_requests(rt: HostRuntime) {
+        for (word, kind, ask, blocks) in [
+            (0x1, Kind::Object, Mode::X, true),
+            (0x1, Kind::Object, Mode::SNRW, false),
+            (0x10_0000, Kind::Object, Mode::SNRW, true),
+            (0x10_0000, Kind::Object, Mode::SNW, false),
+            (0x100_0000_0000, Kind::Object, Mode::SRO, true),
+            (0x100_0000_0000, Kind::Object, Mode::SNW, true),
+            (0x100_0000_0000, Kind::Object, Mode::SU, false),
+            (ONE_SU, Kind::Object, Mode::X, false),
+            (0x1, Kind::Scoped, Mode::S, true),
+            (0x1, Kind::Scoped, Mode::X, true),
+            (0x1, Kind::Scoped, Mode::IX, false),
+        ] {
+            assert_eq!(rt; Word(word).blocks(kind, ask), blocks, "{ask} at {word}");
+        }
+    }
+}
