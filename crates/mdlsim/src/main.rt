@@ -26,18 +26,17 @@ use fault::Fault;
 use lock_run::lock_run;
 use report::report;
 use std::alloc::Global;
-use std::io::{Read, Write};
+use std::io;
+use std::io::{ErrorKind, Read, Write};
 use std::process::ExitCode;
 
 // The status of a program whose command line was refused, or that was asked for help.
 const USAGE: u8 = 2;
 
 fn main(rt: HostRuntime) -> ExitCode {
-    let Ok(words) = std::env::args(&rt) else {
-        return ExitCode::from(report(&Fault::Memory, &mut rt.stderr()));
-    };
-    let Ok(words) = words.collect::<Vec<String>>(rt.alloc()) else {
-        return ExitCode::from(report(&Fault::Memory, &mut rt.stderr()));
+    let words = match words_given(&rt) {
+        Ok(words) => words,
+        Err(error) => return ExitCode::from(refused(&rt, &error)),
     };
     match command(rt.alloc(), words.as_slice()) {
         Ok(asked) => ExitCode::from(run(
@@ -52,6 +51,21 @@ fn main(rt: HostRuntime) -> ExitCode {
             ExitCode::from(USAGE)
         }
     }
+}
+
+// The words of the command line.
+fn words_given(rt: &HostRuntime) -> io::Result<Vec<String>> {
+    let words = std::env::args(rt)?;
+    Ok(words.collect(rt.alloc())?)
+}
+
+// Tells that the words of the command line could not be had, and answers the status.
+fn refused(rt: &HostRuntime, error: &io::Error) -> u8 {
+    if error.kind() == ErrorKind::OutOfMemory {
+        return report(&Fault::Memory, &mut rt.stderr());
+    }
+    let _ = eprintln!(rt; "error: {error}");
+    USAGE
 }
 
 // Does what the command line asks for, tells a fault, and answers the status.

@@ -115,18 +115,22 @@ fn refused_scripts_write_nothing(rt: HostRuntime) -> Result<(), Fail> {
 #[test]
 fn a_read_that_fails_is_told(rt: HostRuntime) -> Result<(), Fail> {
     let script = lines(rt.alloc(), SCRIPT)?;
-    for bytes in 0..=script.len() {
-        let slip = Slip::Fails(ErrorKind::ConnectionReset);
-        let habit = Habit::steps_of(7).slips_after(bytes, slip);
-        let mut written = Vec::new(rt.alloc());
-        let result = lock_run(
-            rt.alloc(),
-            Kind::Object,
-            &mut Source::new(script.as_bytes(), habit),
-            &mut written,
-        );
-        assert_eq!(rt; result, Err(Fault::Read), "after {bytes}");
-        assert!(rt; written.is_empty(), "after {bytes}");
+    for (kind, fault) in [
+        (ErrorKind::ConnectionReset, Fault::Read),
+        (ErrorKind::OutOfMemory, Fault::Memory),
+    ] {
+        for bytes in 0..=script.len() {
+            let habit = Habit::steps_of(7).slips_after(bytes, Slip::Fails(kind));
+            let mut written = Vec::new(rt.alloc());
+            let result = lock_run(
+                rt.alloc(),
+                Kind::Object,
+                &mut Source::new(script.as_bytes(), habit),
+                &mut written,
+            );
+            assert_eq!(rt; result, Err(fault), "after {bytes}");
+            assert!(rt; written.is_empty(), "after {bytes}");
+        }
     }
     Ok(())
 }
