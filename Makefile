@@ -26,7 +26,7 @@ examples: build
 # Proves mdlsim and what it stands on, and builds it.
 build: kit
 	@mkdir -p crates/mdlsim/out
-	@cd crates/mdlsim && rt run < stdin > out/build.log 2>&1 || { cat out/build.log >&2; exit 1; }
+	@cd crates/mdlsim && rt run -- lock < stdin > out/build.log 2>&1 || { cat out/build.log >&2; exit 1; }
 
 kit:
 	@command -v rt > /dev/null || { echo "rt is missing: put the folder bin of the Rattle kit on the path" >&2; exit 1; }
