@@ -38,6 +38,21 @@ pub enum Mode {
 }
 
 impl Mode {
+    /// Every mode, in their order.
+    pub const ALL: [Mode; 11] = [
+        Mode::IX,
+        Mode::S,
+        Mode::SH,
+        Mode::SR,
+        Mode::SW,
+        Mode::SWLP,
+        Mode::SU,
+        Mode::SRO,
+        Mode::SNW,
+        Mode::SNRW,
+        Mode::X,
+    ];
+
     /// The mode's name, in capitals.
     pub fn as_str(self) -> &'static str
         ensures { result.now ≡ mode_name self }
@@ -113,6 +128,13 @@ pub enum Duration {
 mod tests {
     use super::*;
     use std::test::Fail;
+
+    #[test]
+    fn all_are_in_order(rt: HostRuntime) {
+        assert!(rt; Mode::ALL.is_sorted());
+        assert_eq!(rt; Mode::ALL.first(), Some(&Mode::IX));
+        assert_eq!(rt; Mode::ALL.last(), Some(&Mode::X));
+    }
 
     #[test]
     fn prints_and_parses(rt: HostRuntime) -> Result<(), Fail> {
