@@ -1,6 +1,7 @@
 -- Facts about the matrices, by looking at each of their entries.
-use Rattle.std.proofs.Common.{◌≡◌, Bool, true, false, cond, not, refl, sym, lit<}
+use Rattle.std.proofs.Common.{◌≡◌, ◌↔◌, Bool, true, false, cond, not, ◌||◌, IsTrue, List, [], ◌∷◌, refl, sym, ◌∙◌, lit<}
 use Rattle.std.specs.List.{list_all}
+use Rattle.std.proofs.lemmas.Bool.{both_ways}
 use Rattle.std.proofs.lemmas.List.Sums.{AllPass-from_list_all}
 use Rattle.mdl_key.specs.declared.namespace.Kind.{Kind}
 use Rattle.mdl_key.specs.declared.namespace.Kind.TheVariants.{Scoped, Object}
@@ -8,6 +9,7 @@ use Rattle.mdl_key.specs.declared.mode.Mode.{Mode}
 use Rattle.mdl_key.specs.declared.mode.Mode.TheVariants.{IX, S, SH, SR, SW, SWLP, SU, SRO, SNW, SNRW, X}
 use Rattle.mdl_key.specs.Modes.{all_modes}
 use Rattle.mdl_key.specs.Matrices.{clashes}
+use Rattle.mdl_key.specs.Classes.{is_at_least, IsAtLeast}
 
 -- what the test gives at each mode
 pub each_mode : (test : Mode → Bool) → list_all test all_modes ≡ true → (mode : Mode) → test mode ≡ true
@@ -44,3 +46,38 @@ symmetric_kind Object = refl
 -- clashing is symmetric
 pub clashes-symmetric : (kind : Kind) (a b : Mode) → clashes kind a b ≡ clashes kind b a
 clashes-symmetric kind a b = same-true _ _ (each_mode (λ x. same (clashes kind a x) (clashes kind x a)) (each_mode (is_symmetric_at kind) (symmetric_kind kind) a) b)
+
+-- whether what clashes with b, at one mode, clashes with a
+abbrev clashes_too : Kind → Mode → Mode → Mode → Bool
+clashes_too kind a b held = not (clashes kind b held) || clashes kind a held
+
+-- strength by rows is strength at each mode
+abbrev is_by_modes_at : Kind → Mode → Mode → Bool
+is_by_modes_at kind a b = same (is_at_least kind a b) (list_all (clashes_too kind a b) all_modes)
+
+by_modes_kind : (kind : Kind) → list_all (λ a. list_all (is_by_modes_at kind a) all_modes) all_modes ≡ true
+by_modes_kind Scoped = refl
+by_modes_kind Object = refl
+
+by_modes : (kind : Kind) (a b : Mode) → is_at_least kind a b ≡ list_all (clashes_too kind a b) all_modes
+by_modes kind a b = same-true _ _ (each_mode (is_by_modes_at kind a) (each_mode (λ x. list_all (is_by_modes_at kind x) all_modes) (by_modes_kind kind) a) b)
+
+too-from : (weaker stronger : Bool) → (not weaker || stronger) ≡ true → weaker ≡ true → stronger ≡ true
+too-from true stronger e is = e
+too-from false stronger e is = absurd (both_ways false refl is)
+
+from-too : (weaker stronger : Bool) → (weaker ≡ true → stronger ≡ true) → (not weaker || stronger) ≡ true
+from-too true stronger f = f refl
+from-too false stronger f = refl
+
+-- a test that passes everywhere passes on each list
+every : (test : Mode → Bool) → ((mode : Mode) → test mode ≡ true) → (modes : List Mode) → list_all test modes ≡ true
+every test passes [] = refl
+every test passes (mode ∷ modes) = rw (passes mode) (every test passes modes)
+
+-- the test of strength is exact
+pub at_least-exact : (kind : Kind) (a b : Mode) → IsTrue (is_at_least kind a b) ↔ IsAtLeast kind a b
+at_least-exact kind a b = (
+  (λ e held. too-from _ _ (each_mode (clashes_too kind a b) (sym (by_modes kind a b) ∙ e) held)),
+  (λ f. by_modes kind a b ∙ every (clashes_too kind a b) (λ held. from-too _ _ (f held)) all_modes),
+)

@@ -1,6 +1,7 @@
 -- How modes are counted, compared and weighed, after MySQL 5.7: sql/mdl.cc, the unobtrusive lock increments, and
 -- sql/mdl.h, the weight of a request in a search for deadlocks.
 use Rattle.std.specs.Prelude.{ℕ, Bool, not, nat_le, if◌then◌else◌, Option, Some, None, IsTrue, is_some}
+use Rattle.std.specs.List.{list_all}
 use Rattle.mdl_key.specs.declared.namespace.Namespace.{Namespace}
 use Rattle.mdl_key.specs.declared.namespace.Namespace.TheVariants.{Global}
 use Rattle.mdl_key.specs.declared.namespace.Kind.{Kind}
@@ -8,7 +9,7 @@ use Rattle.mdl_key.specs.declared.namespace.Kind.TheVariants.{Scoped, Object}
 use Rattle.mdl_key.specs.declared.mode.Mode.{Mode}
 use Rattle.mdl_key.specs.declared.mode.Mode.TheVariants.{IX, S, SH, SR, SW, SWLP, SU}
 use Rattle.mdl_key.specs.Modes.{mode_rank}
-use Rattle.mdl_key.specs.Matrices.{clashes}
+use Rattle.mdl_key.specs.Matrices.{clashes, granted_conflicts}
 
 -- the class in which tickets of a mode are counted together, for IX of scoped locks and S, SH, SR, SW, SWLP of object locks
 abbrev pub class_of : Kind → Mode → Option ℕ
@@ -32,6 +33,10 @@ IsObtrusive kind mode = IsTrue (is_obtrusive kind mode)
 -- a is at least as strong as b, both being modes of the kind: whatever clashes with b clashes with a
 abbrev pub IsAtLeast : Kind → Mode → Mode → Type 0
 IsAtLeast kind a b = (held : Mode) → IsTrue (clashes kind b held) → IsTrue (clashes kind a held)
+
+-- the same as a test, by the rows of the granted matrix
+abbrev pub is_at_least : Kind → Mode → Mode → Bool
+is_at_least kind a b = list_all (clashes kind a) (granted_conflicts kind b)
 
 -- the weight of a wish: 100 in the namespace of the global lock, or for a mode from SU upwards in the order of modes, else 0
 abbrev pub weight_of : Namespace → Mode → ℕ

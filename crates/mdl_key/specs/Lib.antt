@@ -1,5 +1,7 @@
+pub mod BitMaps
 pub mod Classes
 pub mod Keys
+pub mod Laws
 pub mod Matrices
 pub mod Modes
 pub mod Refusals

@@ -2,17 +2,22 @@
 //!
 //! A lock is named by a [`Key`], whose [`Namespace`] says whether it is locked as a scope or as an object ([`Kind`]).
 //! A request asks for a [`Mode`]. [`conflicts_granted`] and [`conflicts_waiting`] are the two matrices of metadata
-//! locking in MySQL 5.7: what a request may not stand beside, and what it waits behind.
+//! locking in MySQL 5.7: what a request may not stand beside, and what it waits behind. [`at_least`] compares modes by
+//! strength, [`is_obtrusive`] tells which of them no lock merely counts, and [`weight`] how much a wish weighs in a deadlock.
 #![tactic(auto)]
 
 mod key;
 mod key_error;
+mod laws;
 mod matrix;
 mod mode;
 mod namespace;
+mod strength;
 
 pub use key::{Key, check_name};
 pub use key_error::KeyError;
+pub use laws::{clashing_is_symmetric, strength_is_a_preorder, waits_only_where_it_clashes};
 pub use matrix::{conflicts_granted, conflicts_waiting};
 pub use mode::{Duration, Mode, ModeError};
 pub use namespace::{Kind, Namespace};
+pub use strength::{at_least, is_obtrusive, weight};

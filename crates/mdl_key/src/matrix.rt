@@ -1,8 +1,12 @@
 //! The two matrices: which granted locks a request clashes with, and which pending requests it waits behind.
 ghost use Rattle.std.specs.Prelude.{◌≡◌};
+ghost use Rattle.mdl_key.specs.BitMaps.{bit_map, has_bit};
 ghost use Rattle.mdl_key.specs.Matrices.{clashes, waits_behind, granted_conflicts, waiting_conflicts};
 
+mod tables;
+
 use crate::{Kind, Mode};
+use tables::{GRANTED, WAITING};
 
 /// Whether a request for `ask` may not be granted while another session holds `held`.
 ///
@@ -10,7 +14,7 @@ use crate::{Kind, Mode};
 pub fn conflicts_granted(kind: Kind, ask: Mode, held: Mode) -> bool
     ensures { result ≡ clashes kind ask held }
 {
-    granted_row(kind, ask).contains(&held)
+    contains(granted_row(kind, ask), held)
 }
 
 /// Whether a request for `ask` waits while another session's request for `pending` waits.
@@ -19,124 +23,28 @@ pub fn conflicts_granted(kind: Kind, ask: Mode, held: Mode) -> bool
 pub fn conflicts_waiting(kind: Kind, ask: Mode, pending: Mode) -> bool
     ensures { result ≡ waits_behind kind ask pending }
 {
-    waiting_row(kind, ask).contains(&pending)
+    contains(waiting_row(kind, ask), pending)
 }
 
 // The modes that, granted to another session, clash with the one asked for.
-fn granted_row(kind: Kind, ask: Mode) -> &'static [Mode]
-    ensures { result.now ≡ granted_conflicts kind ask }
+pub(crate) fn granted_row(kind: Kind, ask: Mode) -> u16
+    ensures { result ≡ bit_map (granted_conflicts kind ask) }
 {
-    match kind {
-        Kind::Scoped => granted_row_scoped(ask),
-        Kind::Object => granted_row_object(ask),
-    }
-}
-
-fn granted_row_scoped(ask: Mode) -> &'static [Mode]
-    ensures { result.now ≡ granted_conflicts Kind.Scoped ask }
-{
-    match ask {
-        Mode::IX => &[Mode::S, Mode::X],
-        Mode::S => &[Mode::IX, Mode::X],
-        Mode::X => &[Mode::IX, Mode::S, Mode::X],
-        Mode::SH
-        | Mode::SR
-        | Mode::SW
-        | Mode::SWLP
-        | Mode::SU
-        | Mode::SRO
-        | Mode::SNW
-        | Mode::SNRW => &[],
-    }
-}
-
-fn granted_row_object(ask: Mode) -> &'static [Mode]
-    ensures { result.now ≡ granted_conflicts Kind.Object ask }
-{
-    match ask {
-        Mode::S => &[Mode::X],
-        Mode::SH => &[Mode::X],
-        Mode::SR => &[Mode::SNRW, Mode::X],
-        Mode::SW => &[Mode::SRO, Mode::SNW, Mode::SNRW, Mode::X],
-        Mode::SWLP => &[Mode::SRO, Mode::SNW, Mode::SNRW, Mode::X],
-        Mode::SU => &[Mode::SU, Mode::SNW, Mode::SNRW, Mode::X],
-        Mode::SRO => &[Mode::SW, Mode::SWLP, Mode::SNRW, Mode::X],
-        Mode::SNW => &[
-            Mode::SW,
-            Mode::SWLP,
-            Mode::SU,
-            Mode::SNW,
-            Mode::SNRW,
-            Mode::X,
-        ],
-        Mode::SNRW => &[
-            Mode::SR,
-            Mode::SW,
-            Mode::SWLP,
-            Mode::SU,
-            Mode::SRO,
-            Mode::SNW,
-            Mode::SNRW,
-            Mode::X,
-        ],
-        Mode::X => &[
-            Mode::S,
-            Mode::SH,
-            Mode::SR,
-            Mode::SW,
-            Mode::SWLP,
-            Mode::SU,
-            Mode::SRO,
-            Mode::SNW,
-            Mode::SNRW,
-            Mode::X,
-        ],
-        Mode::IX => &[],
-    }
+    GRANTED[kind as usize][ask as usize]
 }
 
 // The modes that, pending for another session, the one asked for waits behind.
-fn waiting_row(kind: Kind, ask: Mode) -> &'static [Mode]
-    ensures { result.now ≡ waiting_conflicts kind ask }
+fn waiting_row(kind: Kind, ask: Mode) -> u16
+    ensures { result ≡ bit_map (waiting_conflicts kind ask) }
 {
-    match kind {
-        Kind::Scoped => waiting_row_scoped(ask),
-        Kind::Object => waiting_row_object(ask),
-    }
+    WAITING[kind as usize][ask as usize]
 }
 
-fn waiting_row_scoped(ask: Mode) -> &'static [Mode]
-    ensures { result.now ≡ waiting_conflicts Kind.Scoped ask }
+// Whether a mode is in a set, by its bit in the set's map.
+fn contains(modes: u16, mode: Mode) -> bool
+    ensures { result ≡ has_bit modes mode }
 {
-    match ask {
-        Mode::IX => &[Mode::S, Mode::X],
-        Mode::S => &[Mode::X],
-        Mode::SH
-        | Mode::SR
-        | Mode::SW
-        | Mode::SWLP
-        | Mode::SU
-        | Mode::SRO
-        | Mode::SNW
-        | Mode::SNRW
-        | Mode::X => &[],
-    }
-}
-
-fn waiting_row_object(ask: Mode) -> &'static [Mode]
-    ensures { result.now ≡ waiting_conflicts Kind.Object ask }
-{
-    match ask {
-        Mode::S => &[Mode::X],
-        Mode::SR => &[Mode::SNRW, Mode::X],
-        Mode::SW => &[Mode::SNW, Mode::SNRW, Mode::X],
-        Mode::SWLP => &[Mode::SRO, Mode::SNW, Mode::SNRW, Mode::X],
-        Mode::SU => &[Mode::X],
-        Mode::SRO => &[Mode::SW, Mode::SNRW, Mode::X],
-        Mode::SNW => &[Mode::X],
-        Mode::SNRW => &[Mode::X],
-        Mode::IX | Mode::SH | Mode::X => &[],
-    }
+    (modes >> mode as u32) & 1 == 1
 }
 
 #[cfg(test)]

@@ -1,0 +1,19 @@
+-- Laws of the matrices and of strength, after MySQL 5.7: sql/mdl.cc, the compatibility and the priority matrices.
+use Rattle.mdl_key.specs.declared.namespace.Kind.{Kind}
+use Rattle.mdl_key.specs.declared.mode.Mode.{Mode}
+use Rattle.mdl_key.specs.Matrices.{Clashes, WaitsBehind}
+use Rattle.mdl_key.specs.Classes.{IsAtLeast}
+
+-- a request for one mode clashes with a lock in another just where a request for the other clashes with a lock in the one
+abbrev pub ClashingIsSymmetric : Type 0
+ClashingIsSymmetric = (kind : Kind) (a b : Mode) → Clashes kind a b → Clashes kind b a
+
+-- a request waits behind no other that it could stand beside once both are granted
+abbrev pub WaitsOnlyWhereItClashes : Type 0
+WaitsOnlyWhereItClashes = (kind : Kind) (ask pending : Mode) → WaitsBehind kind ask pending → Clashes kind ask pending
+
+-- each mode is at least as strong as itself, and as what a mode is that it is at least as strong as
+abbrev pub StrengthIsAPreorder : Type 0
+StrengthIsAPreorder =
+    ((kind : Kind) (a : Mode) → IsAtLeast kind a a)
+    × ((kind : Kind) (a b c : Mode) → IsAtLeast kind a b → IsAtLeast kind b c → IsAtLeast kind a c)

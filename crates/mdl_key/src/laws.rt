@@ -1,0 +1,17 @@
+//! Laws of the matrices and of strength. Each is proved as the contract of a function that does nothing.
+ghost use Rattle.mdl_key.specs.Laws.{ClashingIsSymmetric, WaitsOnlyWhereItClashes, StrengthIsAPreorder};
+
+/// Where a request for one mode clashes with a lock in another, a request for the other clashes with a lock in the one.
+pub fn clashing_is_symmetric()
+    ensures { ClashingIsSymmetric }
+{}
+
+/// A request waits behind no other that it could stand beside once both are granted.
+pub fn waits_only_where_it_clashes()
+    ensures { WaitsOnlyWhereItClashes }
+{}
+
+/// Each mode is at least as strong as itself, and as all that is weaker than one that it is at least as strong as.
+pub fn strength_is_a_preorder()
+    ensures { StrengthIsAPreorder }
+{}

@@ -1,0 +1,133 @@
+//! How strong modes are, which of them are looked at by all, and what a wish for one weighs.
+ghost use Rattle.std.specs.Prelude.{◌≡◌, ◌↔◌, IsTrue};
+ghost use Rattle.mdl_key.specs.Classes.{is_obtrusive, is_at_least, IsAtLeast, weight_of};
+
+use crate::matrix::granted_row;
+use crate::{Kind, Mode, Namespace};
+
+const DDL_WEIGHT: u8 = 100;
+
+const DML_WEIGHT: u8 = 0;
+
+/// Whether tickets of the mode have to be looked at by all who ask, and are never merely counted: all but IX of scoped locks
+/// and S, SH, SR, SW and SWLP of object locks. A mode that is none of the kind counts as obtrusive.
+///
+/// After MySQL 5.7, `MDL_lock::is_obtrusive_lock` of `sql/mdl.cc`.
+pub fn is_obtrusive(kind: Kind, mode: Mode) -> bool
+    ensures { result ≡ is_obtrusive kind mode }
+{
+    match kind {
+        Kind::Scoped => mode != Mode::IX,
+        Kind::Object => !matches!(mode, Mode::S | Mode::SH | Mode::SR | Mode::SW | Mode::SWLP),
+    }
+}
+
+/// Whether `a` is at least as strong as `b`: whatever clashes with `b` clashes with `a`. Of two modes, each can be at least
+/// as strong as the other, as S and SH are, or neither, as SU and SRO.
+///
+/// After MySQL 5.7, `MDL_ticket::has_stronger_or_equal_type` of `sql/mdl.cc`.
+pub fn at_least(kind: Kind, a: Mode, b: Mode) -> bool
+    ensures test { result ≡ is_at_least kind a b }
+    ensures relation { IsTrue result ↔ IsAtLeast kind a b }
+{
+    covers(kind, a, b)
+}
+
+// Whether the row of `b` in the granted matrix is part of the row of `a`.
+fn covers(kind: Kind, a: Mode, b: Mode) -> bool
+    ensures { result ≡ is_at_least kind a b }
+{
+    granted_row(kind, b) & !granted_row(kind, a) == 0
+}
+
+/// What a wish for the mode weighs where a search for deadlocks chooses its victim: 100 in the namespace of the global lock,
+/// or for a mode from SU upwards in the order of modes, else 0.
+///
+/// After MySQL 5.7, `MDL_ticket::get_deadlock_weight` of `sql/mdl.cc`.
+pub fn weight(namespace: Namespace, mode: Mode) -> u8
+    ensures { result ≡ weight_of namespace mode }
+{
+    if namespace == Namespace::Global || mode >= Mode::SU {
+        DDL_WEIGHT
+    } else {
+        DML_WEIGHT
+    }
+}
+
+#[cfg(test)]
+mod tests {
+    use super::*;
+
+    #[test]
+    fn counts_only_unobtrusive_modes(rt: HostRuntime) {
+        for (mode, scoped, object) in [
+            (Mode::IX, false, true),
+            (Mode::S, true, false),
+            (Mode::SH, true, false),
+            (Mode::SR, true, false),
+            (Mode::SW, true, false),
+            (Mode::SWLP, true, false),
+            (Mode::SU, true, true),
+            (Mode::SRO, true, true),
+            (Mode::SNW, true, true),
+            (Mode::SNRW, true, true),
+            (Mode::X, true, true),
+        ] {
+            assert_eq!(rt;
+                is_obtrusive(Kind::Scoped, mode),
+                scoped,
+                "{mode} of a scope"
+            );
+            assert_eq!(rt;
+                is_obtrusive(Kind::Object, mode),
+                object,
+                "{mode} of an object"
+            );
+        }
+    }
+
+    #[test]
+    fn compares_modes_by_strength(rt: HostRuntime) {
+        for (kind, a, b, first, second) in [
+            (Kind::Object, Mode::SU, Mode::SR, true, false),
+            (Kind::Object, Mode::SNRW, Mode::SRO, true, false),
+            (Kind::Object, Mode::SNW, Mode::SRO, true, false),
+            (Kind::Object, Mode::SU, Mode::SW, false, false),
+            (Kind::Object, Mode::SU, Mode::SRO, false, false),
+            (Kind::Object, Mode::S, Mode::SH, true, true),
+            (Kind::Object, Mode::SW, Mode::SWLP, true, true),
+            (Kind::Object, Mode::X, Mode::SNRW, true, false),
+            (Kind::Scoped, Mode::S, Mode::IX, false, false),
+            (Kind::Scoped, Mode::X, Mode::S, true, false),
+        ] {
+            assert_eq!(rt; at_least(kind, a, b), first, "{a} and {b}");
+            assert_eq!(rt; at_least(kind, b, a), second, "{b} and {a}");
+        }
+    }
+
+    #[test]
+    fn weighs_wishes(rt: HostRuntime) {
+        for (mode, elsewhere) in [
+            (Mode::IX, 0),
+            (Mode::S, 0),
+            (Mode::SH, 0),
+            (Mode::SR, 0),
+            (Mode::SW, 0),
+            (Mode::SWLP, 0),
+            (Mode::SU, 100),
+            (Mode::SRO, 100),
+            (Mode::SNW, 100),
+            (Mode::SNRW, 100),
+            (Mode::X, 100),
+        ] {
+            assert_eq!(rt; weight(Namespace::Global, mode), 100, "{mode}");
+            for namespace in [Namespace::Schema, Namespace::Table, Namespace::Commit] {
+                assert_eq!(rt;
+                    weight(namespace, mode),
+                    elsewhere,
+                    "{mode} in {namespace:?}"
+                );
+            }
+        }
+    }
+}
