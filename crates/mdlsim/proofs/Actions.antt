@@ -4,7 +4,6 @@ use Rattle.std.specs.Prelude.{Some, None, Result, Ok, Err, MatchResult, find}
 use Rattle.std.specs.Result.{result_ok}
 use Rattle.std.specs.Bool.{then_some}
 use Rattle.std.specs.Option.{option_map}
-use Rattle.std.specs.List.{list_any}
 use lib.Utf8.{encode}
 use Rattle.std.specs.Str.{IsUtf8}
 use Rattle.std.proofs.lemmas.Slice.Eq.{bytes_eq-Decides}
@@ -12,12 +11,12 @@ use Rattle.mdl_key.specs.declared.namespace.Kind.{Kind}
 use Rattle.mdl_key.specs.declared.namespace.Kind.TheVariants.{Scoped, Object}
 use Rattle.mdl_key.specs.declared.mode.Mode.{Mode}
 use Rattle.mdl_key.specs.declared.mode.Mode.TheVariants.{IX, S, SH, SR, SW, SWLP, SU, SRO, SNW, SNRW, X}
-use Rattle.mdl_key.specs.Modes.{same_mode, mode_name}
+use Rattle.mdl_key.specs.Modes.{is_mode_of, mode_name}
 use Rattle.mdlsim.specs.declared.lock_command.Action.TheVariants.{Ask}
 use Rattle.mdlsim.specs.Scripts.{same_text, modes_taken, action_of}
 
--- the name of a mode asks for it, where locks of this kind are asked for it
-pub action_of-name : (kind : Kind) (mode : Mode) → action_of kind (mode_name mode) ≡ then_some (list_any (same_mode mode) (modes_taken kind)) (Ask mode)
+-- the name of a mode asks for it, where locks of this kind use it
+pub action_of-name : (kind : Kind) (mode : Mode) → action_of kind (mode_name mode) ≡ then_some (is_mode_of kind mode) (Ask mode)
 action_of-name Scoped IX = refl
 action_of-name Scoped S = refl
 action_of-name Scoped SH = refl

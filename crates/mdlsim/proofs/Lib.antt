@@ -6,6 +6,7 @@ pub mod ForgottenLemmas
 pub mod LawfulLemmas
 pub mod LockLemmas
 pub mod LockWords
+pub mod MatrixRows
 pub mod OrderLemmas
 pub mod Reading
 pub mod RunLemmas

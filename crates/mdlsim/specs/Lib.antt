@@ -5,5 +5,6 @@ pub mod Devices
 pub mod Faults
 pub mod Lines
 pub mod Locks
+pub mod MatrixText
 pub mod Output
 pub mod Scripts

@@ -6,8 +6,7 @@ use Rattle.std.specs.List.{list_any, list_all}
 use lib.Pointwise.{pointwise}
 use Rattle.mdl_key.specs.declared.namespace.Kind.{Kind}
 use Rattle.mdl_key.specs.declared.mode.Mode.{Mode}
-use Rattle.mdl_key.specs.declared.mode.Mode.TheVariants.{S, SR, SW, X}
-use Rattle.mdl_key.specs.Modes.{is_mode_of, mode_name}
+use Rattle.mdl_key.specs.Modes.{all_modes, is_mode_of, mode_name}
 use Rattle.mdlsim.specs.declared.lock_command.Action.{Action}
 use Rattle.mdlsim.specs.declared.lock_command.Action.TheVariants.{Ask, Release, Timeout}
 use Rattle.mdlsim.specs.declared.lock_command.LockCommand.{LockCommand}
@@ -32,9 +31,9 @@ abbrev pub session_of : List ℕ → Option ℕ
 session_of word =
     if list_all is_digit word && nat_le 49 (slice_index word 0) && nat_le (decimal_value word) 64 then Some (decimal_value word) else None
 
--- the modes that a script may ask a lock of this kind for so far
+-- the modes that a script may ask a lock of this kind for: all that it uses
 abbrev pub modes_taken : Kind → List Mode
-modes_taken kind = filter (is_mode_of kind) (S ∷ SR ∷ SW ∷ X ∷ [])
+modes_taken kind = filter (is_mode_of kind) all_modes
 
 -- the word behind the session
 abbrev pub action_of : Kind → List ℕ → Option Action

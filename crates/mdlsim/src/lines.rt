@@ -3,9 +3,7 @@ ghost use Rattle.std.specs.Prelude.{◌≡◌, ℕ, List, [], ◌∷◌, MatchOp
 ghost use Rattle.std.specs.Option.{option_map};
 ghost use Rattle.std.specs.Str.Lines.{strip_carriage_return};
 ghost use Rattle.mdlsim.specs.Lines.{is_blank, words_of, only};
-ghost use Rattle.std.specs.List.{list_any};
-ghost use Rattle.mdl_key.specs.Modes.{same_mode};
-ghost use Rattle.mdlsim.specs.Scripts.{modes_taken, session_of, action_of, words_say, line_says};
+ghost use Rattle.mdlsim.specs.Scripts.{session_of, action_of, words_say, line_says};
 
 use crate::fault::LineError;
 use crate::lock_command::{Action, LockCommand};
@@ -107,14 +105,7 @@ fn action_of(kind: Kind, word: &[u8]) -> Option<Action>
         "TIMEOUT" => Some(Action::Timeout),
         _ => {
             let mode = name.parse::<Mode>().ok()?;
-            is_taken(kind, mode).then_some(Action::Ask(mode))
+            kind.has_mode(mode).then_some(Action::Ask(mode))
         }
     }
-}
-
-// Whether a lock of this kind is asked for this mode.
-fn is_taken(kind: Kind, mode: Mode) -> bool
-    ensures { result ≡ list_any (same_mode mode) (modes_taken kind) }
-{
-    matches!(mode, Mode::S | Mode::SR | Mode::SW | Mode::X) && kind.has_mode(mode)
 }

@@ -18,6 +18,7 @@ mod lines;
 mod lock;
 mod lock_command;
 mod lock_run;
+mod matrix_run;
 mod parse;
 mod report;
 

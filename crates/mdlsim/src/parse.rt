@@ -103,7 +103,6 @@ mod tests {
             ("1", 1, LineError::BadWord),
             ("1 s", 1, LineError::BadWord),
             ("1 S S", 1, LineError::BadWord),
-            ("1 SU", 1, LineError::BadWord),
             ("1 IX", 1, LineError::BadWord),
             ("1 RELEASED", 1, LineError::BadWord),
             ("1 S\r\r\n", 1, LineError::BadWord),
@@ -116,6 +115,38 @@ mod tests {
                 "{text:?}"
             );
         }
+    }
+
+    // An object lock takes all modes but IX, a scoped lock takes IX, S and X.
+    #[test]
+    fn takes_the_modes_of_the_kind(rt: HostRuntime) -> Result<(), Fail> {
+        let modes = [
+            (Mode::IX, "1 IX", false, true),
+            (Mode::S, "1 S", true, true),
+            (Mode::SH, "1 SH", true, false),
+            (Mode::SR, "1 SR", true, false),
+            (Mode::SW, "1 SW", true, false),
+            (Mode::SWLP, "1 SWLP", true, false),
+            (Mode::SU, "1 SU", true, false),
+            (Mode::SRO, "1 SRO", true, false),
+            (Mode::SNW, "1 SNW", true, false),
+            (Mode::SNRW, "1 SNRW", true, false),
+            (Mode::X, "1 X", true, true),
+        ];
+        for (mode, line, of_objects, of_scopes) in modes {
+            for (kind, is_taken) in [(Kind::Object, of_objects), (Kind::Scoped, of_scopes)] {
+                let read = parse(rt.alloc(), kind, line.as_bytes());
+                if is_taken {
+                    let action = Action::Ask(mode);
+                    let command = LockCommand { session: 1, action };
+                    assert_eq!(rt; read?.as_slice(), [command].as_slice(), "{kind:?} {line}");
+                } else {
+                    let refusal = Fault::Refused(1, LineError::BadWord);
+                    assert_eq!(rt; read.err(), Some(refusal), "{kind:?} {line}");
+                }
+            }
+        }
+        Ok(())
     }
 
     #[test]

@@ -23,12 +23,24 @@ fn lines(alloc: Global, row: &str) -> Result<String, AllocError> {
     Ok(text)
 }
 
-// How a script ends, and what is written.
-fn ran(alloc: Global, script: &[u8]) -> (Result<(), Fault>, Vec<u8>) {
+// How a script of a lock of this kind ends, and what is written.
+fn ran_as(alloc: Global, kind: Kind, script: &[u8]) -> (Result<(), Fault>, Vec<u8>) {
     let mut reader = script;
     let mut written = Vec::new(alloc);
-    let result = lock_run(alloc, Kind::Object, &mut reader, &mut written);
+    let result = lock_run(alloc, kind, &mut reader, &mut written);
     (result, written)
+}
+
+// The same of an object lock.
+fn ran(alloc: Global, script: &[u8]) -> (Result<(), Fault>, Vec<u8>) {
+    ran_as(alloc, Kind::Object, script)
+}
+
+// What is written for a row of lines, which is not refused.
+fn answers(alloc: Global, kind: Kind, row: &str) -> Result<String, Fail> {
+    let (result, written) = ran_as(alloc, kind, lines(alloc, row)?.as_bytes());
+    result?;
+    Ok(String::from_utf8(written)?)
 }
 
 #[test]
@@ -79,6 +91,63 @@ fn answers_rows(rt: HostRuntime) -> Result<(), Fail> {
 }
 
 #[test]
+fn high_priority_overtakes_pending_exclusive(rt: HostRuntime) -> Result<(), Fail> {
+    let script = "1 SR / 2 X / 3 SR / 4 SH / 1 RELEASE";
+    let written = "1 GRANTED SR / 2 WAITS X / 3 WAITS SR / 4 GRANTED SH / 1 RELEASED SR";
+    let answers = answers(rt.alloc(), Kind::Object, script)?;
+    assert_eq!(rt; answers.as_str(), lines(rt.alloc(), written)?.as_str());
+    Ok(())
+}
+
+#[test]
+fn readers_pass_a_pending_no_write(rt: HostRuntime) -> Result<(), Fail> {
+    let script = "1 SW / 2 SNW / 3 SR / 4 SW";
+    let written = "1 GRANTED SW / 2 WAITS SNW / 3 GRANTED SR / 4 WAITS SW";
+    let answers = answers(rt.alloc(), Kind::Object, script)?;
+    assert_eq!(rt; answers.as_str(), lines(rt.alloc(), written)?.as_str());
+    Ok(())
+}
+
+#[test]
+fn only_a_low_priority_writer_is_overtaken_by_read_only(rt: HostRuntime) -> Result<(), Fail> {
+    for (script, written) in [
+        (
+            "1 SRO / 2 SW / 3 SRO",
+            "1 GRANTED SRO / 2 WAITS SW / 3 WAITS SRO",
+        ),
+        (
+            "1 SRO / 2 SWLP / 3 SRO",
+            "1 GRANTED SRO / 2 WAITS SWLP / 3 GRANTED SRO",
+        ),
+    ] {
+        let answers = answers(rt.alloc(), Kind::Object, script)?;
+        assert_eq!(rt; answers.as_str(), lines(rt.alloc(), written)?.as_str());
+    }
+    Ok(())
+}
+
+#[test]
+fn read_only_goes_when_a_pending_no_read_no_write_gives_up(rt: HostRuntime) -> Result<(), Fail> {
+    let script = "1 SRO / 2 SNRW / 3 SRO / 2 TIMEOUT / 2 TIMEOUT";
+    let written =
+        "1 GRANTED SRO / 2 WAITS SNRW / 3 WAITS SRO / 2 TIMEDOUT SNRW / 3 GRANTED SRO / 2 REFUSED";
+    let answers = answers(rt.alloc(), Kind::Object, script)?;
+    assert_eq!(rt; answers.as_str(), lines(rt.alloc(), written)?.as_str());
+    Ok(())
+}
+
+#[test]
+fn intention_waits_behind_pending_shared(rt: HostRuntime) -> Result<(), Fail> {
+    let script = "1 IX / 2 S / 3 IX / 4 X / 1 RELEASE / 4 RELEASE / 2 RELEASE";
+    let written =
+        "1 GRANTED IX / 2 WAITS S / 3 WAITS IX / 4 WAITS X / 1 RELEASED IX / 4 GRANTED X / \
+        4 RELEASED X / 2 GRANTED S / 2 RELEASED S / 3 GRANTED IX";
+    let answers = answers(rt.alloc(), Kind::Scoped, script)?;
+    assert_eq!(rt; answers.as_str(), lines(rt.alloc(), written)?.as_str());
+    Ok(())
+}
+
+#[test]
 fn line_ends_make_no_difference(rt: HostRuntime) {
     let written = b"1 GRANTED SR\n2 WAITS X\n".as_slice();
     for (script, answers) in [
@@ -99,7 +168,7 @@ fn refused_scripts_write_nothing(rt: HostRuntime) -> Result<(), Fail> {
     let long = [b'#'; 4097];
     for (script, line, error) in [
         (b"1 SR\n65 X\n".as_slice(), 2, LineError::BadSession),
-        (b"1 SR\r\n# 65 X\r\n2 SNW", 3, LineError::BadWord),
+        (b"1 SR\r\n# 65 X\r\n2 IX", 3, LineError::BadWord),
         (b"1 SR\n2 X\n\xff\n", 3, LineError::NotAscii),
         (long.as_slice(), 1, LineError::LongLine),
         (b"1 SR\n2\n0 X\n", 2, LineError::BadWord),

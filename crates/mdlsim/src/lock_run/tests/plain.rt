@@ -1,36 +1,78 @@
 //! The lock once more, in the plainest way, beside which scripts by chance are run.
 ghost use Rattle.std.specs.Prelude.{◌<◌, IfSome, length};
 
-use super::ran;
+use super::ran_as;
+use mdl_key::Kind;
 use std::alloc::{AllocError, Global};
 use std::test::Fail;
 
-// Whoever asks for the first waits while another session holds the second.
-const CLASHES: [(&str, &str); 7] = [
+// Modes, each beside those that it may not meet in another session, parted by spaces.
+type Rows = &'static [(&'static str, &'static str)];
+
+// Whoever asks a scoped lock for the first waits while another session holds one of the others.
+const SCOPED_CLASHES: Rows = &[("IX", "S X"), ("S", "IX X"), ("X", "IX S X")];
+
+// Whoever asks a scoped lock for the first waits while another session waits for one of the others.
+const SCOPED_WAITS_BEHIND: Rows = &[("IX", "S X"), ("S", "X")];
+
+// The same of an object lock.
+const OBJECT_CLASHES: Rows = &[
     ("S", "X"),
-    ("SR", "X"),
-    ("SW", "X"),
-    ("X", "S"),
-    ("X", "SR"),
-    ("X", "SW"),
-    ("X", "X"),
+    ("SH", "X"),
+    ("SR", "SNRW X"),
+    ("SW", "SRO SNW SNRW X"),
+    ("SWLP", "SRO SNW SNRW X"),
+    ("SU", "SU SNW SNRW X"),
+    ("SRO", "SW SWLP SNRW X"),
+    ("SNW", "SW SWLP SU SNW SNRW X"),
+    ("SNRW", "SR SW SWLP SU SRO SNW SNRW X"),
+    ("X", "S SH SR SW SWLP SU SRO SNW SNRW X"),
 ];
 
-// Whoever asks for the first waits while another session waits for the second.
-const WAITS_BEHIND: [(&str, &str); 3] = [("S", "X"), ("SR", "X"), ("SW", "X")];
+const OBJECT_WAITS_BEHIND: Rows = &[
+    ("S", "X"),
+    ("SR", "SNRW X"),
+    ("SW", "SNW SNRW X"),
+    ("SWLP", "SRO SNW SNRW X"),
+    ("SU", "X"),
+    ("SRO", "SW SNRW X"),
+    ("SNW", "X"),
+    ("SNRW", "X"),
+];
 
-const WORDS: [&str; 8] = ["S", "SR", "SW", "X", "X", "RELEASE", "RELEASE", "TIMEOUT"];
+const SCOPED_WORDS: [&str; 16] = [
+    "IX", "IX", "IX", "IX", "IX", "S", "S", "S", "X", "X", "RELEASE", "RELEASE", "RELEASE",
+    "RELEASE", "TIMEOUT", "TIMEOUT",
+];
+
+const OBJECT_WORDS: [&str; 16] = [
+    "S", "SH", "SR", "SW", "SWLP", "SU", "SRO", "SNW", "SNRW", "X", "RELEASE", "RELEASE",
+    "RELEASE", "RELEASE", "TIMEOUT", "TIMEOUT",
+];
+
+// Whether the other mode stands in the row of the one asked for.
+fn has(rows: Rows, ask: &str, other: &str) -> bool {
+    rows.iter().any(|(mode, row)| *mode == ask && row.split(' ').any(|word| word == other))
+}
 
 #[derive(Drop)]
 struct PlainLock {
+    clashes: Rows,
+    waits_behind: Rows,
     granted: Vec<(u32, &'static str)>,
     waiting: Vec<(u32, &'static str)>,
     answers: String,
 }
 
 impl PlainLock {
-    fn new(alloc: Global) -> PlainLock {
+    fn new(alloc: Global, kind: Kind) -> PlainLock {
+        let (clashes, waits_behind) = match kind {
+            Kind::Scoped => (SCOPED_CLASHES, SCOPED_WAITS_BEHIND),
+            Kind::Object => (OBJECT_CLASHES, OBJECT_WAITS_BEHIND),
+        };
         PlainLock {
+            clashes,
+            waits_behind,
             granted: Vec::new(alloc),
             waiting: Vec::new(alloc),
             answers: String::new(alloc),
@@ -49,9 +91,9 @@ impl PlainLock {
 
     fn can_go(&self, session: u32, mode: &str) -> bool {
         let is_free = self.granted.iter().all(|(other, held)| *other == session
-            || !CLASHES.contains(&(mode, *held)));
+            || !has(self.clashes, mode, held));
         let is_next = self.waiting.iter().all(|(other, wish)| *other == session
-            || !WAITS_BEHIND.contains(&(mode, *wish)));
+            || !has(self.waits_behind, mode, wish));
         is_free && is_next
     }
 
@@ -129,25 +171,38 @@ fn draw(seed: &mut u64, limit: u32) -> u32
     high % limit
 }
 
+// A script by chance, of which these are the words behind the sessions, and the plain lock's answers to it.
+fn drawn(
+    alloc: Global,
+    kind: Kind,
+    words: &[&'static str; 16],
+    seed: u64,
+) -> Result<(String, String), Fail> {
+    let mut chance = seed;
+    let mut script = String::new(alloc);
+    let mut lock = PlainLock::new(alloc, kind);
+    for _ in 0..60 {
+        let session = 1 + draw(&mut chance, 6);
+        let word = words[draw(&mut chance, 16) as usize];
+        writeln!(script, "{session} {word}")?;
+        lock.obey(session, word)?;
+    }
+    Ok((script, lock.answers))
+}
+
 #[test]
 fn scripts_by_chance_are_answered_as_by_the_plain_lock(rt: HostRuntime) -> Result<(), Fail> {
-    for number in 0..300 {
-        let mut seed: u64 = number;
-        let mut script = String::new(rt.alloc());
-        let mut lock = PlainLock::new(rt.alloc());
-        for _ in 0..60 {
-            let session = 1 + draw(&mut seed, 6);
-            let word = WORDS[draw(&mut seed, 8) as usize];
-            writeln!(script, "{session} {word}")?;
-            lock.obey(session, word)?;
+    for (kind, words) in [(Kind::Object, OBJECT_WORDS), (Kind::Scoped, SCOPED_WORDS)] {
+        for seed in 0..300 {
+            let (script, answers) = drawn(rt.alloc(), kind, &words, seed)?;
+            let (result, written) = ran_as(rt.alloc(), kind, script.as_bytes());
+            assert_eq!(rt; result, Ok(()), "{kind:?}, seed {seed}");
+            assert_eq!(rt;
+                written.as_slice(),
+                answers.as_bytes(),
+                "{kind:?}, seed {seed}: {script}"
+            );
         }
-        let (result, written) = ran(rt.alloc(), script.as_bytes());
-        assert_eq!(rt; result, Ok(()), "seed {number}");
-        assert_eq!(rt;
-            written.as_slice(),
-            lock.answers.as_bytes(),
-            "seed {number}: {script}"
-        );
     }
     Ok(())
 }
