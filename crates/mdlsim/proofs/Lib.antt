@@ -1,11 +1,13 @@
 pub mod Actions
 pub mod Ascii
+pub mod CommandWords
 pub mod DeviceLemmas
 pub mod FindLemmas
 pub mod ForgottenLemmas
+pub mod FoundRuns
 pub mod LawfulLemmas
 pub mod LockLemmas
-pub mod LockWords
+pub mod LongOptions
 pub mod MatrixRows
 pub mod OrderLemmas
 pub mod Reading

@@ -1,20 +1,34 @@
 -- What the words of a command line ask for.
-use Rattle.std.specs.Prelude.{◌≡◌, ◌⊎◌, ℕ, List, [], ◌∷◌, codes, true}
-use Rattle.clap.specs.Simple.{App, new_app, new_shape, on_top, with_subcommand}
-use Rattle.mdl_key.specs.declared.namespace.Kind.{Kind}
+use Rattle.std.specs.Prelude.{◌≡◌, ◌⊎◌, ◌++◌, ℕ, List, [], ◌∷◌, Some, codes, true}
+use Rattle.clap.specs.Walk.{Rule}
+use Rattle.clap.specs.Simple.{App, new_app, new_rule, new_shape, on_top, subcommand_of, subcommand_rows_of, with_rule, with_subcommand}
+use Rattle.clap.specs.declared.builder.action.ArgAction.TheVariants.{SetTrue}
+use Rattle.clap.specs.declared.parser.matches.ArgMatches.{ArgMatches}
 use Rattle.mdl_key.specs.declared.namespace.Kind.TheVariants.{Scoped, Object}
 use Rattle.mdlsim.specs.declared.command_line.Run.{Run}
-use Rattle.mdlsim.specs.declared.command_line.Run.TheVariants.{Lock}
+use Rattle.mdlsim.specs.declared.command_line.Run.TheVariants.{Lock, Matrix}
+
+-- the words of a run, behind the program's name
+abbrev pub words_of_run : Run → List (List ℕ)
+words_of_run (Lock Object) = codes "lock" ∷ []
+words_of_run (Lock Scoped) = codes "lock" ∷ codes "--scoped" ∷ []
+words_of_run Matrix = codes "matrix" ∷ []
 
 -- the words behind the program's name ask for this run; a closing `--` says no more than that the options end
 abbrev pub Asks : List (List ℕ) → Run → Type 0
-Asks words (Lock Object) = (words ≡ codes "lock" ∷ []) ⊎ (words ≡ codes "lock" ∷ codes "--" ∷ [])
-Asks words (Lock Scoped) = ⊥
+Asks words run = (words ≡ words_of_run run) ⊎ (words ≡ words_of_run run ++ codes "--" ∷ [])
 
--- what a parse reads of the program: it has the subcommand `lock`, with no options, and wants a subcommand
+-- what a parse reads of the flag `--scoped`, and of `lock`, which has it
+abbrev pub scoped_flag : Rule
+scoped_flag = record (new_rule (codes "scoped")) { long = Some (codes "scoped"); action = Some SetTrue }
+
+abbrev pub lock_subcommand : App
+lock_subcommand = with_rule (new_app (codes "lock")) scoped_flag
+
+-- what a parse reads of the program: it has the subcommands `lock` and `matrix`, which has no options, and wants a subcommand
 abbrev pub mdlsim : App
-mdlsim = with_subcommand (on_top (λ s. record s { subcommand_required = true }) (new_app (codes "mdlsim"))) (new_shape (codes "lock"))
+mdlsim = with_subcommand (with_subcommand (on_top (λ s. record s { subcommand_required = true }) (new_app (codes "mdlsim"))) lock_subcommand.top) (new_shape (codes "matrix"))
 
--- the kind of the lock that is driven
-abbrev pub kind_asked : Run → Kind
-kind_asked (Lock kind) = kind
+-- these are the matches of words that ask for this run
+abbrev pub Finds : Run → ArgMatches → Type 0
+Finds run matches = subcommand_rows_of matches ≡ subcommand_of mdlsim (codes "mdlsim" ∷ words_of_run run)

@@ -7,4 +7,5 @@ pub mod Lines
 pub mod Locks
 pub mod MatrixText
 pub mod Output
+pub mod Runs
 pub mod Scripts

@@ -1,11 +1,11 @@
 //! What the command line asks for.
-ghost use Rattle.std.specs.Prelude.{◌≡◌, IfErr, IfOk, drop, map};
-ghost use Rattle.clap.specs.Words.{app_of, kind_of};
-ghost use Rattle.mdlsim.specs.CommandLine.{Asks, mdlsim};
+ghost use Rattle.std.specs.Prelude.{◌≡◌, IfErr, IfOk, Some, codes, drop, map};
+ghost use Rattle.clap.specs.Words.{app_of, found_of, kind_of, one_text};
+ghost use Rattle.mdlsim.specs.CommandLine.{Asks, Finds, mdlsim};
 ghost use Rattle.mdlsim.specs.declared.command_line.Run.{Run};
 
 use clap::error::ErrorKind;
-use clap::{Command, Error};
+use clap::{Arg, ArgAction, ArgMatches, Command, Error};
 use mdl_key::Kind;
 use std::alloc::{AllocError, Global};
 use std::convert::AsStr;
@@ -15,6 +15,8 @@ use std::convert::AsStr;
 pub enum Run {
     /// Drive one lock of this kind by a script.
     Lock(Kind),
+    /// Print the two matrices of each kind of lock.
+    Matrix,
 }
 
 /// Reads the words of a command line; the first is the program's name.
@@ -24,22 +26,50 @@ pub fn command<S: AsStr>(alloc: Global, words: &[S]) -> Result<Run, Error>
         → IfErr result (λ e. kind_of e ≡ ErrorKind.OutOfMemory) }
 {
     let matches = program(alloc)?.try_get_matches_from(words)?;
-    match matches.subcommand_name() {
-        Some("lock") => Ok(Run::Lock(Kind::Object)),
+    Ok(run_found(&matches))
+}
+
+// The run that was found in words that ask for one.
+fn run_found(matches: &ArgMatches) -> Run
+    requires { (run : Run) × Finds run matches.now }
+    ensures { (run : Run) → Finds run matches.now → result ≡ run }
+{
+    match matches.subcommand() {
+        Some(("lock", options)) => Run::Lock(kind_found(options)),
+        Some(("matrix", _)) => Run::Matrix,
         _ => unreachable!(),
     }
 }
 
-// The program's subcommands, with what help shows of them.
+// The kind of the lock that the options of `lock` ask for.
+fn kind_found(options: &ArgMatches) -> Kind
+    ensures scoped { (one_text (found_of options.now) (codes "scoped") ≡ Some (codes "true")) → (result ≡ Kind.Scoped) }
+    ensures object { (one_text (found_of options.now) (codes "scoped") ≡ Some (codes "false")) → (result ≡ Kind.Object) }
+{
+    if options.get_flag("scoped") {
+        Kind::Scoped
+    } else {
+        Kind::Object
+    }
+}
+
+// The program's subcommands and their options, with what help shows of them.
 fn program<'a>(alloc: Global) -> Result<Command<'a>, AllocError>
     ensures { IfOk result (λ c. app_of c ≡ mdlsim) }
 {
-    let lock = Command::new(alloc, "lock").about(
-        "Drives one lock by a script read from standard input",
-    );
+    let scoped = Arg::new(alloc, "scoped")
+        .long("scoped")
+        .action(ArgAction::SetTrue)
+        .help("Drives a scoped lock instead of an object lock");
+    let lock = Command::new(alloc, "lock")
+        .about("Drives one lock by a script read from standard input")
+        .arg(scoped)?;
+    let matrix = Command::new(alloc, "matrix")
+        .about("Prints which modes clash, and which wait behind which");
     Command::new(alloc, "mdlsim")
         .subcommand_required(true)
-        .subcommand(lock)
+        .subcommand(lock)?
+        .subcommand(matrix)
 }
 
 #[cfg(test)]
@@ -56,41 +86,84 @@ mod tests {
     }
 
     #[test]
-    fn takes_lock(rt: HostRuntime) -> Result<(), Fail> {
-        let run = command(rt.alloc(), &["mdlsim", "lock"])?;
-        assert_eq!(rt; run, Run::Lock(Kind::Object));
-        Ok(())
-    }
-
-    #[test]
-    fn refuses_the_rest(rt: HostRuntime) -> Result<(), Fail> {
-        let cases: [(&[&str], &str); 7] = [
-            (&["mdlsim"], "requires a subcommand"),
+    fn takes_what_asks_for_a_run(rt: HostRuntime) -> Result<(), Fail> {
+        let cases: [(&[&str], Run); 6] = [
+            (&["mdlsim", "lock"], Run::Lock(Kind::Object)),
+            (&["mdlsim", "lock", "--"], Run::Lock(Kind::Object)),
+            (&["mdlsim", "lock", "--scoped"], Run::Lock(Kind::Scoped)),
             (
-                &["mdlsim", "lock", "--scoped"],
-                "unexpected argument '--scoped'",
+                &["mdlsim", "lock", "--scoped", "--"],
+                Run::Lock(Kind::Scoped),
             ),
-            (&["mdlsim", "lock", "extra"], "unexpected argument 'extra'"),
-            (&["mdlsim", "replay"], "unrecognized subcommand 'replay'"),
-            (&["mdlsim", "run"], "unrecognized subcommand 'run'"),
-            (&["mdlsim", "matrix"], "unrecognized subcommand 'matrix'"),
-            (&["mdlsim", "lock", "--help"], "Drives one lock"),
+            (&["mdlsim", "matrix"], Run::Matrix),
+            (&["mdlsim", "matrix", "--"], Run::Matrix),
         ];
-        for (words, part) in cases {
-            let text = refusal(&rt, words)?;
-            assert!(rt; text.contains(part), "{text}");
+        for (words, run) in cases {
+            assert_eq!(rt; command(rt.alloc(), words)?, run, "{words:?}");
         }
         Ok(())
     }
 
     #[test]
-    fn help_names_the_subcommand(rt: HostRuntime) -> Result<(), Fail> {
+    fn refuses_the_rest(rt: HostRuntime) -> Result<(), Fail> {
+        let cases: [(&[&str], &str); 14] = [
+            (&["mdlsim"], "requires a subcommand"),
+            (&["mdlsim", "--scoped"], "unexpected argument '--scoped'"),
+            (&["mdlsim", "--", "lock"], "unexpected argument 'lock'"),
+            (&["mdlsim", "lock", "extra"], "unexpected argument 'extra'"),
+            (
+                &["mdlsim", "lock", "--scoped", "--scoped"],
+                "'--scoped' cannot be used multiple times",
+            ),
+            (
+                &["mdlsim", "lock", "--", "--scoped"],
+                "unexpected argument '--scoped'",
+            ),
+            (
+                &["mdlsim", "lock", "--scoped=yes"],
+                "unexpected value 'yes' for '--scoped'",
+            ),
+            (
+                &["mdlsim", "lock", "--scope"],
+                "unexpected argument '--scope'",
+            ),
+            (&["mdlsim", "lock", "-s"], "unexpected argument '-s'"),
+            (
+                &["mdlsim", "matrix", "--scoped"],
+                "unexpected argument '--scoped'",
+            ),
+            (&["mdlsim", "matrix", "lock"], "unexpected argument 'lock'"),
+            (&["mdlsim", "replay"], "unrecognized subcommand 'replay'"),
+            (&["mdlsim", "run"], "unrecognized subcommand 'run'"),
+            (&["mdlsim", "Lock"], "unrecognized subcommand 'Lock'"),
+        ];
+        for (words, part) in cases {
+            let text = refusal(&rt, words)?;
+            assert!(rt; text.contains(part), "{words:?}: {text}");
+        }
+        Ok(())
+    }
+
+    #[test]
+    fn help_names_the_subcommands(rt: HostRuntime) -> Result<(), Fail> {
         for words in [["mdlsim", "--help"], ["mdlsim", "help"]] {
             let text = refusal(&rt, words.as_slice())?;
-            assert!(rt;
-                text.contains("lock  Drives one lock by a script read from standard input"),
-                "{text}"
-            );
+            for part in [
+                "lock    Drives one lock by a script read from standard input",
+                "matrix  Prints which modes clash, and which wait behind which",
+            ] {
+                assert!(rt; text.contains(part), "{text}");
+            }
+        }
+        Ok(())
+    }
+
+    #[test]
+    fn help_of_lock_shows_its_flag(rt: HostRuntime) -> Result<(), Fail> {
+        for words in [["mdlsim", "lock", "--help"], ["mdlsim", "help", "lock"]] {
+            let text = refusal(&rt, words.as_slice())?;
+            assert!(rt; text.contains("Drives one lock by a script"), "{text}");
+            assert!(rt; text.contains("--scoped  Drives a scoped lock instead of an object lock"), "{text}");
         }
         Ok(())
     }

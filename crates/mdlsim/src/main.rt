@@ -1,12 +1,11 @@
 //! `mdlsim` drives metadata locks by scripts: `mdlsim lock` reads the script of one lock from standard input, and prints
-//! what the lock answers.
+//! what the lock answers. `mdlsim matrix` prints which modes clash, and which wait behind which.
 #![tactic(auto)]
 
-ghost use Rattle.std.specs.Prelude.{◌≡◌, ◌⊎◌, IfSome, IsErr};
+ghost use Rattle.std.specs.Prelude.{◌≡◌, ◌⊎◌, IfSome};
 ghost use Rattle.std.specs.Io.KnownBytes.{Appends, Keeps};
-ghost use Rattle.mdlsim.specs.CommandLine.{kind_asked};
-ghost use Rattle.mdlsim.specs.Output.{lock_output_of};
-ghost use Rattle.mdlsim.specs.Scripts.{parsed};
+ghost use Rattle.mdlsim.specs.Devices.{AppendsFront};
+ghost use Rattle.mdlsim.specs.Runs.{IsRefused, output_of};
 
 mod answer;
 mod command_line;
@@ -25,6 +24,7 @@ mod report;
 use command_line::{Run, command};
 use fault::Fault;
 use lock_run::lock_run;
+use matrix_run::matrix_run;
 use report::report;
 use std::alloc::Global;
 use std::io;
@@ -77,17 +77,22 @@ fn run<R: Read, W: Write, E: Write>(
     output: &mut W,
     errors: &mut E,
 ) -> u8
-    // 0: what was written is the defined output of what was read.
-    ensures done { result ≡ 0 → IfSome (R.remaining input.old) (λ script.
-        Appends (W.contents output.old) (W.contents output.new) (lock_output_of (kind_asked asked) script)) }
+    // 0: the whole output of the run was written.
+    ensures done { result ≡ 0 → IfSome (output_of asked (R.remaining input.old)) (Appends (W.contents output.old) (W.contents output.new)) }
 
-    // 1: a line is refused, and nothing was written. Else it is 3.
-    ensures refused { result ≡ 1 → IfSome (R.remaining input.old) (λ script. IsErr (parsed (kind_asked asked) script)) }
+    // 1: a line of a script is refused, and nothing was written.
+    ensures refused { result ≡ 1 → IsRefused asked (R.remaining input.old) }
     ensures kept { result ≡ 1 → IfSome (R.remaining input.old) (λ _. Keeps (W.contents output.old) (W.contents output.new)) }
+
+    // Else it is 3, and a beginning of the output was written.
+    ensures front { result ≡ 3 → IfSome (output_of asked (R.remaining input.old)) (AppendsFront (W.contents output.old) (W.contents output.new)) }
     ensures status { (result ≡ 0) ⊎ (result ≡ 1) ⊎ (result ≡ 3) }
 {
-    let Run::Lock(kind) = asked;
-    match lock_run(alloc, kind, input, output) {
+    let ended = match asked {
+        Run::Lock(kind) => lock_run(alloc, kind, input, output),
+        Run::Matrix => matrix_run(alloc, output),
+    };
+    match ended {
         Ok(()) => 0,
         Err(fault) => report(&fault, errors),
     }

@@ -1,11 +1,11 @@
 //! Prints the two matrices of both kinds of lock.
-ghost use Rattle.std.specs.Prelude.{◌≡◌, ◌⊎◌, ◌++◌, OnOk, OnErr, IfOk, IfErr, filter};
+ghost use Rattle.std.specs.Prelude.{◌≡◌, ◌⊎◌, ◌++◌, OnOk, IfOk, IfErr};
 ghost use Rattle.std.specs.Io.KnownBytes.{Appends};
 ghost use Rattle.std.specs.List.{list_any};
 ghost use Rattle.std.specs.String.{string_bytes};
-ghost use Rattle.mdl_key.specs.Modes.{all_modes, same_mode};
-ghost use Rattle.mdlsim.specs.Devices.{AppendsFront};
+ghost use Rattle.mdl_key.specs.Modes.{same_mode};
 ghost use Rattle.mdlsim.specs.MatrixText.{kind_name, matrix_name, row_of, row_text, line_of, lines_of_matrix, matrix_text, known_lines, printed};
+ghost use Rattle.mdlsim.specs.Output.{LeavesWritten};
 
 use crate::device::write_all;
 use crate::fault::Fault;
@@ -18,7 +18,9 @@ use std::io::Write;
 /// What is known of the writer is by the bytes that it tells, as a vector does.
 pub fn matrix_run<W: Write>(alloc: Global, writer: &mut W) -> Result<(), Fault>
     ensures printed { OnOk result (Appends (W.contents writer.old) (W.contents writer.new) matrix_text) }
-    ensures front { OnErr result (AppendsFront (W.contents writer.old) (W.contents writer.new) matrix_text) }
+
+    // After a fault a beginning was written, and nothing unless writing failed.
+    ensures front { IfErr result (λ fault. LeavesWritten fault (W.contents writer.old) (W.contents writer.new) matrix_text) }
     ensures fault { IfErr result (λ fault. (fault ≡ Fault.Memory) ⊎ (fault ≡ Fault.Write)) }
 
     // That text, line by line.

@@ -1,7 +1,6 @@
 -- A mode of the kind adds its line, and another adds nothing.
-use Rattle.std.proofs.Common.{◌≡◌, ◌++◌, sym, ap, ◌∙◌, arith}
+use Rattle.std.proofs.Common.{◌++◌, sym, ap, ◌∙◌}
 use Rattle.std.specs.String.{string_bytes}
-use Rattle.std.proofs.lemmas.Grind.{common_steps}
 use Rattle.mdl_key.specs.declared.mode.Mode.TheVariants.{IX}
 use Rattle.mdl_key.specs.Modes.{all_modes, is_mode_of}
 use Rattle.mdlsim.specs.MatrixText.{line_of}

@@ -1,0 +1,20 @@
+-- What is found names the run's subcommand, and says of `--scoped` whether it was there.
+use Rattle.std.proofs.Common.{◌≡◌, ◌∙◌, rules, ap, inl, inr, option_map}
+use Rattle.mdlsim.proofs.FoundRuns.{is_either, is_lock, is_matrix}
+use Rattle.mdlsim.proofs.command_line.run_found.Goals as goal
+use Rattle.mdlsim.proofs.command_line.run_found.Goals.{in_default-via-in-Some+in_default, in_default-via-in_default}
+
+pub unreachable-requires : goal.unreachable-requires
+unreachable-requires c = elim (is_either c.requires.0 c.args.matches.now c.requires.1) [
+  | inl name ↦ let found = c.subcommand.ensures.name ∙ name in
+  elim c.in_default.branch [ in_default-via-in-Some+in_default w ↦ search rules | in_default-via-in_default w ↦ search rules ]
+  | inr name ↦ let found = c.subcommand.ensures.name ∙ name in
+  elim c.in_default.branch [ in_default-via-in-Some+in_default w ↦ search rules | in_default-via-in_default w ↦ search rules ]
+]
+
+pub returns-in-Some-lock-default : goal.returns-in-Some-lock-default
+returns-in-Some-lock-default c run is =
+    is_lock run c.args.matches.now c.in-Some-lock-default.options.now c.kind_found.result is (search rules) (search rules) c.kind_found.ensures.scoped c.kind_found.ensures.object
+
+pub returns-in-Some-matrix-default : goal.returns-in-Some-matrix-default
+returns-in-Some-matrix-default c run is = is_matrix run c.args.matches.now is (search rules)
