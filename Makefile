@@ -1,7 +1,8 @@
 # The two commands of the README, `make run` and `make test`, and the benchmark, `make bench`.
 
-# The script that `make run` runs.
+# The script that `make run` runs. With OPTIONS=--scoped it is one of a scoped lock.
 SCRIPT = crates/mdlsim/stdin
+OPTIONS =
 
 PROGRAM = crates/mdlsim/out/mdlsim
 
@@ -9,7 +10,7 @@ PROGRAM = crates/mdlsim/out/mdlsim
 
 # Builds mdlsim, proved, and prints its answers to the script.
 run: build
-	@$(PROGRAM) lock < $(SCRIPT)
+	@$(PROGRAM) lock $(OPTIONS) < $(SCRIPT)
 
 # The gate: the examples have their answers, and everything is proved and tested from nothing.
 test: examples

@@ -26,10 +26,10 @@ each_mode test all SNRW = AllPass-from_list_all test all_modes all 9 IX (lit< tt
 each_mode test all X = AllPass-from_list_all test all_modes all 10 IX (lit< tt)
 
 -- two answers are the same
-abbrev same : Bool → Bool → Bool
+abbrev pub same : Bool → Bool → Bool
 same a b = cond a b (not b)
 
-same-true : (a b : Bool) → same a b ≡ true → a ≡ b
+pub same-true : (a b : Bool) → same a b ≡ true → a ≡ b
 same-true true true e = refl
 same-true true false e = sym e
 same-true false true e = e
@@ -70,8 +70,8 @@ from-too : (weaker stronger : Bool) → (weaker ≡ true → stronger ≡ true) 
 from-too true stronger f = f refl
 from-too false stronger f = refl
 
--- a test that passes everywhere passes on each list
-every : (test : Mode → Bool) → ((mode : Mode) → test mode ≡ true) → (modes : List Mode) → list_all test modes ≡ true
+-- a test that each mode passes is passed by each mode of a list
+pub every : (test : Mode → Bool) → ((mode : Mode) → test mode ≡ true) → (modes : List Mode) → list_all test modes ≡ true
 every test passes [] = refl
 every test passes (mode ∷ modes) = rw (passes mode) (every test passes modes)
 

@@ -12,7 +12,7 @@ ClashingIsSymmetric = (kind : Kind) (a b : Mode) → Clashes kind a b → Clashe
 abbrev pub WaitsOnlyWhereItClashes : Type 0
 WaitsOnlyWhereItClashes = (kind : Kind) (ask pending : Mode) → WaitsBehind kind ask pending → Clashes kind ask pending
 
--- each mode is at least as strong as itself, and as what a mode is that it is at least as strong as
+-- being at least as strong is reflexive and transitive
 abbrev pub StrengthIsAPreorder : Type 0
 StrengthIsAPreorder =
     ((kind : Kind) (a : Mode) → IsAtLeast kind a a)

@@ -11,7 +11,7 @@ pub fn waits_only_where_it_clashes()
     ensures { WaitsOnlyWhereItClashes }
 {}
 
-/// Each mode is at least as strong as itself, and as all that is weaker than one that it is at least as strong as.
+/// Each mode is at least as strong as itself. Where a is at least as strong as b, and b as c, a is at least as strong as c.
 pub fn strength_is_a_preorder()
     ensures { StrengthIsAPreorder }
 {}

@@ -199,7 +199,7 @@ unfolding walk_fault
 scoped_asks [] e = inl refl
 scoped_asks (w ∷ rest) e = elim (lock_turn scoped_rows w (neither (turn_fault lock_level [] (walk_from (holds scoped_rows)) w) _ e).0) [
   | inl is ↦ inr (ap₂ (λ x xs. x ∷ xs) is
-    (lock_ends scoped_rows rest (subst (λ x. walk_fault lock_level [] (walk_from (holds scoped_rows)) (x ∷ rest) ≡ []) is e)))
+      (lock_ends scoped_rows rest (subst (λ x. walk_fault lock_level [] (walk_from (holds scoped_rows)) (x ∷ rest) ≡ []) is e)))
   | inr is ↦ absurd (refuses _ _ (subst (λ x. walk_fault lock_level [] (walk_from (holds scoped_rows)) (x ∷ rest) ≡ []) is e))
 ]
 
@@ -277,9 +277,9 @@ asks_from (w ∷ rest) e =
     let walks = neither (walk_fault top names start (w ∷ rest)) _ e in
     elim (top_turn w (neither (turn_fault top names start w) _ walks.0).0) [
       | inl is ↦ subst (λ x. (run : Run) × Asks (x ∷ rest) run) is
-        (lock_first rest (subst (λ x. built_fault (built mdlsim) nothing_held (x ∷ rest) ≡ []) (sym is) e))
+          (lock_first rest (subst (λ x. built_fault (built mdlsim) nothing_held (x ∷ rest) ≡ []) (sym is) e))
       | inr (inl is) ↦ subst (λ x. (run : Run) × Asks (x ∷ rest) run) is
-        (matrix_first rest (subst (λ x. built_fault (built mdlsim) nothing_held (x ∷ rest) ≡ []) (sym is) e))
+          (matrix_first rest (subst (λ x. built_fault (built mdlsim) nothing_held (x ∷ rest) ≡ []) (sym is) e))
       | inr (inr is) ↦ absurd (dash_first rest (subst (λ x. built_fault (built mdlsim) nothing_held (x ∷ rest) ≡ []) is e))
     ]
 

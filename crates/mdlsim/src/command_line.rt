@@ -64,8 +64,9 @@ fn program<'a>(alloc: Global) -> Result<Command<'a>, AllocError>
     let lock = Command::new(alloc, "lock")
         .about("Drives one lock by a script read from standard input")
         .arg(scoped)?;
-    let matrix = Command::new(alloc, "matrix")
-        .about("Prints which modes clash, and which wait behind which");
+    let matrix = Command::new(alloc, "matrix").about(
+        "Prints which modes clash, and which wait behind which",
+    );
     Command::new(alloc, "mdlsim")
         .subcommand_required(true)
         .subcommand(lock)?
@@ -163,7 +164,10 @@ mod tests {
         for words in [["mdlsim", "lock", "--help"], ["mdlsim", "help", "lock"]] {
             let text = refusal(&rt, words.as_slice())?;
             assert!(rt; text.contains("Drives one lock by a script"), "{text}");
-            assert!(rt; text.contains("--scoped  Drives a scoped lock instead of an object lock"), "{text}");
+            assert!(rt;
+                text.contains("--scoped  Drives a scoped lock instead of an object lock"),
+                "{text}"
+            );
         }
         Ok(())
     }

@@ -7,9 +7,9 @@ use Rattle.mdlsim.proofs.command_line.run_found.Goals.{in_default-via-in-Some+in
 pub unreachable-requires : goal.unreachable-requires
 unreachable-requires c = elim (is_either c.requires.0 c.args.matches.now c.requires.1) [
   | inl name ↦ let found = c.subcommand.ensures.name ∙ name in
-  elim c.in_default.branch [ in_default-via-in-Some+in_default w ↦ search rules | in_default-via-in_default w ↦ search rules ]
+      elim c.in_default.branch [ in_default-via-in-Some+in_default w ↦ search rules | in_default-via-in_default w ↦ search rules ]
   | inr name ↦ let found = c.subcommand.ensures.name ∙ name in
-  elim c.in_default.branch [ in_default-via-in-Some+in_default w ↦ search rules | in_default-via-in_default w ↦ search rules ]
+      elim c.in_default.branch [ in_default-via-in-Some+in_default w ↦ search rules | in_default-via-in_default w ↦ search rules ]
 ]
 
 pub returns-in-Some-lock-default : goal.returns-in-Some-lock-default

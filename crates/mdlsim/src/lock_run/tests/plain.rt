@@ -51,8 +51,9 @@ const OBJECT_WORDS: [&str; 16] = [
 ];
 
 // Whether the other mode stands in the row of the one asked for.
-fn has(rows: Rows, ask: &str, other: &str) -> bool {
-    rows.iter().any(|(mode, row)| *mode == ask && row.split(' ').any(|word| word == other))
+fn has(rows: Rows, ask: &'static str, other: &'static str) -> bool {
+    let row = rows.iter().find(|(mode, _)| *mode == ask);
+    row.is_some_and(|(_, row)| row.split(' ').any(|word| word == other))
 }
 
 #[derive(Drop)]
@@ -89,12 +90,9 @@ impl PlainLock {
         Ok(())
     }
 
-    fn can_go(&self, session: u32, mode: &str) -> bool {
-        let is_free = self.granted.iter().all(|(other, held)| *other == session
-            || !has(self.clashes, mode, held));
-        let is_next = self.waiting.iter().all(|(other, wish)| *other == session
-            || !has(self.waits_behind, mode, wish));
-        is_free && is_next
+    fn can_go(&self, session: u32, mode: &'static str) -> bool {
+        is_clear(self.clashes, session, mode, &self.granted)
+            && is_clear(self.waits_behind, session, mode, &self.waiting)
     }
 
     fn ask(&mut self, session: u32, mode: &'static str) -> Result<(), Fail> {
@@ -150,6 +148,16 @@ impl PlainLock {
             mode => self.ask(session, mode),
         }
     }
+}
+
+// Whether no ticket of another session is in the row of the mode asked for.
+fn is_clear(rows: Rows, session: u32, ask: &'static str, tickets: &[(u32, &'static str)]) -> bool {
+    for (other, mode) in tickets {
+        if *other != session && has(rows, ask, mode) {
+            return false;
+        }
+    }
+    true
 }
 
 // Where a session's ticket stands in a list.
