@@ -1,3 +1,4 @@
+pub mod FastLemmas
 pub mod GrantingLemmas
 pub mod SessionLemmas
 pub mod TicketLemmas

@@ -1,9 +1,14 @@
--- The first ticket that passes a test: its place, and the list without it.
-use Rattle.std.proofs.Common.{◌≡◌, ℕ, ◌+◌, ◌<◌, ◌≤◌, Bool, true, false, cond, List, ◌++◌, length, get_or, Some, None, refl, sym, ◌∙◌, ap, inl, inr, arith}
+-- The first ticket that passes a test: its place, the list without it, and the list with it in another mode.
+use Rattle.std.proofs.Common.{◌≡◌, ℕ, ◌+◌, ◌<◌, ◌≤◌, Bool, true, false, cond, List, [], ◌∷◌, ◌++◌, length, get_or, Some, None, refl, sym, ◌∙◌, ap, subst, inl, inr, arith, add-one, take, drop}
+use Rattle.std.specs.Prelude.{is_some, slice_set}
 use Rattle.std.specs.List.{position, position_or_len, find, before_first, after_first, All}
 use Rattle.std.proofs.lemmas.List.Folds.{find_at}
 use Rattle.std.proofs.lemmas.List.Elements.{All-append, All-take, All-drop}
 use Rattle.std.proofs.lemmas.Option.{slice_get-get_or, slice_get_cases}
+use Rattle.std.proofs.lemmas.List.{set_split}
+use Rattle.mdl_key.specs.declared.mode.Mode.{Mode}
+use Rattle.mdl_book.specs.declared.ticket.Ticket.{Ticket}
+use Rattle.mdl_book.specs.Tickets.{is_ticket, in_mode, with_mode}
 use borrow.Author.Tests.{ltb-true, ltb-false}
 
 some_place : (b : Bool) (n i : ℕ) → cond b (Some n) None ≡ Some i → (b ≡ true) × (n ≡ i)
@@ -27,6 +32,34 @@ none_at p xs place =
     let past : length xs ≤ position_or_len p xs = ltb-false _ _ (no_place _ _ (sym place)) in
     find_at p xs ∙ elim (slice_get_cases xs (position_or_len p xs)).1 [ inl w ↦ absurd (omega (arith, w.1)) | inr w ↦ w.1 ]
 
+-- where there is a place, something is found
+pub some_at : {X : Type 0} (p : X → Bool) (xs : List X) (i : ℕ) → Some i ≡ position p xs → is_some (find p xs) ≡ true
+some_at p xs i place =
+    let at = some_place _ _ i (sym place) in
+    let inside : position_or_len p xs < length xs = ltb-true _ _ at.0 in
+    ap is_some (find_at p xs) ∙ elim (slice_get_cases xs (position_or_len p xs)).1 [ inl w ↦ ap is_some w.2 | inr w ↦ absurd (omega (arith, w.0)) ]
+
 -- what holds of each element holds of each but the first that passes
 pub All-without : {X : Type 0} (P : X → Type 0) (p : X → Bool) (xs : List X) → All P xs → All P (before_first p xs ++ after_first p xs)
 All-without P p xs all = All-append P (before_first p xs) (after_first p xs) (All-take P (position_or_len p xs) xs all) (All-drop P (position_or_len p xs + 1) xs all)
+
+-- what is found passes
+pub find-passes : {X : Type 0} (p : X → Bool) (xs : List X) (x : X) → find p xs ≡ Some x → p x ≡ true
+find-passes p [] x found = cc
+find-passes p (y ∷ ys) x found =
+    elim (p y) as (λ b. p y ≡ b → cond b (Some y) (find p ys) ≡ Some x → p x ≡ true) [
+      | true ↦ λ passes e. let same : y ≡ x = cc in subst (λ z. p z ≡ true) same passes
+      | false ↦ λ _ e. find-passes p ys x e
+    ] refl found
+
+-- a write of the ticket in another mode, at its place
+pub with_mode_at : (session number : ℕ) (mode : Mode) (tickets : List Ticket) (i : ℕ) (ticket : Ticket) → Some i ≡ position (is_ticket session number) tickets
+    → ticket ≡ get_or tickets i ticket → slice_set tickets i (in_mode mode ticket) ≡ with_mode session number mode tickets
+with_mode_at session number mode tickets i ticket place is =
+    let test = is_ticket session number in
+    let at = some_place _ _ i (sym place) in
+    let first : position_or_len test tickets ≡ i = at.1 in
+    let inside : i < length tickets = subst (λ n. n < length tickets) first (ltb-true _ _ at.0) in
+    let split : slice_set tickets i (in_mode mode ticket) ≡ take i tickets ++ (in_mode mode ticket ∷ drop (i + 1) tickets) =
+    set_split tickets i (in_mode mode ticket) inside ∙ ap (λ n. take i tickets ++ (in_mode mode ticket ∷ drop n tickets)) (sym (add-one i)) in
+    rw (found_at test tickets i ticket place is, first) split

@@ -1,4 +1,5 @@
 pub mod Books
+pub mod FastTickets
 pub mod Granting
 pub mod SessionBits
 pub mod SessionSets

@@ -1,6 +1,8 @@
 -- Tickets: that a session holds a lock or waits for it, after MySQL 5.7: `MDL_ticket` of sql/mdl.h.
 use Rattle.std.specs.Prelude.{ℕ, Bool, ◌&&◌, ◌==◌, List, ◌++◌, Option, find}
 use Rattle.std.specs.List.{before_first, after_first}
+use Rattle.std.specs.Option.{option_map, option_to_list}
+use Rattle.mdl_key.specs.declared.mode.Mode.{Mode}
 use Rattle.mdl_book.specs.declared.ticket.Ticket.{Ticket}
 
 -- the ticket that a session gave this number
@@ -18,3 +20,13 @@ ticket_of session number tickets = find (is_ticket session number) tickets
 -- the list without that ticket
 abbrev pub without : ℕ → ℕ → List Ticket → List Ticket
 without session number tickets = before_first (is_ticket session number) tickets ++ after_first (is_ticket session number) tickets
+
+-- the ticket, in another mode
+abbrev pub in_mode : Mode → Ticket → Ticket
+in_mode mode ticket = record ticket { mode = mode }
+
+-- the list with that ticket in another mode, in its place
+abbrev pub with_mode : ℕ → ℕ → Mode → List Ticket → List Ticket
+with_mode session number mode tickets =
+    before_first (is_ticket session number) tickets
+    ++ (option_to_list (option_map (in_mode mode) (ticket_of session number tickets)) ++ after_first (is_ticket session number) tickets)

@@ -1,14 +1,17 @@
 //! The book of one lock.
-ghost use Rattle.std.specs.Prelude.{◌≡◌, ◌++◌, [], ◌∷◌, OnOk, OnErr, IfOk, ◌+◌, vec_len, is_ok, if◌then◌else◌, position, ◌≤◌, nat_le, Some, None};
+ghost use Rattle.std.specs.Prelude.{◌≡◌, ◌++◌, [], ◌∷◌, OnOk, OnErr, IfOk, ◌+◌, vec_len, is_ok, if◌then◌else◌, position, ◌≤◌, nat_le, Some, None, List};
 ghost use Rattle.std.specs.Vec.{vec_capacity};
 ghost use Rattle.std.specs.Option.{ok_or, option_map};
-ghost use Rattle.mdl_key.specs.Refusals.{Refuses};
+ghost use Rattle.mdl_key.specs.Classes.{is_obtrusive};
+ghost use Rattle.mdl_key.specs.Refusals.{Refuses, RefusesJust};
 ghost use Rattle.mdl_book.specs.Tickets.{is_ticket, ticket_id, ticket_of, without};
+ghost use Rattle.mdl_book.specs.FastTickets.{CountsFastTickets, AreOfOthers, may_stand, can_be_granted};
 ghost use Rattle.mdl_book.specs.Granting.{is_grantable, is_compatible, goes_first, IsGrantable, IsLawful};
-ghost use Rattle.mdl_book.specs.Books.{lock_kind, empty_book, grant_fault, full_fault, ticket_count, granting, enqueueing, admitting, cancelling, removing, next_grantable};
+ghost use Rattle.mdl_book.specs.Books.{lock_kind, empty_book, grant_fault, change_fault, full_fault, ticket_count, granting, enqueueing, admitting, cancelling, removing, changing, next_grantable, AreOfNoWaiter, next_grantable_beside, any_obtrusive, has_obtrusive, has_tickets};
 
-use crate::{BookError, Lists, Sessions, Ticket};
+use crate::{BookError, Lists, Needs, Sessions, Ticket};
 use mdl_key::{Key, Kind, Mode, conflicts_granted, conflicts_waiting};
+use mdl_word::Word;
 use std::alloc::Global;
 use std::marker::Model;
 
@@ -74,23 +77,29 @@ impl Book {
         &self.waiting
     }
 
-    /// Whether a session's wish for a mode can be granted now.
-    pub fn can_grant(&self, session: u16, mode: Mode) -> bool
-        ensures { result ≡ is_grantable (lock_kind self.now) self.now.granted self.now.waiting session mode }
+    /// Whether a session's wish for a mode can be granted now, the lock's word being `word`. The fast tickets that it counts
+    /// are taken for other sessions'.
+    pub fn can_grant(&self, session: u16, mode: Mode, word: Word) -> bool
+        ensures exact { result ≡ can_be_granted (lock_kind self.now) self.now.granted self.now.waiting word.0 session mode }
+        ensures counted { (fast : List Ticket) → CountsFastTickets (lock_kind self.now) word.0 fast → AreOfOthers session fast
+            → result ≡ is_grantable (lock_kind self.now) (fast ++ self.now.granted) self.now.waiting session mode }
     {
         let kind = self.key.kind();
-        is_compatible(kind, &self.granted, session, mode)
+        may_stand(kind, &self.granted, word, session, mode)
             && goes_first(kind, &self.waiting, session, mode)
     }
 
-    /// Grants a ticket. What waits doesn't count here.
-    pub fn grant(&mut self, ticket: Ticket) -> Result<(), BookError>
+    /// Grants a ticket, the lock's word being `word`. What waits doesn't count here.
+    pub fn grant(&mut self, ticket: Ticket, word: Word) -> Result<(), BookError>
         ensures granted { OnOk result (self.new ≡ granting ticket self.old) }
         ensures unchanged { OnErr result (self.new ≡ self.old) }
-        ensures refused { Refuses (grant_fault ticket self.old) BookError.OutOfMemory result }
+        ensures refused { Refuses (grant_fault ticket word.0 self.old) BookError.OutOfMemory result }
         ensures lawful { IsLawful (lock_kind self.old) self.old.granted → IsLawful (lock_kind self.new) self.new.granted }
+        ensures lawful_with_fast { (fast : List Ticket) → CountsFastTickets (lock_kind self.old) word.0 fast → AreOfOthers ticket.session fast
+            → IsLawful (lock_kind self.old) (fast ++ self.old.granted) → IsLawful (lock_kind self.new) (fast ++ self.new.granted) }
     {
-        if !is_compatible(self.key.kind(), &self.granted, ticket.session, ticket.mode) {
+        let kind = self.key.kind();
+        if !may_stand(kind, &self.granted, word, ticket.session, ticket.mode) {
             return Err(BookError::WouldConflict);
         }
         make_room(&mut self.granted, self.waiting.len())?;
@@ -119,6 +128,9 @@ impl Book {
         ensures unchanged { OnErr result (self.new ≡ self.old) }
         ensures lawful { IfOk result (λ ticket. IsGrantable (lock_kind self.old) self.old.granted self.old.waiting ticket.session ticket.mode
             → IsLawful (lock_kind self.old) self.old.granted → IsLawful (lock_kind self.new) self.new.granted) }
+        ensures lawful_with_fast { IfOk result (λ ticket. (fast : List Ticket)
+            → IsGrantable (lock_kind self.old) (fast ++ self.old.granted) self.old.waiting ticket.session ticket.mode
+            → IsLawful (lock_kind self.old) (fast ++ self.old.granted) → IsLawful (lock_kind self.new) (fast ++ self.new.granted)) }
     {
         let ticket = take_ticket(&mut self.waiting, session, number)?;
         self.granted.push(ticket).unwrap();
@@ -140,21 +152,65 @@ impl Book {
         ensures removed { self.new ≡ removing session number self.old }
         ensures unchanged { OnErr result (self.new ≡ self.old) }
         ensures lawful { IsLawful (lock_kind self.old) self.old.granted → IsLawful (lock_kind self.new) self.new.granted }
+        ensures lawful_with_fast { (fast : List Ticket)
+            → IsLawful (lock_kind self.old) (fast ++ self.old.granted) → IsLawful (lock_kind self.new) (fast ++ self.new.granted) }
     {
         take_ticket(&mut self.granted, session, number)
     }
 
-    /// The first waiting ticket, in order of arrival, whose session is among `unsettled` and whose wish can be granted:
-    /// its session and its number. Tickets that arrived later count as pending too.
-    pub fn next_grantable(&self, unsettled: &Sessions) -> Option<(u16, u64)>
-        ensures { result ≡ option_map ticket_id (next_grantable unsettled.now self.now) }
+    /// Changes the mode of a granted ticket, which keeps its place, the lock's word being `word`. The session's own tickets
+    /// and what waits don't count here. It takes no memory.
+    pub fn set_mode(
+        &mut self,
+        session: u16,
+        number: u64,
+        mode: Mode,
+        word: Word,
+    ) -> Result<(), BookError>
+        ensures changed { OnOk result (self.new ≡ changing session number mode self.old) }
+        ensures unchanged { OnErr result (self.new ≡ self.old) }
+        ensures refused { RefusesJust (change_fault session number mode word.0 self.old) result }
+        ensures lawful { IsLawful (lock_kind self.old) self.old.granted → IsLawful (lock_kind self.new) self.new.granted }
+        ensures lawful_with_fast { (fast : List Ticket) → CountsFastTickets (lock_kind self.old) word.0 fast → AreOfOthers session fast
+            → IsLawful (lock_kind self.old) (fast ++ self.old.granted) → IsLawful (lock_kind self.new) (fast ++ self.new.granted) }
+    {
+        let Some(at) = place_of(&self.granted, session, number) else {
+            return Err(BookError::NotHere);
+        };
+        if !may_stand(self.key.kind(), &self.granted, word, session, mode) {
+            return Err(BookError::WouldConflict);
+        }
+        self.granted[at].mode = mode;
+        Ok(())
+    }
+
+    /// The first waiting ticket, in order of arrival, whose session is among `unsettled` and whose wish can be granted, the
+    /// lock's word being `word`: its session and its number. Tickets that arrived later count as pending too.
+    pub fn next_grantable(&self, word: Word, unsettled: &Sessions) -> Option<(u16, u64)>
+        ensures exact { result ≡ option_map ticket_id (next_grantable word.0 unsettled.now self.now) }
+        ensures counted { (fast : List Ticket) → CountsFastTickets (lock_kind self.now) word.0 fast → AreOfNoWaiter self.now fast
+            → result ≡ option_map ticket_id (next_grantable_beside fast unsettled.now self.now) }
     {
         for ticket in &self.waiting {
-            if unsettled.contains(ticket.session) && self.can_grant(ticket.session, ticket.mode) {
+            if unsettled.contains(ticket.session)
+                && self.can_grant(ticket.session, ticket.mode, word)
+            {
                 return Some((ticket.session, ticket.number));
             }
         }
         None
+    }
+
+    /// What the lists have to tell those who take fast tickets.
+    pub fn needs(&self) -> Needs
+        ensures obtrusive { result.obtrusive ≡ has_obtrusive self.now }
+        ensures slow { result.slow ≡ has_tickets self.now }
+    {
+        let kind = self.key.kind();
+        Needs {
+            obtrusive: any_obtrusive(kind, &self.granted) || any_obtrusive(kind, &self.waiting),
+            slow: !self.granted.is_empty() || !self.waiting.is_empty(),
+        }
     }
 }
 
@@ -173,6 +229,14 @@ fn make_room(granted: &mut Vec<Ticket>, waiting: usize) -> Result<(), BookError>
         Ok(()) => Ok(()),
         Err(_) => Err(BookError::OutOfMemory),
     }
+}
+
+// Whether a session's wish for a mode clashes with no granted ticket of another session and with no fast ticket that the
+// word counts.
+fn may_stand(kind: Kind, granted: &[Ticket], word: Word, session: u16, mode: Mode) -> bool
+    ensures { result ≡ may_stand kind granted.now word.0 session mode }
+{
+    is_compatible(kind, granted, session, mode) && !word.blocks(kind, mode)
 }
 
 // Whether no granted ticket of another session clashes with a session's wish for a mode.
@@ -209,6 +273,20 @@ fn place_of(tickets: &[Ticket], session: u16, number: u64) -> Option<usize>
     ensures { result ≡ position (is_ticket session number) tickets.now }
 {
     tickets.iter().position(|ticket| ticket.session == session && ticket.number == number)
+}
+
+// Whether one of these tickets is obtrusive.
+fn any_obtrusive(kind: Kind, tickets: &[Ticket]) -> bool
+    ensures { result ≡ any_obtrusive kind tickets.now }
+{
+    tickets.iter().any(|ticket| is_obtrusive(kind, ticket.mode))
+}
+
+// Whether a mode is obtrusive: its tickets are never merely counted.
+fn is_obtrusive(kind: Kind, mode: Mode) -> bool
+    ensures { result ≡ is_obtrusive kind mode }
+{
+    Word::increment(kind, mode).is_none()
 }
 
 #[cfg(test)]

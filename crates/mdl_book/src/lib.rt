@@ -3,16 +3,21 @@
 //! A [`Book`] says who holds a lock and who waits for it. It grants a wish where no granted ticket of another session
 //! clashes with it and no waiting one goes before it ([`Book::can_grant`]), keeps those that wait ([`Book::enqueue`]),
 //! and names the next of them that can be granted ([`Book::next_grantable`]). Contracts see it as its [`Lists`].
+//!
+//! Fast tickets stand in no list: whoever asks brings the lock's packed [`Word`](mdl_word::Word), which counts them, and
+//! they are taken for tickets of other sessions. What the word's flags have to say is [`Book::needs`].
 #![tactic(auto)]
 
 mod book;
 mod book_error;
 mod lists;
+mod needs;
 mod sessions;
 mod ticket;
 
 pub use book::Book;
 pub use book_error::BookError;
 pub use lists::Lists;
+pub use needs::Needs;
 pub use sessions::Sessions;
 pub use ticket::Ticket;

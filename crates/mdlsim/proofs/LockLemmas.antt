@@ -13,6 +13,7 @@ use Rattle.mdl_book.specs.Tickets.{is_ticket, ticket_id, ticket_of}
 use Rattle.mdl_book.specs.SessionSets.{is_session, IsEverySession}
 use Rattle.mdl_book.specs.declared.lists.Lists.{Lists}
 use Rattle.mdl_book.specs.Books.{lock_kind, next_grantable, admitting}
+use Rattle.mdl_book.proofs.FastLemmas.{next_grantable-none}
 use Rattle.mdl_key.specs.declared.namespace.Kind.{Kind}
 use Rattle.mdlsim.specs.declared.answer.Answer.TheVariants.{Granted}
 use Rattle.mdlsim.specs.Answering.{answer_text, text_of}
@@ -71,8 +72,8 @@ grants_more kind n m lock ticket same some = rw (same, some)
 
 -- what a book names as next, where all sessions are asked for
 pub next-lock_of : (everyone : set.FinSet nat_cmp) (lists : Lists) → IsEverySession everyone → IsOrderly (lock_of lists)
-    → next_grantable everyone lists ≡ next_waiter (lock_kind lists) (lock_of lists)
-next-lock_of everyone lists every orderly = find-numbered everyone _ lists.waiting every orderly.waiters
+    → next_grantable 0 everyone lists ≡ next_waiter (lock_kind lists) (lock_of lists)
+next-lock_of everyone lists every orderly = next_grantable-none everyone lists ∙ find-numbered everyone _ lists.waiting every orderly.waiters
 
 -- the waiter that a session and a number name
 pub record IsNamed (lists : Lists) (id : ℕ × ℕ) (ticket : Ticket) : Type 0 where
@@ -91,7 +92,7 @@ named_by lists id (Some ticket) is orderly named =
     (ticket, record { next = is; there = there; admits = rw (there, same) })
 
 pub named-next : (everyone : set.FinSet nat_cmp) (lists : Lists) (id : ℕ × ℕ) → IsEverySession everyone → IsOrderly (lock_of lists)
-    → Some id ≡ option_map ticket_id (next_grantable everyone lists) → (ticket : Ticket) × IsNamed lists id ticket
+    → Some id ≡ option_map ticket_id (next_grantable 0 everyone lists) → (ticket : Ticket) × IsNamed lists id ticket
 named-next everyone lists id every orderly named = named_by lists id _ refl orderly (rw (← next-lock_of everyone lists every orderly) named)
 
 map_none : {A B : Type 0} (f : A → B) (o : Option A) → None ≡ option_map f o → o ≡ None
@@ -100,7 +101,7 @@ map_none f (Some x) e = cc
 
 -- a book of this kind names no waiter, so there is none to grant
 pub none-next : (kind : Kind) (everyone : set.FinSet nat_cmp) (lists : Lists) → lock_kind lists ≡ kind → IsEverySession everyone → IsOrderly (lock_of lists)
-    → None ≡ option_map ticket_id (next_grantable everyone lists) → next_waiter kind (lock_of lists) ≡ None
+    → None ≡ option_map ticket_id (next_grantable 0 everyone lists) → next_waiter kind (lock_of lists) ≡ None
 none-next kind everyone lists same every orderly named =
     subst (λ k. next_waiter k (lock_of lists) ≡ None) same (sym (next-lock_of everyone lists every orderly) ∙ map_none ticket_id _ named)
 

@@ -15,6 +15,7 @@ use Rattle.mdl_book.specs.declared.lists.Lists.{Lists}
 use Rattle.mdl_book.specs.Books.{lock_kind, full_fault, grant_fault}
 use Rattle.mdl_book.specs.Granting.{is_compatible}
 use Rattle.mdl_book.specs.Tickets.{is_ticket, without}
+use Rattle.mdl_book.proofs.FastLemmas.{may_stand-none}
 use Rattle.mdl_book.proofs.TicketLemmas.{All-without}
 use Rattle.mdl_key.specs.declared.mode.Mode.{Mode}
 use Rattle.mdlsim.specs.Answers.{Lock, free_lock, new_ticket, holds_or_waits, admitted}
@@ -177,8 +178,8 @@ never_full lock orderly = let few = at_most_64 lock orderly in grind (arith, nat
 
 -- nor is a ticket refused that doesn't clash
 pub never_refused : (lists : Lists) (ticket : Ticket) → IsOrderly (lock_of lists) → is_compatible (lock_kind lists) lists.granted ticket.session ticket.mode ≡ true
-    → grant_fault ticket lists ≡ None
-never_refused lists ticket orderly compatible = rw compatible (never_full (lock_of lists) orderly)
+    → grant_fault ticket 0 lists ≡ None
+never_refused lists ticket orderly compatible = rw (may_stand-none (lock_kind lists) lists.granted ticket.session ticket.mode, compatible) (never_full (lock_of lists) orderly)
 
 -- all that is left to fail is memory
 pub only_memory : (fault : Option BookError) (result : Result (Unit {0}) BookError) → fault ≡ None → Refuses fault OutOfMemory result

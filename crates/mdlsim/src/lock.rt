@@ -4,6 +4,7 @@ ghost use Rattle.mdl_key.specs.Modes.{kind_of};
 ghost use Rattle.std.specs.List.{list_any};
 ghost use Rattle.std.specs.String.{string_bytes};
 ghost use Rattle.mdl_book.specs.Books.{lock_kind};
+ghost use Rattle.mdl_book.specs.Granting.{is_grantable};
 ghost use Rattle.mdl_book.specs.SessionSets.{IsEverySession};
 ghost use Rattle.mdl_book.specs.Tickets.{is_ticket, ticket_of};
 ghost use Rattle.mdlsim.specs.Answering.{answer_text, text_of};
@@ -16,10 +17,14 @@ use crate::fault::Fault;
 use crate::lock_command::{Action, LockCommand};
 use mdl_book::{Book, BookError, Sessions, Ticket};
 use mdl_key::{Key, Kind, Mode};
+use mdl_word::Word;
 use std::alloc::Global;
 
 // A session has one ticket or one wait at most, so this number will do for each.
 const THE_ONE: u64 = 1;
+
+// The word of the lock: no ticket of a script is a fast one.
+const NO_FAST: Word = Word(0);
 
 /// Drives a lock that nobody holds by commands, and gives the text of the answers, a line each.
 pub fn answers_to(alloc: Global, kind: Kind, commands: &[LockCommand]) -> Result<String, Fault>
@@ -83,12 +88,19 @@ fn ask(book: &mut Book, session: u16, mode: Mode) -> Result<Answer, Fault>
         number: THE_ONE,
         mode,
     };
-    if book.can_grant(session, mode) {
-        book.grant(ticket).map_err(memory_fault)?;
+    if can_grant(book, session, mode) {
+        book.grant(ticket, NO_FAST).map_err(memory_fault)?;
         return Ok(Answer::Granted(session, mode));
     }
     book.enqueue(ticket).map_err(memory_fault)?;
     Ok(Answer::Waits(session, mode))
+}
+
+// Whether a session's wish for a mode can be granted now.
+fn can_grant(book: &Book, session: u16, mode: Mode) -> bool
+    ensures { result ≡ is_grantable (lock_kind book.now) book.now.granted book.now.waiting session mode }
+{
+    book.can_grant(session, mode, NO_FAST)
 }
 
 // The fault of a book that can want for nothing but memory.
@@ -164,7 +176,7 @@ fn grant_waiters(book: &mut Book, everyone: &Sessions, out: &mut String) -> Resu
 {
     let most = book.waiting().len();
     for turn in 0..most {
-        let Some((session, number)) = book.next_grantable(everyone) else {
+        let Some((session, number)) = book.next_grantable(NO_FAST, everyone) else {
             return Ok(());
         };
         let ticket = book.admit(session, number).unwrap();

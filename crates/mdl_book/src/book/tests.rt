@@ -2,12 +2,26 @@ use super::*;
 use std::alloc::AllocError;
 use std::test::Fail;
 
+// The word of a lock without fast tickets.
+const NO_FAST: Word = Word(0);
+
+// The words of one fast ticket: in S or IX, in SR, and in SW.
+const FAST_S: Word = Word(0x1);
+
+const FAST_SR: Word = Word(0x10_0000);
+
+const FAST_SW: Word = Word(0x100_0000_0000);
+
 fn ticket(session: u16, number: u64, mode: Mode) -> Ticket {
     Ticket {
         session,
         number,
         mode,
     }
+}
+
+fn needs(obtrusive: bool, slow: bool) -> Needs {
+    Needs { obtrusive, slow }
 }
 
 // The book of a table that nobody has locked.
@@ -42,18 +56,18 @@ fn lives_an_ordinary_life(rt: HostRuntime) -> Result<(), Fail> {
     let everyone = Sessions::all();
     let mut book = table_book(alloc)?;
     assert_eq!(rt; lists(alloc, &book)?.as_str(), "/ ");
-    assert_eq!(rt; book.next_grantable(&everyone), None);
-    book.grant(ticket(1, 7, Mode::SR))?;
+    assert_eq!(rt; book.next_grantable(NO_FAST, &everyone), None);
+    book.grant(ticket(1, 7, Mode::SR), NO_FAST)?;
     book.enqueue(ticket(2, 1, Mode::X))?;
     book.enqueue(ticket(3, 4, Mode::SR))?;
     assert_eq!(rt; lists(alloc, &book)?.as_str(), "1.7 SR / 2.1 X 3.4 SR ");
-    assert_eq!(rt; book.next_grantable(&everyone), None);
+    assert_eq!(rt; book.next_grantable(NO_FAST, &everyone), None);
 
     assert_eq!(rt; book.remove(1, 7), Ok(ticket(1, 7, Mode::SR)));
-    assert_eq!(rt; book.next_grantable(&everyone), Some((2, 1)));
+    assert_eq!(rt; book.next_grantable(NO_FAST, &everyone), Some((2, 1)));
     assert_eq!(rt; book.admit(2, 1), Ok(ticket(2, 1, Mode::X)));
     assert_eq!(rt; lists(alloc, &book)?.as_str(), "2.1 X / 3.4 SR ");
-    assert_eq!(rt; book.next_grantable(&everyone), None);
+    assert_eq!(rt; book.next_grantable(NO_FAST, &everyone), None);
 
     assert_eq!(rt; book.cancel(3, 4), Ok(ticket(3, 4, Mode::SR)));
     assert_eq!(rt; book.remove(2, 1), Ok(ticket(2, 1, Mode::X)));
@@ -67,22 +81,29 @@ fn serves_a_schema_in_turn(rt: HostRuntime) -> Result<(), Fail> {
     let alloc = rt.alloc();
     let everyone = Sessions::all();
     let mut book = Book::new(alloc, Key::schema(alloc, "test")?);
-    assert!(rt; book.can_grant(1, Mode::IX));
-    book.grant(ticket(1, 1, Mode::IX))?;
+    assert!(rt; book.can_grant(1, Mode::IX, NO_FAST));
+    book.grant(ticket(1, 1, Mode::IX), NO_FAST)?;
     for (session, mode) in [(2, Mode::S), (3, Mode::IX), (4, Mode::X)] {
-        assert!(rt; !book.can_grant(session, mode), "{session} asks for {mode}");
+        assert!(rt;
+            !book.can_grant(session, mode, NO_FAST),
+            "{session} asks for {mode}"
+        );
         book.enqueue(ticket(session, 1, mode))?;
-        assert_eq!(rt; book.next_grantable(&everyone), None);
+        assert_eq!(rt; book.next_grantable(NO_FAST, &everyone), None);
     }
     for (leaving, next) in [(1, 4), (4, 2), (2, 3)] {
         book.remove(leaving, 1)?;
         assert_eq!(rt;
-            book.next_grantable(&everyone),
+            book.next_grantable(NO_FAST, &everyone),
             Some((next, 1)),
             "{leaving} leaves"
         );
         book.admit(next, 1)?;
-        assert_eq!(rt; book.next_grantable(&everyone), None, "{next} has come");
+        assert_eq!(rt;
+            book.next_grantable(NO_FAST, &everyone),
+            None,
+            "{next} has come"
+        );
     }
     assert_eq!(rt; lists(alloc, &book)?.as_str(), "3.1 IX / ");
     Ok(())
@@ -91,8 +112,8 @@ fn serves_a_schema_in_turn(rt: HostRuntime) -> Result<(), Fail> {
 #[test]
 fn looks_at_other_sessions_alone(rt: HostRuntime) -> Result<(), Fail> {
     let mut book = table_book(rt.alloc())?;
-    book.grant(ticket(1, 1, Mode::SU))?;
-    book.grant(ticket(2, 1, Mode::SR))?;
+    book.grant(ticket(1, 1, Mode::SU), NO_FAST)?;
+    book.grant(ticket(2, 1, Mode::SR), NO_FAST)?;
     book.enqueue(ticket(1, 2, Mode::SNW))?;
     book.enqueue(ticket(3, 1, Mode::SNRW))?;
     for (session, mode, want) in [
@@ -108,13 +129,13 @@ fn looks_at_other_sessions_alone(rt: HostRuntime) -> Result<(), Fail> {
         (4, Mode::S, true),
     ] {
         assert_eq!(rt;
-            book.can_grant(session, mode),
+            book.can_grant(session, mode, NO_FAST),
             want,
             "{session} asks for {mode}"
         );
     }
     book.remove(2, 1)?;
-    assert!(rt; book.can_grant(1, Mode::X));
+    assert!(rt; book.can_grant(1, Mode::X, NO_FAST));
     Ok(())
 }
 
@@ -122,12 +143,12 @@ fn looks_at_other_sessions_alone(rt: HostRuntime) -> Result<(), Fail> {
 fn lets_a_clone_overtake(rt: HostRuntime) -> Result<(), Fail> {
     let alloc = rt.alloc();
     let mut book = table_book(alloc)?;
-    book.grant(ticket(1, 1, Mode::SR))?;
+    book.grant(ticket(1, 1, Mode::SR), NO_FAST)?;
     book.enqueue(ticket(2, 1, Mode::X))?;
-    assert!(rt; !book.can_grant(1, Mode::SR));
-    book.grant(ticket(1, 2, Mode::SR))?;
+    assert!(rt; !book.can_grant(1, Mode::SR, NO_FAST));
+    book.grant(ticket(1, 2, Mode::SR), NO_FAST)?;
     assert_eq!(rt;
-        book.grant(ticket(2, 2, Mode::X)),
+        book.grant(ticket(2, 2, Mode::X), NO_FAST),
         Err(BookError::WouldConflict)
     );
     assert_eq!(rt; lists(alloc, &book)?.as_str(), "1.1 SR 1.2 SR / 2.1 X ");
@@ -141,16 +162,16 @@ fn counts_later_and_settled_waiters(rt: HostRuntime) -> Result<(), Fail> {
     book.enqueue(ticket(2, 1, Mode::X))?;
     book.enqueue(ticket(3, 1, Mode::X))?;
     let mut unsettled = Sessions::all();
-    assert_eq!(rt; book.next_grantable(&unsettled), Some((2, 1)));
+    assert_eq!(rt; book.next_grantable(NO_FAST, &unsettled), Some((2, 1)));
     unsettled.remove(2);
-    assert_eq!(rt; book.next_grantable(&unsettled), Some((3, 1)));
+    assert_eq!(rt; book.next_grantable(NO_FAST, &unsettled), Some((3, 1)));
     unsettled.remove(3);
-    assert_eq!(rt; book.next_grantable(&unsettled), None);
+    assert_eq!(rt; book.next_grantable(NO_FAST, &unsettled), None);
     book.cancel(2, 1)?;
-    assert_eq!(rt; book.next_grantable(&unsettled), None);
+    assert_eq!(rt; book.next_grantable(NO_FAST, &unsettled), None);
     book.cancel(3, 1)?;
-    assert_eq!(rt; book.next_grantable(&unsettled), Some((1, 1)));
-    assert_eq!(rt; book.next_grantable(&Sessions::new()), None);
+    assert_eq!(rt; book.next_grantable(NO_FAST, &unsettled), Some((1, 1)));
+    assert_eq!(rt; book.next_grantable(NO_FAST, &Sessions::new()), None);
     Ok(())
 }
 
@@ -158,9 +179,9 @@ fn counts_later_and_settled_waiters(rt: HostRuntime) -> Result<(), Fail> {
 fn knows_its_tickets(rt: HostRuntime) -> Result<(), Fail> {
     let alloc = rt.alloc();
     let mut book = table_book(alloc)?;
-    book.grant(ticket(1, 1, Mode::S))?;
-    book.grant(ticket(1, 2, Mode::SH))?;
-    book.grant(ticket(1, 2, Mode::SR))?;
+    book.grant(ticket(1, 1, Mode::S), NO_FAST)?;
+    book.grant(ticket(1, 2, Mode::SH), NO_FAST)?;
+    book.grant(ticket(1, 2, Mode::SR), NO_FAST)?;
     book.enqueue(ticket(2, 1, Mode::X))?;
     book.enqueue(ticket(2, 2, Mode::SU))?;
     book.enqueue(ticket(2, 2, Mode::SW))?;
@@ -173,7 +194,7 @@ fn knows_its_tickets(rt: HostRuntime) -> Result<(), Fail> {
         assert_eq!(rt; book.remove(session, number), Err(BookError::NotHere));
     }
     assert_eq!(rt;
-        book.grant(ticket(3, 1, Mode::X)),
+        book.grant(ticket(3, 1, Mode::X), NO_FAST),
         Err(BookError::WouldConflict)
     );
     assert_eq!(rt; lists(alloc, &book)?.as_str(), before.as_str());
@@ -191,27 +212,36 @@ fn knows_its_tickets(rt: HostRuntime) -> Result<(), Fail> {
 #[test]
 fn is_full_at_65535_tickets(rt: HostRuntime) -> Result<(), Fail> {
     let mut book = table_book(rt.alloc())?;
-    book.grant(ticket(1, 0, Mode::X))?;
+    book.grant(ticket(1, 0, Mode::X), NO_FAST)?;
     for number in 1..65_535 {
         book.enqueue(ticket(2, number, Mode::S))?;
     }
     assert_eq!(rt; book.enqueue(ticket(2, 0, Mode::S)), Err(BookError::Full));
-    assert_eq!(rt; book.grant(ticket(1, 1, Mode::S)), Err(BookError::Full));
     assert_eq!(rt;
-        book.grant(ticket(2, 0, Mode::S)),
+        book.grant(ticket(1, 1, Mode::S), NO_FAST),
+        Err(BookError::Full)
+    );
+    assert_eq!(rt;
+        book.grant(ticket(2, 0, Mode::S), NO_FAST),
         Err(BookError::WouldConflict)
     );
     assert_eq!(rt; book.granted().len(), 1);
     assert_eq!(rt; book.waiting().len(), 65_534);
 
     book.admit(2, 65_534)?;
-    assert_eq!(rt; book.grant(ticket(1, 1, Mode::SH)), Err(BookError::Full));
+    assert_eq!(rt;
+        book.grant(ticket(1, 1, Mode::SH), NO_FAST),
+        Err(BookError::Full)
+    );
     book.cancel(2, 1)?;
     book.enqueue(ticket(3, 1, Mode::X))?;
     assert_eq!(rt; book.enqueue(ticket(3, 2, Mode::X)), Err(BookError::Full));
     book.remove(1, 0)?;
-    book.grant(ticket(2, 1, Mode::S))?;
-    assert_eq!(rt; book.grant(ticket(2, 0, Mode::S)), Err(BookError::Full));
+    book.grant(ticket(2, 1, Mode::S), NO_FAST)?;
+    assert_eq!(rt;
+        book.grant(ticket(2, 0, Mode::S), NO_FAST),
+        Err(BookError::Full)
+    );
     Ok(())
 }
 
@@ -226,14 +256,142 @@ fn outlives_want_of_memory(rt: HostRuntime) -> Result<(), Fail> {
             assert_eq!(rt; book.waiting().len(), waiting);
             assert_eq!(rt; book.enqueue(ticket(1, number, Mode::S)), Ok(()));
         }
-        if book.grant(ticket(2, number, Mode::S)) == Err(BookError::OutOfMemory) {
+        if book.grant(ticket(2, number, Mode::S), NO_FAST) == Err(BookError::OutOfMemory) {
             assert_eq!(rt; book.granted().len(), granted);
-            assert_eq!(rt; book.grant(ticket(2, number, Mode::S)), Ok(()));
+            assert_eq!(rt; book.grant(ticket(2, number, Mode::S), NO_FAST), Ok(()));
         }
     }
     for number in 1..40 {
         assert_eq!(rt; book.admit(1, number), Ok(ticket(1, number, Mode::S)));
     }
     assert_eq!(rt; book.granted().len(), 78);
+    Ok(())
+}
+
+#[test]
+fn minds_fast_tickets(rt: HostRuntime) -> Result<(), Fail> {
+    let everyone = Sessions::all();
+    for (word, mode, want) in [
+        (NO_FAST, Mode::X, true),
+        (FAST_S, Mode::X, false),
+        (FAST_S, Mode::SNRW, true),
+        (FAST_SR, Mode::SNRW, false),
+        (FAST_SR, Mode::SNW, true),
+        (FAST_SW, Mode::SRO, false),
+        (FAST_SW, Mode::SNW, false),
+        (FAST_SW, Mode::SU, true),
+    ] {
+        let mut book = table_book(rt.alloc())?;
+        assert_eq!(rt; book.can_grant(1, mode, word), want, "{mode} at {word:?}");
+        book.enqueue(ticket(1, 1, mode))?;
+        let next = if want { Some((1, 1)) } else { None };
+        assert_eq!(rt;
+            book.next_grantable(word, &everyone),
+            next,
+            "{mode} waits at {word:?}"
+        );
+        let granted = if want {
+            Ok(())
+        } else {
+            Err(BookError::WouldConflict)
+        };
+        assert_eq!(rt;
+            book.grant(ticket(1, 2, mode), word),
+            granted,
+            "{mode} granted at {word:?}"
+        );
+        assert_eq!(rt; book.granted().is_empty(), !want);
+    }
+    Ok(())
+}
+
+#[test]
+fn minds_fast_tickets_of_a_schema(rt: HostRuntime) -> Result<(), Fail> {
+    let alloc = rt.alloc();
+    let mut book = Book::new(alloc, Key::schema(alloc, "test")?);
+    for (mode, want) in [(Mode::IX, true), (Mode::S, false), (Mode::X, false)] {
+        assert_eq!(rt; book.can_grant(1, mode, FAST_S), want, "{mode}");
+    }
+    book.grant(ticket(1, 1, Mode::IX), FAST_S)?;
+    assert_eq!(rt; book.needs(), needs(false, true));
+    assert_eq!(rt;
+        book.set_mode(1, 1, Mode::S, FAST_S),
+        Err(BookError::WouldConflict)
+    );
+    assert_eq!(rt; book.set_mode(1, 1, Mode::S, NO_FAST), Ok(()));
+    assert_eq!(rt; book.needs(), needs(true, true));
+    Ok(())
+}
+
+#[test]
+fn changes_a_mode_in_place(rt: HostRuntime) -> Result<(), Fail> {
+    let alloc = rt.alloc();
+    let mut book = table_book(alloc)?;
+    book.grant(ticket(2, 1, Mode::S), NO_FAST)?;
+    book.grant(ticket(1, 1, Mode::SR), NO_FAST)?;
+    book.grant(ticket(1, 2, Mode::SU), NO_FAST)?;
+    book.grant(ticket(3, 1, Mode::SH), NO_FAST)?;
+    book.enqueue(ticket(4, 1, Mode::X))?;
+    // Neither the session's own SR nor the waiting X stands in the way.
+    assert_eq!(rt; book.set_mode(1, 2, Mode::SNRW, FAST_S), Ok(()));
+    assert_eq!(rt;
+        lists(alloc, &book)?.as_str(),
+        "2.1 S 1.1 SR 1.2 SNRW 3.1 SH / 4.1 X "
+    );
+    assert_eq!(rt;
+        book.set_mode(1, 2, Mode::X, NO_FAST),
+        Err(BookError::WouldConflict)
+    );
+    book.remove(2, 1)?;
+    book.remove(3, 1)?;
+    assert_eq!(rt; book.set_mode(1, 2, Mode::X, NO_FAST), Ok(()));
+    assert_eq!(rt; lists(alloc, &book)?.as_str(), "1.1 SR 1.2 X / 4.1 X ");
+    assert_eq!(rt; book.set_mode(1, 2, Mode::SU, NO_FAST), Ok(()));
+    assert_eq!(rt; lists(alloc, &book)?.as_str(), "1.1 SR 1.2 SU / 4.1 X ");
+    Ok(())
+}
+
+#[test]
+fn refuses_to_change_a_mode(rt: HostRuntime) -> Result<(), Fail> {
+    let alloc = rt.alloc();
+    let mut book = table_book(alloc)?;
+    book.grant(ticket(1, 1, Mode::SU), NO_FAST)?;
+    book.grant(ticket(2, 1, Mode::SR), NO_FAST)?;
+    book.enqueue(ticket(1, 2, Mode::SR))?;
+    let before = lists(alloc, &book)?;
+    for (session, number, mode, word, error) in [
+        (1, 2, Mode::SR, NO_FAST, BookError::NotHere),
+        (3, 1, Mode::X, NO_FAST, BookError::NotHere),
+        (2, 2, Mode::X, FAST_S, BookError::NotHere),
+        (1, 1, Mode::SNRW, NO_FAST, BookError::WouldConflict),
+        (1, 1, Mode::SNW, FAST_SW, BookError::WouldConflict),
+        (2, 1, Mode::SNW, NO_FAST, BookError::WouldConflict),
+    ] {
+        assert_eq!(rt;
+            book.set_mode(session, number, mode, word),
+            Err(error),
+            "{session}.{number} to {mode}"
+        );
+    }
+    assert_eq!(rt; lists(alloc, &book)?.as_str(), before.as_str());
+    Ok(())
+}
+
+#[test]
+fn tells_what_it_needs(rt: HostRuntime) -> Result<(), Fail> {
+    let mut book = table_book(rt.alloc())?;
+    assert_eq!(rt; book.needs(), needs(false, false));
+    book.grant(ticket(1, 1, Mode::SW), NO_FAST)?;
+    assert_eq!(rt; book.needs(), needs(false, true));
+    book.enqueue(ticket(2, 1, Mode::SNW))?;
+    assert_eq!(rt; book.needs(), needs(true, true));
+    book.cancel(2, 1)?;
+    assert_eq!(rt; book.needs(), needs(false, true));
+    book.set_mode(1, 1, Mode::SU, NO_FAST)?;
+    assert_eq!(rt; book.needs(), needs(true, true));
+    book.remove(1, 1)?;
+    assert_eq!(rt; book.needs(), needs(false, false));
+    book.enqueue(ticket(2, 2, Mode::SWLP))?;
+    assert_eq!(rt; book.needs(), needs(false, true));
     Ok(())
 }

@@ -15,7 +15,7 @@ returns-in_default-clause-told c =
     let kind = lock_kind c.args.book.now in
     let n = length c.waiting-most.result.now - c.loop-turn.turn in
     let same : lock_kind c.loop-turn.book ≡ kind = ap (λ k. kind_of k.namespace) c.loop-turn.invariant.key in
-    let none = none-next kind c.args.everyone.now c.loop-turn.book same c.requires.every c.loop-turn.invariant.orderly c.in_default.ensures in
+    let none = none-next kind c.args.everyone.now c.loop-turn.book same c.requires.every c.loop-turn.invariant.orderly c.in_default.ensures.exact in
     told_end kind n (lock_of c.loop-turn.book) _ _ none c.loop-turn.invariant.told
 
 pub returns-in_default-clause-left : goal.returns-in_default-clause-left
@@ -23,13 +23,13 @@ returns-in_default-clause-left c =
     let kind = lock_kind c.args.book.now in
     let n = length c.waiting-most.result.now - c.loop-turn.turn in
     let same : lock_kind c.loop-turn.book ≡ kind = ap (λ k. kind_of k.namespace) c.loop-turn.invariant.key in
-    let none = none-next kind c.args.everyone.now c.loop-turn.book same c.requires.every c.loop-turn.invariant.orderly c.in_default.ensures in
+    let none = none-next kind c.args.everyone.now c.loop-turn.book same c.requires.every c.loop-turn.invariant.orderly c.in_default.ensures.exact in
     left_end kind n (lock_of c.loop-turn.book) _ none c.loop-turn.invariant.left
 
 pub unwrap-ticket-requires : goal.unwrap-ticket-requires
 unwrap-ticket-requires c =
     let book = c.loop-turn.book in
-    let named = named-next c.args.everyone.now book (c.in-Some.session, c.in-Some.number) c.requires.every c.loop-turn.invariant.orderly c.in-Some.ensures in
+    let named = named-next c.args.everyone.now book (c.in-Some.session, c.in-Some.number) c.requires.every c.loop-turn.invariant.orderly c.in-Some.ensures.exact in
     rw (c.admit.ensures.answer, named.1.there)
 
 pub loop-turn-preserved : goal.loop-turn-preserved
@@ -38,7 +38,7 @@ loop-turn-preserved c =
     let kind = lock_kind c.args.book.now in
     let n = length c.waiting-most.result.now - c.loop-turn.turn in
     let m = length c.waiting-most.result.now - (c.loop-turn.turn + 1) in
-    let named = named-next c.args.everyone.now book (c.in-Some.session, c.in-Some.number) c.requires.every c.loop-turn.invariant.orderly c.in-Some.ensures in
+    let named = named-next c.args.everyone.now book (c.in-Some.session, c.in-Some.number) c.requires.every c.loop-turn.invariant.orderly c.in-Some.ensures.exact in
     let ticket = named.0 in
     let same : lock_kind book ≡ kind = ap (λ k. kind_of k.namespace) c.loop-turn.invariant.key in
     let some : next_waiter kind (lock_of book) ≡ Some ticket = subst (λ k. next_waiter k (lock_of book) ≡ Some ticket) same named.1.next in

@@ -1,7 +1,9 @@
 -- A ticket that clashes with none is granted, so the granted ones stay lawful.
 use Rattle.std.proofs.Common.{◌≡◌, true, ◌++◌, [], ◌∷◌, rules}
 use Rattle.mdl_key.specs.Modes.{kind_of}
+use Rattle.mdl_book.specs.FastTickets.{may_stand}
 use Rattle.mdl_book.specs.Granting.{is_compatible}
+use Rattle.mdl_book.proofs.FastLemmas.{lawful_push-fast}
 use Rattle.mdl_book.proofs.GrantingLemmas.{lawful_push}
 use Rattle.mdl_book.proofs.book.Book.grant.Goals as goal
 
@@ -11,3 +13,10 @@ returns-clause-lawful c =
     let compatible : is_compatible (kind_of c.self.inside.key.namespace) granted c.args.ticket.session c.args.ticket.mode ≡ true = search rules in
     let pushed : c.push.new.self.items ≡ granted ++ c.args.ticket ∷ [] = search rules in
     rw (pushed, ← c.self.view_is) (lawful_push (kind_of c.self.inside.key.namespace) granted c.args.ticket compatible)
+
+pub returns-clause-lawful_with_fast : goal.returns-clause-lawful_with_fast
+returns-clause-lawful_with_fast c =
+    let granted = c.self.inside.granted.items in
+    let stands : may_stand (kind_of c.self.inside.key.namespace) granted c.args.word.0 c.args.ticket.session c.args.ticket.mode ≡ true = search rules in
+    let pushed : c.push.new.self.items ≡ granted ++ c.args.ticket ∷ [] = search rules in
+    rw (pushed, ← c.self.view_is) (λ fast counts others. lawful_push-fast counts granted c.args.ticket others stands)

@@ -5,4 +5,4 @@ use Rattle.mdl_book.specs.Books.{is_ready, next_grantable}
 use Rattle.mdl_book.proofs.book.Book.next_grantable.Given as goal
 
 abbrev pub invariant-loop-ticket : goal.invariant-loop-ticket
-invariant-loop-ticket l = find (is_ready l.unsettled l.self) (drop l.ticket-index l.self.waiting) ≡ next_grantable l.unsettled l.self
+invariant-loop-ticket l = find (is_ready l.word.0 l.unsettled l.self) (drop l.ticket-index l.self.waiting) ≡ next_grantable l.word.0 l.unsettled l.self

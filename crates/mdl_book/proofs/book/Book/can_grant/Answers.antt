@@ -1,0 +1,18 @@
+-- The counts of the word tell just what a list of its fast tickets would.
+use Rattle.std.proofs.Common.{◌≡◌, ◌∙◌, rules}
+use Rattle.mdl_book.specs.Books.{lock_kind}
+use Rattle.mdl_book.specs.FastTickets.{can_be_granted}
+use Rattle.mdl_book.proofs.FastLemmas.{can_be_granted-fast}
+use Rattle.mdl_book.proofs.book.Book.can_grant.Goals as goal
+
+pub returns-then-may_stand-clause-counted : goal.returns-then-may_stand-clause-counted
+returns-then-may_stand-clause-counted c =
+    let book = c.args.self.now in
+    let exact : c.goes_first.result ≡ can_be_granted (lock_kind book) book.granted book.waiting c.args.word.0 c.args.session c.args.mode = search rules in
+    λ fast counts others. exact ∙ can_be_granted-fast counts book.granted book.waiting c.args.session c.args.mode others
+
+pub returns-else-may_stand-clause-counted : goal.returns-else-may_stand-clause-counted
+returns-else-may_stand-clause-counted c =
+    let book = c.args.self.now in
+    let exact : c.may_stand.result ≡ can_be_granted (lock_kind book) book.granted book.waiting c.args.word.0 c.args.session c.args.mode = search rules in
+    λ fast counts others. exact ∙ can_be_granted-fast counts book.granted book.waiting c.args.session c.args.mode others
