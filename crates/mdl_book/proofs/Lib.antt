@@ -1,4 +1,6 @@
+pub mod CountLemmas
 pub mod FastLemmas
 pub mod GrantingLemmas
+pub mod ListLemmas
 pub mod SessionLemmas
 pub mod TicketLemmas

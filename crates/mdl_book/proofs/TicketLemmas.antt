@@ -1,7 +1,9 @@
 -- The first ticket that passes a test: its place, the list without it, and the list with it in another mode.
-use Rattle.std.proofs.Common.{◌≡◌, ℕ, ◌+◌, ◌<◌, ◌≤◌, Bool, true, false, cond, List, [], ◌∷◌, ◌++◌, length, get_or, Some, None, refl, sym, ◌∙◌, ap, subst, inl, inr, arith, add-one, take, drop}
+use Rattle.std.proofs.Common.{◌≡◌, ℕ, suc, ◌+◌, ◌<◌, ◌≤◌, Bool, true, false, cond, List, [], ◌∷◌, ◌++◌, length, get_or, Option, Some, None, refl, sym, ◌∙◌, ap, subst, inl, inr, ltb, arith, add-one, take, drop}
 use Rattle.std.specs.Prelude.{is_some, slice_set}
-use Rattle.std.specs.List.{position, position_or_len, find, before_first, after_first, All}
+use Rattle.std.specs.List.{position, position_or_len, find, before_first, after_first, All, remove}
+use Rattle.std.specs.Option.{option_map, option_to_list}
+use Rattle.std.proofs.lemmas.List.{append-nil, take_all, drop_all}
 use Rattle.std.proofs.lemmas.List.Folds.{find_at}
 use Rattle.std.proofs.lemmas.List.Elements.{All-append, All-take, All-drop}
 use Rattle.std.proofs.lemmas.Option.{slice_get-get_or, slice_get_cases}
@@ -39,9 +41,32 @@ some_at p xs i place =
     let inside : position_or_len p xs < length xs = ltb-true _ _ at.0 in
     ap is_some (find_at p xs) ∙ elim (slice_get_cases xs (position_or_len p xs)).1 [ inl w ↦ ap is_some w.2 | inr w ↦ absurd (omega (arith, w.0)) ]
 
+-- so something is found where there is a place
+pub is_some-place : {X : Type 0} (p : X → Bool) (xs : List X) (place : Option ℕ) → place ≡ position p xs → is_some place ≡ is_some (find p xs)
+is_some-place p xs (Some i) e = sym (some_at p xs i e)
+is_some-place p xs None e = sym (ap is_some (none_at p xs e))
+
 -- what holds of each element holds of each but the first that passes
 pub All-without : {X : Type 0} (P : X → Type 0) (p : X → Bool) (xs : List X) → All P xs → All P (before_first p xs ++ after_first p xs)
 All-without P p xs all = All-append P (before_first p xs) (after_first p xs) (All-take P (position_or_len p xs) xs all) (All-drop P (position_or_len p xs + 1) xs all)
+
+module _ {X : Type 0} (p : X → Bool) (xs : List X) (i : ℕ) (place : Some i ≡ position p xs) where
+  is_first : (ltb (position_or_len p xs) (length xs) ≡ true) × (position_or_len p xs ≡ i)
+  is_first = some_place _ _ i (sym place)
+
+  pub first-lt : i < length xs
+  first-lt = let inside : position_or_len p xs < length xs = ltb-true _ _ is_first.0 in let at = is_first.1 in omega arith
+
+  -- the list without what stands at the first place
+  pub remove-first : remove xs i ≡ before_first p xs ++ after_first p xs
+  remove-first = let on : suc i ≡ position_or_len p xs + 1 = let at = is_first.1 in omega arith in rw (on, is_first.1)
+
+-- where there is no place all of it stays, whatever becomes of what is found
+pub all_before : {X : Type 0} (p : X → Bool) (f : X → X) (xs : List X) → None ≡ position p xs → xs ≡ before_first p xs ++ (option_to_list (option_map f (find p xs)) ++ after_first p xs)
+all_before p f xs place =
+    let past : length xs ≤ position_or_len p xs = ltb-false _ _ (no_place _ _ (sym place)) in
+    let none : option_to_list (option_map f (find p xs)) ≡ [] = ap (λ o. option_to_list (option_map f o)) (none_at p xs place) in
+    sym (rw (none, take_all (position_or_len p xs) xs past, drop_all (position_or_len p xs + 1) xs (omega arith)) (append-nil xs))
 
 -- what is found passes
 pub find-passes : {X : Type 0} (p : X → Bool) (xs : List X) (x : X) → find p xs ≡ Some x → p x ≡ true

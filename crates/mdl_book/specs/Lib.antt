@@ -3,4 +3,5 @@ pub mod FastTickets
 pub mod Granting
 pub mod SessionBits
 pub mod SessionSets
+pub mod TicketLists
 pub mod Tickets

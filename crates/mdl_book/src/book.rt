@@ -1,16 +1,15 @@
 //! The book of one lock.
-ghost use Rattle.std.specs.Prelude.{◌≡◌, ◌++◌, [], ◌∷◌, OnOk, OnErr, IfOk, ◌+◌, vec_len, is_ok, if◌then◌else◌, position, ◌≤◌, nat_le, Some, None, List};
-ghost use Rattle.std.specs.Vec.{vec_capacity};
+ghost use Rattle.std.specs.Prelude.{◌≡◌, ◌++◌, [], ◌∷◌, OnOk, OnErr, IfOk, ◌+◌, length, is_ok, if◌then◌else◌, ◌≤◌, nat_le, Some, None, List};
 ghost use Rattle.std.specs.Option.{ok_or, option_map};
-ghost use Rattle.mdl_key.specs.Classes.{is_obtrusive};
 ghost use Rattle.mdl_key.specs.Refusals.{Refuses, RefusesJust};
-ghost use Rattle.mdl_book.specs.Tickets.{is_ticket, ticket_id, ticket_of, without};
+ghost use Rattle.mdl_book.specs.Tickets.{ticket_id, ticket_of, without};
 ghost use Rattle.mdl_book.specs.FastTickets.{CountsFastTickets, AreOfOthers, may_stand, can_be_granted};
 ghost use Rattle.mdl_book.specs.Granting.{is_grantable, is_compatible, goes_first, IsGrantable, IsLawful};
-ghost use Rattle.mdl_book.specs.Books.{lock_kind, empty_book, grant_fault, change_fault, full_fault, ticket_count, granting, enqueueing, admitting, cancelling, removing, changing, next_grantable, AreOfNoWaiter, next_grantable_beside, any_obtrusive, has_obtrusive, has_tickets};
+ghost use Rattle.mdl_book.specs.Books.{lock_kind, empty_book, grant_fault, change_fault, full_fault, ticket_count, granting, enqueueing, admitting, cancelling, removing, changing, next_grantable, AreOfNoWaiter, next_grantable_beside, has_obtrusive, has_tickets};
 
+use crate::ticket_list::TicketList;
 use crate::{BookError, Lists, Needs, Sessions, Ticket};
-use mdl_key::{Key, Kind, Mode, conflicts_granted, conflicts_waiting};
+use mdl_key::{Key, Kind, Mode};
 use mdl_word::Word;
 use std::alloc::Global;
 use std::marker::Model;
@@ -25,22 +24,21 @@ const MOST_TICKETS: usize = 65_535;
 #[derive(Drop)]
 pub struct Book {
     key: Key,
-    granted: Vec<Ticket>,
-    waiting: Vec<Ticket>,
+    granted: TicketList,
+    waiting: TicketList,
 }
 
 impl Model for Book {
-    ghost use Rattle.std.specs.Prelude.{◌+◌, ◌≤◌, vec_len};
-    ghost use Rattle.std.specs.Vec.{vec_capacity};
+    ghost use Rattle.std.specs.Prelude.{◌+◌, ◌≤◌, length};
     ghost use Rattle.mdl_book.specs.declared.lists.Lists.{Lists};
 
     ghost Value = { Lists };
 
-    ghost view = { λ book. record { key = book.key; granted = book.granted.items; waiting = book.waiting.items } };
+    ghost view = { λ book. record { key = book.key; granted = book.granted.tickets; waiting = book.waiting.tickets } };
 
     ghost invariant = { λ book. record {
-      limit : vec_len book.granted + vec_len book.waiting ≤ 65535;
-      room : vec_len book.granted + vec_len book.waiting ≤ vec_capacity book.granted;
+      limit : length book.granted.tickets + length book.waiting.tickets ≤ 65535;
+      room : length book.granted.tickets + length book.waiting.tickets ≤ book.granted.room;
     } };
 }
 
@@ -51,8 +49,8 @@ impl Book {
     {
         Book {
             key,
-            granted: Vec::new(alloc),
-            waiting: Vec::new(alloc),
+            granted: TicketList::new(alloc),
+            waiting: TicketList::new(alloc),
         }
     }
 
@@ -67,14 +65,14 @@ impl Book {
     pub fn granted(&self) -> &[Ticket]
         ensures { result.now ≡ self.now.granted }
     {
-        &self.granted
+        self.granted.as_slice()
     }
 
     /// The waiting tickets, in order of arrival.
     pub fn waiting(&self) -> &[Ticket]
         ensures { result.now ≡ self.now.waiting }
     {
-        &self.waiting
+        self.waiting.as_slice()
     }
 
     /// Whether a session's wish for a mode can be granted now, the lock's word being `word`. The fast tickets that it counts
@@ -86,7 +84,7 @@ impl Book {
     {
         let kind = self.key.kind();
         may_stand(kind, &self.granted, word, session, mode)
-            && goes_first(kind, &self.waiting, session, mode)
+            && self.waiting.all_overtaken(kind, session, mode)
     }
 
     /// Grants a ticket, the lock's word being `word`. What waits doesn't count here.
@@ -103,7 +101,7 @@ impl Book {
             return Err(BookError::WouldConflict);
         }
         make_room(&mut self.granted, self.waiting.len())?;
-        self.granted.push(ticket).unwrap();
+        self.granted.push_reserved(ticket);
         Ok(())
     }
 
@@ -133,7 +131,7 @@ impl Book {
             → IsLawful (lock_kind self.old) (fast ++ self.old.granted) → IsLawful (lock_kind self.new) (fast ++ self.new.granted)) }
     {
         let ticket = take_ticket(&mut self.waiting, session, number)?;
-        self.granted.push(ticket).unwrap();
+        self.granted.push_reserved(ticket);
         Ok(ticket)
     }
 
@@ -174,13 +172,13 @@ impl Book {
         ensures lawful_with_fast { (fast : List Ticket) → CountsFastTickets (lock_kind self.old) word.0 fast → AreOfOthers session fast
             → IsLawful (lock_kind self.old) (fast ++ self.old.granted) → IsLawful (lock_kind self.new) (fast ++ self.new.granted) }
     {
-        let Some(at) = place_of(&self.granted, session, number) else {
+        if !self.granted.contains(session, number) {
             return Err(BookError::NotHere);
-        };
+        }
         if !may_stand(self.key.kind(), &self.granted, word, session, mode) {
             return Err(BookError::WouldConflict);
         }
-        self.granted[at].mode = mode;
+        self.granted.set_mode(session, number, mode);
         Ok(())
     }
 
@@ -191,7 +189,7 @@ impl Book {
         ensures counted { (fast : List Ticket) → CountsFastTickets (lock_kind self.now) word.0 fast → AreOfNoWaiter self.now fast
             → result ≡ option_map ticket_id (next_grantable_beside fast unsettled.now self.now) }
     {
-        for ticket in &self.waiting {
+        for ticket in self.waiting.as_slice() {
             if unsettled.contains(ticket.session)
                 && self.can_grant(ticket.session, ticket.mode, word)
             {
@@ -208,19 +206,19 @@ impl Book {
     {
         let kind = self.key.kind();
         Needs {
-            obtrusive: any_obtrusive(kind, &self.granted) || any_obtrusive(kind, &self.waiting),
+            obtrusive: self.granted.has_obtrusive(kind) || self.waiting.has_obtrusive(kind),
             slow: !self.granted.is_empty() || !self.waiting.is_empty(),
         }
     }
 }
 
 // Makes room among the granted tickets for one more ticket than there are, granted and waiting.
-fn make_room(granted: &mut Vec<Ticket>, waiting: usize) -> Result<(), BookError>
-    requires { vec_len granted.old + waiting ≤ 65535 }
-    ensures kept { granted.new.items ≡ granted.old.items }
-    ensures capacity { vec_capacity granted.old ≤ vec_capacity granted.new }
-    ensures room { OnOk result (vec_len granted.old + waiting + 1 ≤ vec_capacity granted.new) }
-    ensures refused { Refuses (full_fault (vec_len granted.old + waiting)) BookError.OutOfMemory result }
+fn make_room(granted: &mut TicketList, waiting: usize) -> Result<(), BookError>
+    requires { length granted.old.tickets + waiting ≤ 65535 }
+    ensures kept { granted.new.tickets ≡ granted.old.tickets }
+    ensures room { granted.old.room ≤ granted.new.room }
+    ensures made { OnOk result (length granted.old.tickets + waiting + 1 ≤ granted.new.room) }
+    ensures refused { Refuses (full_fault (length granted.old.tickets + waiting)) BookError.OutOfMemory result }
 {
     if granted.len() + waiting >= MOST_TICKETS {
         return Err(BookError::Full);
@@ -233,60 +231,21 @@ fn make_room(granted: &mut Vec<Ticket>, waiting: usize) -> Result<(), BookError>
 
 // Whether a session's wish for a mode clashes with no granted ticket of another session and with no fast ticket that the
 // word counts.
-fn may_stand(kind: Kind, granted: &[Ticket], word: Word, session: u16, mode: Mode) -> bool
-    ensures { result ≡ may_stand kind granted.now word.0 session mode }
+fn may_stand(kind: Kind, granted: &TicketList, word: Word, session: u16, mode: Mode) -> bool
+    ensures { result ≡ may_stand kind granted.now.tickets word.0 session mode }
 {
-    is_compatible(kind, granted, session, mode) && !word.blocks(kind, mode)
-}
-
-// Whether no granted ticket of another session clashes with a session's wish for a mode.
-fn is_compatible(kind: Kind, granted: &[Ticket], session: u16, mode: Mode) -> bool
-    ensures { result ≡ is_compatible kind granted.now session mode }
-{
-    granted.iter().all(|held| held.session == session || !conflicts_granted(kind, mode, held.mode))
-}
-
-// Whether no waiting ticket of another session makes a session's wish for a mode wait.
-fn goes_first(kind: Kind, waiting: &[Ticket], session: u16, mode: Mode) -> bool
-    ensures { result ≡ goes_first kind waiting.now session mode }
-{
-    waiting.iter().all(|pending| pending.session == session
-        || !conflicts_waiting(kind, mode, pending.mode))
+    granted.all_stand_beside(kind, session, mode) && !word.blocks(kind, mode)
 }
 
 // Takes the first ticket of this session and number out of a list.
-fn take_ticket(tickets: &mut Vec<Ticket>, session: u16, number: u64) -> Result<Ticket, BookError>
-    ensures answer { result ≡ ok_or (ticket_of session number tickets.old.items) BookError.NotHere }
-    ensures taken { tickets.new.items ≡ without session number tickets.old.items }
-    ensures unchanged { OnErr result (tickets.new.items ≡ tickets.old.items) }
-    ensures len { vec_len tickets.new + (if is_ok result then 1 else 0) ≡ vec_len tickets.old }
-    ensures capacity { vec_capacity tickets.new ≡ vec_capacity tickets.old }
+fn take_ticket(tickets: &mut TicketList, session: u16, number: u64) -> Result<Ticket, BookError>
+    ensures answer { result ≡ ok_or (ticket_of session number tickets.old.tickets) BookError.NotHere }
+    ensures taken { tickets.new.tickets ≡ without session number tickets.old.tickets }
+    ensures unchanged { OnErr result (tickets.new ≡ tickets.old) }
+    ensures len { length tickets.new.tickets + (if is_ok result then 1 else 0) ≡ length tickets.old.tickets }
+    ensures room { tickets.new.room ≡ tickets.old.room }
 {
-    match place_of(tickets, session, number) {
-        Some(at) => Ok(tickets.remove(at)),
-        None => Err(BookError::NotHere),
-    }
-}
-
-// The place of the first ticket of this session and number.
-fn place_of(tickets: &[Ticket], session: u16, number: u64) -> Option<usize>
-    ensures { result ≡ position (is_ticket session number) tickets.now }
-{
-    tickets.iter().position(|ticket| ticket.session == session && ticket.number == number)
-}
-
-// Whether one of these tickets is obtrusive.
-fn any_obtrusive(kind: Kind, tickets: &[Ticket]) -> bool
-    ensures { result ≡ any_obtrusive kind tickets.now }
-{
-    tickets.iter().any(|ticket| is_obtrusive(kind, ticket.mode))
-}
-
-// Whether a mode is obtrusive: its tickets are never merely counted.
-fn is_obtrusive(kind: Kind, mode: Mode) -> bool
-    ensures { result ≡ is_obtrusive kind mode }
-{
-    Word::increment(kind, mode).is_none()
+    tickets.take(session, number).ok_or(BookError::NotHere)
 }
 
 #[cfg(test)]

@@ -11,9 +11,12 @@
 mod book;
 mod book_error;
 mod lists;
+mod mode_counts;
 mod needs;
 mod sessions;
 mod ticket;
+mod ticket_list;
+mod ticket_queue;
 
 pub use book::Book;
 pub use book_error::BookError;

@@ -8,8 +8,19 @@ use mdl_key::Mode;
 pub struct Ticket {
     /// The session, numbered from 1.
     pub session: u16,
-    /// The number that the session gave this ticket.
-    pub number: u64,
     /// The mode that is held or wished for.
     pub mode: Mode,
+    /// The number that the session gave this ticket.
+    pub number: u64,
+}
+
+/// What an unused place of a list holds: a ticket of no session.
+impl Default for Ticket {
+    fn default() -> Ticket {
+        Ticket {
+            session: 0,
+            mode: Mode::IX,
+            number: 0,
+        }
+    }
 }

@@ -8,7 +8,7 @@ use Rattle.mdl_book.proofs.book.Book.can_grant.Goals as goal
 pub returns-then-may_stand-clause-counted : goal.returns-then-may_stand-clause-counted
 returns-then-may_stand-clause-counted c =
     let book = c.args.self.now in
-    let exact : c.goes_first.result ≡ can_be_granted (lock_kind book) book.granted book.waiting c.args.word.0 c.args.session c.args.mode = search rules in
+    let exact : c.all_overtaken.result ≡ can_be_granted (lock_kind book) book.granted book.waiting c.args.word.0 c.args.session c.args.mode = search rules in
     λ fast counts others. exact ∙ can_be_granted-fast counts book.granted book.waiting c.args.session c.args.mode others
 
 pub returns-else-may_stand-clause-counted : goal.returns-else-may_stand-clause-counted

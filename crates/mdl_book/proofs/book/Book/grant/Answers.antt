@@ -9,14 +9,14 @@ use Rattle.mdl_book.proofs.book.Book.grant.Goals as goal
 
 pub returns-clause-lawful : goal.returns-clause-lawful
 returns-clause-lawful c =
-    let granted = c.self.inside.granted.items in
+    let granted = c.self.inside.granted.tickets in
     let compatible : is_compatible (kind_of c.self.inside.key.namespace) granted c.args.ticket.session c.args.ticket.mode ≡ true = search rules in
-    let pushed : c.push.new.self.items ≡ granted ++ c.args.ticket ∷ [] = search rules in
+    let pushed : c.push_reserved.new.self.tickets ≡ granted ++ c.args.ticket ∷ [] = search rules in
     rw (pushed, ← c.self.view_is) (lawful_push (kind_of c.self.inside.key.namespace) granted c.args.ticket compatible)
 
 pub returns-clause-lawful_with_fast : goal.returns-clause-lawful_with_fast
 returns-clause-lawful_with_fast c =
-    let granted = c.self.inside.granted.items in
+    let granted = c.self.inside.granted.tickets in
     let stands : may_stand (kind_of c.self.inside.key.namespace) granted c.args.word.0 c.args.ticket.session c.args.ticket.mode ≡ true = search rules in
-    let pushed : c.push.new.self.items ≡ granted ++ c.args.ticket ∷ [] = search rules in
+    let pushed : c.push_reserved.new.self.tickets ≡ granted ++ c.args.ticket ∷ [] = search rules in
     rw (pushed, ← c.self.view_is) (λ fast counts others. lawful_push-fast counts granted c.args.ticket others stands)

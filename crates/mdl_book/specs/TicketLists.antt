@@ -1,0 +1,23 @@
+-- How a lock's lists of tickets are kept, counted by mode: a representation, and no definition of the field.
+use Rattle.std.specs.Prelude.{◌≡◌, ℕ, Bool, not, ◌||◌, ◌==◌, List, slice_index}
+use Rattle.std.specs.List.{count_by, list_all}
+use Rattle.mdl_key.specs.declared.mode.Mode.{Mode}
+use Rattle.mdl_key.specs.Modes.{mode_rank, same_mode, all_modes}
+use Rattle.mdl_book.specs.declared.ticket.Ticket.{Ticket}
+
+-- what a ticket list is seen as: its tickets, in order, and how many it has room for
+pub record Roll : Type 0 where
+  pub tickets : List Ticket
+  pub room : ℕ
+
+-- how many tickets are in a mode
+abbrev pub count_in : Mode → List Ticket → ℕ
+count_in mode tickets = count_by (λ ticket. same_mode mode ticket.mode) tickets
+
+-- the counts, in the order of modes, are those of the tickets
+abbrev pub CountsModes : List ℕ → List Ticket → Type 0
+CountsModes counts tickets = (mode : Mode) → slice_index counts (mode_rank mode) ≡ count_in mode tickets
+
+-- no mode that has tickets, by the counts, passes the test
+abbrev pub none_counted : (Mode → Bool) → List ℕ → Bool
+none_counted test counts = list_all (λ mode. slice_index counts (mode_rank mode) == 0 || not (test mode)) all_modes
