@@ -6,6 +6,8 @@ OPTIONS =
 
 PROGRAM = crates/mdlsim/out/mdlsim
 
+BENCH = crates/mdl_bench/out/mdl_bench
+
 .PHONY: run test bench examples build kit
 
 # Builds mdlsim, proved, and prints its answers to the script.
@@ -16,9 +18,12 @@ run: build
 test: examples
 	@rt ci
 
-# Lines a second and peak memory, at three sizes.
+# Lines a second and peak memory of scripts of three sizes; what calls cost on books of four sizes, and chains of grants.
 bench: build
 	@sh bench/lock.sh $(PROGRAM)
+	@mkdir -p crates/mdl_bench/out
+	@cd crates/mdl_bench && rt run -- quick > out/build.log 2>&1 || { cat out/build.log >&2; exit 1; }
+	@$(BENCH)
 
 # Each example gives the answers that lie beside it.
 examples: build

@@ -7,7 +7,7 @@ pub enum BookError {
     /// The book has no such ticket.
     #[error("no such ticket")]
     NotHere,
-    /// A granted ticket of another session clashes with the mode.
+    /// A granted ticket of another session clashes with the mode, or a fast one that the lock's word counts.
     #[error("another session holds the lock in a mode that conflicts")]
     WouldConflict,
     /// The book has 65,535 tickets.

@@ -5,8 +5,7 @@ ghost use Rattle.mdl_key.specs.Matrices.{clashes, waits_behind};
 ghost use Rattle.mdl_key.specs.Modes.{mode_rank};
 ghost use Rattle.mdl_book.specs.TicketLists.{none_counted};
 
-use mdl_key::{Kind, Mode, conflicts_granted, conflicts_waiting};
-use mdl_word::Word;
+use mdl_key::{Kind, Mode, conflicts_granted, conflicts_waiting, is_obtrusive};
 
 /// How many tickets there are in each mode, in the order of modes.
 #[derive(Drop)]
@@ -68,11 +67,4 @@ impl ModeCounts {
     {
         self.counts[mode as usize]
     }
-}
-
-// Whether a mode is obtrusive: its tickets are never merely counted.
-fn is_obtrusive(kind: Kind, mode: Mode) -> bool
-    ensures { result ≡ is_obtrusive kind mode }
-{
-    Word::increment(kind, mode).is_none()
 }

@@ -1,4 +1,6 @@
 //! Tickets.
+ghost use Rattle.std.specs.Prelude.{◌≡◌};
+
 use mdl_key::Mode;
 
 /// That a session holds the lock in whose book this stands, or waits for it.
@@ -16,6 +18,8 @@ pub struct Ticket {
 
 /// What an unused place of a list holds: a ticket of no session.
 impl Default for Ticket {
+    ghost is_default = { λ ticket. ticket.session ≡ 0 };
+
     fn default() -> Ticket {
         Ticket {
             session: 0,

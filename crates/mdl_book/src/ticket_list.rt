@@ -1,10 +1,9 @@
 //! A list of tickets that is counted by mode.
-ghost use Rattle.std.specs.Prelude.{◌≡◌, ◌+◌, ◌<◌, ◌≤◌, [], ◌∷◌, ◌++◌, length, OnOk, OnErr, IsOk, is_some, None, ◌==◌, if◌then◌else◌};
+ghost use Rattle.std.specs.Prelude.{◌≡◌, ◌+◌, ◌<◌, ◌≤◌, [], ◌∷◌, ◌++◌, length, OnOk, OnErr, IsOk, is_some, None, ◌==◌, if◌then◌else◌, position};
 ghost use Rattle.std.specs.List.{list_any};
 ghost use Rattle.std.specs.Option.{option_map};
 ghost use Rattle.mdl_key.specs.Classes.{is_obtrusive};
 ghost use Rattle.mdl_book.specs.Granting.{is_compatible, goes_first};
-ghost use Rattle.std.specs.Prelude.{position};
 ghost use Rattle.mdl_book.specs.Tickets.{is_ticket, ticket_of, without, with_mode};
 
 use crate::Ticket;

@@ -1,7 +1,6 @@
 //! A list of tickets whose first one goes cheaply.
-ghost use Rattle.std.specs.Prelude.{◌≡◌, ◌+◌, ◌<◌, ◌≤◌, [], ◌∷◌, ◌++◌, length, slice_set, slice_index_or, OnOk, OnErr, IsOk};
+ghost use Rattle.std.specs.Prelude.{◌≡◌, ◌+◌, ◌<◌, ◌≤◌, [], ◌∷◌, ◌++◌, length, drop, slice_set, slice_index_or, OnOk, OnErr, IsOk};
 ghost use Rattle.std.specs.List.{remove};
-ghost use Rattle.std.specs.Prelude.{drop};
 ghost use Rattle.smallvec.specs.SmallVec.{small_vec_len};
 
 use crate::Ticket;

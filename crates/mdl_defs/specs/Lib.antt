@@ -1,0 +1,4 @@
+pub mod Changes
+pub mod Columns
+pub mod Definitions
+pub mod Laws

@@ -1,0 +1,61 @@
+//! Why a definition can't be changed.
+use thiserror::Error;
+
+/// Why a definition can't be changed. Of several causes the first in this order is answered. A refused call changes
+/// nothing.
+///
+/// After the errors of the same causes in MySQL 5.7, the Reference Manual, "CREATE TABLE Statement" and "ALTER TABLE
+/// Statement".
+#[derive(Clone, Copy, Debug, PartialEq, Eq, Error)]
+pub enum DefError {
+    /// One of that name stands.
+    #[error("already exists")]
+    Exists,
+    /// None of that name stands.
+    #[error("doesn't exist")]
+    Missing,
+    /// A column is named twice, or is added to a table that has it.
+    #[error("duplicate column name")]
+    DuplicateColumn,
+    /// The table hasn't the column that is to be dropped.
+    #[error("no such column")]
+    NoColumn,
+    /// The column that is to be dropped is the only one.
+    #[error("a table can't lose its last column")]
+    LastColumn,
+    /// A table would have more than 64 columns.
+    #[error("more than 64 columns")]
+    ManyColumns,
+    /// A schema has no columns to change, and a table has to have some.
+    #[error("columns where none can be, or none where some have to be")]
+    WrongKind,
+    /// Memory ran out.
+    #[error("out of memory")]
+    OutOfMemory,
+}
+
+#[cfg(test)]
+mod tests {
+    use super::*;
+    use std::test::Fail;
+
+    #[test]
+    fn tells_each_cause(rt: HostRuntime) -> Result<(), Fail> {
+        for (error, text) in [
+            (DefError::Exists, "already exists"),
+            (DefError::Missing, "doesn't exist"),
+            (DefError::DuplicateColumn, "duplicate column name"),
+            (DefError::NoColumn, "no such column"),
+            (DefError::LastColumn, "a table can't lose its last column"),
+            (DefError::ManyColumns, "more than 64 columns"),
+            (
+                DefError::WrongKind,
+                "columns where none can be, or none where some have to be",
+            ),
+            (DefError::OutOfMemory, "out of memory"),
+        ] {
+            assert_eq!(rt; error.to_string(rt.alloc())?.as_str(), text);
+        }
+        Ok(())
+    }
+}
