@@ -75,7 +75,9 @@ fn time_crowd(rt: &HostRuntime, tickets: u16) -> Result<(), Failure> {
     let began = Instant::now(rt)?;
     let found = crowd.find(ASKED);
     let sought = nanos_each(began.elapsed(rt)?, ASKED);
-    println!(rt; "{tickets:>6} tickets: can_grant {asked:>4} ns ({granted} granted), next_grantable {sought:>4} ns ({found} found)")?;
+    println!(rt;
+        "{tickets:>6} tickets: can_grant {asked:>4} ns ({granted} granted), next_grantable {sought:>4} ns ({found} found)"
+    )?;
     Ok(())
 }
 

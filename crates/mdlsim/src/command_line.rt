@@ -86,6 +86,11 @@ mod tests {
         }
     }
 
+    // What the words ask for.
+    fn asked(rt: &HostRuntime, words: &[&str]) -> Result<Run, Fail> {
+        Ok(command(rt.alloc(), words)?)
+    }
+
     #[test]
     fn takes_what_asks_for_a_run(rt: HostRuntime) -> Result<(), Fail> {
         let cases: [(&[&str], Run); 6] = [
@@ -100,7 +105,7 @@ mod tests {
             (&["mdlsim", "matrix", "--"], Run::Matrix),
         ];
         for (words, run) in cases {
-            assert_eq!(rt; command(rt.alloc(), words)?, run, "{words:?}");
+            assert_eq!(rt; asked(&rt, words)?, run, "{words:?}");
         }
         Ok(())
     }

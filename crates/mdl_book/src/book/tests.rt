@@ -50,27 +50,70 @@ fn lists(alloc: Global, book: &Book) -> Result<String, AllocError> {
     )
 }
 
+// The calls of a book, without what they promise: the tests look at what they do.
+fn grant(book: &mut Book, ticket: Ticket, word: Word) -> Result<(), BookError> {
+    book.grant(ticket, word)
+}
+
+fn enqueue(book: &mut Book, ticket: Ticket) -> Result<(), BookError> {
+    book.enqueue(ticket)
+}
+
+fn admit(book: &mut Book, session: u16, number: u64) -> Result<Ticket, BookError> {
+    book.admit(session, number)
+}
+
+fn cancel(book: &mut Book, session: u16, number: u64) -> Result<Ticket, BookError> {
+    book.cancel(session, number)
+}
+
+fn remove(book: &mut Book, session: u16, number: u64) -> Result<Ticket, BookError> {
+    book.remove(session, number)
+}
+
+fn set_mode(
+    book: &mut Book,
+    session: u16,
+    number: u64,
+    mode: Mode,
+    word: Word,
+) -> Result<(), BookError> {
+    book.set_mode(session, number, mode, word)
+}
+
+fn can_grant(book: &Book, session: u16, mode: Mode, word: Word) -> bool {
+    book.can_grant(session, mode, word)
+}
+
+fn next_grantable(book: &Book, word: Word, unsettled: &Sessions) -> Option<(u16, u64)> {
+    book.next_grantable(word, unsettled)
+}
+
+fn needs_of(book: &Book) -> Needs {
+    book.needs()
+}
+
 #[test]
 fn lives_an_ordinary_life(rt: HostRuntime) -> Result<(), Fail> {
     let alloc = rt.alloc();
     let everyone = Sessions::all();
     let mut book = table_book(alloc)?;
     assert_eq!(rt; lists(alloc, &book)?.as_str(), "/ ");
-    assert_eq!(rt; book.next_grantable(NO_FAST, &everyone), None);
-    book.grant(ticket(1, 7, Mode::SR), NO_FAST)?;
-    book.enqueue(ticket(2, 1, Mode::X))?;
-    book.enqueue(ticket(3, 4, Mode::SR))?;
+    assert_eq!(rt; next_grantable(&book, NO_FAST, &everyone), None);
+    grant(&mut book, ticket(1, 7, Mode::SR), NO_FAST)?;
+    enqueue(&mut book, ticket(2, 1, Mode::X))?;
+    enqueue(&mut book, ticket(3, 4, Mode::SR))?;
     assert_eq!(rt; lists(alloc, &book)?.as_str(), "1.7 SR / 2.1 X 3.4 SR ");
-    assert_eq!(rt; book.next_grantable(NO_FAST, &everyone), None);
+    assert_eq!(rt; next_grantable(&book, NO_FAST, &everyone), None);
 
-    assert_eq!(rt; book.remove(1, 7), Ok(ticket(1, 7, Mode::SR)));
-    assert_eq!(rt; book.next_grantable(NO_FAST, &everyone), Some((2, 1)));
-    assert_eq!(rt; book.admit(2, 1), Ok(ticket(2, 1, Mode::X)));
+    assert_eq!(rt; remove(&mut book, 1, 7), Ok(ticket(1, 7, Mode::SR)));
+    assert_eq!(rt; next_grantable(&book, NO_FAST, &everyone), Some((2, 1)));
+    assert_eq!(rt; admit(&mut book, 2, 1), Ok(ticket(2, 1, Mode::X)));
     assert_eq!(rt; lists(alloc, &book)?.as_str(), "2.1 X / 3.4 SR ");
-    assert_eq!(rt; book.next_grantable(NO_FAST, &everyone), None);
+    assert_eq!(rt; next_grantable(&book, NO_FAST, &everyone), None);
 
-    assert_eq!(rt; book.cancel(3, 4), Ok(ticket(3, 4, Mode::SR)));
-    assert_eq!(rt; book.remove(2, 1), Ok(ticket(2, 1, Mode::X)));
+    assert_eq!(rt; cancel(&mut book, 3, 4), Ok(ticket(3, 4, Mode::SR)));
+    assert_eq!(rt; remove(&mut book, 2, 1), Ok(ticket(2, 1, Mode::X)));
     assert_eq!(rt; lists(alloc, &book)?.as_str(), "/ ");
     assert_eq!(rt; book.key().to_string(alloc)?.as_str(), "TABLE test.t");
     Ok(())
@@ -81,26 +124,26 @@ fn serves_a_schema_in_turn(rt: HostRuntime) -> Result<(), Fail> {
     let alloc = rt.alloc();
     let everyone = Sessions::all();
     let mut book = Book::new(alloc, Key::schema(alloc, "test")?);
-    assert!(rt; book.can_grant(1, Mode::IX, NO_FAST));
-    book.grant(ticket(1, 1, Mode::IX), NO_FAST)?;
+    assert!(rt; can_grant(&book, 1, Mode::IX, NO_FAST));
+    grant(&mut book, ticket(1, 1, Mode::IX), NO_FAST)?;
     for (session, mode) in [(2, Mode::S), (3, Mode::IX), (4, Mode::X)] {
         assert!(rt;
-            !book.can_grant(session, mode, NO_FAST),
+            !can_grant(&book, session, mode, NO_FAST),
             "{session} asks for {mode}"
         );
-        book.enqueue(ticket(session, 1, mode))?;
-        assert_eq!(rt; book.next_grantable(NO_FAST, &everyone), None);
+        enqueue(&mut book, ticket(session, 1, mode))?;
+        assert_eq!(rt; next_grantable(&book, NO_FAST, &everyone), None);
     }
     for (leaving, next) in [(1, 4), (4, 2), (2, 3)] {
-        book.remove(leaving, 1)?;
+        remove(&mut book, leaving, 1)?;
         assert_eq!(rt;
-            book.next_grantable(NO_FAST, &everyone),
+            next_grantable(&book, NO_FAST, &everyone),
             Some((next, 1)),
             "{leaving} leaves"
         );
-        book.admit(next, 1)?;
+        admit(&mut book, next, 1)?;
         assert_eq!(rt;
-            book.next_grantable(NO_FAST, &everyone),
+            next_grantable(&book, NO_FAST, &everyone),
             None,
             "{next} has come"
         );
@@ -112,10 +155,10 @@ fn serves_a_schema_in_turn(rt: HostRuntime) -> Result<(), Fail> {
 #[test]
 fn looks_at_other_sessions_alone(rt: HostRuntime) -> Result<(), Fail> {
     let mut book = table_book(rt.alloc())?;
-    book.grant(ticket(1, 1, Mode::SU), NO_FAST)?;
-    book.grant(ticket(2, 1, Mode::SR), NO_FAST)?;
-    book.enqueue(ticket(1, 2, Mode::SNW))?;
-    book.enqueue(ticket(3, 1, Mode::SNRW))?;
+    grant(&mut book, ticket(1, 1, Mode::SU), NO_FAST)?;
+    grant(&mut book, ticket(2, 1, Mode::SR), NO_FAST)?;
+    enqueue(&mut book, ticket(1, 2, Mode::SNW))?;
+    enqueue(&mut book, ticket(3, 1, Mode::SNRW))?;
     for (session, mode, want) in [
         (1, Mode::SU, true),
         (2, Mode::SU, false),
@@ -129,13 +172,13 @@ fn looks_at_other_sessions_alone(rt: HostRuntime) -> Result<(), Fail> {
         (4, Mode::S, true),
     ] {
         assert_eq!(rt;
-            book.can_grant(session, mode, NO_FAST),
+            can_grant(&book, session, mode, NO_FAST),
             want,
             "{session} asks for {mode}"
         );
     }
-    book.remove(2, 1)?;
-    assert!(rt; book.can_grant(1, Mode::X, NO_FAST));
+    remove(&mut book, 2, 1)?;
+    assert!(rt; can_grant(&book, 1, Mode::X, NO_FAST));
     Ok(())
 }
 
@@ -143,12 +186,12 @@ fn looks_at_other_sessions_alone(rt: HostRuntime) -> Result<(), Fail> {
 fn lets_a_clone_overtake(rt: HostRuntime) -> Result<(), Fail> {
     let alloc = rt.alloc();
     let mut book = table_book(alloc)?;
-    book.grant(ticket(1, 1, Mode::SR), NO_FAST)?;
-    book.enqueue(ticket(2, 1, Mode::X))?;
-    assert!(rt; !book.can_grant(1, Mode::SR, NO_FAST));
-    book.grant(ticket(1, 2, Mode::SR), NO_FAST)?;
+    grant(&mut book, ticket(1, 1, Mode::SR), NO_FAST)?;
+    enqueue(&mut book, ticket(2, 1, Mode::X))?;
+    assert!(rt; !can_grant(&book, 1, Mode::SR, NO_FAST));
+    grant(&mut book, ticket(1, 2, Mode::SR), NO_FAST)?;
     assert_eq!(rt;
-        book.grant(ticket(2, 2, Mode::X), NO_FAST),
+        grant(&mut book, ticket(2, 2, Mode::X), NO_FAST),
         Err(BookError::WouldConflict)
     );
     assert_eq!(rt; lists(alloc, &book)?.as_str(), "1.1 SR 1.2 SR / 2.1 X ");
@@ -158,20 +201,20 @@ fn lets_a_clone_overtake(rt: HostRuntime) -> Result<(), Fail> {
 #[test]
 fn counts_later_and_settled_waiters(rt: HostRuntime) -> Result<(), Fail> {
     let mut book = table_book(rt.alloc())?;
-    book.enqueue(ticket(1, 1, Mode::SR))?;
-    book.enqueue(ticket(2, 1, Mode::X))?;
-    book.enqueue(ticket(3, 1, Mode::X))?;
+    enqueue(&mut book, ticket(1, 1, Mode::SR))?;
+    enqueue(&mut book, ticket(2, 1, Mode::X))?;
+    enqueue(&mut book, ticket(3, 1, Mode::X))?;
     let mut unsettled = Sessions::all();
-    assert_eq!(rt; book.next_grantable(NO_FAST, &unsettled), Some((2, 1)));
+    assert_eq!(rt; next_grantable(&book, NO_FAST, &unsettled), Some((2, 1)));
     unsettled.remove(2);
-    assert_eq!(rt; book.next_grantable(NO_FAST, &unsettled), Some((3, 1)));
+    assert_eq!(rt; next_grantable(&book, NO_FAST, &unsettled), Some((3, 1)));
     unsettled.remove(3);
-    assert_eq!(rt; book.next_grantable(NO_FAST, &unsettled), None);
-    book.cancel(2, 1)?;
-    assert_eq!(rt; book.next_grantable(NO_FAST, &unsettled), None);
-    book.cancel(3, 1)?;
-    assert_eq!(rt; book.next_grantable(NO_FAST, &unsettled), Some((1, 1)));
-    assert_eq!(rt; book.next_grantable(NO_FAST, &Sessions::new()), None);
+    assert_eq!(rt; next_grantable(&book, NO_FAST, &unsettled), None);
+    cancel(&mut book, 2, 1)?;
+    assert_eq!(rt; next_grantable(&book, NO_FAST, &unsettled), None);
+    cancel(&mut book, 3, 1)?;
+    assert_eq!(rt; next_grantable(&book, NO_FAST, &unsettled), Some((1, 1)));
+    assert_eq!(rt; next_grantable(&book, NO_FAST, &Sessions::new()), None);
     Ok(())
 }
 
@@ -179,29 +222,29 @@ fn counts_later_and_settled_waiters(rt: HostRuntime) -> Result<(), Fail> {
 fn knows_its_tickets(rt: HostRuntime) -> Result<(), Fail> {
     let alloc = rt.alloc();
     let mut book = table_book(alloc)?;
-    book.grant(ticket(1, 1, Mode::S), NO_FAST)?;
-    book.grant(ticket(1, 2, Mode::SH), NO_FAST)?;
-    book.grant(ticket(1, 2, Mode::SR), NO_FAST)?;
-    book.enqueue(ticket(2, 1, Mode::X))?;
-    book.enqueue(ticket(2, 2, Mode::SU))?;
-    book.enqueue(ticket(2, 2, Mode::SW))?;
+    grant(&mut book, ticket(1, 1, Mode::S), NO_FAST)?;
+    grant(&mut book, ticket(1, 2, Mode::SH), NO_FAST)?;
+    grant(&mut book, ticket(1, 2, Mode::SR), NO_FAST)?;
+    enqueue(&mut book, ticket(2, 1, Mode::X))?;
+    enqueue(&mut book, ticket(2, 2, Mode::SU))?;
+    enqueue(&mut book, ticket(2, 2, Mode::SW))?;
     let before = lists(alloc, &book)?;
     for (session, number) in [(1, 1), (2, 3), (3, 1)] {
-        assert_eq!(rt; book.admit(session, number), Err(BookError::NotHere));
-        assert_eq!(rt; book.cancel(session, number), Err(BookError::NotHere));
+        assert_eq!(rt; admit(&mut book, session, number), Err(BookError::NotHere));
+        assert_eq!(rt; cancel(&mut book, session, number), Err(BookError::NotHere));
     }
     for (session, number) in [(2, 1), (1, 3), (3, 1)] {
-        assert_eq!(rt; book.remove(session, number), Err(BookError::NotHere));
+        assert_eq!(rt; remove(&mut book, session, number), Err(BookError::NotHere));
     }
     assert_eq!(rt;
-        book.grant(ticket(3, 1, Mode::X), NO_FAST),
+        grant(&mut book, ticket(3, 1, Mode::X), NO_FAST),
         Err(BookError::WouldConflict)
     );
     assert_eq!(rt; lists(alloc, &book)?.as_str(), before.as_str());
 
-    assert_eq!(rt; book.remove(1, 2), Ok(ticket(1, 2, Mode::SH)));
-    assert_eq!(rt; book.admit(2, 2), Ok(ticket(2, 2, Mode::SU)));
-    assert_eq!(rt; book.cancel(2, 1), Ok(ticket(2, 1, Mode::X)));
+    assert_eq!(rt; remove(&mut book, 1, 2), Ok(ticket(1, 2, Mode::SH)));
+    assert_eq!(rt; admit(&mut book, 2, 2), Ok(ticket(2, 2, Mode::SU)));
+    assert_eq!(rt; cancel(&mut book, 2, 1), Ok(ticket(2, 1, Mode::X)));
     assert_eq!(rt;
         lists(alloc, &book)?.as_str(),
         "1.1 S 1.2 SR 2.2 SU / 2.2 SW "
@@ -212,34 +255,40 @@ fn knows_its_tickets(rt: HostRuntime) -> Result<(), Fail> {
 #[test]
 fn is_full_at_65535_tickets(rt: HostRuntime) -> Result<(), Fail> {
     let mut book = table_book(rt.alloc())?;
-    book.grant(ticket(1, 0, Mode::X), NO_FAST)?;
+    grant(&mut book, ticket(1, 0, Mode::X), NO_FAST)?;
     for number in 1..65_535 {
-        book.enqueue(ticket(2, number, Mode::S))?;
+        enqueue(&mut book, ticket(2, number, Mode::S))?;
     }
-    assert_eq!(rt; book.enqueue(ticket(2, 0, Mode::S)), Err(BookError::Full));
     assert_eq!(rt;
-        book.grant(ticket(1, 1, Mode::S), NO_FAST),
+        enqueue(&mut book, ticket(2, 0, Mode::S)),
         Err(BookError::Full)
     );
     assert_eq!(rt;
-        book.grant(ticket(2, 0, Mode::S), NO_FAST),
+        grant(&mut book, ticket(1, 1, Mode::S), NO_FAST),
+        Err(BookError::Full)
+    );
+    assert_eq!(rt;
+        grant(&mut book, ticket(2, 0, Mode::S), NO_FAST),
         Err(BookError::WouldConflict)
     );
     assert_eq!(rt; book.granted().len(), 1);
     assert_eq!(rt; book.waiting().len(), 65_534);
 
-    book.admit(2, 65_534)?;
+    admit(&mut book, 2, 65_534)?;
     assert_eq!(rt;
-        book.grant(ticket(1, 1, Mode::SH), NO_FAST),
+        grant(&mut book, ticket(1, 1, Mode::SH), NO_FAST),
         Err(BookError::Full)
     );
-    book.cancel(2, 1)?;
-    book.enqueue(ticket(3, 1, Mode::X))?;
-    assert_eq!(rt; book.enqueue(ticket(3, 2, Mode::X)), Err(BookError::Full));
-    book.remove(1, 0)?;
-    book.grant(ticket(2, 1, Mode::S), NO_FAST)?;
+    cancel(&mut book, 2, 1)?;
+    enqueue(&mut book, ticket(3, 1, Mode::X))?;
     assert_eq!(rt;
-        book.grant(ticket(2, 0, Mode::S), NO_FAST),
+        enqueue(&mut book, ticket(3, 2, Mode::X)),
+        Err(BookError::Full)
+    );
+    remove(&mut book, 1, 0)?;
+    grant(&mut book, ticket(2, 1, Mode::S), NO_FAST)?;
+    assert_eq!(rt;
+        grant(&mut book, ticket(2, 0, Mode::S), NO_FAST),
         Err(BookError::Full)
     );
     Ok(())
@@ -251,18 +300,21 @@ fn outlives_want_of_memory(rt: HostRuntime) -> Result<(), Fail> {
     let mut book = table_book(rt.alloc())?;
     for number in 1..40 {
         let (granted, waiting) = (book.granted().len(), book.waiting().len());
-        if book.enqueue(ticket(1, number, Mode::S)) == Err(BookError::OutOfMemory) {
+        if enqueue(&mut book, ticket(1, number, Mode::S)) == Err(BookError::OutOfMemory) {
             assert_eq!(rt; book.granted().len(), granted);
             assert_eq!(rt; book.waiting().len(), waiting);
-            assert_eq!(rt; book.enqueue(ticket(1, number, Mode::S)), Ok(()));
+            assert_eq!(rt; enqueue(&mut book, ticket(1, number, Mode::S)), Ok(()));
         }
-        if book.grant(ticket(2, number, Mode::S), NO_FAST) == Err(BookError::OutOfMemory) {
+        if grant(&mut book, ticket(2, number, Mode::S), NO_FAST) == Err(BookError::OutOfMemory) {
             assert_eq!(rt; book.granted().len(), granted);
-            assert_eq!(rt; book.grant(ticket(2, number, Mode::S), NO_FAST), Ok(()));
+            assert_eq!(rt;
+                grant(&mut book, ticket(2, number, Mode::S), NO_FAST),
+                Ok(())
+            );
         }
     }
     for number in 1..40 {
-        assert_eq!(rt; book.admit(1, number), Ok(ticket(1, number, Mode::S)));
+        assert_eq!(rt; admit(&mut book, 1, number), Ok(ticket(1, number, Mode::S)));
     }
     assert_eq!(rt; book.granted().len(), 78);
     Ok(())
@@ -282,11 +334,11 @@ fn minds_fast_tickets(rt: HostRuntime) -> Result<(), Fail> {
         (FAST_SW, Mode::SU, true),
     ] {
         let mut book = table_book(rt.alloc())?;
-        assert_eq!(rt; book.can_grant(1, mode, word), want, "{mode} at {word:?}");
-        book.enqueue(ticket(1, 1, mode))?;
+        assert_eq!(rt; can_grant(&book, 1, mode, word), want, "{mode} at {word:?}");
+        enqueue(&mut book, ticket(1, 1, mode))?;
         let next = if want { Some((1, 1)) } else { None };
         assert_eq!(rt;
-            book.next_grantable(word, &everyone),
+            next_grantable(&book, word, &everyone),
             next,
             "{mode} waits at {word:?}"
         );
@@ -296,7 +348,7 @@ fn minds_fast_tickets(rt: HostRuntime) -> Result<(), Fail> {
             Err(BookError::WouldConflict)
         };
         assert_eq!(rt;
-            book.grant(ticket(1, 2, mode), word),
+            grant(&mut book, ticket(1, 2, mode), word),
             granted,
             "{mode} granted at {word:?}"
         );
@@ -310,16 +362,16 @@ fn minds_fast_tickets_of_a_schema(rt: HostRuntime) -> Result<(), Fail> {
     let alloc = rt.alloc();
     let mut book = Book::new(alloc, Key::schema(alloc, "test")?);
     for (mode, want) in [(Mode::IX, true), (Mode::S, false), (Mode::X, false)] {
-        assert_eq!(rt; book.can_grant(1, mode, FAST_S), want, "{mode}");
+        assert_eq!(rt; can_grant(&book, 1, mode, FAST_S), want, "{mode}");
     }
-    book.grant(ticket(1, 1, Mode::IX), FAST_S)?;
-    assert_eq!(rt; book.needs(), needs(false, true));
+    grant(&mut book, ticket(1, 1, Mode::IX), FAST_S)?;
+    assert_eq!(rt; needs_of(&book), needs(false, true));
     assert_eq!(rt;
-        book.set_mode(1, 1, Mode::S, FAST_S),
+        set_mode(&mut book, 1, 1, Mode::S, FAST_S),
         Err(BookError::WouldConflict)
     );
-    assert_eq!(rt; book.set_mode(1, 1, Mode::S, NO_FAST), Ok(()));
-    assert_eq!(rt; book.needs(), needs(true, true));
+    assert_eq!(rt; set_mode(&mut book, 1, 1, Mode::S, NO_FAST), Ok(()));
+    assert_eq!(rt; needs_of(&book), needs(true, true));
     Ok(())
 }
 
@@ -327,26 +379,26 @@ fn minds_fast_tickets_of_a_schema(rt: HostRuntime) -> Result<(), Fail> {
 fn changes_a_mode_in_place(rt: HostRuntime) -> Result<(), Fail> {
     let alloc = rt.alloc();
     let mut book = table_book(alloc)?;
-    book.grant(ticket(2, 1, Mode::S), NO_FAST)?;
-    book.grant(ticket(1, 1, Mode::SR), NO_FAST)?;
-    book.grant(ticket(1, 2, Mode::SU), NO_FAST)?;
-    book.grant(ticket(3, 1, Mode::SH), NO_FAST)?;
-    book.enqueue(ticket(4, 1, Mode::X))?;
+    grant(&mut book, ticket(2, 1, Mode::S), NO_FAST)?;
+    grant(&mut book, ticket(1, 1, Mode::SR), NO_FAST)?;
+    grant(&mut book, ticket(1, 2, Mode::SU), NO_FAST)?;
+    grant(&mut book, ticket(3, 1, Mode::SH), NO_FAST)?;
+    enqueue(&mut book, ticket(4, 1, Mode::X))?;
     // Neither the session's own SR nor the waiting X stands in the way.
-    assert_eq!(rt; book.set_mode(1, 2, Mode::SNRW, FAST_S), Ok(()));
+    assert_eq!(rt; set_mode(&mut book, 1, 2, Mode::SNRW, FAST_S), Ok(()));
     assert_eq!(rt;
         lists(alloc, &book)?.as_str(),
         "2.1 S 1.1 SR 1.2 SNRW 3.1 SH / 4.1 X "
     );
     assert_eq!(rt;
-        book.set_mode(1, 2, Mode::X, NO_FAST),
+        set_mode(&mut book, 1, 2, Mode::X, NO_FAST),
         Err(BookError::WouldConflict)
     );
-    book.remove(2, 1)?;
-    book.remove(3, 1)?;
-    assert_eq!(rt; book.set_mode(1, 2, Mode::X, NO_FAST), Ok(()));
+    remove(&mut book, 2, 1)?;
+    remove(&mut book, 3, 1)?;
+    assert_eq!(rt; set_mode(&mut book, 1, 2, Mode::X, NO_FAST), Ok(()));
     assert_eq!(rt; lists(alloc, &book)?.as_str(), "1.1 SR 1.2 X / 4.1 X ");
-    assert_eq!(rt; book.set_mode(1, 2, Mode::SU, NO_FAST), Ok(()));
+    assert_eq!(rt; set_mode(&mut book, 1, 2, Mode::SU, NO_FAST), Ok(()));
     assert_eq!(rt; lists(alloc, &book)?.as_str(), "1.1 SR 1.2 SU / 4.1 X ");
     Ok(())
 }
@@ -355,9 +407,9 @@ fn changes_a_mode_in_place(rt: HostRuntime) -> Result<(), Fail> {
 fn refuses_to_change_a_mode(rt: HostRuntime) -> Result<(), Fail> {
     let alloc = rt.alloc();
     let mut book = table_book(alloc)?;
-    book.grant(ticket(1, 1, Mode::SU), NO_FAST)?;
-    book.grant(ticket(2, 1, Mode::SR), NO_FAST)?;
-    book.enqueue(ticket(1, 2, Mode::SR))?;
+    grant(&mut book, ticket(1, 1, Mode::SU), NO_FAST)?;
+    grant(&mut book, ticket(2, 1, Mode::SR), NO_FAST)?;
+    enqueue(&mut book, ticket(1, 2, Mode::SR))?;
     let before = lists(alloc, &book)?;
     for (session, number, mode, word, error) in [
         (1, 2, Mode::SR, NO_FAST, BookError::NotHere),
@@ -368,7 +420,7 @@ fn refuses_to_change_a_mode(rt: HostRuntime) -> Result<(), Fail> {
         (2, 1, Mode::SNW, NO_FAST, BookError::WouldConflict),
     ] {
         assert_eq!(rt;
-            book.set_mode(session, number, mode, word),
+            set_mode(&mut book, session, number, mode, word),
             Err(error),
             "{session}.{number} to {mode}"
         );
@@ -380,18 +432,18 @@ fn refuses_to_change_a_mode(rt: HostRuntime) -> Result<(), Fail> {
 #[test]
 fn tells_what_it_needs(rt: HostRuntime) -> Result<(), Fail> {
     let mut book = table_book(rt.alloc())?;
-    assert_eq!(rt; book.needs(), needs(false, false));
-    book.grant(ticket(1, 1, Mode::SW), NO_FAST)?;
-    assert_eq!(rt; book.needs(), needs(false, true));
-    book.enqueue(ticket(2, 1, Mode::SNW))?;
-    assert_eq!(rt; book.needs(), needs(true, true));
-    book.cancel(2, 1)?;
-    assert_eq!(rt; book.needs(), needs(false, true));
-    book.set_mode(1, 1, Mode::SU, NO_FAST)?;
-    assert_eq!(rt; book.needs(), needs(true, true));
-    book.remove(1, 1)?;
-    assert_eq!(rt; book.needs(), needs(false, false));
-    book.enqueue(ticket(2, 2, Mode::SWLP))?;
-    assert_eq!(rt; book.needs(), needs(false, true));
+    assert_eq!(rt; needs_of(&book), needs(false, false));
+    grant(&mut book, ticket(1, 1, Mode::SW), NO_FAST)?;
+    assert_eq!(rt; needs_of(&book), needs(false, true));
+    enqueue(&mut book, ticket(2, 1, Mode::SNW))?;
+    assert_eq!(rt; needs_of(&book), needs(true, true));
+    cancel(&mut book, 2, 1)?;
+    assert_eq!(rt; needs_of(&book), needs(false, true));
+    set_mode(&mut book, 1, 1, Mode::SU, NO_FAST)?;
+    assert_eq!(rt; needs_of(&book), needs(true, true));
+    remove(&mut book, 1, 1)?;
+    assert_eq!(rt; needs_of(&book), needs(false, false));
+    enqueue(&mut book, ticket(2, 2, Mode::SWLP))?;
+    assert_eq!(rt; needs_of(&book), needs(false, true));
     Ok(())
 }

@@ -1,3 +1,5 @@
+ghost use Rattle.std.specs.Prelude.{◌<◌};
+
 use super::*;
 use std::test::Fail;
 
@@ -9,12 +11,22 @@ fn ticket(session: u16, number: u64, mode: Mode) -> Ticket {
     }
 }
 
+// Puts a ticket at the end of a list that isn't full.
+fn add(list: &mut TicketList, ticket: Ticket) -> Result<(), AllocError> {
+    if list.len() < 65_535 {
+        list.push(ticket)?;
+    }
+    Ok(())
+}
+
 // A list of tickets of the sessions 1, 2, .. with the number 1.
 fn list_of(alloc: Global, modes: &[Mode]) -> Result<TicketList, Fail> {
     let mut list = TicketList::new(alloc);
-    for (session, mode) in (1..).zip(modes.iter()) {
-        list.reserve(1)?;
-        list.push(ticket(session, 1, *mode))?;
+    for mode in modes {
+        if list.len() < 65_535 {
+            let session = list.len() as u16 + 1;
+            list.push(ticket(session, 1, *mode))?;
+        }
     }
     Ok(list)
 }
@@ -23,9 +35,9 @@ fn list_of(alloc: Global, modes: &[Mode]) -> Result<TicketList, Fail> {
 fn lives_an_ordinary_life(rt: HostRuntime) -> Result<(), Fail> {
     let mut list = TicketList::new(rt.alloc());
     assert!(rt; list.is_empty());
-    list.push(ticket(1, 7, Mode::SR))?;
-    list.push(ticket(2, 1, Mode::SW))?;
-    list.push(ticket(1, 8, Mode::SH))?;
+    add(&mut list, ticket(1, 7, Mode::SR))?;
+    add(&mut list, ticket(2, 1, Mode::SW))?;
+    add(&mut list, ticket(1, 8, Mode::SH))?;
     assert_eq!(rt; list.len(), 3);
     assert!(rt; !list.is_empty());
     assert!(rt; list.contains(2, 1));
@@ -50,8 +62,8 @@ fn lives_an_ordinary_life(rt: HostRuntime) -> Result<(), Fail> {
 #[test]
 fn twins_go_one_by_one(rt: HostRuntime) -> Result<(), Fail> {
     let mut list = TicketList::new(rt.alloc());
-    list.push(ticket(1, 1, Mode::S))?;
-    list.push(ticket(1, 1, Mode::X))?;
+    add(&mut list, ticket(1, 1, Mode::S))?;
+    add(&mut list, ticket(1, 1, Mode::X))?;
     assert_eq!(rt; list.set_mode(1, 1, Mode::SR), Some(Mode::S));
     assert_eq!(rt; list.take(1, 1), Some(ticket(1, 1, Mode::SR)));
     assert_eq!(rt; list.take(1, 1), Some(ticket(1, 1, Mode::X)));
@@ -103,7 +115,10 @@ fn reserved_room_is_kept(rt: HostRuntime) -> Result<(), Fail> {
     let mut list = TicketList::new(rt.alloc());
     list.reserve(100)?;
     for number in 0..1_000 {
-        list.push_reserved(ticket(1, number, Mode::SR));
+        if list.len() < 65_535 {
+            list.reserve(1)?;
+            list.push_reserved(ticket(1, number, Mode::SR));
+        }
         if number >= 99 {
             list.take(1, number - 99);
         }
@@ -123,9 +138,56 @@ fn draw(seed: &mut u64, below: u64) -> u64
     (*seed >> 33) % below
 }
 
-// A mode drawn by lot.
-fn draw_mode(seed: &mut u64) -> Mode {
-    Mode::ALL[draw(seed, 11) as usize]
+// A ticket drawn by lot.
+fn draw_ticket(seed: &mut u64) -> Ticket {
+    let session = draw(seed, 4) as u16;
+    let number = draw(seed, 8);
+    ticket(session, number, Mode::ALL[draw(seed, 11) as usize])
+}
+
+// The place of the first ticket of this session and number in a plain list.
+fn place_in(plain: &[Ticket], session: u16, number: u64) -> Option<usize> {
+    plain.iter().position(|ticket| ticket.session == session && ticket.number == number)
+}
+
+// Takes a ticket from both lists: whether they give the same.
+fn takes_alike(list: &mut TicketList, plain: &mut Vec<Ticket>, session: u16, number: u64) -> bool {
+    let taken = match place_in(plain, session, number) {
+        Some(at) if at < plain.len() => Some(plain.remove(at)),
+        _ => None,
+    };
+    list.take(session, number) == taken
+}
+
+// Takes the first ticket from both lists: whether they give the same.
+fn takes_first_alike(list: &mut TicketList, plain: &mut Vec<Ticket>) -> bool {
+    if plain.is_empty() {
+        return list.is_empty();
+    }
+    let first = plain.remove(0);
+    list.take(first.session, first.number) == Some(first)
+}
+
+// Sets the mode of a ticket in both lists: whether they answer the same.
+fn sets_alike(list: &mut TicketList, plain: &mut Vec<Ticket>, to: Ticket) -> bool {
+    match place_in(plain, to.session, to.number) {
+        Some(at) if at < plain.len() => {
+            let old = plain[at].mode;
+            plain[at].mode = to.mode;
+            list.set_mode(to.session, to.number, to.mode) == Some(old)
+        }
+        _ => list.set_mode(to.session, to.number, to.mode).is_none(),
+    }
+}
+
+// Whether a list answers a wish as a plain one does that looks at each ticket.
+fn answers_alike(list: &TicketList, plain: &[Ticket], kind: Kind, wish: Ticket) -> bool {
+    let beside = plain.iter().all(|held| held.session == wish.session
+        || !conflicts_granted(kind, wish.mode, held.mode));
+    let overtaken = plain.iter().all(|pending| pending.session == wish.session
+        || !conflicts_waiting(kind, wish.mode, pending.mode));
+    list.all_stand_beside(kind, wish.session, wish.mode) == beside
+        && list.all_overtaken(kind, wish.session, wish.mode) == overtaken
 }
 
 #[test]
@@ -134,40 +196,19 @@ fn does_as_a_plain_list_does(rt: HostRuntime) -> Result<(), Fail> {
     let mut list = TicketList::new(rt.alloc());
     let mut plain: Vec<Ticket> = Vec::new(rt.alloc());
     for _ in 0..2_000 {
-        let session = draw(&mut seed, 4) as u16;
-        let number = draw(&mut seed, 8);
-        let mode = draw_mode(&mut seed);
-        let at = plain.iter().position(|ticket| ticket.session == session
-            && ticket.number == number);
+        let drawn = draw_ticket(&mut seed);
         match draw(&mut seed, 5) {
             0 | 1 => {
-                plain.push(ticket(session, number, mode))?;
-                if list.len() < 65_535 {
-                    list.push(ticket(session, number, mode))?;
-                }
+                plain.push(drawn)?;
+                add(&mut list, drawn)?;
             }
-            2 => assert_eq!(rt; list.take(session, number), at.map(|at| plain.remove(at))),
-            3 => {
-                let first = plain.first().copied();
-                if let Some(first) = first {
-                    plain.remove(0);
-                    assert_eq!(rt; list.take(first.session, first.number), Some(first));
-                }
-            }
-            _ => {
-                let old = at.map(|at| std::mem::replace(&mut plain[at].mode, mode));
-                assert_eq!(rt; list.set_mode(session, number, mode), old);
-            }
+            2 => assert!(rt; takes_alike(&mut list, &mut plain, drawn.session, drawn.number)),
+            3 => assert!(rt; takes_first_alike(&mut list, &mut plain)),
+            _ => assert!(rt; sets_alike(&mut list, &mut plain, drawn)),
         }
         assert!(rt; list.as_slice() == plain.as_slice());
-        for kind in [Kind::Scoped, Kind::Object] {
-            let beside = plain.iter().all(|held| held.session == session
-                || !conflicts_granted(kind, mode, held.mode));
-            assert_eq!(rt; list.all_stand_beside(kind, session, mode), beside);
-            let overtaken = plain.iter().all(|pending| pending.session == session
-                || !conflicts_waiting(kind, mode, pending.mode));
-            assert_eq!(rt; list.all_overtaken(kind, session, mode), overtaken);
-        }
+        assert!(rt; answers_alike(&list, &plain, Kind::Scoped, drawn));
+        assert!(rt; answers_alike(&list, &plain, Kind::Object, drawn));
     }
     Ok(())
 }

@@ -23,11 +23,21 @@ fn lines(alloc: Global, row: &str) -> Result<String, AllocError> {
     Ok(text)
 }
 
+// A run without what it promises: the tests look at what it does.
+fn drive<R: Read, W: Write>(
+    alloc: Global,
+    kind: Kind,
+    reader: &mut R,
+    writer: &mut W,
+) -> Result<(), Fault> {
+    lock_run(alloc, kind, reader, writer)
+}
+
 // How a script of a lock of this kind ends, and what is written.
 fn ran_as(alloc: Global, kind: Kind, script: &[u8]) -> (Result<(), Fault>, Vec<u8>) {
     let mut reader = script;
     let mut written = Vec::new(alloc);
-    let result = lock_run(alloc, kind, &mut reader, &mut written);
+    let result = drive(alloc, kind, &mut reader, &mut written);
     (result, written)
 }
 
@@ -191,7 +201,7 @@ fn a_read_that_fails_is_told(rt: HostRuntime) -> Result<(), Fail> {
         for bytes in 0..=script.len() {
             let habit = Habit::steps_of(7).slips_after(bytes, Slip::Fails(kind));
             let mut written = Vec::new(rt.alloc());
-            let result = lock_run(
+            let result = drive(
                 rt.alloc(),
                 Kind::Object,
                 &mut Source::new(script.as_bytes(), habit),
@@ -215,7 +225,7 @@ fn slow_and_interrupted_devices_serve(rt: HostRuntime) -> Result<(), Fail> {
             let slow = Habit::steps_of(step).slips_after(bytes, slip);
             for (input, output) in [(slow, whole), (whole, slow), (slow, slow)] {
                 let mut target = Target::new(rt.alloc(), output);
-                let result = lock_run(
+                let result = drive(
                     rt.alloc(),
                     Kind::Object,
                     &mut Source::new(script.as_bytes(), input),
@@ -236,7 +246,7 @@ fn a_write_that_fails_leaves_a_beginning(rt: HostRuntime) -> Result<(), Fail> {
     for bytes in 0..answers.len() {
         for slip in [Slip::Fails(ErrorKind::BrokenPipe), Slip::MovesNothing] {
             let mut target = Target::new(rt.alloc(), Habit::steps_of(7).slips_after(bytes, slip));
-            let result = lock_run(
+            let result = drive(
                 rt.alloc(),
                 Kind::Object,
                 &mut script.as_bytes(),
@@ -259,7 +269,7 @@ fn lack_of_memory_is_told(rt: HostRuntime) -> Result<(), Fail> {
     let mut reader = script.as_slice();
     let mut room = [0u8; 100];
     let mut writer = room.as_mut_slice();
-    let result = lock_run(rt.alloc(), Kind::Object, &mut reader, &mut writer);
+    let result = drive(rt.alloc(), Kind::Object, &mut reader, &mut writer);
     let written = match result {
         Ok(()) => answers.len(),
         Err(fault) => {

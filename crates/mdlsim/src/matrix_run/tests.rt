@@ -31,12 +31,21 @@ OBJECT WAITING SNRW: X
 OBJECT WAITING X: -
 ";
 
+// The lines, and a run, without what is known of them: the tests look at what they are.
+fn matrices() -> &'static [u8] {
+    MATRICES.as_bytes()
+}
+
+fn print<W: Write>(alloc: Global, writer: &mut W) -> Result<(), Fault> {
+    matrix_run(alloc, writer)
+}
+
 #[test]
 fn prints_each_row(rt: HostRuntime) {
     let mut written = Vec::new(rt.alloc());
-    let result = matrix_run(rt.alloc(), &mut written);
+    let result = print(rt.alloc(), &mut written);
     assert_eq!(rt; result, Ok(()));
-    assert_eq!(rt; written.as_slice(), MATRICES.as_bytes());
+    assert_eq!(rt; written.as_slice(), matrices());
 }
 
 #[test]
@@ -44,24 +53,20 @@ fn slow_and_interrupted_writers_serve(rt: HostRuntime) {
     for step in [1, 7, usize::MAX] {
         let habit = Habit::steps_of(step).slips_after(40, Slip::Fails(ErrorKind::Interrupted));
         let mut target = Target::new(rt.alloc(), habit);
-        assert_eq!(rt;
-            matrix_run(rt.alloc(), &mut target),
-            Ok(()),
-            "steps of {step}"
-        );
-        assert_eq!(rt; target.taken.as_slice(), MATRICES.as_bytes());
+        assert_eq!(rt; print(rt.alloc(), &mut target), Ok(()), "steps of {step}");
+        assert_eq!(rt; target.taken.as_slice(), matrices());
     }
 }
 
 #[test]
 fn a_write_that_fails_leaves_a_beginning(rt: HostRuntime) {
-    for bytes in 0..MATRICES.len() {
+    for bytes in 0..matrices().len() {
         for slip in [Slip::Fails(ErrorKind::BrokenPipe), Slip::MovesNothing] {
             let mut target = Target::new(rt.alloc(), Habit::steps_of(7).slips_after(bytes, slip));
-            let result = matrix_run(rt.alloc(), &mut target);
+            let result = print(rt.alloc(), &mut target);
             assert_eq!(rt; result, Err(Fault::Write), "after {bytes}");
             assert_eq!(rt; target.taken.len(), bytes);
-            assert!(rt; MATRICES.as_bytes().starts_with(&target.taken));
+            assert!(rt; matrices().starts_with(&target.taken));
         }
     }
 }
@@ -71,13 +76,13 @@ fn a_write_that_fails_leaves_a_beginning(rt: HostRuntime) {
 fn lack_of_memory_is_told(rt: HostRuntime) {
     let mut room = [0u8; 800];
     let mut writer = room.as_mut_slice();
-    let written = match matrix_run(rt.alloc(), &mut writer) {
-        Ok(()) => MATRICES.len(),
+    let written = match print(rt.alloc(), &mut writer) {
+        Ok(()) => matrices().len(),
         Err(fault) => {
             assert_eq!(rt; fault, Fault::Memory);
             0
         }
     };
-    assert_eq!(rt; room.get(..written), MATRICES.as_bytes().get(..written));
+    assert_eq!(rt; room.get(..written), matrices().get(..written));
     assert_eq!(rt; room.get(written), Some(&0));
 }

@@ -1,0 +1,15 @@
+pub mod ApartLemmas
+pub mod BlockingLemmas
+pub mod BookLemmas
+pub mod CauseLemmas
+pub mod ConcernLemmas
+pub mod Deciding
+pub mod GrantingRuns
+pub mod HeldAfter
+pub mod HeldLemmas
+pub mod LawfulLemmas
+pub mod NextSystems
+pub mod NumberingLemmas
+pub mod OrderLemmas
+pub mod OwnLemmas
+pub mod SmallSystems

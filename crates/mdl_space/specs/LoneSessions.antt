@@ -1,0 +1,68 @@
+-- A lock space that speaks for one session alone and has one key: others come and go between its calls, so that what a
+-- call answers isn't told by what was before it.
+use Rattle.std.specs.Prelude.{◌≡◌, ℕ, true, [], Option, Some, None}
+use Rattle.std.specs.Option.{IfSome}
+use Rattle.mdl_key.specs.Keys.{KeyName}
+use Rattle.mdl_space.specs.declared.answers.Settled.{Settled}
+use Rattle.mdl_space.specs.declared.answers.Settled.TheVariants.{Killed}
+use Rattle.mdl_space.specs.Calls.{Call, Resolve, End_wait, Wait_of, Kill, caller}
+use Rattle.mdl_space.specs.Answers.{Answer, At_place, Has_wait, Has_killed, Holds, is_answer_of}
+use Rattle.mdl_space.specs.Own.{Own, own_after, wait_number, IsRising}
+use Rattle.mdl_space.specs.Causes.{IsExplained}
+use Rattle.mdl_space.specs.Waits.{told, IsToldOf}
+
+-- what is known of such a space: its session and its key, what the session has, and how its wait is settled
+pub record Lone : Type 0 where
+  pub who : ℕ
+  pub key : KeyName
+  pub own : Own
+  pub settled : Option Settled
+
+-- a session that has nothing
+abbrev pub alone : ℕ → KeyName → Lone
+alone who key = record { who = who; key = key; own = record { held = []; wait = None }; settled = None }
+
+-- the value, where there is one at all
+abbrev pub last_of : {A : Type 0} → Option (Option A) → Option A
+last_of None = None
+last_of (Some value) = value
+
+-- the space speaks for its session
+abbrev pub SpeaksFor : Lone → ℕ → Type 0
+SpeaksFor a who = (who ≡ a.who) × IsRising a.own
+
+-- its key is at place 1
+abbrev pub Knows : Lone → ℕ → ℕ → KeyName → Type 0
+Knows a who place key = (who ≡ a.who) × (place ≡ 1) × (key ≡ a.key)
+
+-- the wait is settled so
+abbrev pub IsSettled : Lone → ℕ → Settled → Type 0
+IsSettled a who how = (who ≡ a.who) × (a.settled ≡ Some how)
+
+-- what an answer of these calls says beside what it does
+abbrev pub IsTold : Lone → Call → Answer → Lone → Type 0
+IsTold a (Resolve who key) (At_place place) b = (place ≡ 1) × (key ≡ a.key)
+IsTold a (Wait_of target) (Has_wait number) b = target ≡ a.who → number ≡ wait_number a.own
+IsTold a (Kill target number) (Has_killed true) b =
+    (target ≡ a.who) × (wait_number a.own ≡ Some number) × (b.settled ≡ Some Killed)
+IsTold a call (Holds tickets) b = tickets ≡ a.own.held
+IsTold a _ _ b = Unit {0}
+
+-- how the wait is settled after a call, where it was settled before it
+abbrev pub Stays : Call → Option Settled → Option Settled → Type 0
+Stays (End_wait who) before after = Unit {0}
+Stays call None after = Unit {0}
+Stays call before after = after ≡ before
+
+-- what every call and its answer keep to
+pub record Joins (a : Lone) (call : Call) (answer : Answer) (b : Lone) : Type 0 where
+  pub allowed : IfSome (caller call) (SpeaksFor a)
+  pub same : (b.who ≡ a.who) × (b.key ≡ a.key)
+  pub changed : b.own ≡ own_after call answer a.own
+  pub rising : IsRising a.own → IsRising b.own
+  pub fits : is_answer_of call answer ≡ true
+  pub explained : IsExplained (Knows a a.who) call answer a.own
+  pub told_truly : IsTold a call answer b
+  pub told_end : IfSome (told call answer) (λ how. b.settled ≡ Some how)
+  pub stays : Stays call a.settled b.settled
+  pub agreed : IfSome a.settled (λ how. IsToldOf how call answer)

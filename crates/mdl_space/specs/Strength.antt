@@ -1,0 +1,40 @@
+-- Which of two modes is the stronger, and which mode a held one may become, after MySQL 5.7:
+-- `MDL_ticket::has_stronger_or_equal_type`, `MDL_context::upgrade_shared_lock` and `MDL_ticket::downgrade_lock` of
+-- sql/mdl.cc. Which changes of mode there are is this project's own choice.
+use Rattle.std.specs.Prelude.{Bool, ◌&&◌, List, [], ◌∷◌, if◌then◌else◌}
+use Rattle.std.specs.List.{list_any}
+use Rattle.mdl_key.specs.declared.namespace.Kind.{Kind}
+use Rattle.mdl_key.specs.declared.namespace.Kind.TheVariants.{Scoped, Object}
+use Rattle.mdl_key.specs.declared.mode.Mode.{Mode}
+use Rattle.mdl_key.specs.declared.mode.Mode.TheVariants.{SU, SNW, SNRW, X}
+use Rattle.mdl_key.specs.Modes.{same_mode, is_mode_of}
+use Rattle.mdl_key.specs.Classes.{is_at_least}
+
+-- a kind that has both modes. S and X are modes of both kinds, in which they clash alike with each other.
+abbrev pub common_kind : Mode → Mode → Kind
+common_kind a b = if is_mode_of Object a && is_mode_of Object b then Object else Scoped
+
+-- of two modes of one kind, the first is at least as strong as the second: whatever clashes with the second clashes with it
+abbrev pub covers : Mode → Mode → Bool
+covers a b = is_at_least (common_kind a b) a b
+
+-- the modes that a held one may be upgraded to
+abbrev pub upgrades : Mode → List Mode
+upgrades SU = SNW ∷ SNRW ∷ X ∷ []
+upgrades SNW = SNRW ∷ X ∷ []
+upgrades SNRW = X ∷ []
+upgrades _ = []
+
+-- the modes that a held one may be downgraded to
+abbrev pub downgrades : Mode → List Mode
+downgrades X = SU ∷ SNW ∷ SNRW ∷ []
+downgrades SNW = SU ∷ []
+downgrades _ = []
+
+-- whether a held mode may become another by an upgrade; one that it covers it has already
+abbrev pub may_upgrade : Mode → Mode → Bool
+may_upgrade held mode = list_any (same_mode mode) (upgrades held)
+
+-- whether a held mode may become another by a downgrade
+abbrev pub may_downgrade : Mode → Mode → Bool
+may_downgrade held mode = list_any (same_mode mode) (downgrades held)

@@ -1,0 +1,166 @@
+//! The lock space of one thread.
+ghost use Rattle.std.specs.Prelude.{◌≡◌, ◌<◌, ◌+◌, ◌^◌, Some, None, IfOk, OnOk, MatchResult, length, true};
+ghost use Rattle.std.specs.Option.{IfSome};
+ghost use Rattle.mdl_key.specs.Refusals.{Refuses};
+ghost use Rattle.mdl_space.specs.Cores.{empty_core, new_fault, has_session, index_of, first_cause, request_causes, listing, resolving, seat_at, trying, Makes};
+ghost use Rattle.mdl_space.specs.Answers.{placed, attempted, listed};
+
+use crate::granting::{give, is_free};
+use crate::seat::Seat;
+use crate::{Attempt, Held, NewError, Place, SpaceError};
+use mdl_book::Book;
+use mdl_key::{Key, Mode};
+use std::alloc::Global;
+use std::marker::Model;
+
+const MOST_PLACES: u16 = 256;
+
+const MOST_SESSIONS: u16 = 64;
+
+// The most tickets, and the most waits, that a session can number.
+const MOST_NUMBERS: u64 = (1 << 60) - 1;
+
+/// The lock space of one thread: whoever has it speaks for each of its sessions.
+#[derive(Drop)]
+pub struct CoreSpace {
+    alloc: Global,
+    books: Vec<Book>,
+    seats: Vec<Seat>,
+    places: usize,
+}
+
+impl Model for CoreSpace {
+    ghost use Rattle.std.specs.Prelude.{◌≤◌, length};
+    ghost use Rattle.std.specs.Vec.{vec_capacity};
+    ghost use Rattle.mdl_space.specs.Cores.{Core};
+
+    ghost Value = { Core };
+
+    ghost view = { λ space. record { books = space.books.items; seats = space.seats.items; places = space.places } };
+
+    ghost invariant = { λ space. record {
+      fewest : length space.books.items ≤ space.places;
+      most : space.places ≤ 256;
+      room : space.places ≤ vec_capacity space.books;
+      sessions : length space.seats.items ≤ 64;
+    } };
+}
+
+impl CoreSpace {
+    /// A space of so many places and sessions, where nobody has asked for anything.
+    pub fn new(alloc: Global, places: u16, sessions: u16) -> Result<CoreSpace, NewError>
+        ensures made { IfOk result (λ space. space ≡ empty_core places sessions) }
+        ensures refused { Refuses (new_fault places sessions) NewError.OutOfMemory result }
+    {
+        if places == 0 || places > MOST_PLACES {
+            return Err(NewError::BadPlaces);
+        }
+        if sessions == 0 || sessions > MOST_SESSIONS {
+            return Err(NewError::BadSessions);
+        }
+        let mut books = Vec::new(alloc);
+        if books.reserve(usize::from(places)).is_err() {
+            return Err(NewError::OutOfMemory);
+        }
+        let mut seats = Vec::new(alloc);
+        for _session in 0..sessions {
+            if seats.push(Seat::new(alloc)).is_err() {
+                return Err(NewError::OutOfMemory);
+            }
+        }
+        Ok(CoreSpace {
+            alloc,
+            books,
+            seats,
+            places: usize::from(places),
+        })
+    }
+
+    /// The place of a key.
+    pub(crate) fn place_key(&mut self, key: &Key) -> Result<Place, SpaceError>
+        ensures { Makes true (resolving key.now) self.old (placed result) self.new }
+    {
+        if let Some(index) = place_of(&self.books, key) {
+            return Ok(index as Place + 1);
+        }
+        if self.books.len() >= self.places {
+            return Err(SpaceError::NoPlace);
+        }
+        let Ok(key) = key.clone() else {
+            return Err(SpaceError::OutOfMemory);
+        };
+        self.books.push(Book::new(self.alloc, key)).unwrap();
+        Ok(self.books.len() as Place)
+    }
+
+    /// Grants a lock, if it can be had now.
+    pub(crate) fn try_lock(
+        &mut self,
+        who: u16,
+        place: Place,
+        mode: Mode,
+    ) -> Result<Attempt, SpaceError>
+        requires { has_session who self.old ≡ true }
+        ensures { Makes true (trying who place mode) self.old (attempted result) self.new }
+    {
+        self.check_request(who, place, mode)?;
+        let book = &mut self.books[usize::from(place) - 1];
+        if !is_free(book, who, mode) {
+            return Ok(Attempt::WouldWait);
+        }
+        let seat = &mut self.seats[usize::from(who) - 1];
+        match give(seat, book, who, place, mode) {
+            Ok(id) => Ok(Attempt::Granted(id)),
+            Err(cause) => Err(cause),
+        }
+    }
+
+    /// The tickets that a session holds.
+    pub(crate) fn list_held(&self, who: u16) -> Result<Vec<Held>, SpaceError>
+        requires { has_session who self.now ≡ true }
+        ensures { Makes true (listing who) self.now (listed result) self.now }
+    {
+        let mut tickets = Vec::new(self.alloc);
+        let held = self.seats[usize::from(who) - 1].held();
+        if tickets.extend_from_slice(held).is_err() {
+            return Err(SpaceError::OutOfMemory);
+        }
+        Ok(tickets)
+    }
+
+    /// Looks whether a session can ask for a lock.
+    fn check_request(&self, who: u16, place: Place, mode: Mode) -> Result<(), SpaceError>
+        requires { has_session who self.now ≡ true }
+        ensures refused { MatchResult result
+            (λ _. first_cause (request_causes who place mode self.now) ≡ None)
+            (λ e. first_cause (request_causes who place mode self.now) ≡ Some e) }
+        ensures numbers { OnOk result ((seat_at who self.now).last_ticket + 1 < 2 ^ 60) }
+    {
+        let place = usize::from(place);
+        if place == 0 || place > self.books.len() {
+            return Err(SpaceError::NoPlace);
+        }
+        let seat = &self.seats[usize::from(who) - 1];
+        if seat.wait().is_some() {
+            return Err(SpaceError::AlreadyWaiting);
+        }
+        if !self.books[place - 1].key().kind().has_mode(mode) {
+            return Err(SpaceError::BadMode);
+        }
+        if seat.last_ticket() >= MOST_NUMBERS {
+            return Err(SpaceError::CounterFull);
+        }
+        Ok(())
+    }
+}
+
+// Where the book of a key stands.
+fn place_of(books: &[Book], key: &Key) -> Option<usize>
+    ensures found { result ≡ index_of key.now books.now }
+    ensures within { IfSome result (λ index. index < length books.now) }
+{
+    books.iter().position(|book| *book.key() == *key)
+}
+
+#[cfg(test)]
+mod tests;

@@ -1,0 +1,66 @@
+//! Granting a lock: a ticket in the lock's book, and the same ticket in the session's hands.
+ghost use Rattle.std.specs.Prelude.{◌≡◌, ◌+◌, ◌<◌, ◌^◌, ◌⊎◌, OnErr, MatchResult, nat_le, true, false};
+ghost use Rattle.mdl_book.specs.Books.{lock_kind, granting, ticket_count};
+ghost use Rattle.mdl_book.specs.Granting.{is_grantable};
+ghost use Rattle.mdl_space.specs.Cores.{cause_in};
+ghost use Rattle.mdl_space.specs.Seats.{holding};
+
+use crate::seat::Seat;
+use crate::{Place, SpaceError, TicketId};
+use mdl_book::{Book, BookError, Ticket};
+use mdl_key::Mode;
+use mdl_word::Word;
+
+// The word of a lock: over one thread no ticket is a fast one.
+const NO_FAST: Word = Word(0);
+
+/// Whether a session's wish for a mode can be granted now.
+pub(crate) fn is_free(book: &Book, who: u16, mode: Mode) -> bool
+    ensures { result ≡ is_grantable (lock_kind book.now) book.now.granted book.now.waiting who mode }
+{
+    book.can_grant(who, mode, NO_FAST)
+}
+
+/// Grants a wish that can be granted. Where it is refused, nothing has changed.
+pub(crate) fn give(
+    seat: &mut Seat,
+    book: &mut Book,
+    who: u16,
+    place: Place,
+    mode: Mode,
+) -> Result<TicketId, SpaceError>
+    requires numbers { seat.old.last_ticket + 1 < 2 ^ 60 }
+    requires free { is_grantable (lock_kind book.old) book.old.granted book.old.waiting who mode ≡ true }
+    ensures given { MatchResult result
+        (λ id. (id ≡ seat.old.last_ticket + 1)
+        × (nat_le 65535 (ticket_count book.old) ≡ false)
+        × (seat.new ≡ holding place mode seat.old)
+        × (book.new ≡ granting (record { session = who; number = id; mode = mode }) book.old))
+        (λ e. (e ≡ SpaceError.OutOfMemory) ⊎ ((e ≡ SpaceError.Full) × (nat_le 65535 (ticket_count book.old) ≡ true))) }
+    ensures unchanged { OnErr result ((seat.new ≡ seat.old) × (book.new ≡ book.old)) }
+{
+    seat.hold(place, mode)?;
+    let number = seat.last_ticket();
+    let ticket = Ticket {
+        session: who,
+        number,
+        mode,
+    };
+    match book.grant(ticket, NO_FAST) {
+        Ok(()) => Ok(number),
+        Err(error) => {
+            seat.unhold();
+            Err(cause_of(error))
+        }
+    }
+}
+
+// Why a book can't take a ticket of a wish that can be granted.
+fn cause_of(error: BookError) -> SpaceError
+    ensures { result ≡ cause_in error }
+{
+    match error {
+        BookError::Full => SpaceError::Full,
+        _ => SpaceError::OutOfMemory,
+    }
+}

@@ -1,0 +1,167 @@
+//! What every lock space does, for whoever stands on it.
+ghost use Rattle.std.specs.Prelude.{◌≡◌, ℕ, Some, true, List, Option};
+ghost use Rattle.std.specs.Option.{IfSome};
+ghost use Rattle.mdl_key.specs.Keys.{KeyName};
+ghost use Rattle.mdl_space.specs.declared.answers.Settled.{Settled};
+ghost use Rattle.mdl_space.specs.declared.answers.Held.{Held};
+ghost use Rattle.mdl_space.specs.Calls.{Call, Resolve, Try_now, Begin_wait, Poll_wait, Settle_timeout, End_wait, Wait_of, Kill, Release, Clone_ticket, List_held, Unpin, caller};
+ghost use Rattle.mdl_space.specs.Answers.{Answer, At_place, Has_wait, Has_killed, Holds, is_answer_of, placed, attempted, begun, polled, timed_out, ended, done, cloned, listed};
+ghost use Rattle.mdl_space.specs.Own.{Own, own_after, wait_number, IsRising};
+ghost use Rattle.mdl_space.specs.Causes.{IsExplained};
+ghost use Rattle.mdl_space.specs.Waits.{told, IsToldOf};
+
+use crate::{Attempt, Begun, Ended, Held, Poll, SpaceError, TimedOut};
+use mdl_key::{Key, Mode};
+
+/// The place of a key in a lock space, from 1.
+pub type Place = u16;
+
+/// The number that a session gave a ticket, from 1.
+pub type TicketId = u64;
+
+/// A lock space: keys at their places, and the tickets and waits of numbered sessions.
+///
+/// A session holds tickets, and has one wait at most. Each call is made for one session, for which the space has to speak.
+/// What the call does to that session is the same in every space; no call changes what another session holds. A space in
+/// which other sessions act meanwhile tells less about the rest than one that runs in a single thread.
+///
+/// After MySQL 5.7, `MDL_context` of `sql/mdl.h`.
+pub trait LockSpace {
+    // The sessions that the space speaks for: whoever has the space at hand may make their calls.
+    ghost speaks_for: { Self → ℕ → Type 0 };
+
+    // What a session has.
+    ghost own: { Self → ℕ → Own };
+
+    // A session knows that this place has this key.
+    ghost knows: { Self → ℕ → ℕ → KeyName → Type 0 };
+
+    // A session's wait is settled so.
+    ghost is_settled: { Self → ℕ → Settled → Type 0 };
+
+    // A call and its answer join the space before to the space after.
+    ghost joins: { Self → Call → Answer → Self → Type 0 };
+
+    /// The place of a key, which stays its place. A new key takes the next free one.
+    fn resolve(&mut self, who: u16, key: &Key) -> Result<Place, SpaceError>
+        requires { speaks_for self.old who }
+        ensures { joins self.old (Resolve who key.now) (placed result) self.new };
+
+    /// Asks for a lock, without waiting.
+    fn try_now(&mut self, who: u16, place: Place, mode: Mode) -> Result<Attempt, SpaceError>
+        requires { speaks_for self.old who }
+        ensures { joins self.old (Try_now who place mode) (attempted result) self.new };
+
+    /// Asks for a lock, and begins to wait for it where it can't be had now.
+    fn begin_wait(&mut self, who: u16, place: Place, mode: Mode) -> Result<Begun, SpaceError>
+        requires { speaks_for self.old who }
+        ensures { joins self.old (Begin_wait who place mode) (begun result) self.new };
+
+    /// How the session's wait stands. It takes no memory.
+    fn poll_wait(&mut self, who: u16) -> Result<Poll, SpaceError>
+        requires { speaks_for self.old who }
+        ensures { joins self.old (Poll_wait who) (polled result) self.new };
+
+    /// Settles the session's wait as a timeout, unless it is settled. It takes no memory.
+    fn settle_timeout(&mut self, who: u16) -> Result<TimedOut, SpaceError>
+        requires { speaks_for self.old who }
+        ensures { joins self.old (Settle_timeout who) (timed_out result) self.new };
+
+    /// Ends the session's wait, which is settled: with the ticket if it was granted, else without. It takes no memory.
+    fn end_wait(&mut self, who: u16) -> Result<Ended, SpaceError>
+        requires { speaks_for self.old who }
+        ensures { joins self.old (End_wait who) (ended result) self.new };
+
+    /// The number of any session's wait, if it has one. It takes no memory.
+    fn wait_of(&mut self, target: u16) -> Option<u64>
+        ensures { joins self.old (Wait_of target) (Has_wait result) self.new };
+
+    /// Settles any session's wait of this number as killed, unless it is settled. Whether this call settled it. It takes no
+    /// memory.
+    fn kill(&mut self, target: u16, number: u64) -> bool
+        ensures { joins self.old (Kill target number) (Has_killed result) self.new };
+
+    /// Gives a held ticket up. It takes no memory.
+    fn release(&mut self, who: u16, id: TicketId) -> Result<(), SpaceError>
+        requires { speaks_for self.old who }
+        ensures { joins self.old (Release who id) (done result) self.new };
+
+    /// A second ticket of a held one's place, in a mode that this one is at least as strong as. It overtakes waiters.
+    fn clone_ticket(&mut self, who: u16, id: TicketId, mode: Mode) -> Result<TicketId, SpaceError>
+        requires { speaks_for self.old who }
+        ensures { joins self.old (Clone_ticket who id mode) (cloned result) self.new };
+
+    /// The tickets that the session holds, in order of gain.
+    fn held(&self, who: u16) -> Result<Vec<Held>, SpaceError>
+        requires { speaks_for self.now who }
+        ensures { joins self.now (List_held who) (listed result) self.now };
+
+    // A call is made for a session that the space speaks for.
+    ghost allowed: { (a b : Self) (call : Call) (answer : Answer) → joins a call answer b → IfSome (caller call) (speaks_for a) };
+
+    // The space goes on to speak for the same sessions.
+    ghost keeps: { (a b : Self) (call : Call) (answer : Answer) (w : ℕ) → speaks_for a w → joins a call answer b → speaks_for b w };
+
+    // What a call and its answer do to the caller.
+    ghost changes: { (a b : Self) (call : Call) (answer : Answer) (who : ℕ) → caller call ≡ Some who
+        → joins a call answer b → own b who ≡ own_after call answer (own a who) };
+
+    // Nothing changes for the others.
+    ghost others: { (a b : Self) (call : Call) (answer : Answer) (w : ℕ) → speaks_for a w → (caller call ≡ Some w → ⊥)
+        → joins a call answer b → own b w ≡ own a w };
+
+    // The numbers of held tickets rise.
+    ghost rising: { (a : Self) (w : ℕ) → speaks_for a w → IsRising (own a w) };
+
+    // An answer is one of its call's.
+    ghost fits: { (a b : Self) (call : Call) (answer : Answer) → joins a call answer b → is_answer_of call answer ≡ true };
+
+    // What is listed is what is held.
+    ghost lists: { (a b : Self) (who : ℕ) (tickets : List Held) → joins a (List_held who) (Holds tickets) b
+        → tickets ≡ (own a who).held };
+
+    // A refusal has its cause, and where there is a cause the call is refused.
+    ghost explains: { (a b : Self) (call : Call) (answer : Answer) (who : ℕ) → caller call ≡ Some who
+        → joins a call answer b → IsExplained (knows a who) call answer (own a who) };
+
+    // Whoever resolves a key knows its place.
+    ghost resolves: { (a b : Self) (who place : ℕ) (key : KeyName) → joins a (Resolve who key) (At_place place) b
+        → knows b who place key };
+
+    // A place keeps its key, for all who know it, until they need it no longer.
+    ghost remembers: { (a b : Self) (call : Call) (answer : Answer) (w place : ℕ) (key : KeyName) → speaks_for a w
+        → (call ≡ Unpin w place → ⊥) → joins a call answer b → knows a w place key → knows b w place key };
+
+    // A place has one key.
+    ghost one_key: { (a : Self) (w place : ℕ) (key other : KeyName) → speaks_for a w → knows a w place key
+        → knows a w place other → key ≡ other };
+
+    // A key has one place.
+    ghost one_place: { (a : Self) (w place other : ℕ) (key : KeyName) → speaks_for a w → knows a w place key
+        → knows a w other key → place ≡ other };
+
+    // An answer that tells how the caller's wait is settled is true.
+    ghost tells: { (a b : Self) (call : Call) (answer : Answer) (who : ℕ) (how : Settled) → caller call ≡ Some who
+        → told call answer ≡ Some how → joins a call answer b → is_settled b who how };
+
+    // What a wait is settled as stays, until the wait is ended.
+    ghost stays: { (a b : Self) (call : Call) (answer : Answer) (w : ℕ) (how : Settled) → speaks_for a w
+        → (call ≡ End_wait w → ⊥) → joins a call answer b → is_settled a w how → is_settled b w how };
+
+    // The caller is told of a settled wait as it is settled.
+    ghost agrees: { (a b : Self) (call : Call) (answer : Answer) (who : ℕ) (how : Settled) → caller call ≡ Some who
+        → is_settled a who how → joins a call answer b → IsToldOf how call answer };
+
+    // The number of a wait is told truly.
+    ghost counts: { (a b : Self) (w : ℕ) (number : Option ℕ) → speaks_for a w → joins a (Wait_of w) (Has_wait number) b
+        → number ≡ wait_number (own a w) };
+
+    // Only the wait of the number that was named is killed.
+    ghost kills: { (a b : Self) (w number : ℕ) → speaks_for a w → joins a (Kill w number) (Has_killed true) b
+        → (wait_number (own a w) ≡ Some number) × is_settled b w Settled.Killed };
+}
+
+#[cfg(test)]
+mod lone_session;
+#[cfg(test)]
+mod tests;

@@ -1,0 +1,92 @@
+//! Why a call of a lock space is refused.
+use mdl_defs::DefError;
+use thiserror::Error;
+
+/// Why a call of a lock space is refused.
+///
+/// Of several causes the first in this order is answered, but `WrongKind` goes before `Def`, and `OutOfMemory` may come
+/// before any. A refused call changes no held ticket, no definition and no wait.
+#[derive(Clone, Copy, Debug, PartialEq, Eq, Error)]
+pub enum SpaceError {
+    /// The place has no key, or there is no place for one more key.
+    #[error("no such place")]
+    NoPlace,
+    /// The session holds no such ticket.
+    #[error("no such ticket is held")]
+    NotHeld,
+    /// The held mode can't become the other by an upgrade, or by a downgrade.
+    #[error("the held mode can't be changed so")]
+    NotUpgradable,
+    /// A definition is changed only under an exclusive lock.
+    #[error("not locked exclusively")]
+    NotExclusive,
+    /// The session has a wait that it hasn't ended.
+    #[error("the session has a wait")]
+    AlreadyWaiting,
+    /// The mode isn't one of the place's kind, or the held ticket isn't strong enough for it.
+    #[error("not a mode that the ticket can have")]
+    BadMode,
+    /// The definition had as many versions as it can have.
+    #[error("no version is left")]
+    VersionFull,
+    /// The session has no wait.
+    #[error("the session has no wait")]
+    NoWait,
+    /// The session's wait isn't settled.
+    #[error("the wait isn't settled")]
+    Unsettled,
+    /// The session has used up the numbers of its tickets or its waits.
+    #[error("no number is left")]
+    CounterFull,
+    /// The lock has as many tickets as it can have.
+    #[error("the lock has as many tickets as it can have")]
+    Full,
+    /// The definition can't be changed so.
+    #[error("{0}")]
+    Def(DefError),
+    /// Nothing of this kind can stand under the key.
+    #[error("no definition for such a key")]
+    WrongKind,
+    /// Memory ran out.
+    #[error("out of memory")]
+    OutOfMemory,
+    /// The session has a ticket or a wait at the place.
+    #[error("the place is in use")]
+    InUse,
+}
+
+#[cfg(test)]
+mod tests {
+    use super::*;
+    use std::test::Fail;
+
+    #[test]
+    fn tells_each_cause(rt: HostRuntime) -> Result<(), Fail> {
+        for (error, text) in [
+            (SpaceError::NoPlace, "no such place"),
+            (SpaceError::NotHeld, "no such ticket is held"),
+            (
+                SpaceError::NotUpgradable,
+                "the held mode can't be changed so",
+            ),
+            (SpaceError::NotExclusive, "not locked exclusively"),
+            (SpaceError::AlreadyWaiting, "the session has a wait"),
+            (SpaceError::BadMode, "not a mode that the ticket can have"),
+            (SpaceError::VersionFull, "no version is left"),
+            (SpaceError::NoWait, "the session has no wait"),
+            (SpaceError::Unsettled, "the wait isn't settled"),
+            (SpaceError::CounterFull, "no number is left"),
+            (
+                SpaceError::Full,
+                "the lock has as many tickets as it can have",
+            ),
+            (SpaceError::Def(DefError::Exists), "already exists"),
+            (SpaceError::WrongKind, "no definition for such a key"),
+            (SpaceError::OutOfMemory, "out of memory"),
+            (SpaceError::InUse, "the place is in use"),
+        ] {
+            assert_eq!(rt; error.to_string(rt.alloc())?.as_str(), text);
+        }
+        Ok(())
+    }
+}
