@@ -8,7 +8,7 @@ const LOCK: Run = Run::Lock(Kind::Object);
 const SCOPED: Run = Run::Lock(Kind::Scoped);
 
 // A run without what it promises: the tests look at what it does.
-fn status<R: Read, W: Write, E: Write>(
+fn status_of<R: Read, W: Write, E: Write>(
     alloc: Global,
     asked: Run,
     input: &mut R,
@@ -74,7 +74,7 @@ fn statuses_and_lines_of_a_run(rt: HostRuntime) {
         let mut written = Target::new(rt.alloc(), output);
         let mut told = Vec::new(rt.alloc());
         let mut source = Source::new(script.as_bytes(), input);
-        let answered = status(rt.alloc(), asked, &mut source, &mut written, &mut told);
+        let answered = status_of(rt.alloc(), asked, &mut source, &mut written, &mut told);
         assert_eq!(rt; answered, status, "{script:?}");
         assert_eq!(rt; written.taken.as_slice(), answers.as_bytes(), "{script:?}");
         assert_eq!(rt; told.as_slice(), line.as_bytes(), "{script:?}");
@@ -87,7 +87,7 @@ fn the_matrices_are_printed_without_input(rt: HostRuntime) {
     let mut source = Source::new(b"1 SR", gone);
     let mut written = Vec::new(rt.alloc());
     let mut told = Vec::new(rt.alloc());
-    let answered = status(
+    let answered = status_of(
         rt.alloc(),
         Run::Matrix,
         &mut source,

@@ -41,8 +41,15 @@ fn text(alloc: Global, tickets: &[Ticket]) -> Result<String, AllocError> {
     Ok(text)
 }
 
-// A book's two lists.
-fn lists(alloc: Global, book: &Book) -> Result<String, AllocError> {
+// A book's two lists, and nothing where memory runs out.
+fn lists(alloc: Global, book: &Book) -> String {
+    match both_lists(alloc, book) {
+        Ok(text) => text,
+        Err(_) => String::new(alloc),
+    }
+}
+
+fn both_lists(alloc: Global, book: &Book) -> Result<String, AllocError> {
     format!(in alloc;
         "{}/ {}",
         text(alloc, book.granted())?,
@@ -98,23 +105,23 @@ fn lives_an_ordinary_life(rt: HostRuntime) -> Result<(), Fail> {
     let alloc = rt.alloc();
     let everyone = Sessions::all();
     let mut book = table_book(alloc)?;
-    assert_eq!(rt; lists(alloc, &book)?.as_str(), "/ ");
+    assert_eq!(rt; lists(alloc, &book).as_str(), "/ ");
     assert_eq!(rt; next_grantable(&book, NO_FAST, &everyone), None);
-    grant(&mut book, ticket(1, 7, Mode::SR), NO_FAST)?;
-    enqueue(&mut book, ticket(2, 1, Mode::X))?;
-    enqueue(&mut book, ticket(3, 4, Mode::SR))?;
-    assert_eq!(rt; lists(alloc, &book)?.as_str(), "1.7 SR / 2.1 X 3.4 SR ");
+    assert!(rt; grant(&mut book, ticket(1, 7, Mode::SR), NO_FAST).is_ok());
+    assert!(rt; enqueue(&mut book, ticket(2, 1, Mode::X)).is_ok());
+    assert!(rt; enqueue(&mut book, ticket(3, 4, Mode::SR)).is_ok());
+    assert_eq!(rt; lists(alloc, &book).as_str(), "1.7 SR / 2.1 X 3.4 SR ");
     assert_eq!(rt; next_grantable(&book, NO_FAST, &everyone), None);
 
     assert_eq!(rt; remove(&mut book, 1, 7), Ok(ticket(1, 7, Mode::SR)));
     assert_eq!(rt; next_grantable(&book, NO_FAST, &everyone), Some((2, 1)));
     assert_eq!(rt; admit(&mut book, 2, 1), Ok(ticket(2, 1, Mode::X)));
-    assert_eq!(rt; lists(alloc, &book)?.as_str(), "2.1 X / 3.4 SR ");
+    assert_eq!(rt; lists(alloc, &book).as_str(), "2.1 X / 3.4 SR ");
     assert_eq!(rt; next_grantable(&book, NO_FAST, &everyone), None);
 
     assert_eq!(rt; cancel(&mut book, 3, 4), Ok(ticket(3, 4, Mode::SR)));
     assert_eq!(rt; remove(&mut book, 2, 1), Ok(ticket(2, 1, Mode::X)));
-    assert_eq!(rt; lists(alloc, &book)?.as_str(), "/ ");
+    assert_eq!(rt; lists(alloc, &book).as_str(), "/ ");
     assert_eq!(rt; book.key().to_string(alloc)?.as_str(), "TABLE test.t");
     Ok(())
 }
@@ -125,40 +132,40 @@ fn serves_a_schema_in_turn(rt: HostRuntime) -> Result<(), Fail> {
     let everyone = Sessions::all();
     let mut book = Book::new(alloc, Key::schema(alloc, "test")?);
     assert!(rt; can_grant(&book, 1, Mode::IX, NO_FAST));
-    grant(&mut book, ticket(1, 1, Mode::IX), NO_FAST)?;
+    assert!(rt; grant(&mut book, ticket(1, 1, Mode::IX), NO_FAST).is_ok());
     for (session, mode) in [(2, Mode::S), (3, Mode::IX), (4, Mode::X)] {
         assert!(rt;
             !can_grant(&book, session, mode, NO_FAST),
             "{session} asks for {mode}"
         );
-        enqueue(&mut book, ticket(session, 1, mode))?;
+        assert!(rt; enqueue(&mut book, ticket(session, 1, mode)).is_ok());
         assert_eq!(rt; next_grantable(&book, NO_FAST, &everyone), None);
     }
     for (leaving, next) in [(1, 4), (4, 2), (2, 3)] {
-        remove(&mut book, leaving, 1)?;
+        assert!(rt; remove(&mut book, leaving, 1).is_ok());
         assert_eq!(rt;
             next_grantable(&book, NO_FAST, &everyone),
             Some((next, 1)),
             "{leaving} leaves"
         );
-        admit(&mut book, next, 1)?;
+        assert!(rt; admit(&mut book, next, 1).is_ok());
         assert_eq!(rt;
             next_grantable(&book, NO_FAST, &everyone),
             None,
             "{next} has come"
         );
     }
-    assert_eq!(rt; lists(alloc, &book)?.as_str(), "3.1 IX / ");
+    assert_eq!(rt; lists(alloc, &book).as_str(), "3.1 IX / ");
     Ok(())
 }
 
 #[test]
 fn looks_at_other_sessions_alone(rt: HostRuntime) -> Result<(), Fail> {
     let mut book = table_book(rt.alloc())?;
-    grant(&mut book, ticket(1, 1, Mode::SU), NO_FAST)?;
-    grant(&mut book, ticket(2, 1, Mode::SR), NO_FAST)?;
-    enqueue(&mut book, ticket(1, 2, Mode::SNW))?;
-    enqueue(&mut book, ticket(3, 1, Mode::SNRW))?;
+    assert!(rt; grant(&mut book, ticket(1, 1, Mode::SU), NO_FAST).is_ok());
+    assert!(rt; grant(&mut book, ticket(2, 1, Mode::SR), NO_FAST).is_ok());
+    assert!(rt; enqueue(&mut book, ticket(1, 2, Mode::SNW)).is_ok());
+    assert!(rt; enqueue(&mut book, ticket(3, 1, Mode::SNRW)).is_ok());
     for (session, mode, want) in [
         (1, Mode::SU, true),
         (2, Mode::SU, false),
@@ -177,7 +184,7 @@ fn looks_at_other_sessions_alone(rt: HostRuntime) -> Result<(), Fail> {
             "{session} asks for {mode}"
         );
     }
-    remove(&mut book, 2, 1)?;
+    assert!(rt; remove(&mut book, 2, 1).is_ok());
     assert!(rt; can_grant(&book, 1, Mode::X, NO_FAST));
     Ok(())
 }
@@ -186,33 +193,33 @@ fn looks_at_other_sessions_alone(rt: HostRuntime) -> Result<(), Fail> {
 fn lets_a_clone_overtake(rt: HostRuntime) -> Result<(), Fail> {
     let alloc = rt.alloc();
     let mut book = table_book(alloc)?;
-    grant(&mut book, ticket(1, 1, Mode::SR), NO_FAST)?;
-    enqueue(&mut book, ticket(2, 1, Mode::X))?;
+    assert!(rt; grant(&mut book, ticket(1, 1, Mode::SR), NO_FAST).is_ok());
+    assert!(rt; enqueue(&mut book, ticket(2, 1, Mode::X)).is_ok());
     assert!(rt; !can_grant(&book, 1, Mode::SR, NO_FAST));
-    grant(&mut book, ticket(1, 2, Mode::SR), NO_FAST)?;
+    assert!(rt; grant(&mut book, ticket(1, 2, Mode::SR), NO_FAST).is_ok());
     assert_eq!(rt;
         grant(&mut book, ticket(2, 2, Mode::X), NO_FAST),
         Err(BookError::WouldConflict)
     );
-    assert_eq!(rt; lists(alloc, &book)?.as_str(), "1.1 SR 1.2 SR / 2.1 X ");
+    assert_eq!(rt; lists(alloc, &book).as_str(), "1.1 SR 1.2 SR / 2.1 X ");
     Ok(())
 }
 
 #[test]
 fn counts_later_and_settled_waiters(rt: HostRuntime) -> Result<(), Fail> {
     let mut book = table_book(rt.alloc())?;
-    enqueue(&mut book, ticket(1, 1, Mode::SR))?;
-    enqueue(&mut book, ticket(2, 1, Mode::X))?;
-    enqueue(&mut book, ticket(3, 1, Mode::X))?;
+    assert!(rt; enqueue(&mut book, ticket(1, 1, Mode::SR)).is_ok());
+    assert!(rt; enqueue(&mut book, ticket(2, 1, Mode::X)).is_ok());
+    assert!(rt; enqueue(&mut book, ticket(3, 1, Mode::X)).is_ok());
     let mut unsettled = Sessions::all();
     assert_eq!(rt; next_grantable(&book, NO_FAST, &unsettled), Some((2, 1)));
     unsettled.remove(2);
     assert_eq!(rt; next_grantable(&book, NO_FAST, &unsettled), Some((3, 1)));
     unsettled.remove(3);
     assert_eq!(rt; next_grantable(&book, NO_FAST, &unsettled), None);
-    cancel(&mut book, 2, 1)?;
+    assert!(rt; cancel(&mut book, 2, 1).is_ok());
     assert_eq!(rt; next_grantable(&book, NO_FAST, &unsettled), None);
-    cancel(&mut book, 3, 1)?;
+    assert!(rt; cancel(&mut book, 3, 1).is_ok());
     assert_eq!(rt; next_grantable(&book, NO_FAST, &unsettled), Some((1, 1)));
     assert_eq!(rt; next_grantable(&book, NO_FAST, &Sessions::new()), None);
     Ok(())
@@ -222,13 +229,13 @@ fn counts_later_and_settled_waiters(rt: HostRuntime) -> Result<(), Fail> {
 fn knows_its_tickets(rt: HostRuntime) -> Result<(), Fail> {
     let alloc = rt.alloc();
     let mut book = table_book(alloc)?;
-    grant(&mut book, ticket(1, 1, Mode::S), NO_FAST)?;
-    grant(&mut book, ticket(1, 2, Mode::SH), NO_FAST)?;
-    grant(&mut book, ticket(1, 2, Mode::SR), NO_FAST)?;
-    enqueue(&mut book, ticket(2, 1, Mode::X))?;
-    enqueue(&mut book, ticket(2, 2, Mode::SU))?;
-    enqueue(&mut book, ticket(2, 2, Mode::SW))?;
-    let before = lists(alloc, &book)?;
+    assert!(rt; grant(&mut book, ticket(1, 1, Mode::S), NO_FAST).is_ok());
+    assert!(rt; grant(&mut book, ticket(1, 2, Mode::SH), NO_FAST).is_ok());
+    assert!(rt; grant(&mut book, ticket(1, 2, Mode::SR), NO_FAST).is_ok());
+    assert!(rt; enqueue(&mut book, ticket(2, 1, Mode::X)).is_ok());
+    assert!(rt; enqueue(&mut book, ticket(2, 2, Mode::SU)).is_ok());
+    assert!(rt; enqueue(&mut book, ticket(2, 2, Mode::SW)).is_ok());
+    let before = lists(alloc, &book);
     for (session, number) in [(1, 1), (2, 3), (3, 1)] {
         assert_eq!(rt; admit(&mut book, session, number), Err(BookError::NotHere));
         assert_eq!(rt; cancel(&mut book, session, number), Err(BookError::NotHere));
@@ -240,13 +247,13 @@ fn knows_its_tickets(rt: HostRuntime) -> Result<(), Fail> {
         grant(&mut book, ticket(3, 1, Mode::X), NO_FAST),
         Err(BookError::WouldConflict)
     );
-    assert_eq!(rt; lists(alloc, &book)?.as_str(), before.as_str());
+    assert_eq!(rt; lists(alloc, &book).as_str(), before.as_str());
 
     assert_eq!(rt; remove(&mut book, 1, 2), Ok(ticket(1, 2, Mode::SH)));
     assert_eq!(rt; admit(&mut book, 2, 2), Ok(ticket(2, 2, Mode::SU)));
     assert_eq!(rt; cancel(&mut book, 2, 1), Ok(ticket(2, 1, Mode::X)));
     assert_eq!(rt;
-        lists(alloc, &book)?.as_str(),
+        lists(alloc, &book).as_str(),
         "1.1 S 1.2 SR 2.2 SU / 2.2 SW "
     );
     Ok(())
@@ -255,9 +262,9 @@ fn knows_its_tickets(rt: HostRuntime) -> Result<(), Fail> {
 #[test]
 fn is_full_at_65535_tickets(rt: HostRuntime) -> Result<(), Fail> {
     let mut book = table_book(rt.alloc())?;
-    grant(&mut book, ticket(1, 0, Mode::X), NO_FAST)?;
+    assert!(rt; grant(&mut book, ticket(1, 0, Mode::X), NO_FAST).is_ok());
     for number in 1..65_535 {
-        enqueue(&mut book, ticket(2, number, Mode::S))?;
+        assert!(rt; enqueue(&mut book, ticket(2, number, Mode::S)).is_ok());
     }
     assert_eq!(rt;
         enqueue(&mut book, ticket(2, 0, Mode::S)),
@@ -274,19 +281,19 @@ fn is_full_at_65535_tickets(rt: HostRuntime) -> Result<(), Fail> {
     assert_eq!(rt; book.granted().len(), 1);
     assert_eq!(rt; book.waiting().len(), 65_534);
 
-    admit(&mut book, 2, 65_534)?;
+    assert!(rt; admit(&mut book, 2, 65_534).is_ok());
     assert_eq!(rt;
         grant(&mut book, ticket(1, 1, Mode::SH), NO_FAST),
         Err(BookError::Full)
     );
-    cancel(&mut book, 2, 1)?;
-    enqueue(&mut book, ticket(3, 1, Mode::X))?;
+    assert!(rt; cancel(&mut book, 2, 1).is_ok());
+    assert!(rt; enqueue(&mut book, ticket(3, 1, Mode::X)).is_ok());
     assert_eq!(rt;
         enqueue(&mut book, ticket(3, 2, Mode::X)),
         Err(BookError::Full)
     );
-    remove(&mut book, 1, 0)?;
-    grant(&mut book, ticket(2, 1, Mode::S), NO_FAST)?;
+    assert!(rt; remove(&mut book, 1, 0).is_ok());
+    assert!(rt; grant(&mut book, ticket(2, 1, Mode::S), NO_FAST).is_ok());
     assert_eq!(rt;
         grant(&mut book, ticket(2, 0, Mode::S), NO_FAST),
         Err(BookError::Full)
@@ -335,7 +342,7 @@ fn minds_fast_tickets(rt: HostRuntime) -> Result<(), Fail> {
     ] {
         let mut book = table_book(rt.alloc())?;
         assert_eq!(rt; can_grant(&book, 1, mode, word), want, "{mode} at {word:?}");
-        enqueue(&mut book, ticket(1, 1, mode))?;
+        assert!(rt; enqueue(&mut book, ticket(1, 1, mode)).is_ok());
         let next = if want { Some((1, 1)) } else { None };
         assert_eq!(rt;
             next_grantable(&book, word, &everyone),
@@ -364,7 +371,7 @@ fn minds_fast_tickets_of_a_schema(rt: HostRuntime) -> Result<(), Fail> {
     for (mode, want) in [(Mode::IX, true), (Mode::S, false), (Mode::X, false)] {
         assert_eq!(rt; can_grant(&book, 1, mode, FAST_S), want, "{mode}");
     }
-    grant(&mut book, ticket(1, 1, Mode::IX), FAST_S)?;
+    assert!(rt; grant(&mut book, ticket(1, 1, Mode::IX), FAST_S).is_ok());
     assert_eq!(rt; needs_of(&book), needs(false, true));
     assert_eq!(rt;
         set_mode(&mut book, 1, 1, Mode::S, FAST_S),
@@ -379,27 +386,27 @@ fn minds_fast_tickets_of_a_schema(rt: HostRuntime) -> Result<(), Fail> {
 fn changes_a_mode_in_place(rt: HostRuntime) -> Result<(), Fail> {
     let alloc = rt.alloc();
     let mut book = table_book(alloc)?;
-    grant(&mut book, ticket(2, 1, Mode::S), NO_FAST)?;
-    grant(&mut book, ticket(1, 1, Mode::SR), NO_FAST)?;
-    grant(&mut book, ticket(1, 2, Mode::SU), NO_FAST)?;
-    grant(&mut book, ticket(3, 1, Mode::SH), NO_FAST)?;
-    enqueue(&mut book, ticket(4, 1, Mode::X))?;
+    assert!(rt; grant(&mut book, ticket(2, 1, Mode::S), NO_FAST).is_ok());
+    assert!(rt; grant(&mut book, ticket(1, 1, Mode::SR), NO_FAST).is_ok());
+    assert!(rt; grant(&mut book, ticket(1, 2, Mode::SU), NO_FAST).is_ok());
+    assert!(rt; grant(&mut book, ticket(3, 1, Mode::SH), NO_FAST).is_ok());
+    assert!(rt; enqueue(&mut book, ticket(4, 1, Mode::X)).is_ok());
     // Neither the session's own SR nor the waiting X stands in the way.
     assert_eq!(rt; set_mode(&mut book, 1, 2, Mode::SNRW, FAST_S), Ok(()));
     assert_eq!(rt;
-        lists(alloc, &book)?.as_str(),
+        lists(alloc, &book).as_str(),
         "2.1 S 1.1 SR 1.2 SNRW 3.1 SH / 4.1 X "
     );
     assert_eq!(rt;
         set_mode(&mut book, 1, 2, Mode::X, NO_FAST),
         Err(BookError::WouldConflict)
     );
-    remove(&mut book, 2, 1)?;
-    remove(&mut book, 3, 1)?;
+    assert!(rt; remove(&mut book, 2, 1).is_ok());
+    assert!(rt; remove(&mut book, 3, 1).is_ok());
     assert_eq!(rt; set_mode(&mut book, 1, 2, Mode::X, NO_FAST), Ok(()));
-    assert_eq!(rt; lists(alloc, &book)?.as_str(), "1.1 SR 1.2 X / 4.1 X ");
+    assert_eq!(rt; lists(alloc, &book).as_str(), "1.1 SR 1.2 X / 4.1 X ");
     assert_eq!(rt; set_mode(&mut book, 1, 2, Mode::SU, NO_FAST), Ok(()));
-    assert_eq!(rt; lists(alloc, &book)?.as_str(), "1.1 SR 1.2 SU / 4.1 X ");
+    assert_eq!(rt; lists(alloc, &book).as_str(), "1.1 SR 1.2 SU / 4.1 X ");
     Ok(())
 }
 
@@ -407,10 +414,10 @@ fn changes_a_mode_in_place(rt: HostRuntime) -> Result<(), Fail> {
 fn refuses_to_change_a_mode(rt: HostRuntime) -> Result<(), Fail> {
     let alloc = rt.alloc();
     let mut book = table_book(alloc)?;
-    grant(&mut book, ticket(1, 1, Mode::SU), NO_FAST)?;
-    grant(&mut book, ticket(2, 1, Mode::SR), NO_FAST)?;
-    enqueue(&mut book, ticket(1, 2, Mode::SR))?;
-    let before = lists(alloc, &book)?;
+    assert!(rt; grant(&mut book, ticket(1, 1, Mode::SU), NO_FAST).is_ok());
+    assert!(rt; grant(&mut book, ticket(2, 1, Mode::SR), NO_FAST).is_ok());
+    assert!(rt; enqueue(&mut book, ticket(1, 2, Mode::SR)).is_ok());
+    let before = lists(alloc, &book);
     for (session, number, mode, word, error) in [
         (1, 2, Mode::SR, NO_FAST, BookError::NotHere),
         (3, 1, Mode::X, NO_FAST, BookError::NotHere),
@@ -425,7 +432,7 @@ fn refuses_to_change_a_mode(rt: HostRuntime) -> Result<(), Fail> {
             "{session}.{number} to {mode}"
         );
     }
-    assert_eq!(rt; lists(alloc, &book)?.as_str(), before.as_str());
+    assert_eq!(rt; lists(alloc, &book).as_str(), before.as_str());
     Ok(())
 }
 
@@ -433,17 +440,17 @@ fn refuses_to_change_a_mode(rt: HostRuntime) -> Result<(), Fail> {
 fn tells_what_it_needs(rt: HostRuntime) -> Result<(), Fail> {
     let mut book = table_book(rt.alloc())?;
     assert_eq!(rt; needs_of(&book), needs(false, false));
-    grant(&mut book, ticket(1, 1, Mode::SW), NO_FAST)?;
+    assert!(rt; grant(&mut book, ticket(1, 1, Mode::SW), NO_FAST).is_ok());
     assert_eq!(rt; needs_of(&book), needs(false, true));
-    enqueue(&mut book, ticket(2, 1, Mode::SNW))?;
+    assert!(rt; enqueue(&mut book, ticket(2, 1, Mode::SNW)).is_ok());
     assert_eq!(rt; needs_of(&book), needs(true, true));
-    cancel(&mut book, 2, 1)?;
+    assert!(rt; cancel(&mut book, 2, 1).is_ok());
     assert_eq!(rt; needs_of(&book), needs(false, true));
-    set_mode(&mut book, 1, 1, Mode::SU, NO_FAST)?;
+    assert!(rt; set_mode(&mut book, 1, 1, Mode::SU, NO_FAST).is_ok());
     assert_eq!(rt; needs_of(&book), needs(true, true));
-    remove(&mut book, 1, 1)?;
+    assert!(rt; remove(&mut book, 1, 1).is_ok());
     assert_eq!(rt; needs_of(&book), needs(false, false));
-    enqueue(&mut book, ticket(2, 2, Mode::SWLP))?;
+    assert!(rt; enqueue(&mut book, ticket(2, 2, Mode::SWLP)).is_ok());
     assert_eq!(rt; needs_of(&book), needs(false, true));
     Ok(())
 }
