@@ -3,8 +3,13 @@ pub mod BlockingLaws
 pub mod BookLaws
 pub mod Calls
 pub mod Causes
+pub mod CoreCalls
+pub mod CoreJoins
+pub mod CoreLaws
+pub mod CoreSystems
 pub mod Cores
 pub mod LoneSessions
+pub mod Moves
 pub mod NumberingLaws
 pub mod Own
 pub mod PermittedEvents
@@ -14,5 +19,6 @@ pub mod Steps
 pub mod Strength
 pub mod SystemLaws
 pub mod Systems
+pub mod Ties
 pub mod Visits
 pub mod Waits

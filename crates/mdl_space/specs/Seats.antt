@@ -1,8 +1,9 @@
 -- What a lock space keeps of one session.
-use Rattle.std.specs.Prelude.{ℕ, ◌+◌, not, List, [], ◌∷◌, ◌++◌, filter, Option, None}
+use Rattle.std.specs.Prelude.{ℕ, ◌+◌, Bool, false, not, List, [], ◌∷◌, ◌++◌, filter, Option, None, Some, is_some}
 use Rattle.std.specs.Option.{option_map}
 use Rattle.mdl_key.specs.declared.mode.Mode.{Mode}
 use Rattle.mdl_space.specs.declared.answers.Held.{Held}
+use Rattle.mdl_space.specs.declared.answers.Settled.{Settled}
 use Rattle.mdl_space.specs.declared.seat.Pending.{Pending}
 use Rattle.mdl_space.specs.Own.{Own, is_number}
 
@@ -34,3 +35,32 @@ holding place mode seat = record seat {
 -- without the ticket of a number
 abbrev pub without_ticket : ℕ → SeatView → SeatView
 without_ticket id seat = record seat { held = filter (λ ticket. not (is_number id ticket)) seat.held }
+
+-- with a wait for a new ticket
+abbrev pub beginning_wait : ℕ → Mode → SeatView → SeatView
+beginning_wait place mode seat = record seat {
+  wait = Some (record { number = seat.last_wait + 1; id = seat.last_ticket + 1; place = place; mode = mode; settled = None });
+  last_ticket = seat.last_ticket + 1;
+  last_wait = seat.last_wait + 1;
+}
+
+-- whether a wait, if there is one, is unsettled
+abbrev pub is_open : Option Pending → Bool
+is_open None = false
+is_open (Some wait) = not (is_some wait.settled)
+
+-- with the wait settled
+abbrev pub settling : Settled → SeatView → SeatView
+settling how seat = record seat { wait = option_map (λ (wait : Pending). record wait { settled = Some how }) seat.wait }
+
+-- without the wait
+abbrev pub without_wait : SeatView → SeatView
+without_wait seat = record seat { wait = None }
+
+-- the ticket that is waited for
+abbrev pub ticket_of_wait : Pending → Held
+ticket_of_wait wait = record { id = wait.id; place = wait.place; mode = wait.mode }
+
+-- without the wait, and with the ticket that was waited for
+abbrev pub with_ticket_of : Pending → SeatView → SeatView
+with_ticket_of wait seat = record seat { held = seat.held ++ ticket_of_wait wait ∷ []; wait = None }

@@ -2,7 +2,8 @@
 ghost use Rattle.std.specs.Prelude.{◌≡◌, ◌<◌, ◌+◌, ◌^◌, Some, None, IfOk, OnOk, MatchResult, length, true};
 ghost use Rattle.std.specs.Option.{IfSome};
 ghost use Rattle.mdl_key.specs.Refusals.{Refuses};
-ghost use Rattle.mdl_space.specs.Cores.{empty_core, new_fault, has_session, index_of, first_cause, request_causes, listing, resolving, seat_at, trying, Makes};
+ghost use Rattle.mdl_space.specs.Cores.{empty_core, has_session, index_of, seat_at};
+ghost use Rattle.mdl_space.specs.CoreCalls.{new_fault, first_cause, request_causes, listing, resolving, trying, Makes};
 ghost use Rattle.mdl_space.specs.Answers.{placed, attempted, listed};
 
 use crate::granting::{give, is_free};

@@ -2,7 +2,7 @@
 ghost use Rattle.std.specs.Prelude.{◌≡◌, ◌+◌, ◌<◌, ◌^◌, ◌⊎◌, OnErr, MatchResult, nat_le, true, false};
 ghost use Rattle.mdl_book.specs.Books.{lock_kind, granting, ticket_count};
 ghost use Rattle.mdl_book.specs.Granting.{is_grantable};
-ghost use Rattle.mdl_space.specs.Cores.{cause_in};
+ghost use Rattle.mdl_space.specs.CoreCalls.{cause_in};
 ghost use Rattle.mdl_space.specs.Seats.{holding};
 
 use crate::seat::Seat;

@@ -1,0 +1,86 @@
+-- Laws of the lock space of one thread: its calls are events of the system of locks.
+use Rattle.std.specs.Prelude.{◌≡◌, ◌⊎◌, ℕ, Bool, true, false, List, Option, Some, All}
+use Rattle.mdl_key.specs.Keys.{KeyName}
+use Rattle.mdl_key.specs.declared.mode.Mode.{Mode}
+use Rattle.mdl_defs.specs.declared.definition.Definition.{Definition}
+use Rattle.mdl_space.specs.declared.answers.Settled.{Settled}
+use Rattle.mdl_space.specs.declared.answers.Settled.TheVariants as settled_as
+use Rattle.mdl_space.specs.declared.answers.TimedOut.TheVariants.{ByThisCall}
+use Rattle.mdl_space.specs.Answers.{Answer, Done, Granted, Would_wait, Waits, Timed_out, Lost, Has_killed}
+use Rattle.mdl_space.specs.BlockingLaws.{IsAbout, IsGrantAt}
+use Rattle.mdl_space.specs.Calls.{Call, Try_now, Begin_wait, Settle_timeout, End_wait, Kill, Release, Clone_ticket}
+use Rattle.mdl_space.specs.CoreJoins.{Joins}
+use Rattle.mdl_space.specs.Cores.{Core, empty_core, key_at}
+use Rattle.mdl_space.specs.CoreSystems.{system_of, state_of}
+use Rattle.mdl_space.specs.Runs.{Program, Runs}
+use Rattle.mdl_space.specs.Steps.{Event, Grant, Clone, BeginWait, SettleLost, EndGrantedWait, EndLostWait, Release as Give_up, Happens, Run, SameSystem}
+use Rattle.mdl_space.specs.Systems.{Unsettled, TimedOut, Killed, Holding, Waiter, System, empty_system, IsLawful, IsGrantable, NoneForgotten}
+use Rattle.mdl_space.specs.Ties.{IsSound}
+
+-- whether a call with this answer changes who holds what or who waits for what
+abbrev pub is_change : Call → Answer → Bool
+is_change (Try_now _ _ _) (Granted _) = true
+is_change (Begin_wait _ _ _) (Granted _) = true
+is_change (Begin_wait _ _ _) (Waits _) = true
+is_change (Settle_timeout _) (Timed_out ByThisCall) = true
+is_change (End_wait _) (Granted _) = true
+is_change (End_wait _) (Lost _) = true
+is_change (Kill _ _) (Has_killed true) = true
+is_change (Release _ _) Done = true
+is_change (Clone_ticket _ _ _) (Granted _) = true
+is_change _ _ = false
+
+-- the event that such a call is
+abbrev pub IsEventOf : {C : Type 0} → Core → Call → Answer → Event C → Type 0
+IsEventOf a (Try_now who place mode) (Granted id) event =
+    event ≡ Grant (record { session = who; number = id; key = key_at place a; mode = mode })
+IsEventOf a (Begin_wait who place mode) (Granted id) event =
+    event ≡ Grant (record { session = who; number = id; key = key_at place a; mode = mode })
+IsEventOf a (Begin_wait who place mode) (Waits number) event =
+    (id : ℕ) × (event ≡ BeginWait (key_at place a) (record { ticket = record { session = who; number = id; mode = mode }; wait = number; state = Unsettled }))
+IsEventOf a (Settle_timeout who) (Timed_out ByThisCall) event =
+    (key : KeyName) × (waiter : Waiter) × (waiter.ticket.session ≡ who) × (event ≡ SettleLost key waiter TimedOut)
+IsEventOf a (End_wait who) (Granted id) event =
+    (number : ℕ) × (event ≡ EndGrantedWait (record { session = who; wait = number; ticket = id }))
+IsEventOf a (End_wait who) (Lost how) event =
+    (key : KeyName) × (waiter : Waiter) × (waiter.ticket.session ≡ who) × (waiter.state ≡ state_of (Some how)) × (event ≡ EndLostWait key waiter)
+IsEventOf a (Kill target number) (Has_killed true) event =
+    (key : KeyName) × (waiter : Waiter) × (waiter.ticket.session ≡ target) × (waiter.wait ≡ number) × (event ≡ SettleLost key waiter Killed)
+IsEventOf a (Release who id) Done event =
+    (ticket : Holding) × (ticket.session ≡ who) × (ticket.number ≡ id) × (event ≡ Give_up ticket)
+IsEventOf a (Clone_ticket who id mode) (Granted copy) event =
+    (ticket : Holding) × (ticket.session ≡ who) × (ticket.number ≡ id)
+    × (event ≡ Clone ticket (record { session = who; number = copy; key = ticket.key; mode = mode }))
+IsEventOf a _ _ event = ⊥
+
+-- a call changes nothing in the system, or it is an event there, after which waiters of that event's key are granted
+abbrev pub CallsAreEvents : Type 0 → Type 0
+CallsAreEvents C =
+    (apply : KeyName → C → Option Definition → Option (Option Definition)) (a b : Core) (call : Call) (answer : Answer) →
+    IsSound a → Joins a call answer b →
+    ((is_change call answer ≡ false) × SameSystem (system_of a) (system_of b))
+    ⊎ ((event : Event C) × (grants : List (Event C)) × (between : System Definition) × (key : KeyName)
+    × IsEventOf a call answer event × ((other : KeyName) → IsAbout event other → other ≡ key) × All (IsGrantAt key) grants
+    × Happens apply event (system_of a) between × Run apply grants between (system_of b))
+
+-- after each call books and sessions tell the same, the system is lawful, and nobody is forgotten
+abbrev pub CallsKeepSound : Type 0
+CallsKeepSound = (a b : Core) (call : Call) (answer : Answer) → IsSound a → Joins a call answer b → IsSound b
+
+-- a lock is had at once exactly where the wish for it is grantable
+abbrev pub GrantsWhatIsGrantable : Type 0
+GrantsWhatIsGrantable =
+    (a b : Core) (who place : ℕ) (mode : Mode) →
+    ((id : ℕ) → Joins a (Try_now who place mode) (Granted id) b → IsGrantable (system_of a) who (key_at place a) mode)
+    × (Joins a (Try_now who place mode) Would_wait b → IsGrantable (system_of a) who (key_at place a) mode → ⊥)
+    × ((id : ℕ) → Joins a (Begin_wait who place mode) (Granted id) b → IsGrantable (system_of a) who (key_at place a) mode)
+    × ((number : ℕ) → Joins a (Begin_wait who place mode) (Waits number) b → IsGrantable (system_of a) who (key_at place a) mode → ⊥)
+
+-- so whatever is asked of an empty space, all that has happened in the end is events from the empty system on, which is lawful,
+-- and nobody is forgotten
+abbrev pub RunsAreEvents : Type 0 → Type 0 → Type 0
+RunsAreEvents A C =
+    (apply : KeyName → C → Option Definition → Option (Option Definition)) (places sessions : ℕ)
+    (program : Program A) (reply : A) (b : Core) → Runs Joins (empty_core places sessions) program reply b →
+    ((events : List (Event C)) × Run apply events empty_system (system_of b))
+    × IsLawful (system_of b) × NoneForgotten (system_of b)
