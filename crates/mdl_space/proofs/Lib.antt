@@ -2,6 +2,7 @@ pub mod ApartLemmas
 pub mod BlockingLemmas
 pub mod BookLemmas
 pub mod CauseLemmas
+pub mod CoreReads
 pub mod ConcernLemmas
 pub mod Deciding
 pub mod GrantingRuns
