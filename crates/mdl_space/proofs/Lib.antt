@@ -2,6 +2,7 @@ pub mod ApartLemmas
 pub mod BlockingLemmas
 pub mod BookLemmas
 pub mod CauseLemmas
+pub mod CoreEvents
 pub mod CoreReads
 pub mod ConcernLemmas
 pub mod Deciding
@@ -9,6 +10,7 @@ pub mod GrantingRuns
 pub mod HeldAfter
 pub mod HeldLemmas
 pub mod LawfulLemmas
+pub mod MoveFacts
 pub mod NextSystems
 pub mod NumberingLemmas
 pub mod OrderLemmas
