@@ -4,6 +4,7 @@ pub mod BookLemmas
 pub mod CauseLemmas
 pub mod CoreEvents
 pub mod CoreReads
+pub mod CoreServing
 pub mod ConcernLemmas
 pub mod Deciding
 pub mod GrantingRuns
