@@ -2,9 +2,12 @@ pub mod ApartLemmas
 pub mod BlockingLemmas
 pub mod BookLemmas
 pub mod CauseLemmas
+pub mod CoreCallsFollow
 pub mod CoreEvents
+pub mod CoreFollows
 pub mod CoreReads
 pub mod CoreServing
+pub mod CoreWaitsFollow
 pub mod ConcernLemmas
 pub mod Deciding
 pub mod GrantingRuns
