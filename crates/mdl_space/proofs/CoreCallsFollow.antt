@@ -38,7 +38,7 @@ use Rattle.mdl_space.proofs.MoveFacts.{tied-opening, tied-granting, tied-queuein
 -- ---- causes
 
 -- no cause of a request stands
-request_clear : (key waits fit out : Bool)
+pub request_clear : (key waits fit out : Bool)
     → first_cause ((not key, NoPlace) ∷ (waits, AlreadyWaiting) ∷ (not fit, BadMode) ∷ (out, CounterFull) ∷ []) ≡ None
     → (key ≡ true) × (waits ≡ false) × (fit ≡ true)
 request_clear true false true out e = (refl, refl, refl)

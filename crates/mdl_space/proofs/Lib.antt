@@ -7,6 +7,7 @@ pub mod CoreEvents
 pub mod CoreFollows
 pub mod CoreReads
 pub mod CoreServing
+pub mod CoreSound
 pub mod CoreWaitsFollow
 pub mod ConcernLemmas
 pub mod Deciding
