@@ -1,7 +1,7 @@
 -- The granted tickets of the lock space of one thread, by the books of its keys.
-use Rattle.std.proofs.Common.{◌≡◌, ◌≢◌, ◌⊎◌, ◌↔◌, ℕ, suc, ◌+◌, ◌-◌, ◌<◌, ◌≤◌, true, inl, inr, List, [], ◌∷◌, length, map, Option, Some, None, refl, sym, ap, subst, ◌∙◌, arith}
-use Rattle.std.specs.Prelude.{Contains, MatchOption, IsTrue, slice_index_or}
-use Rattle.mdl_key.specs.Keys.{KeyName, global_key}
+use Rattle.std.proofs.Common.{◌≡◌, ◌↔◌, ℕ, suc, ◌+◌, ◌-◌, ◌<◌, ◌≤◌, true, inl, inr, List, [], ◌∷◌, length, map, Option, Some, None, refl, sym, ap, subst, ◌∙◌, arith}
+use Rattle.std.specs.Prelude.{Contains, MatchOption, slice_index_or}
+use Rattle.mdl_key.specs.Keys.{global_key}
 use Rattle.mdl_key.specs.declared.mode.Mode.{Mode}
 use Rattle.mdl_book.specs.declared.lists.Lists.{Lists}
 use Rattle.mdl_book.specs.declared.ticket.Ticket.{Ticket}
@@ -51,8 +51,7 @@ granted-place core held among =
     let here : suc k - 1 ≡ k = omega arith in
     let at : Lists = slice_index_or core.books k (empty_book global_key) in
     let there : at ≡ book_at (suc k) core = ap (λ n. slice_index_or core.books n (empty_book global_key)) (sym here) in
-    let from = Contains-map_from (of_lock at.key) at.granted held in_list.2 in
-    (
+    let from = Contains-map_from (of_lock at.key) at.granted held in_list.2 in (
       suc k,
       of_within (suc k) (length core.books) (omega arith) (omega arith),
       sym (ap (λ (h : Holding). h.key) from.2 ∙ ap (λ (b : Lists). b.key) there),
@@ -103,8 +102,8 @@ free-grantable core who place mode tied has =
     let by = grantable-by_lists (system_of core) (λ key. (book_of key core).granted) (by_lists core tied) who (key_at place core) mode in
     let here = book_of-at core place tied has in
     let same : book.is_grantable (lock_kind (key_at place core)) (book_of (key_at place core) core).granted
-        (map (λ (waiter : Waiter). waiter.ticket) (map (waiter_in core) (book_of (key_at place core) core).waiting)) who mode
-        ≡ is_free who place mode core =
+    (map (λ (waiter : Waiter). waiter.ticket) (map (waiter_in core) (book_of (key_at place core) core).waiting)) who mode
+    ≡ is_free who place mode core =
     ap (λ ts. book.is_grantable (lock_kind (key_at place core)) (book_of (key_at place core) core).granted ts who mode) (waiting-tickets core (book_of (key_at place core) core).waiting)
     ∙ ap (λ (b : Lists). book.is_grantable (lock_kind (key_at place core)) b.granted b.waiting who mode) here in
     ((λ free. by.1 (same ∙ free)), λ grantable. sym same ∙ by.0 grantable)

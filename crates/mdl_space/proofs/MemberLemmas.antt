@@ -1,5 +1,5 @@
 -- Members of mapped and joined lists, and of lists in which no two elements have one name.
-use Rattle.std.proofs.Common.{◌≡◌, ◌≢◌, ◌⊎◌, ◌↔◌, ℕ, zero, suc, ◌+◌, ◌<◌, Bool, true, false, cond, inl, inr, List, [], ◌∷◌, ◌++◌, length, map, Option, Some, None, refl, sym, ap, subst, ◌∙◌, arith, take, drop}
+use Rattle.std.proofs.Common.{◌≡◌, ◌≢◌, ℕ, zero, suc, ◌+◌, ◌<◌, Bool, true, false, cond, inl, inr, List, [], ◌∷◌, ◌++◌, length, map, Some, refl, sym, ap, subst, ◌∙◌, arith, take, drop}
 use Rattle.std.specs.Prelude.{Contains, AllPairs, slice_index_or}
 use Rattle.std.specs.List.{flat_map, find, before_first, after_first, position_or_len}
 use Rattle.std.proofs.lemmas.List.Elements.{Contains-append_left, Contains-append_right, Contains-append_cases}
@@ -70,13 +70,13 @@ module _ {T N : Type 0} (name : T → N) where
     find-named (x ∷ xs) apart among =
         elim (test x) as (λ b. test x ≡ b → cond b (Some x) (find test xs) ≡ Some t) [
           | true ↦ λ passed. elim (Contains-cons_cases x xs t among) [
-              | inl later ↦ absurd (apart-first x xs apart t later (named x passed))
-              | inr here ↦ ap (λ z. Some z) (sym here)
-            ]
+            | inl later ↦ absurd (apart-first x xs apart t later (named x passed))
+            | inr here ↦ ap (λ z. Some z) (sym here)
+          ]
           | false ↦ λ failed. elim (Contains-cons_cases x xs t among) [
-              | inl later ↦ find-named xs (apart-rest x xs apart) later
-              | inr here ↦ absurd (let also : test x ≡ true = ap test (sym here) ∙ passes in cc)
-            ]
+            | inl later ↦ find-named xs (apart-rest x xs apart) later
+            | inr here ↦ absurd (let also : test x ≡ true = ap test (sym here) ∙ passes in cc)
+          ]
         ] refl
 
     -- the list without the first element that passes
