@@ -3,6 +3,8 @@ pub mod BlockingLemmas
 pub mod BookLemmas
 pub mod CauseLemmas
 pub mod CoreReads
+pub mod CoreUnended
+pub mod CoreWaiting
 pub mod ConcernLemmas
 pub mod Deciding
 pub mod GrantingRuns
