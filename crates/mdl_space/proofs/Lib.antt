@@ -3,8 +3,10 @@ pub mod BlockingLemmas
 pub mod BookLemmas
 pub mod CauseLemmas
 pub mod CoreReads
+pub mod CoreSettling
 pub mod CoreUnended
 pub mod CoreWaiting
+pub mod CoreWaits
 pub mod ConcernLemmas
 pub mod Deciding
 pub mod GrantingRuns
