@@ -1,11 +1,10 @@
 -- What becomes of the waiting lists and of the granted waits that aren't ended where a wait begins, is settled or ends.
-use Rattle.std.proofs.Common.{◌≡◌, ◌≢◌, ◌⊎◌, ℕ, ◌+◌, ◌&&◌, Bool, true, false, not, inl, inr, List, [], ◌∷◌, ◌++◌, map, Option, Some, None, refl, sym, ap, subst, ◌∙◌}
+use Rattle.std.proofs.Common.{◌≡◌, ◌≢◌, ℕ, ◌+◌, ◌&&◌, Bool, true, false, not, List, [], ◌∷◌, ◌++◌, map, Option, Some, None, refl, sym, ap, subst, ◌∙◌}
 use Rattle.std.specs.Prelude.{Contains, is_some}
 use Rattle.std.specs.Option.{option_map}
 use Rattle.std.proofs.lemmas.List.{map-append}
 use Rattle.std.proofs.lemmas.List.Elements.{Contains-append_left, Contains-append_right}
 use Rattle.mdl_key.specs.declared.mode.Mode.{Mode}
-use Rattle.mdl_key.specs.Keys.{KeyName}
 use Rattle.mdl_book.specs.declared.lists.Lists.{Lists}
 use Rattle.mdl_book.specs.declared.ticket.Ticket.{Ticket}
 use Rattle.mdl_book.specs.Books.{enqueueing, admitting, cancelling}
@@ -13,16 +12,16 @@ use Rattle.mdl_space.specs.declared.answers.Settled.{Settled}
 use Rattle.mdl_space.specs.declared.answers.Settled.TheVariants as settled_as
 use Rattle.mdl_space.specs.declared.seat.Pending.{Pending}
 use Rattle.mdl_space.specs.Cores.{Core, book_at, seat_at, key_at, has_key, has_session, booking, seating}
-use Rattle.mdl_space.specs.CoreSystems.{book_of, state_of, waiter_of, waiter_in, unended_at, unended_of, system_of}
+use Rattle.mdl_space.specs.CoreSystems.{state_of, waiter_of, waiter_in, unended_at, unended_of, system_of}
 use Rattle.mdl_space.specs.Moves.{next_ticket, queueing, losing, taking_up, leaving, admitting_at, is_unsettled}
 use Rattle.mdl_space.specs.Seats.{SeatView, beginning_wait, is_open, settling, without_wait, with_ticket_of}
 use Rattle.mdl_space.specs.Steps.{SameMembers, Gains, Loses, LeavesOrder, TakesTurn, SameElsewhere, SameAt, granted_wait}
 use Rattle.mdl_space.specs.Systems.{Unsettled, Waiter, GrantedWait}
 use Rattle.mdl_space.specs.Ties.{IsTied}
 use Rattle.mdl_space.proofs.CoreUnended.{not_granted, own-unended, unended-same, unended-gains, unended-loses}
-use Rattle.mdl_space.proofs.CoreWaiting.{map-agree, book-there, IsWaitAt, wait-at, place_of_wait, none-waiting, granted-waiting, elsewhere-waiting, IsSplit, split-without}
+use Rattle.mdl_space.proofs.CoreWaiting.{map-agree, book-there, wait-at, place_of_wait, none-waiting, granted-waiting, elsewhere-waiting, IsSplit, split-without}
 use Rattle.mdl_space.proofs.CoreWaits.{book-seating, waiter-of_other, waiter-of_own, waiters-apart, elsewhere, here, here-before}
-use Rattle.mdl_space.proofs.OrderLemmas.{Contains-here, around}
+use Rattle.mdl_space.proofs.OrderLemmas.{around}
 
 -- ---- waiting lists that split round a ticket
 
@@ -80,11 +79,10 @@ waiting-queueing core who place mode tied has has_place none after =
     let old = (book_at place core).waiting in
     let now = waiter_in (seating who seat core) in
     let others : map now old ≡ map (waiter_in core) old = map-agree now (waiter_in core) old
-        (λ t among. waiter-of_other core who seat tied has t (tied.waiting_by place has_place t among).0 (none-waiting core who place t tied none has_place among)) in
-    let own = waiter-of_own core who seat tied has ticket refl in
-    (
+    (λ t among. waiter-of_other core who seat tied has t (tied.waiting_by place has_place t among).0 (none-waiting core who place t tied none has_place among)) in
+    let own = waiter-of_own core who seat tied has ticket refl in (
       here core who place seat book tied has has_place refl ∙ map-append now old (ticket ∷ [])
-      ∙ (λ i. (others ∙ sym (here-before core who place seat book tied has has_place refl)) i ++ own i ∷ []),
+          ∙ (λ i. (others ∙ sym (here-before core who place seat book tied has has_place refl)) i ++ own i ∷ []),
       elsewhere core who place seat book tied has has_place refl (λ other t has_other apart among. none-waiting core who other t tied none has_other among),
       unended-same core who seat has (sym (ap (unended_of who) none)),
     )
@@ -106,8 +104,7 @@ waiting-losing core who how wait tied has is unsettled lost after =
     let lost_wait : Pending = record wait { settled = Some how } in
     let is_lost : seat.wait ≡ Some lost_wait = ap (option_map (λ (w : Pending). record w { settled = Some how })) is in
     let none_before : unended_of who (seat_at who core).wait ≡ None = ap (unended_of who) is ∙ ap (unended_at who wait) unsettled in
-    let none_now : unended_of who seat.wait ≡ None = ap (unended_of who) is_lost ∙ not_granted who lost_wait (λ e. lost (cc)) in
-    (
+    let none_now : unended_of who seat.wait ≡ None = ap (unended_of who) is_lost ∙ not_granted who lost_wait (λ e. lost (cc)) in (
       (
         map (waiter_in core) split.0,
         map (waiter_in core) split.1,
@@ -115,8 +112,8 @@ waiting-losing core who how wait tied has is unsettled lost after =
         new-split core wait.place seat ticket tied has at.0 split.0 split.1 split.2 _ (ap (waiter_of ticket) is_lost),
       ),
       (λ key other. ap (λ (b : Lists). map (waiter_in (seating who seat core)) b.waiting) (book-seating core who seat key)
-      ∙ waiters-apart core who seat tied has key (λ place t has_place same among.
-      elsewhere-waiting core who place wait t tied is (λ e. other (sym same ∙ ap (λ n. key_at n core) e)) has_place among)),
+          ∙ waiters-apart core who seat tied has key (λ place t has_place same among.
+          elsewhere-waiting core who place wait t tied is (λ e. other (sym same ∙ ap (λ n. key_at n core) e)) has_place among)),
       unended-same core who seat has (none_now ∙ sym none_before),
     )
   where
@@ -134,8 +131,7 @@ waiting-leaving core who wait tied has is other after =
     let ticket : Ticket = record { session = who; number = wait.id; mode = wait.mode } in
     let book : Lists = cancelling who wait.id (book_at wait.place core) in
     let at = place_of_wait core who wait tied has is other in
-    let split = split-without ticket (book_at wait.place core).waiting (tied.waiting_once wait.place at.0) at.1 in
-    (
+    let split = split-without ticket (book_at wait.place core).waiting (tied.waiting_once wait.place at.0) at.1 in (
       (
         map (waiter_in core) split.0,
         map (waiter_in core) split.1,
@@ -156,12 +152,11 @@ pub waiting-taking_up : (core : Core) (who : ℕ) (wait : Pending) → IsTied co
 waiting-taking_up core who wait tied has is granted after =
     let seat : SeatView = with_ticket_of wait (seat_at who core) in
     let gone : GrantedWait = record { session = who; wait = wait.number; ticket = wait.id } in
-    let some : unended_of who (seat_at who core).wait ≡ Some gone = ap (unended_of who) is ∙ ap (unended_at who wait) granted in
-    (
+    let some : unended_of who (seat_at who core).wait ≡ Some gone = ap (unended_of who) is ∙ ap (unended_at who wait) granted in (
       (own-unended core who gone has refl).1 some,
       unended-loses core who seat has gone some refl,
       (λ key. ap (λ (b : Lists). map (waiter_in (seating who seat core)) b.waiting) (book-seating core who seat key)
-      ∙ waiters-apart core who seat tied has key (λ place t has_place same among. granted-waiting core who place wait t tied is granted has_place among)),
+          ∙ waiters-apart core who seat tied has key (λ place t has_place same among. granted-waiting core who place wait t tied is granted has_place among)),
     )
 
 -- an open wait isn't settled
@@ -197,8 +192,7 @@ waiting-admitting core place ticket tied has_place among unsettled after =
     let granted : Some (record { session = who; wait = wait.number; ticket = wait.id }) ≡ Some (granted_wait (waiter_of ticket (Some wait))) =
     λ i. Some (record { session = who; wait = wait.number; ticket = number i }) in
     let some : unended_of who seat.wait ≡ Some (granted_wait (waiter_in core ticket)) =
-    ap (unended_of who) is_won ∙ granted ∙ ap (λ w. Some (granted_wait w)) (sym come) in
-    (
+    ap (unended_of who) is_won ∙ granted ∙ ap (λ w. Some (granted_wait w)) (sym come) in (
       ap (λ (w : Waiter). w.state) come ∙ ap state_of none,
       (
         map (waiter_in core) split.0,
@@ -207,6 +201,6 @@ waiting-admitting core place ticket tied has_place among unsettled after =
         left-split core place seat ticket tied has has_place split.0 split.1 split.2 book refl split.3,
       ),
       elsewhere core who place seat book tied has has_place refl
-      (λ other t has_other apart stands. elsewhere-waiting core who other wait t tied is (λ e. apart (e ∙ found.1.there)) has_other stands),
+          (λ other t has_other apart stands. elsewhere-waiting core who other wait t tied is (λ e. apart (e ∙ found.1.there)) has_other stands),
       unended-gains core who seat has (granted_wait (waiter_in core ticket)) (ap (unended_of who) is ∙ ap (unended_at who wait) none) some,
     )

@@ -1,6 +1,6 @@
 -- The granted waits that aren't ended, in the lock space of one thread: whose they are, and what becomes of them where one
 -- session's seat is written.
-use Rattle.std.proofs.Common.{◌≡◌, ◌≢◌, ◌⊎◌, ◌↔◌, ℕ, zero, suc, ◌+◌, ◌-◌, ◌<◌, ◌≤◌, true, inl, inr, List, [], ◌∷◌, ◌++◌, length, Option, Some, None, refl, sym, ap, subst, ◌∙◌, arith}
+use Rattle.std.proofs.Common.{◌≡◌, ◌≢◌, ◌↔◌, ℕ, zero, suc, ◌+◌, ◌-◌, ◌<◌, ◌≤◌, true, inl, inr, List, [], ◌∷◌, length, Option, Some, None, refl, sym, ap, subst, ◌∙◌, arith}
 use Rattle.std.specs.Prelude.{Contains, MatchOption, slice_index_or}
 use Rattle.std.specs.Option.{option_to_list}
 use Rattle.std.proofs.lemmas.List.Elements.{Contains-append_left, Contains-append_right, Contains-append_cases}
@@ -70,16 +70,16 @@ from-seat : (start : ℕ) (seats : List SeatView) (wait : GrantedWait) → Conta
 from-seat start [] wait among = absurd (let lt = among.1 in omega arith)
 from-seat start (seat ∷ seats) wait among = elim (Contains-append_cases (option_to_list (unended_of start seat.wait)) (unended_from (start + 1) seats) wait among) [
   | inl here ↦ (
-    let first : start + 0 ≡ start = omega arith in
-    let is : unended_of (start + 0) seat.wait ≡ Some wait = ap (λ n. unended_of n seat.wait) first ∙ from_option _ wait here in
-    (0, ((omega arith), is)))
+      let first : start + 0 ≡ start = omega arith in
+      let is : unended_of (start + 0) seat.wait ≡ Some wait = ap (λ n. unended_of n seat.wait) first ∙ from_option _ wait here in
+      (0, ((omega arith), is)))
   | inr later ↦ (
-    let h = from-seat (start + 1) seats wait later in
-    let next : start + suc h.0 ≡ start + 1 + h.0 = omega arith in
-    let lt = h.1.0 in
-    let is : unended_of (start + suc h.0) (slice_index_or seats h.0 empty_seat).wait ≡ Some wait =
-    ap (λ n. unended_of n (slice_index_or seats h.0 empty_seat).wait) next ∙ h.1.1 in
-    (suc h.0, ((omega arith), is)))
+      let h = from-seat (start + 1) seats wait later in
+      let next : start + suc h.0 ≡ start + 1 + h.0 = omega arith in
+      let lt = h.1.0 in
+      let is : unended_of (start + suc h.0) (slice_index_or seats h.0 empty_seat).wait ≡ Some wait =
+      ap (λ n. unended_of n (slice_index_or seats h.0 empty_seat).wait) next ∙ h.1.1 in
+      (suc h.0, ((omega arith), is)))
 ]
 
 of-seat : (start : ℕ) (seats : List SeatView) (wait : GrantedWait) (k : ℕ) → At start seats wait k → Contains (unended_from start seats) wait
@@ -126,7 +126,7 @@ own-unended core who wait has own = (
 held_below : (seat : SeatView) (pending : Pending) (ticket : Held) → seat.wait ≡ Some pending → IsNumbered seat → Contains seat.held ticket → ticket.id < pending.id
 held_below seat pending ticket is numbered among =
     let h = subst (λ o. MatchOption o (Unit {0}) (λ (wait : Pending).
-        (wait.id ≤ seat.last_ticket) × (wait.number ≤ seat.last_wait) × ((ticket : Held) → Contains seat.held ticket → ticket.id < wait.id))) is numbered.wait in
+    (wait.id ≤ seat.last_ticket) × (wait.number ≤ seat.last_wait) × ((ticket : Held) → Contains seat.held ticket → ticket.id < wait.id))) is numbered.wait in
     h.2 ticket among
 
 -- a held ticket is none of a granted wait that isn't ended
@@ -146,12 +146,13 @@ module _ (core : Core) (who : ℕ) (seat : SeatView) (has : has_session who core
       → Contains (system_of (seating who seat core)).unended wait ↔ Contains (system_of core).unended wait
   others-unended wait other = (
     (λ among. let h = (unended-members (seating who seat core) wait).0 among in
-    let is : has_session wait.session core ≡ true = sym (has_session-seating core who wait.session seat) ∙ h.0 in
-    (unended-members core wait).1 (is, ap (λ (s : SeatView). unended_of wait.session s.wait) (sym (seated-other core who wait.session seat has is other)) ∙ h.1)),
+        let is : has_session wait.session core ≡ true = sym (has_session-seating core who wait.session seat) ∙ h.0 in
+        (unended-members core wait).1 (is, ap (λ (s : SeatView). unended_of wait.session s.wait) (sym (seated-other core who wait.session seat has is other)) ∙ h.1)),
     λ among. let h = (unended-members core wait).0 among in
-    (unended-members (seating who seat core) wait).1 (
-      has_session-seating core who wait.session seat ∙ h.0,
-      ap (λ (s : SeatView). unended_of wait.session s.wait) (seated-other core who wait.session seat has h.0 other) ∙ h.1),
+        (unended-members (seating who seat core) wait).1 (
+          has_session-seating core who wait.session seat ∙ h.0,
+          ap (λ (s : SeatView). unended_of wait.session s.wait) (seated-other core who wait.session seat has h.0 other) ∙ h.1,
+        ),
   )
 
   -- and one's own is that of the seat

@@ -1,9 +1,9 @@
 -- Who waits in the lock space of one thread: the waiting tickets of a key, and the waits of their sessions.
-use Rattle.std.proofs.Common.{◌≡◌, ◌≢◌, ◌⊎◌, ◌↔◌, ℕ, zero, suc, ◌+◌, ◌-◌, ◌<◌, ◌≤◌, ◌&&◌, ◌==◌, Bool, true, false, not, inl, inr, List, [], ◌∷◌, ◌++◌, length, map, Option, Some, None, refl, sym, ap, subst, ◌∙◌, arith}
+use Rattle.std.proofs.Common.{◌≡◌, ◌≢◌, ◌⊎◌, ℕ, suc, ◌+◌, ◌-◌, ◌<◌, ◌&&◌, ◌==◌, true, false, not, inl, inr, List, [], ◌∷◌, ◌++◌, length, map, Option, Some, None, refl, sym, ap, subst, ◌∙◌, arith}
 use Rattle.std.specs.Prelude.{Contains, AllPairs, MatchOption, slice_index_or, is_some}
 use Rattle.std.specs.List.{before_first, after_first, position_or_len}
 use Rattle.std.proofs.lemmas.Bool.Decides.{eqb_tells}
-use Rattle.std.proofs.lemmas.List.Sums.{split_at_first, position_or_len_is, passes_at_first}
+use Rattle.std.proofs.lemmas.List.Sums.{split_at_first, position_or_len_is}
 use Rattle.mdl_key.specs.Keys.{KeyName}
 use Rattle.mdl_book.specs.declared.lists.Lists.{Lists}
 use Rattle.mdl_book.specs.declared.ticket.Ticket.{Ticket}
@@ -13,15 +13,15 @@ use Rattle.mdl_space.specs.declared.answers.Held.{Held}
 use Rattle.mdl_space.specs.declared.answers.Settled.{Settled}
 use Rattle.mdl_space.specs.declared.answers.Settled.TheVariants as settled_as
 use Rattle.mdl_space.specs.declared.seat.Pending.{Pending}
-use Rattle.mdl_space.specs.Cores.{Core, book_at, seat_at, key_at, has_key, has_session, index_of, booking, seating}
-use Rattle.mdl_space.specs.CoreSystems.{book_found, book_of, state_of, waiter_of, waiter_in, unended_of, system_of}
+use Rattle.mdl_space.specs.Cores.{Core, book_at, seat_at, key_at, has_key, has_session, index_of}
+use Rattle.mdl_space.specs.CoreSystems.{book_found, book_of, state_of, waiter_of, waiter_in, system_of}
 use Rattle.mdl_space.specs.Moves.{is_unsettled}
 use Rattle.mdl_space.specs.Seats.{SeatView, is_open, ticket_of_wait}
-use Rattle.mdl_space.specs.Systems.{WaitState, Unsettled, Victim, TimedOut, Killed, Waiter, GrantedWait, HasNoWait}
+use Rattle.mdl_space.specs.Systems.{Unsettled, Waiter, GrantedWait, HasNoWait}
 use Rattle.mdl_space.specs.Ties.{WaitsFor, in_book_of, IsTied}
-use Rattle.mdl_space.proofs.CoreReads.{within, of_within, found-at, found}
+use Rattle.mdl_space.proofs.CoreReads.{within, found-at, found}
 use Rattle.mdl_space.proofs.CoreUnended.{own-unended, granted_of}
-use Rattle.mdl_space.proofs.OrderLemmas.{Contains-here, Contains-later, Contains-cons_cases, middle, around_cases}
+use Rattle.mdl_space.proofs.OrderLemmas.{Contains-here, Contains-later, Contains-cons_cases, middle}
 
 -- ---- what is made of each member of a list
 
@@ -98,14 +98,16 @@ pub wait-at : (core : Core) (place : ℕ) (ticket : Ticket) → IsTied core → 
 wait-at core place ticket tied has among =
     let by = (tied.waiting_by place has ticket among).0 in
     let held : Held = record { id = ticket.number; place = place; mode = ticket.mode } in
-    let h = waits_for-wait (seat_at ticket.session core) (seat_at ticket.session core).wait held refl ((tied.waiting ticket.session held by has).0 among) in
-    (h.0, record {
-      has = by;
-      waits = h.1;
-      not_granted = h.2;
-      there = sym (ap (λ (t : Held). t.place) h.3);
-      stands = λ i. in_book_of ticket.session (sym h.3 i);
-    })
+    let h = waits_for-wait (seat_at ticket.session core) (seat_at ticket.session core).wait held refl ((tied.waiting ticket.session held by has).0 among) in (
+      h.0,
+      record {
+        has = by;
+        waits = h.1;
+        not_granted = h.2;
+        there = sym (ap (λ (t : Held). t.place) h.3);
+        stands = λ i. in_book_of ticket.session (sym h.3 i);
+      },
+    )
 
 pub place_of_wait : (core : Core) (who : ℕ) (wait : Pending) → IsTied core → has_session who core ≡ true → (seat_at who core).wait ≡ Some wait
     → wait.settled ≢ Some settled_as.Granted
@@ -179,7 +181,7 @@ no_wait core who tied has none = (waits_nowhere, unended_none)
     waits_nowhere : (key : KeyName) (waiter : Waiter) → Contains ((system_of core).waiting key) waiter → waiter.ticket.session ≢ who
     waits_nowhere key waiter among = elim (place_told core key) [
       | inl at ↦ (let there = waiter-found core at.0 waiter tied at.1 (subst (λ k. Contains ((system_of core).waiting k) waiter) (sym at.2) among) in
-      none-waiting core who at.0 waiter.ticket tied none at.1 there.0)
+          none-waiting core who at.0 waiter.ticket tied none at.1 there.0)
       | inr nowhere ↦ absurd (let lt = (subst (λ (b : Lists). Contains (map (waiter_in core) b.waiting) waiter) (book-nowhere core key nowhere) among).1 in omega arith)
     ]
 
@@ -241,8 +243,7 @@ split-without ticket waiting pairs among =
     (λ _. here) in
     let one : slice_index_or waiting (position_or_len test waiting) ticket ≡ ticket = ap (λ n. slice_index_or waiting n ticket) first ∙ among.2 in
     let whole : waiting ≡ before_first test waiting ++ ticket ∷ after_first test waiting =
-    split_at_first test waiting ticket (omega arith) ∙ ap (λ t. before_first test waiting ++ t ∷ after_first test waiting) one in
-    (
+    split_at_first test waiting ticket (omega arith) ∙ ap (λ t. before_first test waiting ++ t ∷ after_first test waiting) one in (
       before_first test waiting,
       after_first test waiting,
       record {

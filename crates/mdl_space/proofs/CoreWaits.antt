@@ -1,6 +1,6 @@
 -- What each thing that happens in the lock space of one thread does to who waits, and to the granted waits that aren't ended.
-use Rattle.std.proofs.Common.{◌≡◌, ◌≢◌, ◌⊎◌, ℕ, ◌+◌, ◌-◌, ◌<◌, ◌≤◌, ◌&&◌, Bool, true, false, not, inl, inr, List, [], ◌∷◌, ◌++◌, length, map, Option, Some, None, refl, sym, ap, subst, ◌∙◌, arith}
-use Rattle.std.specs.Prelude.{Contains, is_some}
+use Rattle.std.proofs.Common.{◌≡◌, ◌≢◌, ℕ, ◌+◌, ◌-◌, ◌≤◌, true, inl, inr, [], ◌∷◌, ◌++◌, length, map, Option, Some, None, refl, sym, ap, subst, ◌∙◌, arith}
+use Rattle.std.specs.Prelude.{Contains}
 use Rattle.std.proofs.lemmas.Bool.{cases_lt}
 use Rattle.std.proofs.lemmas.List.{get_or_append_left, get_or_push, length-append}
 use Rattle.mdl_key.specs.declared.mode.Mode.{Mode}
@@ -9,19 +9,15 @@ use Rattle.mdl_book.specs.declared.lists.Lists.{Lists}
 use Rattle.mdl_book.specs.declared.ticket.Ticket.{Ticket}
 use Rattle.mdl_book.specs.Books.{empty_book, granting, removing}
 use Rattle.mdl_space.specs.declared.answers.Held.{Held}
-use Rattle.mdl_space.specs.declared.answers.Settled.{Settled}
-use Rattle.mdl_space.specs.declared.answers.Settled.TheVariants as settled_as
-use Rattle.mdl_space.specs.declared.seat.Pending.{Pending}
 use Rattle.mdl_space.specs.Cores.{Core, book_at, seat_at, key_at, has_key, has_session, index_of, booking, seating}
-use Rattle.mdl_space.specs.CoreSystems.{book_found, book_of, state_of, waiter_of, waiter_in, unended_of, system_of}
-use Rattle.mdl_space.specs.Moves.{next_ticket, opening, granting_to, queueing, losing, taking_up, leaving, freeing, admitting_at, is_unsettled}
-use Rattle.mdl_space.specs.Seats.{SeatView, holding, without_ticket, beginning_wait, is_open, settling, without_wait, with_ticket_of}
-use Rattle.mdl_space.specs.Steps.{SameMembers, Gains, Loses, LeavesOrder, TakesTurn, SameElsewhere, SameAt, SameWaits, granted_wait}
-use Rattle.mdl_space.specs.Systems.{Unsettled, Waiter, GrantedWait}
+use Rattle.mdl_space.specs.CoreSystems.{book_found, book_of, waiter_of, waiter_in, unended_of, system_of}
+use Rattle.mdl_space.specs.Moves.{next_ticket, opening, granting_to, freeing}
+use Rattle.mdl_space.specs.Seats.{SeatView, holding, without_ticket}
+use Rattle.mdl_space.specs.Steps.{SameElsewhere, SameWaits}
 use Rattle.mdl_space.specs.Ties.{IsTied}
 use Rattle.mdl_space.proofs.CoreReads.{within, of_within, booked-same, booked-other, has_key-booking, seated-same, seated-other}
-use Rattle.mdl_space.proofs.CoreUnended.{granted_of, not_granted, own-unended, unended-same, unended-gains, unended-loses}
-use Rattle.mdl_space.proofs.CoreWaiting.{map-agree, IsKeyed, book-there, place_told, book-nowhere, not_there, ticket-there, IsWaitAt, wait-at, place_of_wait, none-waiting, granted-waiting, elsewhere-waiting, IsSplit, split-without}
+use Rattle.mdl_space.proofs.CoreUnended.{unended-same}
+use Rattle.mdl_space.proofs.CoreWaiting.{map-agree, IsKeyed, book-there, place_told, book-nowhere, not_there, ticket-there}
 use Rattle.mdl_space.proofs.Deciding.{nat_told, key_told}
 
 -- ---- the book of a key after one was written
@@ -50,9 +46,9 @@ module _ (core : Core) (place : ℕ) (book : Lists) (has : has_key place core �
   pub book-elsewhere : (key : KeyName) → key ≢ key_at place core → book_of key (booking place book core) ≡ book_of key core
   book-elsewhere key other = elim (place_told core key) [
     | inl at ↦ (
-      book-there (booking place book core) at.0 key keyed-booking (has_key-booking core place at.0 book ∙ at.1) (key-booking at.0 at.1 ∙ at.2)
-      ∙ booked-other core place at.0 book has at.1 (λ e. other (sym at.2 ∙ ap (λ n. key_at n core) e))
-      ∙ sym (book-there core at.0 key keyed at.1 at.2))
+        book-there (booking place book core) at.0 key keyed-booking (has_key-booking core place at.0 book ∙ at.1) (key-booking at.0 at.1 ∙ at.2)
+        ∙ booked-other core place at.0 book has at.1 (λ e. other (sym at.2 ∙ ap (λ n. key_at n core) e))
+        ∙ sym (book-there core at.0 key keyed at.1 at.2))
     | inr none ↦ elim (place_told (booking place book core) key) [
       | inl at ↦ absurd (
           let before : has_key at.0 core ≡ true = sym (has_key-booking core place at.0 book) ∙ at.1 in
@@ -123,15 +119,15 @@ waits-opening core key tied none after = record { waiting = λ k. ap (map (waite
     nowhere-before : (k : KeyName) → index_of k core.books ≡ None → (book_of k (opening key core)).waiting ≡ []
     nowhere-before k nowhere = elim (place_told (opening key core) k) [
       | inl at ↦ (
-        let fits : (1 ≤ at.0) × (at.0 ≤ length core.books + 1) = simp length-append at (within at.0 (length (core.books ++ last ∷ [])) at.1) in
-        elim (cases_lt (length core.books) at.0) [
-          | inl past ↦ (
-            let is : length core.books ≡ at.0 - 1 = omega arith in
-            ap (λ (b : Lists). b.waiting) (book-there (opening key core) at.0 k after.keys at.1 at.2 ∙ get_or_push core.books last (empty_book global_key) (at.0 - 1) is))
-          | inr inside ↦ absurd (
-              let before = of_within at.0 (length core.books) fits.0 inside in
-              not_there core k at.0 tied.keys nowhere before (sym (ap (λ (b : Lists). b.key) (book-still at.0 before)) ∙ at.2))
-        ])
+          let fits : (1 ≤ at.0) × (at.0 ≤ length core.books + 1) = simp length-append at (within at.0 (length (core.books ++ last ∷ [])) at.1) in
+          elim (cases_lt (length core.books) at.0) [
+            | inl past ↦ (
+                let is : length core.books ≡ at.0 - 1 = omega arith in
+                ap (λ (b : Lists). b.waiting) (book-there (opening key core) at.0 k after.keys at.1 at.2 ∙ get_or_push core.books last (empty_book global_key) (at.0 - 1) is))
+            | inr inside ↦ absurd (
+                let before = of_within at.0 (length core.books) fits.0 inside in
+                not_there core k at.0 tied.keys nowhere before (sym (ap (λ (b : Lists). b.key) (book-still at.0 before)) ∙ at.2))
+          ])
       | inr still ↦ ap (λ (b : Lists). b.waiting) (book-nowhere (opening key core) k still)
     ]
 
@@ -166,8 +162,8 @@ module _ (core : Core) (who place : ℕ) (seat : SeatView) (book : Lists) (tied 
           (here ∙ ap (map (waiter_in (seating who seat core))) (waiting ∙ ap (λ (b : Lists). b.waiting) (sym (book-there core place (key_at place core) tied.keys has_place refl)))
           ∙ waiters-same core who seat tied has wait (key_at place core))
       | inr other ↦ (
-        ap (λ (b : Lists). map (waiter_in (seating who seat core)) b.waiting) (book-elsewhere (seating who seat core) place book has_place same_key tied.keys key other ∙ book-seating core who seat key)
-        ∙ waiters-same core who seat tied has wait key)
+          ap (λ (b : Lists). map (waiter_in (seating who seat core)) b.waiting) (book-elsewhere (seating who seat core) place book has_place same_key tied.keys key other ∙ book-seating core who seat key)
+          ∙ waiters-same core who seat tied has wait key)
     ];
     unended = unended-same core who seat has (ap (unended_of who) wait);
   }
