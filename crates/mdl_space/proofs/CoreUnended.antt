@@ -62,7 +62,7 @@ from_option (Some y) x among = ap (λ z. Some z) (go among.0 among.1 among.2)
 to_list : {T : Type 0} → (o : Option T) (x : T) → o ≡ Some x → Contains (option_to_list o) x
 to_list o x e = subst (λ p. Contains (option_to_list p) x) (sym e) (Contains-here x [])
 
--- the seat of the session of this number, in seats that begin with that of another
+-- the seat at this index has the granted wait, the first seat being that of the session `start`
 abbrev At : ℕ → List SeatView → GrantedWait → ℕ → Type 0
 At start seats wait k = (k < length seats) × (unended_of (start + k) (slice_index_or seats k empty_seat).wait ≡ Some wait)
 
