@@ -9,7 +9,11 @@ pub mod CoreFollows
 pub mod CoreGranted
 pub mod CoreReads
 pub mod CoreServing
+pub mod CoreSettling
 pub mod CoreSound
+pub mod CoreUnended
+pub mod CoreWaiting
+pub mod CoreWaits
 pub mod CoreWaitsFollow
 pub mod Deciding
 pub mod GrantedMoves
