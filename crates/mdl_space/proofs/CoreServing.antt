@@ -19,7 +19,10 @@ use Rattle.mdl_space.specs.Systems.{Waiter, System, NoneForgottenAt}
 use Rattle.mdl_space.specs.Ties.{IsTied}
 use Rattle.mdl_space.proofs.CoreEvents.{same_system, admitting-grants}
 use Rattle.mdl_space.proofs.CoreReads.{has_key-booking, booked-same}
-use Rattle.mdl_space.proofs.MoveFacts.{tied-admitting, book_of-at, free-grantable, waiting-admitting, waiter-found, unsettled-found}
+use Rattle.mdl_space.proofs.CoreGranted.{book_of-at, free-grantable}
+use Rattle.mdl_space.proofs.CoreSettling.{waiting-admitting}
+use Rattle.mdl_space.proofs.CoreWaiting.{waiter-found, unsettled-found}
+use Rattle.mdl_space.proofs.MoveFacts.{tied-admitting}
 use Rattle.mdl_space.proofs.OrderLemmas.{Contains-cons_cases, Contains-here, Contains-later}
 
 -- ---- the first that passes a test

@@ -28,7 +28,8 @@ use Rattle.mdl_space.proofs.CoreEvents.{same_members, same_system}
 use Rattle.mdl_space.proofs.CoreFollows.{Follows, LeadsTo, follows-same}
 use Rattle.mdl_space.proofs.CoreWaitsFollow.{follows-polling, follows-timing_out, follows-killing, follows-ending, follows-releasing, follows-cloning}
 use Rattle.mdl_space.proofs.LawfulLemmas.{empty-lawful, run-lawful}
-use Rattle.mdl_space.proofs.MoveFacts.{tied-empty, free-grantable}
+use Rattle.mdl_space.proofs.CoreGranted.{free-grantable}
+use Rattle.mdl_space.proofs.MoveFacts.{tied-empty}
 
 -- a refusal changes nothing
 calm : (call : Call) (refusal : SpaceError) → is_change call (Refused refusal) ≡ false
@@ -215,7 +216,7 @@ module _ {C : Type 0} (apply : KeyName → C → Option Definition → Option (O
   IsReached core = IsSound core × ((events : List (List (Event C))) × Reaches apply events empty_system (system_of core))
 
   goes-on : (a b : Core) (call : Call) (answer : Answer) → IsReached a → Joins a call answer b → IsReached b
-  goes-on a b call answer (sound, events, reached) joins =
+  goes-on a b call answer (sound, (events, reached)) joins =
       let follows = calls-follow apply a b call answer sound joins in
       (follows.sound, by follows.how)
     where
@@ -224,11 +225,11 @@ module _ {C : Type 0} (apply : KeyName → C → Option Definition → Option (O
           × IsEventOf a call answer event × ((other : KeyName) → IsAbout event other → other ≡ key) × All (IsGrantAt key) grants
           × Happens apply event (system_of a) between × Run apply grants between (system_of b))
           → (all : List (List (Event C))) × Reaches apply all empty_system (system_of b)
-      by (inl same) = ([] ∷ events, system_of a, reached, same.1)
-      by (inr (event, grants, between, key, is, about, all, happens, run)) = ((event ∷ grants) ∷ events, system_of a, reached, between, happens, run)
+      by (inl same) = ([] ∷ events, (system_of a, reached, same.1))
+      by (inr (event, grants, between, key, is, about, all, happens, run)) = ((event ∷ grants) ∷ events, (system_of a, reached, (between, happens, run)))
 
   pub runs_are-events : {A : Type 0} (places sessions : ℕ) (program : Program A) (reply : A) (b : Core) → Runs Joins (empty_core places sessions) program reply b
       → ((events : List (List (Event C))) × Reaches apply events empty_system (system_of b)) × IsLawful (system_of b) × NoneForgotten (system_of b)
   runs_are-events places sessions program reply b run =
-      let all = runs_keeps Joins IsReached goes-on program (empty_core places sessions) b reply (empty-sound places sessions, [], empty-same places sessions) run in
+      let all = runs_keeps Joins IsReached goes-on program (empty_core places sessions) b reply (empty-sound places sessions, ([], empty-same places sessions)) run in
       (all.1, all.0.lawful, all.0.none_forgotten)

@@ -23,6 +23,10 @@ use Rattle.mdl_space.proofs.CoreReads.{within, found-at, found}
 use Rattle.mdl_space.proofs.CoreUnended.{own-unended, granted_of}
 use Rattle.mdl_space.proofs.OrderLemmas.{Contains-here, Contains-later, Contains-cons_cases, middle}
 
+-- the ticket that a session waits for, as it waits
+abbrev pub waiting_of : ℕ → Pending → Waiter
+waiting_of who wait = waiter_of (record { session = who; number = wait.id; mode = wait.mode }) (Some wait)
+
 -- ---- what is made of each member of a list
 
 module _ {X Y : Type 0} where

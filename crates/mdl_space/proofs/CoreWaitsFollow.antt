@@ -33,7 +33,11 @@ use Rattle.mdl_space.proofs.CoreEvents.{granting-grants, granting-clones, freein
 use Rattle.mdl_space.proofs.CoreFollows.{Follows, LeadsTo, follows-same, follows-as_same, follows-event, follows-serving}
 use Rattle.mdl_space.proofs.CoreReads.{has_key-booking, booked-same}
 use Rattle.mdl_space.proofs.CoreServing.{truth, found-first}
-use Rattle.mdl_space.proofs.MoveFacts.{tied-opening, tied-granting, tied-queueing, tied-losing, tied-taking_up, tied-leaving, tied-freeing, free-grantable, granted-opening, holding_of, place_of_wait, waits-opening, waiting_of}
+use Rattle.mdl_space.proofs.CoreGranted.{free-grantable, holding_of}
+use Rattle.mdl_space.proofs.CoreWaiting.{waiting_of, place_of_wait}
+use Rattle.mdl_space.proofs.CoreWaits.{waits-opening}
+use Rattle.mdl_space.proofs.GrantedMoves.{granted-opening}
+use Rattle.mdl_space.proofs.MoveFacts.{tied-opening, tied-granting, tied-queueing, tied-losing, tied-taking_up, tied-leaving, tied-freeing}
 use Rattle.mdl_space.proofs.CoreCallsFollow.{clone_clear, none_there, unsettled_wait}
 
 -- the key of a place whose book was written
