@@ -14,3 +14,4 @@ pub mod NumberingLemmas
 pub mod OrderLemmas
 pub mod OwnLemmas
 pub mod SmallSystems
+pub mod TiedWrites
