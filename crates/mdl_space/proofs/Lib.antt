@@ -13,5 +13,7 @@ pub mod NextSystems
 pub mod NumberingLemmas
 pub mod OrderLemmas
 pub mod OwnLemmas
+pub mod PairLemmas
 pub mod SmallSystems
+pub mod TiedSeats
 pub mod TiedWrites
