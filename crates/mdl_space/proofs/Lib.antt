@@ -15,5 +15,7 @@ pub mod OrderLemmas
 pub mod OwnLemmas
 pub mod PairLemmas
 pub mod SmallSystems
+pub mod TiedBooks
 pub mod TiedSeats
+pub mod TiedWaits
 pub mod TiedWrites
