@@ -16,6 +16,7 @@ pub mod OwnLemmas
 pub mod PairLemmas
 pub mod SmallSystems
 pub mod TiedBooks
+pub mod TiedMoves
 pub mod TiedSeats
 pub mod TiedWaits
 pub mod TiedWrites

@@ -1,6 +1,6 @@
 -- What a session has and waits for, and how its tickets are numbered, after its seat changed.
-use Rattle.std.proofs.Common.{◌≡◌, ◌≢◌, ◌⊎◌, ◌↔◌, ℕ, ◌+◌, ◌<◌, ◌≤◌, Bool, true, not, inl, inr, List, [], ◌∷◌, ◌++◌, Option, Some, None, refl, sym, ap, subst, ◌∙◌, arith}
-use Rattle.std.specs.Prelude.{Contains, MatchOption, IsTrue, is_some}
+use Rattle.std.proofs.Common.{◌≡◌, ◌≢◌, ◌⊎◌, ◌↔◌, ℕ, ◌+◌, ◌<◌, ◌≤◌, true, not, inl, inr, List, [], ◌∷◌, ◌++◌, Option, Some, None, refl, sym, ap, subst, ◌∙◌, arith}
+use Rattle.std.specs.Prelude.{Contains, MatchOption, is_some}
 use Rattle.std.proofs.lemmas.Bool.Decides.{nat_tests}
 use Rattle.std.proofs.lemmas.List.Elements.{Contains-append_left, Contains-push, Contains-push_cases}
 use Rattle.std.proofs.lemmas.List.Kept.{AllPairs-filter}
@@ -10,7 +10,7 @@ use Rattle.mdl_space.specs.declared.answers.Settled.{Settled}
 use Rattle.mdl_space.specs.declared.answers.Settled.TheVariants as settled_as
 use Rattle.mdl_space.specs.declared.seat.Pending.{Pending}
 use Rattle.mdl_space.specs.Own.{is_number}
-use Rattle.mdl_space.specs.Seats.{SeatView, holding, without_ticket, beginning_wait, is_open, settling, without_wait, ticket_of_wait, with_ticket_of}
+use Rattle.mdl_space.specs.Seats.{SeatView, holding, without_ticket, beginning_wait, is_open, ticket_of_wait}
 use Rattle.mdl_space.specs.Steps.{Gains}
 use Rattle.mdl_space.specs.Ties.{Has, WaitsFor, IsNumbered}
 use Rattle.mdl_space.proofs.PairLemmas.{below, filter-members, in-filter, pairs-push, pairs-from_rising, rising-from_pairs, same-number}
