@@ -1,26 +1,134 @@
 -- Books and sessions tell the same after each move.
-use Rattle.std.proofs.Common.{◌≡◌, ◌≢◌, ◌⊎◌, ◌↔◌, ℕ, ◌+◌, Bool, true, false, ◌&&◌, inl, inr, [], ◌∷◌, ◌++◌, Some, None, refl, sym, ap, subst, ◌∙◌, arith}
-use Rattle.std.specs.Prelude.{Contains, IsTrue}
+use Rattle.std.proofs.Common.{◌≡◌, ◌≢◌, ◌⊎◌, ◌↔◌, ℕ, ◌+◌, ◌-◌, ◌<◌, Bool, true, false, ◌&&◌, inl, inr, List, length, [], ◌∷◌, ◌++◌, Some, None, refl, sym, ap, subst, ◌∙◌, arith}
+use Rattle.std.specs.Prelude.{AllPairs, Contains, IsTrue, replicate}
 use Rattle.std.specs.Option.{option_to_list}
+use Rattle.std.proofs.lemmas.Bool.Decides.{leb_tells}
+use Rattle.std.proofs.lemmas.List.{get_or-replicate, get_or_append_left, get_or_push, length-replicate, length_push}
 use Rattle.mdl_key.specs.declared.mode.Mode.{Mode}
+use Rattle.mdl_key.specs.Keys.{KeyName, global_key}
 use Rattle.mdl_key.specs.Modes.{is_mode_of}
 use Rattle.mdl_book.specs.declared.lists.Lists.{Lists}
 use Rattle.mdl_book.specs.declared.ticket.Ticket.{Ticket}
-use Rattle.mdl_book.specs.Books.{lock_kind, granting, enqueueing, cancelling, removing}
+use Rattle.mdl_book.specs.Books.{lock_kind, empty_book, granting, enqueueing, cancelling, removing}
 use Rattle.mdl_book.specs.Tickets.{is_ticket, without}
 use Rattle.mdl_space.specs.declared.answers.Held.{Held}
 use Rattle.mdl_space.specs.declared.answers.Settled.{Settled}
 use Rattle.mdl_space.specs.declared.answers.Settled.TheVariants as settled_as
 use Rattle.mdl_space.specs.declared.seat.Pending.{Pending}
-use Rattle.mdl_space.specs.Cores.{Core, book_at, seat_at, has_key, has_session, booking, seating}
-use Rattle.mdl_space.specs.Moves.{next_ticket, granting_to, queueing, losing, taking_up, leaving, freeing, admitting_at, is_unsettled}
-use Rattle.mdl_space.specs.Seats.{SeatView, holding, without_ticket, beginning_wait, is_open, settling, without_wait, ticket_of_wait, with_ticket_of}
+use Rattle.mdl_space.specs.Cores.{Core, empty_core, book_at, seat_at, key_at, index_of, has_key, has_session, booking, seating}
+use Rattle.mdl_space.specs.Moves.{next_ticket, opening, granting_to, queueing, losing, taking_up, leaving, freeing, admitting_at, is_unsettled}
+use Rattle.mdl_space.specs.Seats.{SeatView, empty_seat, holding, without_ticket, beginning_wait, is_open, settling, without_wait, ticket_of_wait, with_ticket_of}
 use Rattle.mdl_space.specs.Ties.{Has, WaitsFor, in_book_of, IsNumbered, IsTied}
-use Rattle.mdl_space.proofs.PairLemmas.{pairs-push, pairs-without, loses-one, found-one}
+use Rattle.mdl_space.proofs.CoreReads.{within, of_within, found-at}
+use Rattle.mdl_space.proofs.PairLemmas.{none-in, pairs-push, pairs-without, loses-one, found-one}
 use Rattle.mdl_space.proofs.TiedBooks.{other_number, other_session, swap-number, swap-session, alone-number, alone-session, that-is, follows-same, follows-gaining, follows-losing, granted-here, waiting-here, granted-own, waiting-own}
 use Rattle.mdl_space.proofs.TiedSeats.{push-gains, no-wait, open-wait, number-bound, has-holding, numbered-holding, has-beginning, waits-beginning, numbered-beginning, has-freed, numbered-freed}
 use Rattle.mdl_space.proofs.TiedWaits.{numbered-settling, has-losing, waits-losing, has-winning, waits-winning, waits-now, waits-alone, number-new, has-granted, has-taking, waits-taking, numbered-taking, waits-lost, has-leaving, waits-leaving, numbered-leaving}
 use Rattle.mdl_space.proofs.TiedWrites.{tied-written, tied-seated}
+
+-- ---- nothing
+
+tied-nothing : (places sessions who : ℕ) → has_session who (empty_core places sessions) ≡ true → seat_at who (empty_core places sessions) ≡ empty_seat
+tied-nothing places sessions who session =
+    let fits = within who (length (replicate sessions empty_seat)) session in
+    let long = length-replicate sessions empty_seat in
+    get_or-replicate sessions (who - 1) empty_seat empty_seat (omega arith)
+
+pub tied-empty : (places sessions : ℕ) → IsTied (empty_core places sessions)
+tied-empty places sessions = record {
+  keys = λ one other key. absurd (no_key one key);
+  granted_by = λ place key. absurd (no_key place key);
+  waiting_by = λ place key. absurd (no_key place key);
+  granted = λ who ticket session key. absurd (no_key ticket.place key);
+  waiting = λ who ticket session key. absurd (no_key ticket.place key);
+  placed = λ who ticket session has. absurd (elim (subst (λ s. Has s ticket ⊎ WaitsFor s ticket) (tied-nothing places sessions who session) has) [
+    | inl holds ↦ elim holds [ inl held ↦ none-in ticket held | inr none ↦ none ]
+    | inr none ↦ none
+  ]);
+  granted_once = λ place key. absurd (no_key place key);
+  waiting_once = λ place key. absurd (no_key place key);
+  numbered = λ who session. subst IsNumbered (sym (tied-nothing places sessions who session))
+      (record { rising = refl; held = λ ticket held. absurd (none-in ticket held); wait = tt });
+}
+  where
+    no_key : (place : ℕ) → has_key place (empty_core places sessions) ≡ true → ⊥
+    no_key place key = let fits = within place 0 key in omega arith
+
+-- ---- a new key
+
+module _ (key : KeyName) (core : Core) (tied : IsTied core) (new : index_of key core.books ≡ None) where
+  -- each place is an old one with its book, or the new one
+  by-place : (P : ℕ → Lists → Type 0) → ((place : ℕ) → has_key place core ≡ true → P place (book_at place core)) → P (length core.books + 1) (empty_book key)
+      → (place : ℕ) → has_key place (opening key core) ≡ true → P place (book_at place (opening key core))
+  by-place P old newest place has =
+      let long = length_push core.books (empty_book key) in
+      let fits = within place (length (core.books ++ empty_book key ∷ [])) has in
+      elim (leb_tells place (length core.books)) [
+        | inl e ↦
+            let le = e.1 in
+            let lt : place - 1 < length core.books = omega arith in
+            subst (P place) (sym (get_or_append_left core.books (empty_book key ∷ []) (empty_book global_key) (place - 1) lt))
+            (old place (of_within place (length core.books) fits.0 e.1))
+        | inr e ↦
+            let lt = e.1 in
+            let at : length core.books ≡ place - 1 = omega arith in
+            let is : length core.books + 1 ≡ place = omega arith in
+            subst (P place) (sym (get_or_push core.books (empty_book key) (empty_book global_key) (place - 1) at))
+            (subst (λ p. P p (empty_book key)) is newest)
+      ]
+
+  -- no place had the key
+  fresh : (place : ℕ) → has_key place core ≡ true → key_at place core ≡ key → ⊥
+  fresh place has e =
+      let at : index_of key core.books ≡ Some (place - 1) = subst (λ k. index_of k core.books ≡ Some (place - 1)) e (found-at core place tied.keys has) in
+      cc
+
+  -- and none had the new number
+  not-last : (place : ℕ) → has_key place core ≡ true → length core.books + 1 ≡ place → ⊥
+  not-last place has e = let fits = within place (length core.books) has in omega arith
+
+  still : (place : ℕ) → has_key place core ≡ true → has_key place (opening key core) ≡ true
+  still place has =
+      let long = length_push core.books (empty_book key) in
+      let fits = within place (length core.books) has in
+      of_within place (length (core.books ++ empty_book key ∷ [])) fits.0 (omega arith)
+
+  matches : (list : Lists → List Ticket) (has : SeatView → Held → Type 0) → list (empty_book key) ≡ []
+      → ((who : ℕ) (ticket : Held) → has_session who core ≡ true → has_key ticket.place core ≡ true → Contains (list (book_at ticket.place core)) (in_book_of who ticket) ↔ has (seat_at who core) ticket)
+      → ((who : ℕ) (ticket : Held) → has_session who core ≡ true → has (seat_at who core) ticket → has_key ticket.place core ≡ true)
+      → (who : ℕ) (ticket : Held) → has_session who core ≡ true → has_key ticket.place (opening key core) ≡ true
+      → Contains (list (book_at ticket.place (opening key core))) (in_book_of who ticket) ↔ has (seat_at who core) ticket
+  matches list has none before placed who ticket session key_there =
+      by-place (λ p b. p ≡ ticket.place → Contains (list b) (in_book_of who ticket) ↔ has (seat_at who core) ticket)
+      (λ p is e. subst (λ q. Contains (list (book_at q core)) (in_book_of who ticket) ↔ has (seat_at who core) ticket) (sym e)
+      (before who ticket session (subst (λ q. has_key q core ≡ true) e is)))
+      (λ e. (
+        (λ among. absurd (none-in (in_book_of who ticket) (subst (λ xs. Contains xs (in_book_of who ticket)) none among))),
+        λ had. absurd (not-last ticket.place (placed who ticket session had) e),
+      ))
+      ticket.place key_there refl
+
+  opened : IsTied (opening key core)
+  opened = record {
+    keys = λ one other has_one has_other.
+        by-place (λ p b. b.key ≡ key_at other (opening key core) → p ≡ other)
+        (λ p is. by-place (λ q c. key_at p core ≡ c.key → p ≡ q) (λ q is_other e. tied.keys p q is is_other e) (λ e. absurd (fresh p is e)) other has_other)
+        (by-place (λ q c. key ≡ c.key → length core.books + 1 ≡ q) (λ q is_other e. absurd (fresh q is_other (sym e))) (λ e. refl) other has_other)
+        one has_one;
+    granted_by = by-place (λ p b. (ticket : Ticket) → Contains b.granted ticket → (has_session ticket.session core ≡ true) × IsTrue (is_mode_of (lock_kind b) ticket.mode))
+        tied.granted_by (λ ticket among. absurd (none-in ticket among));
+    waiting_by = by-place (λ p b. (ticket : Ticket) → Contains b.waiting ticket → (has_session ticket.session core ≡ true) × IsTrue (is_mode_of (lock_kind b) ticket.mode))
+        tied.waiting_by (λ ticket among. absurd (none-in ticket among));
+    granted = matches (λ b. b.granted) Has refl tied.granted (λ who ticket session had. tied.placed who ticket session (inl had));
+    waiting = matches (λ b. b.waiting) WaitsFor refl tied.waiting (λ who ticket session waits. tied.placed who ticket session (inr waits));
+    placed = λ who ticket session has. still ticket.place (tied.placed who ticket session has);
+    granted_once = by-place (λ p b. AllPairs other_number b.granted) tied.granted_once (λ i j d lt short. absurd (omega arith));
+    waiting_once = by-place (λ p b. AllPairs other_session b.waiting) tied.waiting_once (λ i j d lt short. absurd (omega arith));
+    numbered = tied.numbered;
+  }
+
+pub tied-opening : (core : Core) (key : KeyName) → IsTied core → index_of key core.books ≡ None → IsTied (opening key core)
+tied-opening core key tied new = opened key core tied new
 
 same : {A : Type 0} → A ↔ A
 same = ((λ a. a), λ a. a)

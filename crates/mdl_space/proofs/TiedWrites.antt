@@ -90,11 +90,11 @@ module _ (core : Core) (who place : ℕ) (book : Lists) (seat : SeatView) (tied 
       → (ticket : Ticket) → Contains list ticket → (has_session ticket.session core ≡ true) × IsTrue (is_mode_of (lock_kind (book_at place core)) ticket.mode)
   by-own list old had has follows modes before ticket among = elim (nat_told ticket.session who) [
     | inl e ↦ (
-        subst (λ w. has_session w core ≡ true) (sym e) session,
-        let own : Held = record { id = ticket.number; place = place; mode = ticket.mode } in
-        let same : ticket ≡ in_book_of who own = λ i. record { session = e i; number = ticket.number; mode = ticket.mode } in
-        modes own refl ((follows.here own refl).0 (subst (Contains list) same among)),
-      )
+      subst (λ w. has_session w core ≡ true) (sym e) session,
+      let own : Held = record { id = ticket.number; place = place; mode = ticket.mode } in
+          let same : ticket ≡ in_book_of who own = λ i. record { session = e i; number = ticket.number; mode = ticket.mode } in
+          modes own refl ((follows.here own refl).0 (subst (Contains list) same among)),
+    )
     | inr apart ↦ before ticket ((follows.others ticket apart).0 among)
   ]
 
@@ -125,9 +125,9 @@ module _ (core : Core) (who place : ℕ) (book : Lists) (seat : SeatView) (tied 
   own-placed ticket has = elim (nat_told ticket.place place) [
     | inl here ↦ subst (λ p. has_key p core ≡ true) (sym here) key
     | inr there ↦ tied.placed who ticket session (elim has [
-        | inl held ↦ inl ((fits.granted.elsewhere ticket there).0 held)
-        | inr waits ↦ inr ((fits.waiting.elsewhere ticket there).0 waits)
-      ])
+      | inl held ↦ inl ((fits.granted.elsewhere ticket there).0 held)
+      | inr waits ↦ inr ((fits.waiting.elsewhere ticket there).0 waits)
+    ])
   ]
 
   abbrev By : (Lists → List Ticket) → ℕ → Lists → Type 0
@@ -137,8 +137,7 @@ module _ (core : Core) (who place : ℕ) (book : Lists) (seat : SeatView) (tied 
       → Contains (list (book_at at written)) ticket → (has_session ticket.session written ≡ true) × IsTrue (is_mode_of (lock_kind (book_at at written)) ticket.mode)
   by list before at has ticket among =
       let had = had_key at has in
-      let old = before at had ticket among in
-      (
+      let old = before at had ticket among in (
         has_session-seating core who ticket.session seat ∙ old.0,
         subst (λ k. IsTrue (is_mode_of (kind_of k.namespace) ticket.mode)) (sym (key-same at had)) old.1,
       )
