@@ -89,8 +89,7 @@ pub found : (core : Core) (key : KeyName) (index : ℕ) → index_of key core.bo
     → (has_key (index + 1) core ≡ true) × (key_at (index + 1) core ≡ key)
 found core key index e =
     let at = position-Some (λ (book : Lists). key_eq book.key key) core.books index (empty_book global_key) e in
-    let here : index + 1 - 1 ≡ index = omega arith in
-    (
+    let here : index + 1 - 1 ≡ index = omega arith in (
       of_within (index + 1) (length core.books) (omega arith) (omega arith),
       ap (λ n. (slice_index_or core.books n (empty_book global_key)).key) here ∙ (key-Decides _ _).0 at.1,
     )

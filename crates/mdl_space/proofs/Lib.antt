@@ -27,5 +27,11 @@ pub mod NextSystems
 pub mod NumberingLemmas
 pub mod OrderLemmas
 pub mod OwnLemmas
+pub mod PairLemmas
 pub mod SmallSystems
 pub mod StrengthLemmas
+pub mod TiedBooks
+pub mod TiedMoves
+pub mod TiedSeats
+pub mod TiedWaits
+pub mod TiedWrites
