@@ -1,10 +1,8 @@
 -- What happens in the lock space of one thread is what can happen in the system of locks.
-use Rattle.std.proofs.Common.{◌≡◌, ◌≢◌, ◌⊎◌, ℕ, ◌+◌, Bool, true, false, List, [], ◌∷◌, Option, Some, None, inl, refl, sym, ap, subst, ◌∙◌}
+use Rattle.std.proofs.Common.{◌≡◌, ◌≢◌, ℕ, ◌+◌, true, List, Option, Some, None, inl, refl, sym, ap, subst, ◌∙◌}
 use Rattle.std.specs.Prelude.{Contains}
-use Rattle.mdl_key.specs.Keys.{KeyName}
 use Rattle.mdl_key.specs.declared.mode.Mode.{Mode}
 use Rattle.mdl_key.specs.Modes.{is_mode_of}
-use Rattle.mdl_defs.specs.declared.definition.Definition.{Definition}
 use Rattle.mdl_book.specs.declared.ticket.Ticket.{Ticket}
 use Rattle.mdl_book.specs.Books.{lock_kind}
 use Rattle.mdl_space.specs.declared.answers.Held.{Held}
@@ -17,7 +15,7 @@ use Rattle.mdl_space.specs.CoreSystems.{system_of, state_of, waiter_of, waiter_i
 use Rattle.mdl_space.specs.Moves.{next_ticket, granting_to, queueing, losing, taking_up, leaving, freeing, admitting_at, is_unsettled}
 use Rattle.mdl_space.specs.Steps.{SameMembers, Gains, SameWaits, SameSystem, ElseSame, GrantsNew, ClonesTicket, BeginsWait, GrantsWaiter, SettlesLost, EndsGrantedWait, EndsLostWait, Releases}
 use Rattle.mdl_space.specs.Strength.{covers}
-use Rattle.mdl_space.specs.Systems.{WaitState, Unsettled, Holding, Waiter, GrantedWait, System, Held as Holds, IsGrantable}
+use Rattle.mdl_space.specs.Systems.{Unsettled, System, Held as Holds, IsGrantable}
 use Rattle.mdl_space.specs.Ties.{IsTied, in_book_of}
 use Rattle.mdl_space.proofs.CoreGranted.{free-grantable, holding_of, granted-of_held, new_number}
 use Rattle.mdl_space.proofs.CoreSettling.{waiting-queueing, waiting-losing, waiting-taking_up, waiting-leaving, waiting-admitting}

@@ -1,5 +1,5 @@
 -- What follows from an event in the lock space of one thread: it stays sound.
-use Rattle.std.proofs.Common.{◌≡◌, ◌≢◌, ◌⊎◌, ◌↔◌, ℕ, Bool, true, false, inl, inr, List, [], ◌∷◌, Option, Some, None, refl, sym, ap, subst, ◌∙◌}
+use Rattle.std.proofs.Common.{◌≡◌, ◌⊎◌, ℕ, true, false, inl, inr, List, [], Option, sym, subst}
 use Rattle.std.specs.Prelude.{Contains, All}
 use Rattle.std.proofs.lemmas.List.Elements.{All-nil}
 use Rattle.mdl_key.specs.Keys.{KeyName}
@@ -12,7 +12,7 @@ use Rattle.mdl_space.specs.Cores.{Core, key_at, has_key}
 use Rattle.mdl_space.specs.CoreSystems.{system_of}
 use Rattle.mdl_space.specs.Moves.{serving}
 use Rattle.mdl_space.specs.Steps.{Event, Happens, Run, SameSystem}
-use Rattle.mdl_space.specs.Systems.{System, Holding, Waiter, IsGrantable, NoneForgotten, IsLawful}
+use Rattle.mdl_space.specs.Systems.{System, Waiter, NoneForgotten, IsLawful}
 use Rattle.mdl_space.specs.Ties.{IsTied, IsSound}
 use Rattle.mdl_space.proofs.ConcernLemmas.{step-forgets, granting-there}
 use Rattle.mdl_space.proofs.CoreEvents.{same_system}

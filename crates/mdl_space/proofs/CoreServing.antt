@@ -1,5 +1,5 @@
 -- Granting the waiters of a place, one after another, until there is none who can be.
-use Rattle.std.proofs.Common.{◌≡◌, ◌≢◌, ◌⊎◌, ℕ, zero, suc, ◌+◌, ◌≤◌, Bool, true, false, ◌&&◌, inl, inr, List, [], ◌∷◌, ◌++◌, length, map, find, Option, Some, None, refl, sym, ap, subst, ◌∙◌, arith, length-append}
+use Rattle.std.proofs.Common.{◌≡◌, ◌⊎◌, ℕ, zero, suc, ◌≤◌, Bool, true, false, ◌&&◌, inl, inr, List, [], ◌∷◌, length, find, Option, Some, None, refl, sym, ap, subst, ◌∙◌, arith, length-append}
 use Rattle.std.specs.Prelude.{Contains, All}
 use Rattle.std.proofs.lemmas.List.{length-map}
 use Rattle.std.proofs.lemmas.List.Elements.{All-nil, All-cons}
@@ -10,19 +10,19 @@ use Rattle.mdl_book.specs.declared.lists.Lists.{Lists}
 use Rattle.mdl_book.specs.Books.{admitting}
 use Rattle.mdl_space.specs.declared.answers.Settled.TheVariants as settled_as
 use Rattle.mdl_space.specs.BlockingLaws.{IsGrantAt}
-use Rattle.mdl_space.specs.Cores.{Core, book_at, seat_at, key_at, has_key, has_session, is_free, booking, seating}
+use Rattle.mdl_space.specs.Cores.{Core, book_at, seat_at, key_at, has_key, is_free, seating}
 use Rattle.mdl_space.specs.CoreSystems.{system_of, book_of, waiter_in}
 use Rattle.mdl_space.specs.Moves.{admitting_at, admitting_if, admitting_up_to, is_ready, is_unsettled, next_ready, serving}
 use Rattle.mdl_space.specs.Seats.{settling}
 use Rattle.mdl_space.specs.Steps.{Event, GrantWaiter, Run, LeavesOrder}
-use Rattle.mdl_space.specs.Systems.{Waiter, System, NoneForgottenAt}
+use Rattle.mdl_space.specs.Systems.{NoneForgottenAt}
 use Rattle.mdl_space.specs.Ties.{IsTied}
 use Rattle.mdl_space.proofs.CoreEvents.{same_system, admitting-grants}
 use Rattle.mdl_space.proofs.CoreReads.{has_key-booking, booked-same}
 use Rattle.mdl_space.proofs.CoreGranted.{book_of-at, free-grantable}
 use Rattle.mdl_space.proofs.CoreSettling.{waiting-admitting}
 use Rattle.mdl_space.proofs.CoreWaiting.{waiter-found, unsettled-found}
-use Rattle.mdl_space.proofs.MoveFacts.{tied-admitting}
+use Rattle.mdl_space.proofs.TiedMoves.{tied-admitting}
 use Rattle.mdl_space.proofs.OrderLemmas.{Contains-cons_cases, Contains-here, Contains-later}
 
 -- ---- the first that passes a test

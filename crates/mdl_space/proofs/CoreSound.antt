@@ -1,7 +1,7 @@
 -- Each call of the lock space of one thread is an event of the system, and keeps the space sound; so does all that is asked of it.
 use Rattle.std.proofs.Common.{◌≡◌, ◌⊎◌, ℕ, Bool, true, false, not, inl, inr, zero, suc, ◌+◌, List, [], ◌∷◌, Option, Some, None, refl, sym, ap, subst, ◌∙◌, arith}
 use Rattle.std.specs.Option.{IfSome}
-use Rattle.std.specs.Prelude.{Contains, All, replicate, length, slice_index_or, position, is_some, if◌then◌else◌}
+use Rattle.std.specs.Prelude.{All, replicate, is_some, if◌then◌else◌}
 use Rattle.mdl_key.specs.Keys.{KeyName}
 use Rattle.mdl_key.specs.declared.mode.Mode.{Mode}
 use Rattle.mdl_key.specs.Modes.{is_mode_of}
@@ -9,27 +9,27 @@ use Rattle.mdl_defs.specs.declared.definition.Definition.{Definition}
 use Rattle.mdl_book.specs.Books.{lock_kind}
 use Rattle.mdl_space.specs.declared.space_error.SpaceError.{SpaceError}
 use Rattle.mdl_space.specs.declared.space_error.SpaceError.TheVariants.{OutOfMemory, Full}
-use Rattle.mdl_space.specs.Answers.{Answer, Refused, Granted, Would_wait, Waits, Holds, finds_no_memory}
+use Rattle.mdl_space.specs.Answers.{Answer, Refused, Granted, Would_wait, Waits}
 use Rattle.mdl_space.specs.BlockingLaws.{IsAbout, IsGrantAt}
 use Rattle.mdl_space.specs.Calls.{Call, Resolve, Try_now, Begin_wait, Search, Poll_wait, Settle_timeout, End_wait, Wait_of, Kill, Release, Clone_ticket, Upgrade_now, Merge, Downgrade, Read_definition, Change_definition, Tables_of, Key_of, Read_kept, List_held, Unpin, caller, takes_memory}
-use Rattle.mdl_space.specs.CoreCalls.{has_call, outcome, Makes, first_cause, refused_or, request_causes, is_full, is_counted_out, granted_unless_full, queued_unless_full, looking_after, listing}
+use Rattle.mdl_space.specs.CoreCalls.{has_call, outcome, Makes, first_cause, refused_or, request_causes, is_full, is_counted_out, looking_after, listing}
 use Rattle.mdl_space.specs.CoreJoins.{Joins, SpeaksFor}
-use Rattle.mdl_space.specs.CoreLaws.{is_change, IsEventOf, Reaches, CallsAreEvents, CallsKeepSound, GrantsWhatIsGrantable, RunsAreEvents}
-use Rattle.mdl_space.specs.Cores.{Core, empty_core, seat_at, book_at, key_at, has_key, has_session, is_free}
+use Rattle.mdl_space.specs.CoreLaws.{is_change, IsEventOf, Reaches, CallsAreEvents, CallsKeepSound, GrantsWhatIsGrantable}
+use Rattle.mdl_space.specs.Cores.{Core, empty_core, seat_at, book_at, key_at, has_key, is_free}
 use Rattle.mdl_space.specs.CoreSystems.{system_of, unended_from}
 use Rattle.mdl_space.specs.Moves.{granting_to, queueing}
 use Rattle.mdl_space.specs.Runs.{Program, Runs, runs_keeps}
-use Rattle.mdl_space.specs.Seats.{SeatView, empty_seat}
+use Rattle.mdl_space.specs.Seats.{empty_seat}
 use Rattle.mdl_space.specs.Steps.{Event, Happens, Run, SameMembers, SameSystem}
-use Rattle.mdl_space.specs.Systems.{System, GrantedWait, empty_system, IsGrantable, IsLawful, NoneForgotten}
+use Rattle.mdl_space.specs.Systems.{System, empty_system, IsGrantable, IsLawful, NoneForgotten}
 use Rattle.mdl_space.specs.Ties.{IsSound}
 use Rattle.mdl_space.proofs.CoreCallsFollow.{request_clear, follows-resolving, follows-trying, follows-beginning}
-use Rattle.mdl_space.proofs.CoreEvents.{same_members, same_system}
+use Rattle.mdl_space.proofs.CoreEvents.{same_members}
 use Rattle.mdl_space.proofs.CoreFollows.{Follows, LeadsTo, follows-same}
 use Rattle.mdl_space.proofs.CoreWaitsFollow.{follows-polling, follows-timing_out, follows-killing, follows-ending, follows-releasing, follows-cloning}
 use Rattle.mdl_space.proofs.LawfulLemmas.{empty-lawful, run-lawful}
 use Rattle.mdl_space.proofs.CoreGranted.{free-grantable}
-use Rattle.mdl_space.proofs.MoveFacts.{tied-empty}
+use Rattle.mdl_space.proofs.TiedMoves.{tied-empty}
 
 -- a refusal changes nothing
 calm : (call : Call) (refusal : SpaceError) → is_change call (Refused refusal) ≡ false

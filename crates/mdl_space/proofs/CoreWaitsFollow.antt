@@ -1,6 +1,6 @@
 -- What follows from the calls of the lock space of one thread that end, give up or clone.
-use Rattle.std.proofs.Common.{◌≡◌, ◌≢◌, ◌⊎◌, ℕ, ◌+◌, Bool, true, false, not, ◌&&◌, ◌==◌, inl, inr, List, [], ◌∷◌, length, Option, Some, None, refl, sym, ap, subst, ◌∙◌, arith}
-use Rattle.std.specs.Prelude.{Contains, find, is_some, nat_le, if◌then◌else◌}
+use Rattle.std.proofs.Common.{◌≡◌, ◌≢◌, ℕ, ◌+◌, Bool, true, false, not, ◌==◌, inl, Option, Some, None, refl, sym, ap, ◌∙◌, arith}
+use Rattle.std.specs.Prelude.{Contains, is_some, if◌then◌else◌}
 use Rattle.std.proofs.lemmas.Bool.Decides.{nat_tests}
 use Rattle.mdl_key.specs.Keys.{KeyName}
 use Rattle.mdl_key.specs.declared.mode.Mode.{Mode}
@@ -14,30 +14,26 @@ use Rattle.mdl_space.specs.declared.answers.Settled.TheVariants as settled_as
 use Rattle.mdl_space.specs.declared.answers.TimedOut.TheVariants.{ByThisCall, Already}
 use Rattle.mdl_space.specs.declared.seat.Pending.{Pending}
 use Rattle.mdl_space.specs.declared.space_error.SpaceError.{SpaceError}
-use Rattle.mdl_space.specs.declared.space_error.SpaceError.TheVariants.{NoPlace, NotHeld, AlreadyWaiting, BadMode, NoWait, CounterFull, Full, Unsettled as Not_settled}
-use Rattle.mdl_space.specs.Answers.{Answer, Refused, Done, At_place, Granted, Would_wait, Waits, Timed_out, Lost, Has_killed}
-use Rattle.mdl_space.specs.BlockingLaws.{IsAbout}
-use Rattle.mdl_space.specs.Calls.{Call, Resolve, Try_now, Begin_wait, Poll_wait, Settle_timeout, End_wait, Wait_of, Kill, Release, Clone_ticket, List_held}
-use Rattle.mdl_space.specs.CoreCalls.{first_cause, refused_or, is_counted_out, is_full, placing, resolving, request_causes, granted_unless_full, queued_unless_full, trying, beginning, clone_causes, cloning_of, cloning, held_ticket, releasing_of, releasing, standing, polling_of, polling, timing_out_at, timing_out_of, timing_out, ending_at, ending_of, ending, wait_at, is_open_wait, killing}
+use Rattle.mdl_space.specs.declared.space_error.SpaceError.TheVariants.{NotHeld, NoWait, Full, Unsettled as Not_settled}
+use Rattle.mdl_space.specs.Answers.{Answer, Refused, Done, Granted, Timed_out, Lost, Has_killed}
+use Rattle.mdl_space.specs.Calls.{Call, Poll_wait, Settle_timeout, End_wait, Kill, Release, Clone_ticket}
+use Rattle.mdl_space.specs.CoreCalls.{first_cause, refused_or, is_counted_out, is_full, granted_unless_full, clone_causes, cloning_of, cloning, held_ticket, releasing_of, releasing, standing, polling_of, polling, timing_out_at, timing_out_of, timing_out, ending_at, ending_of, ending, is_open_wait, killing}
 use Rattle.mdl_space.specs.CoreLaws.{IsEventOf}
-use Rattle.mdl_space.specs.Cores.{Core, book_at, seat_at, key_at, has_key, has_session, index_of, is_free, booking, seating}
-use Rattle.mdl_space.specs.CoreSystems.{system_of, state_of}
-use Rattle.mdl_space.specs.Moves.{next_ticket, opening, granting_to, queueing, losing, taking_up, leaving, freeing, serving}
+use Rattle.mdl_space.specs.Cores.{Core, book_at, seat_at, key_at, has_key, has_session, booking, seating}
+use Rattle.mdl_space.specs.CoreSystems.{state_of}
+use Rattle.mdl_space.specs.Moves.{granting_to, losing, taking_up, leaving, freeing, serving}
 use Rattle.mdl_space.specs.Own.{is_number}
 use Rattle.mdl_space.specs.Seats.{SeatView, is_open, without_wait, without_ticket}
-use Rattle.mdl_space.specs.Steps.{Event, Grant, Clone, BeginWait, SettleLost, EndGrantedWait, EndLostWait, Release as Give_up}
+use Rattle.mdl_space.specs.Steps.{Clone, SettleLost, EndGrantedWait, EndLostWait, Release as Give_up}
 use Rattle.mdl_space.specs.Strength.{covers}
-use Rattle.mdl_space.specs.Systems.{TimedOut, Killed, Unsettled, Holding, IsGrantable}
 use Rattle.mdl_space.specs.Ties.{IsTied, IsSound}
-use Rattle.mdl_space.proofs.CoreEvents.{granting-grants, granting-clones, freeing-releases, queueing-begins, losing-settles, taking_up-ends, leaving-ends}
-use Rattle.mdl_space.proofs.CoreFollows.{Follows, LeadsTo, follows-same, follows-as_same, follows-event, follows-serving}
+use Rattle.mdl_space.proofs.CoreEvents.{granting-clones, freeing-releases, losing-settles, taking_up-ends, leaving-ends}
+use Rattle.mdl_space.proofs.CoreFollows.{Follows, LeadsTo, follows-same, follows-event, follows-serving}
 use Rattle.mdl_space.proofs.CoreReads.{has_key-booking, booked-same}
-use Rattle.mdl_space.proofs.CoreServing.{truth, found-first}
-use Rattle.mdl_space.proofs.CoreGranted.{free-grantable, holding_of}
+use Rattle.mdl_space.proofs.CoreServing.{found-first}
+use Rattle.mdl_space.proofs.CoreGranted.{holding_of}
 use Rattle.mdl_space.proofs.CoreWaiting.{waiting_of, place_of_wait}
-use Rattle.mdl_space.proofs.CoreWaits.{waits-opening}
-use Rattle.mdl_space.proofs.GrantedMoves.{granted-opening}
-use Rattle.mdl_space.proofs.MoveFacts.{tied-opening, tied-granting, tied-queueing, tied-losing, tied-taking_up, tied-leaving, tied-freeing}
+use Rattle.mdl_space.proofs.TiedMoves.{tied-granting, tied-losing, tied-taking_up, tied-leaving, tied-freeing}
 use Rattle.mdl_space.proofs.CoreCallsFollow.{clone_clear, none_there, unsettled_wait}
 
 -- the key of a place whose book was written

@@ -22,7 +22,6 @@ pub mod HeldAfter
 pub mod HeldLemmas
 pub mod LawfulLemmas
 pub mod MemberLemmas
-pub mod MoveFacts
 pub mod NextSystems
 pub mod NumberingLemmas
 pub mod OrderLemmas

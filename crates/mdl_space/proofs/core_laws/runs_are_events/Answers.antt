@@ -3,4 +3,4 @@ use Rattle.mdl_space.proofs.CoreSound.{runs_are-events}
 use Rattle.mdl_space.proofs.core_laws.runs_are_events.Goals as goal
 
 pub returns : goal.returns
-returns g c = runs_are-events
+returns g c = λ apply. runs_are-events apply
