@@ -1,8 +1,11 @@
 pub mod ApartLemmas
 pub mod BlockingLemmas
 pub mod BookLemmas
+pub mod CaseLemmas
 pub mod CauseLemmas
 pub mod ConcernLemmas
+pub mod CoreMoves
+pub mod CoreSeats
 pub mod Deciding
 pub mod GrantingRuns
 pub mod HeldAfter
