@@ -4,8 +4,10 @@ pub mod BookLemmas
 pub mod CaseLemmas
 pub mod CauseLemmas
 pub mod ConcernLemmas
+pub mod CoreCases
 pub mod CoreMoves
 pub mod CoreSeats
+pub mod CoreSteps
 pub mod Deciding
 pub mod GrantingRuns
 pub mod HeldAfter
