@@ -62,7 +62,7 @@ module _ (a b : Core) (who : ℕ) (seat : SeatView) (is : has_session who a ≡ 
   sessions-written : (w : ℕ) → has_session w b ≡ has_session w a
   sessions-written w = ap (λ n. nat_le 1 w && nat_le w n) (ap length wrote ∙ length-set a.seats (who - 1) seat)
 
-  seat-written : seat_at who b ≡ seat
+  pub seat-written : seat_at who b ≡ seat
   seat-written =
       let h = session_bounds who (length a.seats) is in
       ap (λ seats. slice_index_or seats (who - 1) empty_seat) wrote ∙ get_or-set_same a.seats (who - 1) seat empty_seat (omega (arith, h.0, h.1))

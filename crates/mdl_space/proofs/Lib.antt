@@ -6,8 +6,10 @@ pub mod CauseLemmas
 pub mod ConcernLemmas
 pub mod CoreCases
 pub mod CoreMoves
+pub mod CoreOwn
 pub mod CoreSeats
 pub mod CoreSteps
+pub mod CoreWaits
 pub mod Deciding
 pub mod GrantingRuns
 pub mod HeldAfter
