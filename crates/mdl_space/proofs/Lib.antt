@@ -5,8 +5,10 @@ pub mod CaseLemmas
 pub mod CauseLemmas
 pub mod ConcernLemmas
 pub mod CoreCases
+pub mod CoreCauses
 pub mod CoreMoves
 pub mod CoreOwn
+pub mod CorePlaces
 pub mod CoreSeats
 pub mod CoreSteps
 pub mod CoreWaits
