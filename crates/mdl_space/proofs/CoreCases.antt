@@ -1,6 +1,6 @@
 -- How each call of the space of one thread can end, and what is so then: what holds of all these ends holds of its outcome.
-use Rattle.std.proofs.Common.{◌≡◌, ℕ, ◌+◌, ◌-◌, ◌^◌, Bool, true, false, not, ◌&&◌, ◌==◌, nat_le, List, [], ◌∷◌, ◌++◌, length, find, Option, Some, None, is_some, if◌then◌else◌, refl, sym, ap, ◌∙◌, inl, inr, eqb-true}
-use Rattle.std.proofs.lemmas.Bool.{and_parts, and_cases, not_from_false}
+use Rattle.std.proofs.Common.{◌≡◌, ℕ, ◌+◌, Bool, true, false, not, ◌&&◌, ◌==◌, nat_le, List, [], ◌∷◌, length, Option, Some, None, is_some, if◌then◌else◌, refl, eqb-true}
+use Rattle.std.proofs.lemmas.Bool.{and_parts}
 use Rattle.mdl_book.specs.Books.{lock_kind}
 use Rattle.mdl_key.specs.declared.mode.Mode.{Mode}
 use Rattle.mdl_key.specs.Keys.{KeyName}
@@ -13,10 +13,9 @@ use Rattle.mdl_space.specs.declared.seat.Pending.{Pending}
 use Rattle.mdl_space.specs.declared.space_error.SpaceError.{SpaceError}
 use Rattle.mdl_space.specs.declared.space_error.SpaceError.TheVariants.{NoPlace, NotHeld, AlreadyWaiting, BadMode, NoWait, Unsettled, CounterFull, Full}
 use Rattle.mdl_space.specs.Answers.{Answer, Refused, Done, At_place, Granted, Would_wait, Waits, Pending as Is_pending, Is_settled, Timed_out, Lost, Has_killed}
-use Rattle.mdl_space.specs.CoreCalls.{refused_or, first_cause, is_counted_out, is_full, placing, resolving, request_causes, granted_unless_full, queued_unless_full, trying, beginning, clone_causes, cloning_of, cloning, held_ticket, releasing_of, releasing, standing, polling_of, polling, timing_out_at, timing_out_of, timing_out, ending_at, ending_of, ending, wait_at, is_open_wait, killing}
+use Rattle.mdl_space.specs.CoreCalls.{refused_or, first_cause, is_counted_out, is_full, placing, resolving, request_causes, granted_unless_full, queued_unless_full, trying, beginning, cloning_of, cloning, held_ticket, releasing_of, releasing, standing, polling_of, polling, timing_out_at, timing_out_of, timing_out, ending_at, ending_of, ending, wait_at, is_open_wait, killing}
 use Rattle.mdl_space.specs.Cores.{Core, book_at, seat_at, has_key, has_session, index_of, is_free}
 use Rattle.mdl_space.specs.Moves.{opening, granting_to, queueing, losing, taking_up, leaving, freeing, serving}
-use Rattle.mdl_space.specs.Seats.{is_open}
 use Rattle.mdl_space.specs.Strength.{covers}
 use Rattle.mdl_space.proofs.CaseLemmas.{test_cases}
 
@@ -155,10 +154,10 @@ module _ (P : Answer × Core → Type 0) where
           (granted_unless_full who ticket.place mode a)
           (λ f. refused ticket e BadMode (free, not_true _ f))
           (λ f.
-              (let fit = and_parts (covers ticket.mode mode) (is_fit ticket.place mode a) (not_false _ f) in
-              cause_cases P (is_counted_out who a) CounterFull [] a (granted_unless_full who ticket.place mode a)
-              (λ _. refused ticket e CounterFull (free, fit.0, fit.1))
-              (λ _. granted_cases P who ticket.place mode a (refused ticket e Full (free, fit.0, fit.1)) (granted ticket e (free, fit.0, fit.1))))))
+          (let fit = and_parts (covers ticket.mode mode) (is_fit ticket.place mode a) (not_false _ f) in
+          cause_cases P (is_counted_out who a) CounterFull [] a (granted_unless_full who ticket.place mode a)
+          (λ _. refused ticket e CounterFull (free, fit.0, fit.1))
+          (λ _. granted_cases P who ticket.place mode a (refused ticket e Full (free, fit.0, fit.1)) (granted ticket e (free, fit.0, fit.1))))))
 
   pub release_cases : (who id : ℕ) (a : Core)
       → (held_ticket who id a ≡ None → P (Refused NotHeld, a))

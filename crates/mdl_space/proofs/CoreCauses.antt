@@ -9,7 +9,7 @@ use Rattle.mdl_space.specs.declared.seat.Pending.{Pending}
 use Rattle.mdl_space.specs.declared.space_error.SpaceError.{SpaceError}
 use Rattle.mdl_space.specs.declared.space_error.SpaceError.TheVariants.{NoPlace, AlreadyWaiting, BadMode, CounterFull, Full, OutOfMemory}
 use Rattle.mdl_space.specs.Answers.{Answer}
-use Rattle.mdl_space.specs.Calls.{Call, Resolve, Try_now, Begin_wait, Search, Poll_wait, Settle_timeout, End_wait, Wait_of, Kill, Release, Clone_ticket, Upgrade_now, Merge, Downgrade, Read_definition, Change_definition, Tables_of, Key_of, Read_kept, List_held, Unpin, caller, takes_memory}
+use Rattle.mdl_space.specs.Calls.{Call, Resolve, Try_now, Begin_wait, Poll_wait, Settle_timeout, End_wait, Wait_of, Kill, Release, Clone_ticket, Change_definition, List_held, caller, takes_memory}
 use Rattle.mdl_space.specs.Causes.{OfHeld, IsFit, IsUnfit, IsUnknown, MayClone, MayNotClone, IsCause, IsExplained}
 use Rattle.mdl_space.specs.CoreCalls.{has_call, outcome, held_ticket}
 use Rattle.mdl_space.specs.CoreJoins.{own_at, Knows, Joins}

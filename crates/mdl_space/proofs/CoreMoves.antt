@@ -1,7 +1,7 @@
 -- What each move in the space of one thread leaves to the sessions.
-use Rattle.std.proofs.Common.{◌≡◌, ◌≢◌, ◌⊎◌, ℕ, zero, suc, ◌+◌, ◌-◌, ◌<◌, ◌≤◌, Bool, true, false, not, ◌&&◌, nat_le, List, [], ◌∷◌, ◌++◌, length, find, Option, Some, None, MatchOption, is_some, option_map, slice_index_or, slice_set, refl, sym, ap, subst, ◌∙◌, arith, inl, inr}
+use Rattle.std.proofs.Common.{◌≡◌, ◌≢◌, ◌⊎◌, ℕ, zero, suc, ◌+◌, ◌-◌, true, false, not, ◌&&◌, nat_le, length, Option, Some, None, MatchOption, is_some, option_map, slice_index_or, slice_set, refl, sym, ap, subst, ◌∙◌, arith, inl, inr}
 use Rattle.std.proofs.lemmas.Bool.{and_parts}
-use Rattle.std.proofs.lemmas.List.{length-set, get_or-set_same, get_or-set_other, get_or_append_left}
+use Rattle.std.proofs.lemmas.List.{length-set, get_or-set_same, get_or-set_other}
 use Rattle.mdl_book.specs.Books.{empty_book, granting, enqueueing, admitting, cancelling, removing}
 use Rattle.mdl_book.specs.declared.lists.Lists.{Lists}
 use Rattle.mdl_book.specs.declared.ticket.Ticket.{Ticket}
@@ -12,11 +12,11 @@ use Rattle.mdl_space.specs.declared.answers.Settled.{Settled}
 use Rattle.mdl_space.specs.declared.answers.Settled.TheVariants as settled_as
 use Rattle.mdl_space.specs.declared.seat.Pending.{Pending}
 use Rattle.mdl_space.specs.CoreJoins.{own_at, Knows}
-use Rattle.mdl_space.specs.Cores.{Core, book_at, seat_at, has_key, has_session}
-use Rattle.mdl_space.specs.Moves.{next_ticket, opening, granting_to, queueing, losing, taking_up, leaving, freeing, admitting_at, is_ready, next_ready, admitting_if, admitting_up_to, serving}
-use Rattle.mdl_space.specs.Own.{Own, Wait, gaining, waiting, ending, winning, giving_up}
+use Rattle.mdl_space.specs.Cores.{Core, book_at, seat_at, has_session}
+use Rattle.mdl_space.specs.Moves.{next_ticket, granting_to, queueing, losing, taking_up, leaving, freeing, admitting_at, is_ready, next_ready, admitting_if, admitting_up_to, serving}
+use Rattle.mdl_space.specs.Own.{Wait, gaining, waiting, ending, winning, giving_up}
 use Rattle.mdl_space.specs.Seats.{SeatView, own_of, holding, without_ticket, beginning_wait, is_open, settling, without_wait, with_ticket_of}
-use Rattle.mdl_space.proofs.CoreSeats.{session_bounds, HasSettled, Moves, Serves, stands, writes, serves-same, serves-then, serves-one}
+use Rattle.mdl_space.proofs.CoreSeats.{session_bounds, HasSettled, Moves, Serves, writes, serves-same, serves-then, serves-one}
 use Rattle.mdl_space.proofs.Deciding.{nat_told}
 
 -- ---- keys
@@ -24,9 +24,10 @@ use Rattle.mdl_space.proofs.Deciding.{nat_told}
 -- a book is written that has the key of the one before it
 pub keys-booked : (a b : Core) (place : ℕ) (book : Lists) → b.books ≡ slice_set a.books (place - 1) book → book.key ≡ (book_at place a).key
     → (w other : ℕ) (key : KeyName) → Knows a w other key → Knows b w other key
-keys-booked a b place book wrote same w other key knows =
-    (ap (λ n. nat_le 1 other && nat_le other n) (ap length wrote ∙ length-set a.books (place - 1) book) ∙ knows.0,
-    ap (λ books. (slice_index_or books (other - 1) (empty_book global_key)).key) wrote ∙ at (nat_told (other - 1) (place - 1)) ∙ knows.1)
+keys-booked a b place book wrote same w other key knows = (
+  ap (λ n. nat_le 1 other && nat_le other n) (ap length wrote ∙ length-set a.books (place - 1) book) ∙ knows.0,
+  ap (λ books. (slice_index_or books (other - 1) (empty_book global_key)).key) wrote ∙ at (nat_told (other - 1) (place - 1)) ∙ knows.1,
+)
   where
     at : (other - 1 ≡ place - 1) ⊎ (other - 1 ≢ place - 1)
         → (slice_index_or (slice_set a.books (place - 1) book) (other - 1) (empty_book global_key)).key ≡ (book_at other a).key

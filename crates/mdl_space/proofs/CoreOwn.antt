@@ -1,12 +1,12 @@
 -- What a call of the space of one thread does to what the sessions have, and that its answer is one of its own.
-use Rattle.std.proofs.Common.{◌≡◌, ◌⊎◌, ℕ, Bool, true, false, List, Option, Some, None, IfSome, refl, sym, ap, subst, ◌∙◌, inl, inr}
+use Rattle.std.proofs.Common.{◌≡◌, ◌⊎◌, ℕ, true, List, Option, Some, None, IfSome, refl, sym, ap, subst, ◌∙◌, inl, inr}
 use Rattle.mdl_space.specs.declared.answers.Held.{Held}
 use Rattle.mdl_space.specs.declared.answers.Settled.{Settled}
 use Rattle.mdl_space.specs.declared.answers.Settled.TheVariants as settled_as
 use Rattle.mdl_space.specs.declared.space_error.SpaceError.{SpaceError}
 use Rattle.mdl_space.specs.declared.space_error.SpaceError.TheVariants.{OutOfMemory}
 use Rattle.mdl_space.specs.Answers.{Answer, Refused, Lost, Holds, is_answer_of}
-use Rattle.mdl_space.specs.Calls.{Call, Resolve, Try_now, Begin_wait, Search, Poll_wait, Settle_timeout, End_wait, Wait_of, Kill, Release, Clone_ticket, Upgrade_now, Merge, Downgrade, Read_definition, Change_definition, Tables_of, Key_of, Read_kept, List_held, Unpin, caller, takes_memory}
+use Rattle.mdl_space.specs.Calls.{Call, Resolve, Try_now, Begin_wait, Poll_wait, Settle_timeout, End_wait, Wait_of, Kill, Release, Clone_ticket, List_held, caller, takes_memory}
 use Rattle.mdl_space.specs.CoreCalls.{has_call, outcome}
 use Rattle.mdl_space.specs.CoreJoins.{SpeaksFor, own_at, Joins}
 use Rattle.mdl_space.specs.Cores.{Core, seat_at, has_session}

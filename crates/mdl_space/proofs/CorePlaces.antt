@@ -1,5 +1,5 @@
 -- Which keys are at which places in the space of one thread.
-use Rattle.std.proofs.Common.{◌≡◌, ℕ, ◌+◌, ◌-◌, ◌<◌, ◌≤◌, Bool, true, false, ◌&&◌, ◌==◌, nat_le, List, [], ◌∷◌, ◌++◌, length, position, get_or, Option, Some, None, Decides, refl, sym, ap, subst, ◌∙◌, arith, inl, inr}
+use Rattle.std.proofs.Common.{◌≡◌, ℕ, ◌+◌, ◌-◌, ◌<◌, ◌≤◌, Bool, true, false, List, [], ◌∷◌, ◌++◌, length, position, get_or, Some, None, Decides, refl, sym, ap, subst, ◌∙◌, arith}
 use Rattle.std.specs.List.{position_or_len}
 use Rattle.std.proofs.lemmas.Bool.Decides.{nat_tests, Decides-and, Decides-like, Decides-eqb}
 use Rattle.std.proofs.lemmas.Grind.{common_steps}
@@ -16,7 +16,7 @@ use Rattle.mdl_key.specs.Keys.{KeyName, namespace_rank, global_key, key_eq}
 use Rattle.mdl_space.specs.Answers.{Answer, At_place}
 use Rattle.mdl_space.specs.Calls.{Call, Resolve, Unpin}
 use Rattle.mdl_space.specs.CoreJoins.{SpeaksFor, Knows, Joins}
-use Rattle.mdl_space.specs.Cores.{Core, has_key, key_at, index_of}
+use Rattle.mdl_space.specs.Cores.{Core, key_at, index_of}
 use Rattle.mdl_space.specs.Moves.{opening}
 use Rattle.mdl_space.proofs.CoreCases.{resolve_cases}
 use Rattle.mdl_space.proofs.CoreOwn.{joined, joins-steps}
@@ -51,7 +51,7 @@ pub unplaced : (a : Core) (w place : ℕ) (key : KeyName) → index_of key a.boo
 unplaced a w place key none knows =
     let h = session_bounds place (length a.books) knows.0 in
     let differs : key_eq (key_at place a) key ≡ false =
-        none_passes (λ (book : Lists). key_eq book.key key) a.books (place - 1) (empty_book global_key) none (omega (arith, h.0, h.1)) in
+    none_passes (λ (book : Lists). key_eq book.key key) a.books (place - 1) (empty_book global_key) none (omega (arith, h.0, h.1)) in
     let same : key_eq (key_at place a) key ≡ true = (key_eq-Decides (key_at place a) key).1 knows.1 in
     cc
 
@@ -61,17 +61,19 @@ Resolves who key result = (place : ℕ) → result.0 ≡ At_place place → Know
 found-known : (a : Core) (who index : ℕ) (key : KeyName) → index_of key a.books ≡ Some index → Knows a who (index + 1) key
 found-known a who index key found =
     let h = position-Some (λ (book : Lists). key_eq book.key key) a.books index (empty_book global_key) found in
-    let at : index + 1 - 1 ≡ index = omega arith in
-    (grind (arith, nat_tests, h.0),
-    (key_eq-Decides (key_at (index + 1) a) key).0 (ap (λ n. key_eq (get_or a.books n (empty_book global_key)).key key) at ∙ h.1))
+    let at : index + 1 - 1 ≡ index = omega arith in (
+      grind (arith, nat_tests, h.0),
+      (key_eq-Decides (key_at (index + 1) a) key).0 (ap (λ n. key_eq (get_or a.books n (empty_book global_key)).key key) at ∙ h.1),
+    )
 
 new-known : (a : Core) (who : ℕ) (key : KeyName) → Knows (opening key a) who (length a.books + 1) key
 new-known a who key =
     let longer : length (a.books ++ empty_book key ∷ []) ≡ length a.books + 1 = length-append a.books (empty_book key ∷ []) in
-    let at : length a.books + 1 - 1 ≡ length a.books = omega arith in
-    (grind (arith, nat_tests, longer),
-    ap (λ n. (get_or (a.books ++ empty_book key ∷ []) n (empty_book global_key)).key) at
-    ∙ ap (λ (x : Lists). x.key) (get_or-append_seam a.books (empty_book key) [] (empty_book global_key)))
+    let at : length a.books + 1 - 1 ≡ length a.books = omega arith in (
+      grind (arith, nat_tests, longer),
+      ap (λ n. (get_or (a.books ++ empty_book key ∷ []) n (empty_book global_key)).key) at
+          ∙ ap (λ (x : Lists). x.key) (get_or-append_seam a.books (empty_book key) [] (empty_book global_key)),
+    )
 
 -- ---- the laws
 

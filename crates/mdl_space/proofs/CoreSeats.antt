@@ -1,5 +1,5 @@
 -- One session's seat is written: what all sessions have then, and how their waits are settled.
-use Rattle.std.proofs.Common.{◌≡◌, ◌≢◌, ℕ, ◌-◌, ◌<◌, ◌≤◌, Bool, true, false, ◌&&◌, nat_le, List, length, Option, Some, None, MatchOption, slice_index_or, slice_set, refl, sym, ap, subst, ◌∙◌, arith, inl, inr}
+use Rattle.std.proofs.Common.{◌≡◌, ◌≢◌, ℕ, ◌-◌, ◌≤◌, Bool, true, false, ◌&&◌, nat_le, length, Option, Some, None, MatchOption, slice_index_or, slice_set, refl, sym, ap, subst, ◌∙◌, arith, inl, inr}
 use Rattle.std.proofs.lemmas.Bool.Decides.{nat_tests}
 use Rattle.std.proofs.lemmas.List.{length-set, get_or-set_same, get_or-set_other}
 use Rattle.mdl_key.specs.Keys.{KeyName}
@@ -10,7 +10,7 @@ use Rattle.mdl_space.specs.CoreJoins.{own_at, Knows, IsSettledAs}
 use Rattle.mdl_space.specs.Cores.{Core, seat_at, has_session}
 use Rattle.mdl_space.specs.Own.{Own}
 use Rattle.mdl_space.specs.Seats.{SeatView, own_of, empty_seat}
-use Rattle.mdl_space.proofs.CaseLemmas.{if-true, if-false}
+use Rattle.mdl_space.proofs.CaseLemmas.{if-true}
 use Rattle.mdl_space.proofs.Deciding.{nat_told}
 
 -- a session is one from 1 on

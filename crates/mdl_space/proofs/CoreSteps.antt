@@ -1,30 +1,26 @@
 -- What each call of the space of one thread does to the session that it is about, and what it leaves to the others.
-use Rattle.std.proofs.Common.{◌≡◌, ◌≢◌, ◌⊎◌, ℕ, ◌+◌, ◌-◌, ◌==◌, Bool, true, false, not, ◌&&◌, List, [], ◌∷◌, ◌++◌, length, find, Option, Some, None, is_some, IfSome, slice_index_or, refl, sym, ap, subst, ◌∙◌, arith, inl, inr, eqb-true, if◌then◌else◌}
-use Rattle.std.proofs.lemmas.Bool.{and_parts}
+use Rattle.std.proofs.Common.{◌≡◌, ℕ, ◌+◌, ◌-◌, Bool, true, false, not, [], ◌∷◌, ◌++◌, length, Some, None, is_some, IfSome, refl, sym, ap, subst, ◌∙◌, arith, eqb-true}
 use Rattle.std.proofs.lemmas.Bool.Decides.{nat_tests}
 use Rattle.std.proofs.lemmas.List.{length-append, get_or_append_left}
-use Rattle.mdl_book.specs.Books.{lock_kind, empty_book}
+use Rattle.mdl_book.specs.Books.{empty_book}
 use Rattle.mdl_book.specs.declared.lists.Lists.{Lists}
 use Rattle.mdl_book.proofs.TicketLemmas.{find-passes}
 use Rattle.mdl_key.specs.declared.mode.Mode.{Mode}
 use Rattle.mdl_key.specs.Keys.{KeyName, global_key}
-use Rattle.mdl_key.specs.Modes.{is_mode_of}
 use Rattle.mdl_space.specs.declared.answers.Held.{Held}
-use Rattle.mdl_space.specs.declared.answers.Settled.{Settled}
 use Rattle.mdl_space.specs.declared.answers.Settled.TheVariants as settled_as
 use Rattle.mdl_space.specs.declared.seat.Pending.{Pending}
-use Rattle.mdl_space.specs.declared.space_error.SpaceError.TheVariants.{NoPlace, AlreadyWaiting, BadMode}
-use Rattle.mdl_space.specs.Answers.{Answer, Granted}
+use Rattle.mdl_space.specs.Answers.{Answer}
 use Rattle.mdl_space.specs.Calls.{Call, Resolve, Try_now, Begin_wait, Search, Poll_wait, Settle_timeout, End_wait, Wait_of, Kill, Release, Clone_ticket, Upgrade_now, Merge, Downgrade, Read_definition, Change_definition, Tables_of, Key_of, Read_kept, List_held, Unpin, caller}
 use Rattle.mdl_space.specs.CoreCalls.{resolving, trying, beginning, cloning, held_ticket, releasing, polling, timing_out, ending, killing, has_call, outcome}
-use Rattle.mdl_space.specs.CoreJoins.{own_at, Knows, SpeaksFor}
-use Rattle.mdl_space.specs.Cores.{Core, book_at, seat_at, has_key, has_session, index_of, is_free}
-use Rattle.mdl_space.specs.Moves.{opening, granting_to, taking_up, leaving, freeing, serving}
-use Rattle.mdl_space.specs.Own.{Own, own_after, cloning as cloning_own, ending as ending_own, giving_up, is_number}
+use Rattle.mdl_space.specs.CoreJoins.{own_at, Knows}
+use Rattle.mdl_space.specs.Cores.{Core, seat_at, has_session}
+use Rattle.mdl_space.specs.Moves.{opening, granting_to, leaving, freeing, serving}
+use Rattle.mdl_space.specs.Own.{own_after, cloning as cloning_own, ending as ending_own, giving_up, is_number}
 use Rattle.mdl_space.specs.Seats.{is_open}
 use Rattle.mdl_space.proofs.CoreCases.{resolve_cases, try_cases, begin_cases, clone_cases, release_cases, poll_cases, timeout_cases, end_cases, kill_cases}
 use Rattle.mdl_space.proofs.CoreMoves.{granting-moves, queueing-moves, taking_up-moves, leaving-moves, freeing-moves, losing-moves, serving-serves}
-use Rattle.mdl_space.proofs.CoreSeats.{session_bounds, Moves, stands, moves-then, wait-of_session}
+use Rattle.mdl_space.proofs.CoreSeats.{session_bounds, Moves, stands, moves-then}
 
 -- the session that a call is about: who makes it, or whose wait is looked after or killed
 abbrev pub subject : Call → ℕ
@@ -65,9 +61,10 @@ Steps a call result = Moves a (subject call) (own_after call result.0 (own_at a 
 opening-keeps : (key : KeyName) (a : Core) (w place : ℕ) (other : KeyName) → Knows a w place other → Knows (opening key a) w place other
 opening-keeps key a w place other knows =
     let h = session_bounds place (length a.books) knows.0 in
-    let longer : length (a.books ++ empty_book key ∷ []) ≡ length a.books + 1 = length-append a.books (empty_book key ∷ []) in
-    (grind (arith, nat_tests, h.0, h.1, longer),
-    ap (λ (x : Lists). x.key) (get_or_append_left a.books (empty_book key ∷ []) (empty_book global_key) (place - 1) (omega (arith, h.0, h.1))) ∙ knows.1)
+    let longer : length (a.books ++ empty_book key ∷ []) ≡ length a.books + 1 = length-append a.books (empty_book key ∷ []) in (
+      grind (arith, nat_tests, h.0, h.1, longer),
+      ap (λ (x : Lists). x.key) (get_or_append_left a.books (empty_book key ∷ []) (empty_book global_key) (place - 1) (omega (arith, h.0, h.1))) ∙ knows.1,
+    )
 
 resolve-steps : (a : Core) (who : ℕ) (key : KeyName) → Steps a (Resolve who key) (resolving key a)
 resolve-steps a who key = resolve_cases (Steps a (Resolve who key)) key a (λ index e. stands a who false) (λ e. stands a who false) (λ e. record {

@@ -1,12 +1,12 @@
 -- What is told of waits in the space of one thread, and that a settled wait stays as it is settled.
-use Rattle.std.proofs.Common.{◌≡◌, ◌⊎◌, ℕ, Bool, true, false, Option, Some, None, MatchOption, IfSome, is_some, option_map, refl, sym, ap, subst, ◌∙◌, inl, inr}
+use Rattle.std.proofs.Common.{◌≡◌, ◌⊎◌, ℕ, true, false, Option, Some, None, MatchOption, IfSome, option_map, refl, sym, ap, subst, ◌∙◌, inl, inr}
 use Rattle.mdl_space.specs.declared.answers.Settled.{Settled}
 use Rattle.mdl_space.specs.declared.answers.Settled.TheVariants as settled_as
-use Rattle.mdl_space.specs.declared.answers.TimedOut.TheVariants.{ByThisCall, Already}
+use Rattle.mdl_space.specs.declared.answers.TimedOut.TheVariants.{Already}
 use Rattle.mdl_space.specs.declared.seat.Pending.{Pending}
 use Rattle.mdl_space.specs.Answers.{Answer, Granted, Lost, Has_wait, Has_killed, Is_settled, Timed_out}
-use Rattle.mdl_space.specs.Calls.{Call, Poll_wait, Settle_timeout, End_wait, Wait_of, Kill, caller, takes_memory}
-use Rattle.mdl_space.specs.CoreCalls.{outcome, wait_at, looking_after, killing}
+use Rattle.mdl_space.specs.Calls.{Call, Poll_wait, Settle_timeout, End_wait, Wait_of, Kill, caller}
+use Rattle.mdl_space.specs.CoreCalls.{wait_at, killing}
 use Rattle.mdl_space.specs.CoreJoins.{SpeaksFor, own_at, IsSettledAs, Joins}
 use Rattle.mdl_space.specs.Cores.{Core, seat_at, has_session}
 use Rattle.mdl_space.specs.Moves.{losing}
