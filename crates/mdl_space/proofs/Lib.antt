@@ -1,17 +1,8 @@
 pub mod ApartLemmas
 pub mod BlockingLemmas
 pub mod BookLemmas
-pub mod CaseLemmas
 pub mod CauseLemmas
 pub mod ConcernLemmas
-pub mod CoreCases
-pub mod CoreCauses
-pub mod CoreMoves
-pub mod CoreOwn
-pub mod CorePlaces
-pub mod CoreSeats
-pub mod CoreSteps
-pub mod CoreWaits
 pub mod Deciding
 pub mod GrantingRuns
 pub mod HeldAfter

@@ -17,7 +17,7 @@ use Rattle.mdl_space.specs.CoreCalls.{refused_or, first_cause, is_counted_out, i
 use Rattle.mdl_space.specs.Cores.{Core, book_at, seat_at, has_key, has_session, index_of, is_free}
 use Rattle.mdl_space.specs.Moves.{opening, granting_to, queueing, losing, taking_up, leaving, freeing, serving}
 use Rattle.mdl_space.specs.Strength.{covers}
-use Rattle.mdl_space.proofs.CaseLemmas.{test_cases}
+use Rattle.mdl_space.specs.CoreProofs.Choices.{test_cases}
 
 -- whether the session waits
 abbrev pub waits : ℕ → Core → Bool

@@ -18,9 +18,9 @@ use Rattle.mdl_space.specs.Calls.{Call, Resolve, Unpin}
 use Rattle.mdl_space.specs.CoreJoins.{SpeaksFor, Knows, Joins}
 use Rattle.mdl_space.specs.Cores.{Core, key_at, index_of}
 use Rattle.mdl_space.specs.Moves.{opening}
-use Rattle.mdl_space.proofs.CoreCases.{resolve_cases}
-use Rattle.mdl_space.proofs.CoreOwn.{joined, joins-steps}
-use Rattle.mdl_space.proofs.CoreSeats.{session_bounds}
+use Rattle.mdl_space.specs.CoreProofs.Cases.{resolve_cases}
+use Rattle.mdl_space.specs.CoreProofs.Owned.{joined, joins-steps}
+use Rattle.mdl_space.specs.CoreProofs.Seats.{session_bounds}
 
 -- ---- keys by their parts
 

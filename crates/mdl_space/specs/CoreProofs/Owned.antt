@@ -9,12 +9,13 @@ use Rattle.mdl_space.specs.Answers.{Answer, Refused, Lost, Holds, is_answer_of}
 use Rattle.mdl_space.specs.Calls.{Call, Resolve, Try_now, Begin_wait, Poll_wait, Settle_timeout, End_wait, Wait_of, Kill, Release, Clone_ticket, List_held, caller, takes_memory}
 use Rattle.mdl_space.specs.CoreCalls.{has_call, outcome}
 use Rattle.mdl_space.specs.CoreJoins.{SpeaksFor, own_at, Joins}
+use Rattle.mdl_space.specs.CoreLaws.{CallsKeepSound}
 use Rattle.mdl_space.specs.Cores.{Core, seat_at, has_session}
 use Rattle.mdl_space.specs.Own.{Own, own_after, IsRising}
-use Rattle.mdl_space.proofs.CoreCases.{resolve_cases, try_cases, begin_cases, clone_cases, release_cases, poll_cases, timeout_cases, end_cases, kill_cases}
-use Rattle.mdl_space.proofs.CoreSeats.{Moves, stands}
-use Rattle.mdl_space.proofs.CoreSteps.{Steps, subject, ends_wait, steps}
-use Rattle.mdl_space.proofs.Deciding.{nat_told}
+use Rattle.mdl_space.specs.CoreProofs.Cases.{resolve_cases, try_cases, begin_cases, clone_cases, release_cases, poll_cases, timeout_cases, end_cases, kill_cases}
+use Rattle.mdl_space.specs.CoreProofs.Seats.{Moves, stands}
+use Rattle.mdl_space.specs.CoreProofs.Steps.{Steps, subject, ends_wait, steps}
+use Rattle.mdl_space.specs.CoreProofs.Choices.{nat_told}
 
 -- ---- calls and their outcomes
 
@@ -64,6 +65,10 @@ core-allowed a b call answer joins = joins.0
 -- the sessions stay
 pub core-keeps_sessions : (a b : Core) (call : Call) (answer : Answer) (w : ℕ) → has_session w a ≡ true → Joins a call answer b → has_session w b ≡ true
 core-keeps_sessions a b call answer w is joins = (joins-steps a b call answer joins).sessions w ∙ is
+
+-- the space goes on to speak for the same sessions, as long as calls keep it sound
+pub core-keeps : CallsKeepSound → (a b : Core) (call : Call) (answer : Answer) (w : ℕ) → SpeaksFor a w → Joins a call answer b → SpeaksFor b w
+core-keeps sound a b call answer w speaks joins = (core-keeps_sessions a b call answer w speaks.0 joins, sound a b call answer speaks.1 joins)
 
 -- what a call and its answer do to the caller
 pub core-changes : (a b : Core) (call : Call) (answer : Answer) (who : ℕ) → caller call ≡ Some who → Joins a call answer b

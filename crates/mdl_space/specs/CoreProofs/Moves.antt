@@ -16,8 +16,8 @@ use Rattle.mdl_space.specs.Cores.{Core, book_at, seat_at, has_session}
 use Rattle.mdl_space.specs.Moves.{next_ticket, granting_to, queueing, losing, taking_up, leaving, freeing, admitting_at, is_ready, next_ready, admitting_if, admitting_up_to, serving}
 use Rattle.mdl_space.specs.Own.{Wait, gaining, waiting, ending, winning, giving_up}
 use Rattle.mdl_space.specs.Seats.{SeatView, own_of, holding, without_ticket, beginning_wait, is_open, settling, without_wait, with_ticket_of}
-use Rattle.mdl_space.proofs.CoreSeats.{session_bounds, HasSettled, Moves, Serves, writes, serves-same, serves-then, serves-one}
-use Rattle.mdl_space.proofs.Deciding.{nat_told}
+use Rattle.mdl_space.specs.CoreProofs.Seats.{session_bounds, HasSettled, Moves, Serves, writes, serves-same, serves-then, serves-one}
+use Rattle.mdl_space.specs.CoreProofs.Choices.{nat_told}
 
 -- ---- keys
 

@@ -17,10 +17,10 @@ use Rattle.mdl_space.specs.Cores.{Core, seat_at, has_key}
 use Rattle.mdl_space.specs.Own.{is_waiting, holds}
 use Rattle.mdl_space.specs.Seats.{SeatView, own_of}
 use Rattle.mdl_space.specs.Strength.{covers}
-use Rattle.mdl_space.proofs.CoreCases.{waits, is_fit, IsAskRefusal, IsClonable, IsCloneRefusal, resolve_cases, try_cases, begin_cases, clone_cases, release_cases, poll_cases, timeout_cases, end_cases, kill_cases}
-use Rattle.mdl_space.proofs.CoreOwn.{joined, called}
-use Rattle.mdl_space.proofs.CorePlaces.{unplaced}
-use Rattle.mdl_space.proofs.CoreSteps.{subject}
+use Rattle.mdl_space.specs.CoreProofs.Cases.{waits, is_fit, IsAskRefusal, IsClonable, IsCloneRefusal, resolve_cases, try_cases, begin_cases, clone_cases, release_cases, poll_cases, timeout_cases, end_cases, kill_cases}
+use Rattle.mdl_space.specs.CoreProofs.Owned.{joined, called}
+use Rattle.mdl_space.specs.CoreProofs.Places.{unplaced}
+use Rattle.mdl_space.specs.CoreProofs.Steps.{subject}
 
 -- a call of this session with this answer is explained
 abbrev Explained : Core → ℕ → Call → Answer × Core → Type 0

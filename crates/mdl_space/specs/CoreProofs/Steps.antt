@@ -18,9 +18,9 @@ use Rattle.mdl_space.specs.Cores.{Core, seat_at, has_session}
 use Rattle.mdl_space.specs.Moves.{opening, granting_to, leaving, freeing, serving}
 use Rattle.mdl_space.specs.Own.{own_after, cloning as cloning_own, ending as ending_own, giving_up, is_number}
 use Rattle.mdl_space.specs.Seats.{is_open}
-use Rattle.mdl_space.proofs.CoreCases.{resolve_cases, try_cases, begin_cases, clone_cases, release_cases, poll_cases, timeout_cases, end_cases, kill_cases}
-use Rattle.mdl_space.proofs.CoreMoves.{granting-moves, queueing-moves, taking_up-moves, leaving-moves, freeing-moves, losing-moves, serving-serves}
-use Rattle.mdl_space.proofs.CoreSeats.{session_bounds, Moves, stands, moves-then}
+use Rattle.mdl_space.specs.CoreProofs.Cases.{resolve_cases, try_cases, begin_cases, clone_cases, release_cases, poll_cases, timeout_cases, end_cases, kill_cases}
+use Rattle.mdl_space.specs.CoreProofs.Moves.{granting-moves, queueing-moves, taking_up-moves, leaving-moves, freeing-moves, losing-moves, serving-serves}
+use Rattle.mdl_space.specs.CoreProofs.Seats.{session_bounds, Moves, stands, moves-then}
 
 -- the session that a call is about: who makes it, or whose wait is looked after or killed
 abbrev pub subject : Call → ℕ

@@ -10,8 +10,8 @@ use Rattle.mdl_space.specs.CoreJoins.{own_at, Knows, IsSettledAs}
 use Rattle.mdl_space.specs.Cores.{Core, seat_at, has_session}
 use Rattle.mdl_space.specs.Own.{Own}
 use Rattle.mdl_space.specs.Seats.{SeatView, own_of, empty_seat}
-use Rattle.mdl_space.proofs.CaseLemmas.{if-true}
-use Rattle.mdl_space.proofs.Deciding.{nat_told}
+use Rattle.mdl_space.specs.CoreProofs.Choices.{if-true}
+use Rattle.mdl_space.specs.CoreProofs.Choices.{nat_told}
 
 -- a session is one from 1 on
 pub session_bounds : (who n : ℕ) → (nat_le 1 who && nat_le who n) ≡ true → (1 ≤ who) × (who ≤ n)

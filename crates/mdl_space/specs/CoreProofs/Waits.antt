@@ -13,11 +13,11 @@ use Rattle.mdl_space.specs.Moves.{losing}
 use Rattle.mdl_space.specs.Own.{wait_number}
 use Rattle.mdl_space.specs.Seats.{SeatView, own_of, settling}
 use Rattle.mdl_space.specs.Waits.{told, IsEndOf, IsToldOf}
-use Rattle.mdl_space.proofs.CoreCases.{poll_cases, timeout_cases, end_cases, kill_cases}
-use Rattle.mdl_space.proofs.CoreOwn.{joined, called, caller-speaks, joins-steps, core-keeps_sessions}
-use Rattle.mdl_space.proofs.CoreSeats.{HasSettled, settled-seat, seat-settled, seat-written, wait-of_session}
-use Rattle.mdl_space.proofs.CoreSteps.{subject, ends_wait}
-use Rattle.mdl_space.proofs.Deciding.{nat_told}
+use Rattle.mdl_space.specs.CoreProofs.Cases.{poll_cases, timeout_cases, end_cases, kill_cases}
+use Rattle.mdl_space.specs.CoreProofs.Owned.{joined, called, caller-speaks, joins-steps, core-keeps_sessions}
+use Rattle.mdl_space.specs.CoreProofs.Seats.{HasSettled, settled-seat, seat-settled, seat-written, wait-of_session}
+use Rattle.mdl_space.specs.CoreProofs.Steps.{subject, ends_wait}
+use Rattle.mdl_space.specs.CoreProofs.Choices.{nat_told}
 
 -- ---- seats with a settled wait
 
