@@ -6,6 +6,7 @@ pub mod Causes
 pub mod CoreCalls
 pub mod CoreJoins
 pub mod CoreLaws
+pub mod CoreProofs
 pub mod CoreSystems
 pub mod Cores
 pub mod LoneSessions
