@@ -9,6 +9,7 @@ pub mod CoreLaws
 pub mod CoreProofs
 pub mod CoreSystems
 pub mod Cores
+pub mod Lemmas
 pub mod LoneSessions
 pub mod Moves
 pub mod NumberingLaws

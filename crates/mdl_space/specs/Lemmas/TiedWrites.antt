@@ -12,8 +12,8 @@ use Rattle.mdl_space.specs.declared.answers.Held.{Held}
 use Rattle.mdl_space.specs.Cores.{Core, book_at, seat_at, key_at, has_key, has_session, booking, seating}
 use Rattle.mdl_space.specs.Seats.{SeatView}
 use Rattle.mdl_space.specs.Ties.{Has, WaitsFor, in_book_of, IsNumbered, IsTied}
-use Rattle.mdl_space.proofs.CoreReads.{has_key-booking, has_session-seating, booked-same, booked-other, seated-same, seated-other}
-use Rattle.mdl_space.proofs.Deciding.{nat_told}
+use Rattle.mdl_space.specs.Lemmas.CoreReads.{has_key-booking, has_session-seating, booked-same, booked-other, seated-same, seated-other}
+use Rattle.mdl_space.specs.Lemmas.Deciding.{nat_told}
 
 -- the tickets of a place's book were of what a session had and others had, and now they are of what it has and the same others have
 pub record Follows (who place : ℕ) (old new : List Ticket) (had has : Held → Type 0) : Type 0 where

@@ -23,13 +23,13 @@ use Rattle.mdl_space.specs.Seats.{empty_seat}
 use Rattle.mdl_space.specs.Steps.{Event, Happens, Run, SameMembers, SameSystem}
 use Rattle.mdl_space.specs.Systems.{System, empty_system, IsGrantable, IsLawful, NoneForgotten}
 use Rattle.mdl_space.specs.Ties.{IsSound}
-use Rattle.mdl_space.proofs.CoreCallsFollow.{request_clear, follows-resolving, follows-trying, follows-beginning}
-use Rattle.mdl_space.proofs.CoreEvents.{same_members}
-use Rattle.mdl_space.proofs.CoreFollows.{Follows, LeadsTo, follows-same}
-use Rattle.mdl_space.proofs.CoreWaitsFollow.{follows-polling, follows-timing_out, follows-killing, follows-ending, follows-releasing, follows-cloning}
-use Rattle.mdl_space.proofs.LawfulLemmas.{empty-lawful, run-lawful}
-use Rattle.mdl_space.proofs.CoreGranted.{free-grantable}
-use Rattle.mdl_space.proofs.TiedMoves.{tied-empty}
+use Rattle.mdl_space.specs.Lemmas.CoreCallsFollow.{request_clear, follows-resolving, follows-trying, follows-beginning}
+use Rattle.mdl_space.specs.Lemmas.CoreEvents.{same_members}
+use Rattle.mdl_space.specs.Lemmas.CoreFollows.{Follows, LeadsTo, follows-same}
+use Rattle.mdl_space.specs.Lemmas.CoreWaitsFollow.{follows-polling, follows-timing_out, follows-killing, follows-ending, follows-releasing, follows-cloning}
+use Rattle.mdl_space.specs.Lemmas.LawfulLemmas.{empty-lawful, run-lawful}
+use Rattle.mdl_space.specs.Lemmas.CoreGranted.{free-grantable}
+use Rattle.mdl_space.specs.Lemmas.TiedMoves.{tied-empty}
 
 -- a refusal changes nothing
 calm : (call : Call) (refusal : SpaceError) → is_change call (Refused refusal) ≡ false

@@ -13,7 +13,7 @@ use Rattle.mdl_space.specs.Own.{is_number}
 use Rattle.mdl_space.specs.Seats.{SeatView, holding, without_ticket, beginning_wait, is_open, ticket_of_wait}
 use Rattle.mdl_space.specs.Steps.{Gains}
 use Rattle.mdl_space.specs.Ties.{Has, WaitsFor, IsNumbered}
-use Rattle.mdl_space.proofs.PairLemmas.{below, filter-members, in-filter, pairs-push, pairs-from_rising, rising-from_pairs, same-number}
+use Rattle.mdl_space.specs.Lemmas.PairLemmas.{below, filter-members, in-filter, pairs-push, pairs-from_rising, rising-from_pairs, same-number}
 
 pub push-gains : {T : Type 0} (x : T) (xs : List T) → Gains x xs (xs ++ x ∷ [])
 push-gains x xs y = (

@@ -8,8 +8,8 @@ use Rattle.mdl_space.specs.declared.answers.Held.{Held}
 use Rattle.mdl_space.specs.Cores.{Core, book_at, seat_at, has_key, has_session}
 use Rattle.mdl_space.specs.Steps.{Gains, Loses}
 use Rattle.mdl_space.specs.Ties.{Has, WaitsFor, in_book_of, IsTied}
-use Rattle.mdl_space.proofs.OrderLemmas.{gained-others, lost-others}
-use Rattle.mdl_space.proofs.TiedWrites.{Follows}
+use Rattle.mdl_space.specs.Lemmas.OrderLemmas.{gained-others, lost-others}
+use Rattle.mdl_space.specs.Lemmas.TiedWrites.{Follows}
 
 -- ---- tickets by session and number
 

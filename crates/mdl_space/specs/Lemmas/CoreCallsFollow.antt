@@ -20,12 +20,12 @@ use Rattle.mdl_space.specs.Moves.{next_ticket, opening, granting_to, queueing}
 use Rattle.mdl_space.specs.Steps.{Event, Grant, BeginWait}
 use Rattle.mdl_space.specs.Systems.{Unsettled}
 use Rattle.mdl_space.specs.Ties.{IsTied, IsSound}
-use Rattle.mdl_space.proofs.CoreEvents.{granting-grants, queueing-begins}
-use Rattle.mdl_space.proofs.CoreFollows.{LeadsTo, follows-same, follows-as_same, follows-event}
-use Rattle.mdl_space.proofs.CoreGranted.{free-grantable}
-use Rattle.mdl_space.proofs.CoreWaits.{waits-opening}
-use Rattle.mdl_space.proofs.GrantedMoves.{granted-opening}
-use Rattle.mdl_space.proofs.TiedMoves.{tied-opening, tied-granting, tied-queueing}
+use Rattle.mdl_space.specs.Lemmas.CoreEvents.{granting-grants, queueing-begins}
+use Rattle.mdl_space.specs.Lemmas.CoreFollows.{LeadsTo, follows-same, follows-as_same, follows-event}
+use Rattle.mdl_space.specs.Lemmas.CoreGranted.{free-grantable}
+use Rattle.mdl_space.specs.Lemmas.CoreWaits.{waits-opening}
+use Rattle.mdl_space.specs.Lemmas.GrantedMoves.{granted-opening}
+use Rattle.mdl_space.specs.Lemmas.TiedMoves.{tied-opening, tied-granting, tied-queueing}
 
 -- ---- causes
 

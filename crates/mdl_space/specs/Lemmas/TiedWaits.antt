@@ -6,8 +6,8 @@ use Rattle.mdl_space.specs.declared.answers.Settled.TheVariants as settled_as
 use Rattle.mdl_space.specs.declared.seat.Pending.{Pending}
 use Rattle.mdl_space.specs.Seats.{SeatView, settling, without_wait, ticket_of_wait, with_ticket_of}
 use Rattle.mdl_space.specs.Ties.{Has, WaitsFor, IsNumbered}
-use Rattle.mdl_space.proofs.PairLemmas.{below, pairs-push, pairs-from_rising, rising-from_pairs}
-use Rattle.mdl_space.proofs.TiedSeats.{push-gains}
+use Rattle.mdl_space.specs.Lemmas.PairLemmas.{below, pairs-push, pairs-from_rising, rising-from_pairs}
+use Rattle.mdl_space.specs.Lemmas.TiedSeats.{push-gains}
 
 -- a seat with this wait
 abbrev pub waiting_with : SeatView → Pending → SeatView

@@ -19,9 +19,9 @@ use Rattle.mdl_space.specs.Moves.{is_unsettled}
 use Rattle.mdl_space.specs.Seats.{SeatView, is_open, ticket_of_wait}
 use Rattle.mdl_space.specs.Systems.{Unsettled, Waiter, GrantedWait, HasNoWait}
 use Rattle.mdl_space.specs.Ties.{WaitsFor, in_book_of, IsTied}
-use Rattle.mdl_space.proofs.CoreReads.{within, found-at, found}
-use Rattle.mdl_space.proofs.CoreUnended.{own-unended, granted_of}
-use Rattle.mdl_space.proofs.OrderLemmas.{Contains-here, Contains-later, Contains-cons_cases, middle}
+use Rattle.mdl_space.specs.Lemmas.CoreReads.{within, found-at, found}
+use Rattle.mdl_space.specs.Lemmas.CoreUnended.{own-unended, granted_of}
+use Rattle.mdl_space.specs.Lemmas.OrderLemmas.{Contains-here, Contains-later, Contains-cons_cases, middle}
 
 -- the ticket that a session waits for, as it waits
 abbrev pub waiting_of : ℕ → Pending → Waiter

@@ -14,7 +14,7 @@ use Rattle.mdl_book.specs.Granting as book
 use Rattle.mdl_space.specs.Systems.{Holding, Waiter, System, lock_kind, IsLawful, IsGrantable}
 use Rattle.mdl_space.specs.Steps.{Gains, Loses, Replaces, SameElsewhere}
 use Rattle.mdl_space.specs.BookLaws.{in_book, of_lock, IsGrantedByLists}
-use Rattle.mdl_space.proofs.Deciding.{key_told}
+use Rattle.mdl_space.specs.Lemmas.Deciding.{key_told}
 
 -- a test of each element, and what it says of each member
 each-Decides : {T : Type 0} (p : T → Bool) (P : T → Type 0) → ((x : T) → Decides (p x) (P x)) → (xs : List T)

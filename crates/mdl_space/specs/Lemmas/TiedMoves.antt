@@ -19,12 +19,12 @@ use Rattle.mdl_space.specs.Cores.{Core, empty_core, book_at, seat_at, key_at, in
 use Rattle.mdl_space.specs.Moves.{next_ticket, opening, granting_to, queueing, losing, taking_up, leaving, freeing, admitting_at, is_unsettled}
 use Rattle.mdl_space.specs.Seats.{SeatView, empty_seat, holding, without_ticket, beginning_wait, is_open, settling, without_wait, ticket_of_wait, with_ticket_of}
 use Rattle.mdl_space.specs.Ties.{Has, WaitsFor, in_book_of, IsNumbered, IsTied}
-use Rattle.mdl_space.proofs.CoreReads.{within, of_within, found-at}
-use Rattle.mdl_space.proofs.PairLemmas.{none-in, pairs-push, pairs-without, loses-one, found-one}
-use Rattle.mdl_space.proofs.TiedBooks.{other_number, other_session, swap-number, swap-session, alone-number, alone-session, that-is, follows-same, follows-gaining, follows-losing, granted-here, waiting-here, granted-own, waiting-own}
-use Rattle.mdl_space.proofs.TiedSeats.{push-gains, no-wait, open-wait, number-bound, has-holding, numbered-holding, has-beginning, waits-beginning, numbered-beginning, has-freed, numbered-freed}
-use Rattle.mdl_space.proofs.TiedWaits.{numbered-settling, has-losing, waits-losing, has-winning, waits-winning, waits-now, waits-alone, number-new, has-granted, has-taking, waits-taking, numbered-taking, waits-lost, has-leaving, waits-leaving, numbered-leaving}
-use Rattle.mdl_space.proofs.TiedWrites.{tied-written, tied-seated}
+use Rattle.mdl_space.specs.Lemmas.CoreReads.{within, of_within, found-at}
+use Rattle.mdl_space.specs.Lemmas.PairLemmas.{none-in, pairs-push, pairs-without, loses-one, found-one}
+use Rattle.mdl_space.specs.Lemmas.TiedBooks.{other_number, other_session, swap-number, swap-session, alone-number, alone-session, that-is, follows-same, follows-gaining, follows-losing, granted-here, waiting-here, granted-own, waiting-own}
+use Rattle.mdl_space.specs.Lemmas.TiedSeats.{push-gains, no-wait, open-wait, number-bound, has-holding, numbered-holding, has-beginning, waits-beginning, numbered-beginning, has-freed, numbered-freed}
+use Rattle.mdl_space.specs.Lemmas.TiedWaits.{numbered-settling, has-losing, waits-losing, has-winning, waits-winning, waits-now, waits-alone, number-new, has-granted, has-taking, waits-taking, numbered-taking, waits-lost, has-leaving, waits-leaving, numbered-leaving}
+use Rattle.mdl_space.specs.Lemmas.TiedWrites.{tied-written, tied-seated}
 
 -- ---- nothing
 

@@ -18,10 +18,10 @@ use Rattle.mdl_space.specs.Seats.{SeatView, beginning_wait, is_open, settling, w
 use Rattle.mdl_space.specs.Steps.{SameMembers, Gains, Loses, LeavesOrder, TakesTurn, SameElsewhere, SameAt, granted_wait}
 use Rattle.mdl_space.specs.Systems.{Unsettled, Waiter, GrantedWait}
 use Rattle.mdl_space.specs.Ties.{IsTied}
-use Rattle.mdl_space.proofs.CoreUnended.{not_granted, own-unended, unended-same, unended-gains, unended-loses}
-use Rattle.mdl_space.proofs.CoreWaiting.{map-agree, book-there, wait-at, place_of_wait, none-waiting, granted-waiting, elsewhere-waiting, IsSplit, split-without}
-use Rattle.mdl_space.proofs.CoreWaits.{book-seating, waiter-of_other, waiter-of_own, waiters-apart, elsewhere, here, here-before}
-use Rattle.mdl_space.proofs.OrderLemmas.{around}
+use Rattle.mdl_space.specs.Lemmas.CoreUnended.{not_granted, own-unended, unended-same, unended-gains, unended-loses}
+use Rattle.mdl_space.specs.Lemmas.CoreWaiting.{map-agree, book-there, wait-at, place_of_wait, none-waiting, granted-waiting, elsewhere-waiting, IsSplit, split-without}
+use Rattle.mdl_space.specs.Lemmas.CoreWaits.{book-seating, waiter-of_other, waiter-of_own, waiters-apart, elsewhere, here, here-before}
+use Rattle.mdl_space.specs.Lemmas.OrderLemmas.{around}
 
 -- ---- waiting lists that split round a ticket
 

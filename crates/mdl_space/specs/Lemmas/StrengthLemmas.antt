@@ -9,7 +9,7 @@ use Rattle.mdl_key.specs.Classes.{is_at_least, IsAtLeast}
 use Rattle.mdl_key.specs.Modes.{all_modes, is_mode_of}
 use Rattle.mdl_key.proofs.MatrixLemmas.{each_mode, same, same-true, at_least-exact}
 use Rattle.mdl_space.specs.Strength.{covers}
-use Rattle.mdl_space.proofs.LawfulLemmas.{implied}
+use Rattle.mdl_space.specs.Lemmas.LawfulLemmas.{implied}
 
 -- whether both tests answer the same of two modes, if both are modes of the kind
 abbrev agrees : Kind → Mode → Mode → Bool

@@ -24,11 +24,11 @@ use Rattle.mdl_space.specs.Moves.{next_ticket, opening, granting_to, queueing, l
 use Rattle.mdl_space.specs.Seats.{ticket_of_wait}
 use Rattle.mdl_space.specs.Steps.{SameMembers, Gains, Loses, Replaces, SameElsewhere}
 use Rattle.mdl_space.specs.Ties.{IsTied, in_book_of}
-use Rattle.mdl_space.proofs.BookLemmas.{changes-by_lists}
-use Rattle.mdl_space.proofs.CoreGranted.{KeysApart, book_of-place, by_lists-apart, holding_of}
-use Rattle.mdl_space.proofs.CoreReads.{has_key-booking, booked-same, booked-other, found-at, found}
-use Rattle.mdl_space.proofs.Deciding.{nat_told, key_told}
-use Rattle.mdl_space.proofs.MemberLemmas.{push-gains, find-named, without-named}
+use Rattle.mdl_space.specs.Lemmas.BookLemmas.{changes-by_lists}
+use Rattle.mdl_space.specs.Lemmas.CoreGranted.{KeysApart, book_of-place, by_lists-apart, holding_of}
+use Rattle.mdl_space.specs.Lemmas.CoreReads.{has_key-booking, booked-same, booked-other, found-at, found}
+use Rattle.mdl_space.specs.Lemmas.Deciding.{nat_told, key_told}
+use Rattle.mdl_space.specs.Lemmas.MemberLemmas.{push-gains, find-named, without-named}
 
 -- ---- another book at a place, of the same key
 

@@ -17,9 +17,9 @@ use Rattle.mdl_space.specs.Seats.{SeatView, ticket_of_wait}
 use Rattle.mdl_space.specs.Steps.{IsNewNumber}
 use Rattle.mdl_space.specs.Systems.{Holding, Waiter, lock_kind, IsGrantable}
 use Rattle.mdl_space.specs.Ties.{IsTied, IsNumbered, Has, in_book_of}
-use Rattle.mdl_space.proofs.BookLemmas.{grantable-by_lists}
-use Rattle.mdl_space.proofs.CoreReads.{within, of_within, found-at, found}
-use Rattle.mdl_space.proofs.MemberLemmas.{Contains-none, Contains-map, Contains-map_from, Contains-flat_map, Contains-flat_map_from}
+use Rattle.mdl_space.specs.Lemmas.BookLemmas.{grantable-by_lists}
+use Rattle.mdl_space.specs.Lemmas.CoreReads.{within, of_within, found-at, found}
+use Rattle.mdl_space.specs.Lemmas.MemberLemmas.{Contains-none, Contains-map, Contains-map_from, Contains-flat_map, Contains-flat_map_from}
 
 -- each place has a key of its own
 abbrev pub KeysApart : Core → Type 0

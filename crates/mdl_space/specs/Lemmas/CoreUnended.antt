@@ -14,9 +14,9 @@ use Rattle.mdl_space.specs.Seats.{SeatView, empty_seat}
 use Rattle.mdl_space.specs.Steps.{SameMembers, Gains, Loses}
 use Rattle.mdl_space.specs.Systems.{GrantedWait}
 use Rattle.mdl_space.specs.Ties.{IsNumbered, IsTied}
-use Rattle.mdl_space.proofs.CoreReads.{within, of_within, seated-same, seated-other, has_session-seating}
-use Rattle.mdl_space.proofs.Deciding.{nat_told}
-use Rattle.mdl_space.proofs.OrderLemmas.{Contains-here}
+use Rattle.mdl_space.specs.Lemmas.CoreReads.{within, of_within, seated-same, seated-other, has_session-seating}
+use Rattle.mdl_space.specs.Lemmas.Deciding.{nat_told}
+use Rattle.mdl_space.specs.Lemmas.OrderLemmas.{Contains-here}
 
 -- ---- a seat's granted wait
 

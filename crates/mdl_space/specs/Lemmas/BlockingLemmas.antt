@@ -14,9 +14,9 @@ use Rattle.mdl_key.proofs.MatrixLemmas.{each_mode, clashes-symmetric}
 use Rattle.mdl_space.specs.Systems.{Holding, Waiter, System, lock_kind, IsGrantable}
 use Rattle.mdl_space.specs.Steps.{Event, Grant, Clone, BeginWait, GrantWaiter, SettleLost, EndGrantedWait, EndLostWait, Release, Upgrade, Merge, Downgrade, ChangeDefinition, Happens, in_mode, granted_ticket}
 use Rattle.mdl_space.specs.BlockingLaws.{IsCovered, IsWaiting, BlocksAsMuch, FreesNothing}
-use Rattle.mdl_space.proofs.Deciding.{key_told, ticket_told}
-use Rattle.mdl_space.proofs.LawfulLemmas.{implied}
-use Rattle.mdl_space.proofs.OrderLemmas.{within, gone-after, changed-after, changed-there}
+use Rattle.mdl_space.specs.Lemmas.Deciding.{key_told, ticket_told}
+use Rattle.mdl_space.specs.Lemmas.LawfulLemmas.{implied}
+use Rattle.mdl_space.specs.Lemmas.OrderLemmas.{within, gone-after, changed-after, changed-there}
 
 -- ---- modes
 

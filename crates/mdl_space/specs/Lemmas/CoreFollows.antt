@@ -14,10 +14,10 @@ use Rattle.mdl_space.specs.Moves.{serving}
 use Rattle.mdl_space.specs.Steps.{Event, Happens, Run, SameSystem}
 use Rattle.mdl_space.specs.Systems.{System, Waiter, NoneForgotten, IsLawful}
 use Rattle.mdl_space.specs.Ties.{IsTied, IsSound}
-use Rattle.mdl_space.proofs.ConcernLemmas.{step-forgets, granting-there}
-use Rattle.mdl_space.proofs.CoreEvents.{same_system}
-use Rattle.mdl_space.proofs.CoreServing.{serves}
-use Rattle.mdl_space.proofs.LawfulLemmas.{step-lawful, run-lawful, lawful-fewer}
+use Rattle.mdl_space.specs.Lemmas.ConcernLemmas.{step-forgets, granting-there}
+use Rattle.mdl_space.specs.Lemmas.CoreEvents.{same_system}
+use Rattle.mdl_space.specs.Lemmas.CoreServing.{serves}
+use Rattle.mdl_space.specs.Lemmas.LawfulLemmas.{step-lawful, run-lawful, lawful-fewer}
 
 -- the same system, said twice, is as lawful, and forgets as few
 lawful-same : {D : Type 0} (a b : System D) → SameSystem a b → IsLawful a → IsLawful b

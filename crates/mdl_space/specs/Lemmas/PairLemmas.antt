@@ -12,7 +12,7 @@ use Rattle.std.proofs.lemmas.Option.{slice_get_read}
 use Rattle.mdl_space.specs.declared.answers.Held.{Held}
 use Rattle.mdl_space.specs.Own.{are_rising}
 use Rattle.mdl_space.specs.Steps.{Loses}
-use Rattle.mdl_space.proofs.OrderLemmas.{Contains-cons_cases, Contains-here, Contains-later, around, around_cases, middle, within}
+use Rattle.mdl_space.specs.Lemmas.OrderLemmas.{Contains-cons_cases, Contains-here, Contains-later, around, around_cases, middle, within}
 
 pub none-in : {T : Type 0} (x : T) → Contains [] x → ⊥
 none-in x among = let lt = among.1 in omega arith

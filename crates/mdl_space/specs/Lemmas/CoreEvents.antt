@@ -17,13 +17,13 @@ use Rattle.mdl_space.specs.Steps.{SameMembers, Gains, SameWaits, SameSystem, Els
 use Rattle.mdl_space.specs.Strength.{covers}
 use Rattle.mdl_space.specs.Systems.{Unsettled, System, Held as Holds, IsGrantable}
 use Rattle.mdl_space.specs.Ties.{IsTied, in_book_of}
-use Rattle.mdl_space.proofs.CoreGranted.{free-grantable, holding_of, granted-of_held, new_number}
-use Rattle.mdl_space.proofs.CoreSettling.{waiting-queueing, waiting-losing, waiting-taking_up, waiting-leaving, waiting-admitting}
-use Rattle.mdl_space.proofs.CoreUnended.{not_unended}
-use Rattle.mdl_space.proofs.CoreWaiting.{waiting_of, no_wait}
-use Rattle.mdl_space.proofs.CoreWaits.{waits-granting, waits-freeing}
-use Rattle.mdl_space.proofs.GrantedMoves.{granted-granting, granted-queueing, granted-losing, granted-taking_up, granted-leaving, granted-freeing, granted-admitting}
-use Rattle.mdl_space.proofs.StrengthLemmas.{covers-at_least}
+use Rattle.mdl_space.specs.Lemmas.CoreGranted.{free-grantable, holding_of, granted-of_held, new_number}
+use Rattle.mdl_space.specs.Lemmas.CoreSettling.{waiting-queueing, waiting-losing, waiting-taking_up, waiting-leaving, waiting-admitting}
+use Rattle.mdl_space.specs.Lemmas.CoreUnended.{not_unended}
+use Rattle.mdl_space.specs.Lemmas.CoreWaiting.{waiting_of, no_wait}
+use Rattle.mdl_space.specs.Lemmas.CoreWaits.{waits-granting, waits-freeing}
+use Rattle.mdl_space.specs.Lemmas.GrantedMoves.{granted-granting, granted-queueing, granted-losing, granted-taking_up, granted-leaving, granted-freeing, granted-admitting}
+use Rattle.mdl_space.specs.Lemmas.StrengthLemmas.{covers-at_least}
 
 -- ---- what stays
 

@@ -27,14 +27,14 @@ use Rattle.mdl_space.specs.Seats.{SeatView, is_open, without_wait, without_ticke
 use Rattle.mdl_space.specs.Steps.{Clone, SettleLost, EndGrantedWait, EndLostWait, Release as Give_up}
 use Rattle.mdl_space.specs.Strength.{covers}
 use Rattle.mdl_space.specs.Ties.{IsTied, IsSound}
-use Rattle.mdl_space.proofs.CoreEvents.{granting-clones, freeing-releases, losing-settles, taking_up-ends, leaving-ends}
-use Rattle.mdl_space.proofs.CoreFollows.{Follows, LeadsTo, follows-same, follows-event, follows-serving}
-use Rattle.mdl_space.proofs.CoreReads.{has_key-booking, booked-same}
-use Rattle.mdl_space.proofs.CoreServing.{found-first}
-use Rattle.mdl_space.proofs.CoreGranted.{holding_of}
-use Rattle.mdl_space.proofs.CoreWaiting.{waiting_of, place_of_wait}
-use Rattle.mdl_space.proofs.TiedMoves.{tied-granting, tied-losing, tied-taking_up, tied-leaving, tied-freeing}
-use Rattle.mdl_space.proofs.CoreCallsFollow.{clone_clear, none_there, unsettled_wait}
+use Rattle.mdl_space.specs.Lemmas.CoreEvents.{granting-clones, freeing-releases, losing-settles, taking_up-ends, leaving-ends}
+use Rattle.mdl_space.specs.Lemmas.CoreFollows.{Follows, LeadsTo, follows-same, follows-event, follows-serving}
+use Rattle.mdl_space.specs.Lemmas.CoreReads.{has_key-booking, booked-same}
+use Rattle.mdl_space.specs.Lemmas.CoreServing.{found-first}
+use Rattle.mdl_space.specs.Lemmas.CoreGranted.{holding_of}
+use Rattle.mdl_space.specs.Lemmas.CoreWaiting.{waiting_of, place_of_wait}
+use Rattle.mdl_space.specs.Lemmas.TiedMoves.{tied-granting, tied-losing, tied-taking_up, tied-leaving, tied-freeing}
+use Rattle.mdl_space.specs.Lemmas.CoreCallsFollow.{clone_clear, none_there, unsettled_wait}
 
 -- the key of a place whose book was written
 key-written : (core : Core) (place who : ℕ) (book : Lists) (seat : SeatView) → has_key place core ≡ true

@@ -15,10 +15,10 @@ use Rattle.mdl_space.specs.Moves.{next_ticket, opening, granting_to, freeing}
 use Rattle.mdl_space.specs.Seats.{SeatView, holding, without_ticket}
 use Rattle.mdl_space.specs.Steps.{SameElsewhere, SameWaits}
 use Rattle.mdl_space.specs.Ties.{IsTied}
-use Rattle.mdl_space.proofs.CoreReads.{within, of_within, booked-same, booked-other, has_key-booking, seated-same, seated-other}
-use Rattle.mdl_space.proofs.CoreUnended.{unended-same}
-use Rattle.mdl_space.proofs.CoreWaiting.{map-agree, IsKeyed, book-there, place_told, book-nowhere, not_there, ticket-there}
-use Rattle.mdl_space.proofs.Deciding.{nat_told, key_told}
+use Rattle.mdl_space.specs.Lemmas.CoreReads.{within, of_within, booked-same, booked-other, has_key-booking, seated-same, seated-other}
+use Rattle.mdl_space.specs.Lemmas.CoreUnended.{unended-same}
+use Rattle.mdl_space.specs.Lemmas.CoreWaiting.{map-agree, IsKeyed, book-there, place_told, book-nowhere, not_there, ticket-there}
+use Rattle.mdl_space.specs.Lemmas.Deciding.{nat_told, key_told}
 
 -- ---- the book of a key after one was written
 

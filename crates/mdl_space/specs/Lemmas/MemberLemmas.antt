@@ -4,7 +4,7 @@ use Rattle.std.specs.Prelude.{Contains, AllPairs, slice_index_or}
 use Rattle.std.specs.List.{flat_map, find, before_first, after_first, position_or_len}
 use Rattle.std.proofs.lemmas.List.Elements.{Contains-append_left, Contains-append_right, Contains-append_cases}
 use Rattle.mdl_space.specs.Steps.{Gains, Loses}
-use Rattle.mdl_space.proofs.OrderLemmas.{Contains-cons_cases, Contains-here, Contains-later}
+use Rattle.mdl_space.specs.Lemmas.OrderLemmas.{Contains-cons_cases, Contains-here, Contains-later}
 
 pub Contains-none : {T : Type 0} (y : T) → Contains [] y → ⊥
 Contains-none y among = let lt = among.1 in omega arith

@@ -7,8 +7,8 @@ use Rattle.mdl_key.specs.Keys.{KeyName}
 use Rattle.mdl_space.specs.Systems.{Unsettled, Holding, Waiter, System, IsGrantable, NoneForgottenAt, NoneForgotten}
 use Rattle.mdl_space.specs.Steps.{Event, Grant, Clone, BeginWait, GrantWaiter, SettleLost, EndGrantedWait, EndLostWait, Release, Upgrade, Merge, Downgrade, ChangeDefinition, Happens, Run, in_mode, granted_ticket}
 use Rattle.mdl_space.specs.BlockingLaws.{FreesNothing, WaitsForCause, IsAbout, IsGrantAt}
-use Rattle.mdl_space.proofs.BlockingLemmas.{at_any, more-blocks, step-blocks}
-use Rattle.mdl_space.proofs.OrderLemmas.{within, gone-before, changed-before, gained-others, lost-others, replaced-others}
+use Rattle.mdl_space.specs.Lemmas.BlockingLemmas.{at_any, more-blocks, step-blocks}
+use Rattle.mdl_space.specs.Lemmas.OrderLemmas.{within, gone-before, changed-before, gained-others, lost-others, replaced-others}
 
 -- ---- who waits after an event
 

@@ -17,13 +17,13 @@ use Rattle.mdl_space.specs.Seats.{settling}
 use Rattle.mdl_space.specs.Steps.{Event, GrantWaiter, Run, LeavesOrder}
 use Rattle.mdl_space.specs.Systems.{NoneForgottenAt}
 use Rattle.mdl_space.specs.Ties.{IsTied}
-use Rattle.mdl_space.proofs.CoreEvents.{same_system, admitting-grants}
-use Rattle.mdl_space.proofs.CoreReads.{has_key-booking, booked-same}
-use Rattle.mdl_space.proofs.CoreGranted.{book_of-at, free-grantable}
-use Rattle.mdl_space.proofs.CoreSettling.{waiting-admitting}
-use Rattle.mdl_space.proofs.CoreWaiting.{waiter-found, unsettled-found}
-use Rattle.mdl_space.proofs.TiedMoves.{tied-admitting}
-use Rattle.mdl_space.proofs.OrderLemmas.{Contains-cons_cases, Contains-here, Contains-later}
+use Rattle.mdl_space.specs.Lemmas.CoreEvents.{same_system, admitting-grants}
+use Rattle.mdl_space.specs.Lemmas.CoreReads.{has_key-booking, booked-same}
+use Rattle.mdl_space.specs.Lemmas.CoreGranted.{book_of-at, free-grantable}
+use Rattle.mdl_space.specs.Lemmas.CoreSettling.{waiting-admitting}
+use Rattle.mdl_space.specs.Lemmas.CoreWaiting.{waiter-found, unsettled-found}
+use Rattle.mdl_space.specs.Lemmas.TiedMoves.{tied-admitting}
+use Rattle.mdl_space.specs.Lemmas.OrderLemmas.{Contains-cons_cases, Contains-here, Contains-later}
 
 -- ---- the first that passes a test
 
