@@ -12,4 +12,5 @@ pub mod NextSystems
 pub mod NumberingLemmas
 pub mod OrderLemmas
 pub mod OwnLemmas
+pub mod SearchLemmas
 pub mod SmallSystems
