@@ -13,4 +13,6 @@ pub mod NumberingLemmas
 pub mod OrderLemmas
 pub mod OwnLemmas
 pub mod SearchLemmas
+pub mod ServingLemmas
 pub mod SmallSystems
+pub mod SpeakingLemmas

@@ -1,5 +1,5 @@
 -- How a call joins the space of one thread before it to the space after it, and what a session has and knows there.
-use Rattle.std.specs.Prelude.{◌≡◌, ℕ, true, Option, Some, MatchOption}
+use Rattle.std.specs.Prelude.{◌≡◌, ℕ, true, Some, MatchOption}
 use Rattle.std.specs.Option.{IfSome}
 use Rattle.mdl_key.specs.Keys.{KeyName}
 use Rattle.mdl_space.specs.declared.answers.Settled.{Settled}

@@ -3,8 +3,6 @@ use Rattle.std.specs.Prelude.{◌≡◌, ◌⊎◌, ℕ, Bool, true, false, List
 use Rattle.mdl_key.specs.Keys.{KeyName}
 use Rattle.mdl_key.specs.declared.mode.Mode.{Mode}
 use Rattle.mdl_defs.specs.declared.definition.Definition.{Definition}
-use Rattle.mdl_space.specs.declared.answers.Settled.{Settled}
-use Rattle.mdl_space.specs.declared.answers.Settled.TheVariants as settled_as
 use Rattle.mdl_space.specs.declared.answers.TimedOut.TheVariants.{ByThisCall}
 use Rattle.mdl_space.specs.Answers.{Answer, Done, Granted, Would_wait, Waits, Timed_out, Lost, Has_killed}
 use Rattle.mdl_space.specs.BlockingLaws.{IsAbout, IsGrantAt}

@@ -1,5 +1,5 @@
 -- What happens in the lock space of one thread, each time at one place and to one session.
-use Rattle.std.specs.Prelude.{ℕ, zero, suc, ◌+◌, Bool, ◌&&◌, List, [], ◌∷◌, ◌++◌, length, find, Option, Some, None}
+use Rattle.std.specs.Prelude.{ℕ, zero, suc, ◌+◌, Bool, ◌&&◌, [], ◌∷◌, ◌++◌, length, find, Option, Some, None}
 use Rattle.mdl_key.specs.declared.mode.Mode.{Mode}
 use Rattle.mdl_key.specs.Keys.{KeyName}
 use Rattle.mdl_book.specs.declared.ticket.Ticket.{Ticket}

@@ -1,7 +1,6 @@
 -- What is always so in the lock space of one thread: books and sessions tell the same tickets and waits, the system that they
 -- are is lawful, and nobody is forgotten in it.
-use Rattle.std.specs.Prelude.{◌≡◌, ◌≢◌, ◌⊎◌, ◌↔◌, ℕ, ◌<◌, ◌≤◌, true, List, Option, Some, None, MatchOption, Contains, AllPairs, IsTrue}
-use Rattle.mdl_key.specs.declared.mode.Mode.{Mode}
+use Rattle.std.specs.Prelude.{◌≡◌, ◌≢◌, ◌⊎◌, ◌↔◌, ℕ, ◌<◌, ◌≤◌, true, Some, MatchOption, Contains, AllPairs, IsTrue}
 use Rattle.mdl_key.specs.Modes.{is_mode_of}
 use Rattle.mdl_book.specs.declared.ticket.Ticket.{Ticket}
 use Rattle.mdl_book.specs.Books.{lock_kind}

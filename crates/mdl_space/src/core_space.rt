@@ -1,14 +1,20 @@
 //! The lock space of one thread.
-ghost use Rattle.std.specs.Prelude.{◌≡◌, ◌<◌, ◌+◌, ◌^◌, Some, None, IfOk, OnOk, MatchResult, length, true, false};
+ghost use Rattle.std.specs.Prelude.{◌≡◌, ◌<◌, ◌+◌, ◌^◌, Some, None, IfOk, OnOk, MatchResult, IsSome, IsTrue, length, true, false};
 ghost use Rattle.std.specs.Option.{IfSome};
 ghost use Rattle.mdl_key.specs.Refusals.{Refuses};
-ghost use Rattle.mdl_space.specs.Cores.{empty_core, has_session, index_of, seat_at};
-ghost use Rattle.mdl_space.specs.CoreCalls.{new_fault, first_cause, request_causes, listing, resolving, trying, beginning, polling, timing_out, looking_after, killing, Makes};
-ghost use Rattle.mdl_space.specs.Answers.{Has_wait, Has_killed, placed, attempted, begun, polled, timed_out, listed};
+ghost use Rattle.mdl_book.specs.Tickets.{ticket_of};
+ghost use Rattle.mdl_space.specs.Cores.{empty_core, book_at, has_key, has_session, index_of, seat_at};
+ghost use Rattle.mdl_space.specs.CoreCalls.{new_fault, first_cause, request_causes, listing, resolving, trying, beginning, polling, timing_out, ending, looking_after, killing, releasing, Makes};
+ghost use Rattle.mdl_space.specs.CoreJoins.{SpeaksFor};
+ghost use Rattle.mdl_space.specs.Moves.{leaving, freeing, serving};
+ghost use Rattle.mdl_space.specs.Own.{are_rising};
+ghost use Rattle.mdl_space.specs.Answers.{Has_wait, Has_killed, placed, attempted, begun, polled, timed_out, ended, done, listed};
 
 use crate::granting::{give, is_free, queue};
-use crate::seat::Seat;
-use crate::{Attempt, Begun, Held, NewError, Place, Poll, Settled, SpaceError, TimedOut};
+use crate::seat::{Pending, Seat};
+use crate::{
+    Attempt, Begun, Ended, Held, NewError, Place, Poll, Settled, SpaceError, TicketId, TimedOut,
+};
 use mdl_book::Book;
 use mdl_key::{Key, Mode};
 use std::alloc::Global;
@@ -171,6 +177,37 @@ impl CoreSpace {
         Ok(TimedOut::ByThisCall)
     }
 
+    /// Ends a session's wait, which is settled: with the ticket if it was granted, else without.
+    pub(crate) fn finish_wait(&mut self, who: u16) -> Result<Ended, SpaceError>
+        requires { SpeaksFor self.old who }
+        ensures { Makes false (ending who) self.old (ended result) self.new }
+    {
+        let Some(wait) = self.seats[usize::from(who) - 1].wait() else {
+            return Err(SpaceError::NoWait);
+        };
+        let Some(how) = wait.settled else {
+            return Err(SpaceError::Unsettled);
+        };
+        match how {
+            Settled::Granted => {
+                self.seats[usize::from(who) - 1].take_up(wait);
+                Ok(Ended::Granted(wait.id))
+            }
+            Settled::Victim => {
+                self.leave(who, wait);
+                Ok(Ended::Victim)
+            }
+            Settled::Timeout => {
+                self.leave(who, wait);
+                Ok(Ended::Timeout)
+            }
+            Settled::Killed => {
+                self.leave(who, wait);
+                Ok(Ended::Killed)
+            }
+        }
+    }
+
     /// The number of any session's wait.
     pub(crate) fn wait_number(&self, target: u16) -> Option<u64>
         ensures { Makes false (looking_after target) self.now (Has_wait result) self.now }
@@ -202,6 +239,18 @@ impl CoreSpace {
         true
     }
 
+    /// Gives a held ticket up.
+    pub(crate) fn give_back(&mut self, who: u16, id: TicketId) -> Result<(), SpaceError>
+        requires { SpeaksFor self.old who }
+        ensures { Makes false (releasing who id) self.old (done result) self.new }
+    {
+        let Some(ticket) = self.seats[usize::from(who) - 1].ticket(id) else {
+            return Err(SpaceError::NotHeld);
+        };
+        self.free(who, ticket);
+        Ok(())
+    }
+
     /// The tickets that a session holds.
     pub(crate) fn list_held(&self, who: u16) -> Result<Vec<Held>, SpaceError>
         requires { has_session who self.now ≡ true }
@@ -213,6 +262,33 @@ impl CoreSpace {
             return Err(SpaceError::OutOfMemory);
         }
         Ok(tickets)
+    }
+
+    /// Ends a session's lost wait, and then grants waiters of its place.
+    fn leave(&mut self, who: u16, wait: Pending)
+        requires session { has_session who self.old ≡ true }
+        requires key { has_key wait.place self.old ≡ true }
+        requires waits { IsSome (ticket_of who wait.id (book_at wait.place self.old).waiting) }
+        ensures { self.new ≡ serving wait.place (leaving who wait self.old) }
+    {
+        self.seats[usize::from(who) - 1].drop_wait();
+        let book = &mut self.books[usize::from(wait.place) - 1];
+        book.cancel(who, wait.id).unwrap();
+        self.serve(wait.place);
+    }
+
+    /// Gives up a session's held ticket, and then grants waiters of its place.
+    fn free(&mut self, who: u16, ticket: Held)
+        requires session { has_session who self.old ≡ true }
+        requires key { has_key ticket.place self.old ≡ true }
+        requires stands { IsSome (ticket_of who ticket.id (book_at ticket.place self.old).granted) }
+        requires rising { IsTrue (are_rising (seat_at who self.old).held) }
+        ensures { self.new ≡ serving ticket.place (freeing who ticket.place ticket.id self.old) }
+    {
+        self.seats[usize::from(who) - 1].give_up(ticket.id);
+        let book = &mut self.books[usize::from(ticket.place) - 1];
+        book.remove(who, ticket.id).unwrap();
+        self.serve(ticket.place);
     }
 
     /// Looks whether a session can ask for a lock.
@@ -250,5 +326,6 @@ fn place_of(books: &[Book], key: &Key) -> Option<usize>
     books.iter().position(|book| *book.key() == *key)
 }
 
+mod serving;
 #[cfg(test)]
 mod tests;

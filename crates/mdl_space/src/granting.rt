@@ -12,7 +12,7 @@ use mdl_key::Mode;
 use mdl_word::Word;
 
 // The word of a lock: over one thread no ticket is a fast one.
-const NO_FAST: Word = Word(0);
+pub(crate) const NO_FAST: Word = Word(0);
 
 /// Whether a session's wish for a mode can be granted now.
 pub(crate) fn is_free(book: &Book, who: u16, mode: Mode) -> bool
