@@ -6,4 +6,7 @@ pub mod HeldLemmas
 pub mod NextSystems
 pub mod NumberingLemmas
 pub mod OwnLemmas
+pub mod SearchLemmas
+pub mod ServingLemmas
 pub mod SmallSystems
+pub mod SpeakingLemmas
