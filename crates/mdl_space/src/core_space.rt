@@ -1,5 +1,5 @@
 //! The lock space of one thread.
-ghost use Rattle.std.specs.Prelude.{◌≡◌, ◌<◌, ◌+◌, ◌^◌, Some, None, IfOk, OnOk, MatchResult, IsSome, IsTrue, length, true, false};
+ghost use Rattle.std.specs.Prelude.{◌≡◌, ℕ, ◌<◌, ◌≤◌, ◌+◌, ◌^◌, Some, None, IfOk, OnOk, MatchResult, IsSome, IsTrue, length, true, false};
 ghost use Rattle.std.specs.Option.{IfSome};
 ghost use Rattle.mdl_key.specs.Refusals.{Refuses};
 ghost use Rattle.mdl_book.specs.Tickets.{ticket_of};
@@ -57,6 +57,7 @@ impl CoreSpace {
     /// A space of so many places and sessions, where nobody has asked for anything.
     pub fn new(alloc: Global, places: u16, sessions: u16) -> Result<CoreSpace, NewError>
         ensures made { IfOk result (λ space. space ≡ empty_core places sessions) }
+        ensures speaks { IfOk result (λ space. (who : ℕ) → 1 ≤ who → who ≤ sessions → SpeaksFor space who) }
         ensures refused { Refuses (new_fault places sessions) NewError.OutOfMemory result }
     {
         if places == 0 || places > MOST_PLACES {
@@ -326,6 +327,7 @@ fn place_of(books: &[Book], key: &Key) -> Option<usize>
     books.iter().position(|book| *book.key() == *key)
 }
 
+mod calls;
 mod serving;
 #[cfg(test)]
 mod tests;
