@@ -1,0 +1,134 @@
+-- What is left of tickets in rising number without those that pass a test behind the first so many.
+use Rattle.std.proofs.Common.{◌≡◌, ℕ, zero, suc, Bool, true, false, List, [], ◌∷◌, ◌++◌, refl, sym, ap, ◌∙◌, subst, arith, take, drop}
+use Rattle.std.specs.Prelude.{not, ◌||◌, ◌==◌, map, filter, if◌then◌else◌, IsTrue, nat_lt}
+use Rattle.std.specs.List.{list_all, list_any}
+use Rattle.std.proofs.lemmas.Bool.Decides.{nat_tests}
+use Rattle.mdl_key.specs.declared.mode.Duration.{Duration}
+use Rattle.mdl_key.specs.declared.mode.Duration.TheVariants.{Statement, Transaction, Explicit}
+use Rattle.mdl_space.specs.Own.{are_rising}
+use Rattle.mdl_context.specs.declared.kept.Kept.{Kept}
+use Rattle.mdl_context.specs.declared.request.Mark.{Mark}
+use Rattle.mdl_context.specs.Contexts.{lasts, duration_rank, held_for, gained_since, of_transaction, has_number, without, held_of, AreRising}
+
+-- all tickets have greater numbers
+abbrev pub Above : ℕ → List Kept → Type 0
+Above n tickets = IsTrue (list_all (λ other. nat_lt n other.id) (map held_of tickets))
+
+pub above-filter : (n : ℕ) (p : Kept → Bool) (xs : List Kept) → Above n xs → Above n (filter p xs)
+above-filter n p [] above = refl
+above-filter n p (x ∷ xs) above = grind (arith, nat_tests, above-filter n p xs)
+
+pub above-drop : (n m : ℕ) (xs : List Kept) → Above n xs → Above n (drop m xs)
+above-drop n zero xs above = above
+above-drop n (suc m) [] above = refl
+above-drop n (suc m) (x ∷ xs) above = grind (arith, nat_tests, above-drop n m xs)
+
+pub rising-filter : (p : Kept → Bool) (xs : List Kept) → AreRising xs → AreRising (filter p xs)
+rising-filter p [] rising = refl
+rising-filter p (x ∷ xs) rising = grind (arith, nat_tests, above-filter x.id p xs, rising-filter p xs)
+
+-- tickets of greater numbers don't have this one
+pub absent : (n : ℕ) (gone : List Kept) → Above n gone → has_number gone n ≡ false
+absent n [] above = refl
+absent n (x ∷ gone) above = grind (arith, nat_tests, absent n gone)
+
+-- to take a ticket of a lower number too changes nothing
+pub without-lower : (t : Kept) (gone xs : List Kept) → Above t.id xs → without (t ∷ gone) xs ≡ without gone xs
+without-lower t gone [] above = refl
+without-lower t gone (x ∷ xs) above = grind (arith, nat_tests, without-lower t gone xs)
+
+-- without those that pass the test behind the first so many
+abbrev pub front : (Kept → Bool) → ℕ → List Kept → List Kept
+front q m [] = []
+front q zero (t ∷ ts) = if q t then front q zero ts else t ∷ front q zero ts
+front q (suc m) (t ∷ ts) = t ∷ (if q t then front q m ts else front q (suc m) ts)
+
+pub left-beyond : (q : Kept → Bool) (m : ℕ) (kept : List Kept) → AreRising kept → without (drop m (filter q kept)) kept ≡ front q m kept
+left-beyond q zero [] rising = refl
+left-beyond q (suc m) [] rising = refl
+left-beyond q zero (t ∷ ts) rising =
+    grind (arith, nat_tests, left-beyond q zero ts, above-filter t.id q ts, absent t.id (filter q ts), without-lower t (filter q ts) ts)
+left-beyond q (suc m) (t ∷ ts) rising =
+    grind (arith, nat_tests, left-beyond q m ts, left-beyond q (suc m) ts, above-filter t.id q ts, above-drop t.id m (filter q ts), above-drop t.id (suc m) (filter q ts),
+    absent t.id (drop m (filter q ts)), absent t.id (drop (suc m) (filter q ts)))
+
+pub front-same : (q : Kept → Bool) (m : ℕ) (kept : List Kept) → filter q (front q m kept) ≡ take m (filter q kept)
+front-same q zero [] = refl
+front-same q (suc m) [] = refl
+front-same q zero (t ∷ ts) = grind (arith, front-same q zero ts)
+front-same q (suc m) (t ∷ ts) = grind (arith, front-same q m ts, front-same q (suc m) ts)
+
+pub front-other : (q r : Kept → Bool) → ((t : Kept) → r t ≡ true → q t ≡ false) → (m : ℕ) (kept : List Kept) → filter r (front q m kept) ≡ filter r kept
+front-other q r apart zero [] = refl
+front-other q r apart (suc m) [] = refl
+front-other q r apart zero (t ∷ ts) = grind (arith, front-other q r apart zero ts, apart t)
+front-other q r apart (suc m) (t ∷ ts) = grind (arith, front-other q r apart m ts, front-other q r apart (suc m) ts, apart t)
+
+-- two lists go one after the other
+has_number-append : (a b : List Kept) (n : ℕ) → has_number (a ++ b) n ≡ (has_number a n || has_number b n)
+has_number-append [] b n = refl
+has_number-append (y ∷ ys) b n = grind (arith, has_number-append ys b n)
+
+pub without-append : (a b xs : List Kept) → without (a ++ b) xs ≡ without b (without a xs)
+without-append a b [] = refl
+without-append a b (x ∷ xs) = grind (arith, without-append a b xs, has_number-append a b x.id)
+
+-- durations are apart
+pub apart : (d e : Duration) (different : (duration_rank d ≡ duration_rank e) → ⊥) (t : Kept) → lasts e t ≡ true → lasts d t ≡ false
+apart d e different t same = grind (arith, nat_tests)
+
+statement_apart : (e : Duration) (different : (duration_rank Statement ≡ duration_rank e) → ⊥) (m : ℕ) (kept : List Kept) → held_for e (front (lasts Statement) m kept) ≡ held_for e kept
+statement_apart e different m kept = front-other (lasts Statement) (lasts e) (apart Statement e different) m kept
+
+transaction_apart : (e : Duration) (different : (duration_rank Transaction ≡ duration_rank e) → ⊥) (m : ℕ) (kept : List Kept) → held_for e (front (lasts Transaction) m kept) ≡ held_for e kept
+transaction_apart e different m kept = front-other (lasts Transaction) (lasts e) (apart Transaction e different) m kept
+
+-- what stays where the session goes back
+pub left-since : (mark : Mark) (kept : List Kept) → AreRising kept
+    → without (gained_since mark kept) kept ≡ front (lasts Transaction) mark.transaction (front (lasts Statement) mark.statement kept)
+left-since mark kept rising =
+    let m = mark.statement in
+    let n = mark.transaction in
+    let first = left-beyond (lasts Statement) m kept rising in
+    let rising_then : AreRising (front (lasts Statement) m kept) = subst AreRising first (rising-filter (λ t. not (has_number (drop m (held_for Statement kept)) t.id)) kept rising) in
+    without-append (drop m (held_for Statement kept)) (drop n (held_for Transaction kept)) kept
+    ∙ ap (without (drop n (held_for Transaction kept))) first
+    ∙ ap (λ gone. without (drop n gone) (front (lasts Statement) m kept)) (sym (statement_apart Transaction (λ e. cc) m kept))
+    ∙ left-beyond (lasts Transaction) n (front (lasts Statement) m kept) rising_then
+
+pub since-statement : (mark : Mark) (kept : List Kept) → AreRising kept → held_for Statement (without (gained_since mark kept) kept) ≡ take mark.statement (held_for Statement kept)
+since-statement mark kept rising =
+    ap (held_for Statement) (left-since mark kept rising)
+    ∙ transaction_apart Statement (λ e. cc) mark.transaction (front (lasts Statement) mark.statement kept)
+    ∙ front-same (lasts Statement) mark.statement kept
+
+pub since-transaction : (mark : Mark) (kept : List Kept) → AreRising kept → held_for Transaction (without (gained_since mark kept) kept) ≡ take mark.transaction (held_for Transaction kept)
+since-transaction mark kept rising =
+    ap (held_for Transaction) (left-since mark kept rising)
+    ∙ front-same (lasts Transaction) mark.transaction (front (lasts Statement) mark.statement kept)
+    ∙ ap (take mark.transaction) (statement_apart Transaction (λ e. cc) mark.statement kept)
+
+pub since-explicit : (mark : Mark) (kept : List Kept) → AreRising kept → held_for Explicit (without (gained_since mark kept) kept) ≡ held_for Explicit kept
+since-explicit mark kept rising =
+    ap (held_for Explicit) (left-since mark kept rising)
+    ∙ transaction_apart Explicit (λ e. cc) mark.transaction (front (lasts Statement) mark.statement kept)
+    ∙ statement_apart Explicit (λ e. cc) mark.statement kept
+
+-- what stays where a statement ends
+pub ending-same : (kept : List Kept) → AreRising kept → held_for Statement (without (held_for Statement kept) kept) ≡ []
+ending-same kept rising = ap (held_for Statement) (left-beyond (lasts Statement) 0 kept rising) ∙ front-same (lasts Statement) 0 kept
+
+pub ending-other : (e : Duration) (different : (duration_rank Statement ≡ duration_rank e) → ⊥) (kept : List Kept) → AreRising kept
+    → held_for e (without (held_for Statement kept) kept) ≡ held_for e kept
+ending-other e different kept rising = ap (held_for e) (left-beyond (lasts Statement) 0 kept rising) ∙ statement_apart e different 0 kept
+
+lasting : (d : Duration) (t : Kept) (ts us : List Kept) → us ≡ ts →
+    (if duration_rank d == 0 then us else (if duration_rank d == 1 then us else t ∷ us)) ≡ (if duration_rank d == 2 then t ∷ ts else ts)
+lasting Statement t ts us same = same
+lasting Transaction t ts us same = same
+lasting Explicit t ts us same = ap (λ xs. t ∷ xs) same
+
+-- without those of a statement and of a transaction, just the explicit ones are left
+pub only-explicit : (kept : List Kept) → front (lasts Transaction) 0 (front (lasts Statement) 0 kept) ≡ held_for Explicit kept
+only-explicit [] = refl
+only-explicit (t ∷ ts) = grind (arith, nat_tests, lasting t.duration t (held_for Explicit ts) (front (lasts Transaction) 0 (front (lasts Statement) 0 ts)) (only-explicit ts))

@@ -1,0 +1,80 @@
+-- The tickets of a session by how long it keeps them, after MySQL 5.7: `MDL_context` of sql/mdl.h and sql/mdl.cc.
+use Rattle.std.specs.Prelude.{◌≡◌, ℕ, Bool, not, ◌||◌, ◌==◌, nat_lt, List, ◌++◌, map, filter, drop, length, Option, IsTrue}
+use Rattle.std.specs.List.{list_any}
+use Rattle.std.specs.Option.{option_map}
+use Rattle.mdl_key.specs.declared.mode.Mode.{Mode}
+use Rattle.mdl_key.specs.declared.mode.Duration.{Duration}
+use Rattle.mdl_key.specs.declared.mode.Duration.TheVariants.{Statement, Transaction, Explicit}
+use Rattle.mdl_space.specs.declared.answers.Held.{Held}
+use Rattle.mdl_space.specs.Own.{Own, Wait, are_rising}
+use Rattle.mdl_context.specs.declared.kept.Kept.{Kept}
+use Rattle.mdl_context.specs.declared.kept.Wanted.{Wanted}
+use Rattle.mdl_context.specs.declared.request.Mark.{Mark}
+
+-- a context: whose it is, its tickets in order of gain, and the wait that isn't ended
+pub record ContextView : Type 0 where
+  pub who : ℕ
+  pub kept : List Kept
+  pub wait : Option Wanted
+
+-- the durations in their order
+abbrev pub duration_rank : Duration → ℕ
+duration_rank Statement = 0
+duration_rank Transaction = 1
+duration_rank Explicit = 2
+
+-- whether a ticket is kept so long
+abbrev pub lasts : Duration → Kept → Bool
+lasts duration ticket = duration_rank ticket.duration == duration_rank duration
+
+-- the tickets of a duration, in rising number
+abbrev pub held_for : Duration → List Kept → List Kept
+held_for duration kept = filter (lasts duration) kept
+
+-- where the session stands now: how many tickets of the statement and of the transaction it keeps
+abbrev pub mark_of : List Kept → Mark
+mark_of kept = record { statement = length (held_for Statement kept); transaction = length (held_for Transaction kept) }
+
+-- whether fewer are kept than a mark counted
+abbrev pub is_stale : Mark → List Kept → Bool
+is_stale mark kept = nat_lt (length (held_for Statement kept)) mark.statement || nat_lt (length (held_for Transaction kept)) mark.transaction
+
+-- the tickets of a duration behind the first so many
+abbrev pub beyond : Duration → ℕ → List Kept → List Kept
+beyond duration most kept = drop most (held_for duration kept)
+
+-- the tickets that were gained since a mark: those of the statement first
+abbrev pub gained_since : Mark → List Kept → List Kept
+gained_since mark kept = beyond Statement mark.statement kept ++ beyond Transaction mark.transaction kept
+
+-- the tickets that end with a transaction: those of the statement first
+abbrev pub of_transaction : List Kept → List Kept
+of_transaction kept = held_for Statement kept ++ held_for Transaction kept
+
+-- whether one of the tickets has this number
+abbrev pub has_number : List Kept → ℕ → Bool
+has_number tickets id = list_any (λ ticket. ticket.id == id) tickets
+
+-- the tickets that are left without those of these numbers
+abbrev pub without : List Kept → List Kept → List Kept
+without gone kept = filter (λ ticket. not (has_number gone ticket.id)) kept
+
+-- a kept ticket as the lock space holds it
+abbrev pub held_of : Kept → Held
+held_of ticket = record { id = ticket.id; place = ticket.place; mode = ticket.mode }
+
+-- the numbers of kept tickets rise
+abbrev pub AreRising : List Kept → Type 0
+AreRising kept = IsTrue (are_rising (map held_of kept))
+
+-- the place and the mode that are waited for, in the lock space and in a context
+abbrev pub wish_there : Wait → ℕ × Mode
+wish_there wait = (wait.place, wait.mode)
+
+abbrev pub wish_here : Wanted → ℕ × Mode
+wish_here wanted = (wanted.place, wanted.mode)
+
+-- a context keeps just the tickets that the session holds in the lock space, and waits for what it waits for there
+pub record Serves (own : Own) (context : ContextView) : Type 0 where
+  pub held : own.held ≡ map held_of context.kept
+  pub wait : option_map wish_there own.wait ≡ option_map wish_here context.wait

@@ -1,0 +1,22 @@
+//! Why a call of a context is refused.
+use mdl_space::SpaceError;
+use thiserror::Error;
+
+/// Why a call of a context is refused. Of several causes the first in this order is answered.
+///
+/// A refused call changes nothing that the context keeps.
+#[derive(Clone, Copy, Debug, PartialEq, Eq, Error)]
+pub enum ContextError {
+    /// The context keeps fewer tickets of a duration than the mark counted.
+    #[error("the savepoint's tickets are gone")]
+    StaleSavepoint,
+    /// The context keeps no such ticket.
+    #[error("no such ticket is held")]
+    NotHeld,
+    /// The context has a wait that it hasn't ended.
+    #[error("the session waits")]
+    Waiting,
+    /// The lock space refused a call.
+    #[error("{0}")]
+    Space(SpaceError),
+}

@@ -1,0 +1,31 @@
+//! What a context keeps of a ticket, and of a wait.
+use mdl_key::{Duration, Key, Mode};
+use mdl_space::{Place, TicketId};
+
+/// A ticket that a session holds, and how long it keeps it.
+#[derive(Drop)]
+pub struct Kept {
+    /// The number that the session gave the ticket.
+    pub id: TicketId,
+    /// What is locked.
+    pub key: Key,
+    /// The place of the key in the lock space.
+    pub place: Place,
+    /// The mode in which it is locked.
+    pub mode: Mode,
+    /// How long the ticket is kept.
+    pub duration: Duration,
+}
+
+/// A ticket that a session waits for.
+#[derive(Drop)]
+pub struct Wanted {
+    /// What is to be locked.
+    pub key: Key,
+    /// The place of the key in the lock space.
+    pub place: Place,
+    /// The mode in which it is to be locked.
+    pub mode: Mode,
+    /// How long the ticket is to be kept.
+    pub duration: Duration,
+}

@@ -1,0 +1,22 @@
+//! Laws of durations. Each is proved as the contract of a function that does nothing.
+ghost use Rattle.mdl_context.specs.DurationLaws.{GoingBackKeepsFronts, GoingBackToNowKeepsAll, StatementsEndAlone, EndingLeavesExplicit};
+
+/// Going back keeps so many tickets from the front of the statement's and of the transaction's, and all explicit ones.
+pub fn going_back_keeps_fronts()
+    ensures { GoingBackKeepsFronts }
+{}
+
+/// To go back to where the session stands gives up nothing.
+pub fn going_back_to_now_keeps_all()
+    ensures { GoingBackToNowKeepsAll }
+{}
+
+/// The end of a statement takes the statement's tickets, and no others.
+pub fn statements_end_alone()
+    ensures { StatementsEndAlone }
+{}
+
+/// The end of a transaction leaves just the explicit tickets.
+pub fn ending_leaves_explicit()
+    ensures { EndingLeavesExplicit }
+{}
