@@ -1,2 +1,5 @@
 pub mod Contexts
 pub mod DurationLaws
+pub mod Holdings
+pub mod Releases
+pub mod Requests

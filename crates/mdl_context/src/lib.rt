@@ -2,6 +2,7 @@
 #![tactic(auto)]
 
 mod context_error;
+mod holdings;
 mod kept;
 mod laws;
 mod request;

@@ -1,0 +1,65 @@
+-- Tickets whose numbers rise: where a search by halves ends.
+use Rattle.std.proofs.Common.{◌≡◌, ℕ, zero, suc, ◌<◌, ◌≤◌, Bool, true, false, cond, List, [], ◌∷◌, length, get_or, Some, None, Option, Result, Ok, Err, refl, sym, ap, ◌∙◌, ltb, arith}
+use Rattle.std.specs.Prelude.{position, is_some, IsTrue, nat_lt, map}
+use Rattle.std.specs.List.{list_all, list_any, position_or_len}
+use Rattle.std.specs.List.Sorted.{IsSearchInRange, IsBinarySearchResult, IsNonDecreasingBy}
+use Rattle.std.specs.Ordering.{nat_cmp, ordering_index}
+use Rattle.std.specs.Result.{result_ok}
+use Rattle.std.proofs.lemmas.Cmp.{ranked}
+use Rattle.std.proofs.lemmas.Bool.Decides.{nat_tests}
+use Rattle.std.proofs.lemmas.List.Sums.{position_or_len_is}
+use Rattle.mdl_key.specs.declared.mode.Mode.TheVariants.{X}
+use Rattle.mdl_key.specs.declared.mode.Duration.TheVariants.{Explicit}
+use Rattle.mdl_key.specs.Keys.{global_key}
+use Rattle.mdl_context.specs.declared.kept.Kept.{Kept}
+use Rattle.mdl_context.specs.Contexts.{AreRising, held_of, has_number}
+use Rattle.mdl_context.specs.Holdings.{is_ticket}
+use Rattle.mdl_context.proofs.FrontLemmas.{Above}
+
+below_at : (n : ℕ) (xs : List Kept) (j : ℕ) (d : Kept) → Above n xs → j < length xs → n < (get_or xs j d).id
+below_at n [] j d above inside = absurd (omega arith)
+below_at n (x ∷ xs) zero d above inside = grind (arith, nat_tests)
+below_at n (x ∷ xs) (suc j) d above inside = grind (arith, nat_tests, below_at n xs j d)
+
+-- an earlier ticket has a lower number
+pub rises : (xs : List Kept) (i j : ℕ) (d : Kept) → AreRising xs → i < j → j < length xs → (get_or xs i d).id < (get_or xs j d).id
+rises [] i j d rising before inside = absurd (omega arith)
+rises (x ∷ xs) i zero d rising before inside = absurd (omega arith)
+rises (x ∷ xs) zero (suc j) d rising before inside = grind (arith, nat_tests, below_at x.id xs j d)
+rises (x ∷ xs) (suc i) (suc j) d rising before inside = grind (arith, nat_tests, rises xs i j d)
+
+no_ticket : Kept
+no_ticket = record { id = 0; key = global_key; place = 0; mode = X; duration = Explicit }
+
+module _ (xs : List Kept) (rising : AreRising xs) (id : ℕ) where
+  comparisons_rise : IsNonDecreasingBy (λ ticket. ordering_index (nat_cmp ticket.id id)) xs
+  comparisons_rise i j d le inside =
+      let numbers_rise : (get_or xs i d).id ≤ (get_or xs j d).id = grind (arith, rises xs i j d rising, λ (same : i ≡ j). ap (λ k. (get_or xs k d).id) same) in
+      grind (arith, nat_tests)
+
+  pub searched : (r : Result ℕ ℕ) → IsSearchInRange r (length xs) → IsBinarySearchResult (λ ticket. nat_cmp ticket.id id) xs r → result_ok r ≡ position (is_ticket id) xs
+  searched (Ok at) inside equal =
+      let here : (get_or xs at no_ticket).id ≡ id = ranked _ id _ (sym (equal no_ticket)) in
+      let first : position_or_len (is_ticket id) xs ≡ at =
+      position_or_len_is (is_ticket id) xs at no_ticket (omega (arith, inside)) (λ k below. grind (arith, nat_tests, rises xs k at no_ticket rising)) (λ _. grind (arith, nat_tests)) in
+      rw first (grind (arith, nat_tests))
+  searched (Err at) inside parted =
+      let none : position_or_len (is_ticket id) xs ≡ length xs =
+      position_or_len_is (is_ticket id) xs (length xs) no_ticket (omega arith) (λ k below.
+      elim (ltb k at) as (λ b. ltb k at ≡ b → is_ticket id (get_or xs k no_ticket) ≡ false) [
+        | true ↦ λ e. let smaller : (get_or xs k no_ticket).id < id = ranked _ id _ (sym ((parted comparisons_rise).0 k no_ticket (omega arith) (grind (arith, nat_tests)))) in grind (arith, nat_tests)
+        | false ↦ λ e. let greater : id < (get_or xs k no_ticket).id = ranked _ id _ (sym ((parted comparisons_rise).1 k no_ticket (grind (arith, nat_tests)) below)) in grind (arith, nat_tests)
+      ] refl) (λ no. absurd (omega arith)) in
+      rw none (grind (arith, nat_tests))
+
+inside-any : (p : Kept → Bool) (xs : List Kept) → nat_lt (position_or_len p xs) (length xs) ≡ list_any p xs
+inside-any p [] = refl
+inside-any p (x ∷ xs) = grind (arith, nat_tests, inside-any p xs)
+
+chosen : (b : Bool) (n : ℕ) → is_some (cond b (Some n) None) ≡ b
+chosen true n = refl
+chosen false n = refl
+
+-- a number has a place just where a ticket has it
+pub placed : (id : ℕ) (xs : List Kept) (place : Option ℕ) → place ≡ position (is_ticket id) xs → is_some place ≡ has_number xs id
+placed id xs place at = ap is_some at ∙ chosen _ _ ∙ inside-any (is_ticket id) xs

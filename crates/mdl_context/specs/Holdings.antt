@@ -1,0 +1,40 @@
+-- What a context keeps of its session's tickets and wait, as its own code sees it.
+use Rattle.std.specs.Prelude.{ℕ, Bool, not, ◌&&◌, ◌==◌, nat_le, List, map, filter, find, Option}
+use Rattle.std.specs.Option.{option_map}
+use Rattle.mdl_key.specs.declared.mode.Duration.{Duration}
+use Rattle.mdl_key.specs.declared.mode.Duration.TheVariants.{Explicit}
+use Rattle.mdl_key.specs.Keys.{KeyName, key_eq}
+use Rattle.mdl_space.specs.declared.answers.Held.{Held}
+use Rattle.mdl_context.specs.declared.kept.Kept.{Kept}
+use Rattle.mdl_context.specs.declared.kept.Wanted.{Wanted}
+use Rattle.mdl_context.specs.Contexts.{ContextView, held_of}
+
+-- the kept tickets in order of gain, the wait, and whether there is room for one more ticket
+pub record HoldingsView : Type 0 where
+  pub kept : List Kept
+  pub wait : Option Wanted
+  pub has_room : Bool
+
+-- the context that keeps this for a session
+abbrev pub context_of : ℕ → HoldingsView → ContextView
+context_of who holdings = record { who = who; kept = holdings.kept; wait = holdings.wait }
+
+-- whether a ticket has this number
+abbrev pub is_ticket : ℕ → Kept → Bool
+is_ticket id ticket = ticket.id == id
+
+-- the tickets without that of a number
+abbrev pub without_number : ℕ → List Kept → List Kept
+without_number id kept = filter (λ ticket. not (is_ticket id ticket)) kept
+
+-- whether a ticket is of this key
+abbrev pub is_of : KeyName → Kept → Bool
+is_of key ticket = key_eq ticket.key key
+
+-- the earliest ticket that passes a test, as the lock space holds it
+abbrev pub earliest : (Kept → Bool) → List Kept → Option Held
+earliest test kept = option_map held_of (find test kept)
+
+-- a ticket that is kept for another duration
+abbrev pub kept_for : Duration → Kept → Kept
+kept_for duration ticket = record ticket { duration = duration }

@@ -1,0 +1,63 @@
+-- How a session gives tickets up, after MySQL 5.7: `MDL_context::release_lock`, `release_all_locks_for_name`,
+-- `rollback_to_savepoint`, `release_statement_locks` and `release_transactional_locks` of sql/mdl.cc. That the tickets of a
+-- statement go first, and each duration in order of gain, is this project's own choice.
+use Rattle.std.specs.Prelude.{ℕ, List, [], ◌∷◌, filter, not, Option, Some, None, is_some, Ok, Err, if◌then◌else◌}
+use Rattle.mdl_key.specs.declared.mode.Duration.TheVariants.{Statement}
+use Rattle.mdl_key.specs.Keys.{KeyName}
+use Rattle.mdl_space.specs.Calls.{Release}
+use Rattle.mdl_space.specs.Runs.{Program, Give, Ask, ◌>>◌}
+use Rattle.mdl_context.specs.declared.context_error.ContextError.{ContextError}
+use Rattle.mdl_context.specs.declared.context_error.ContextError.TheVariants.{StaleSavepoint, NotHeld, Waiting}
+use Rattle.mdl_context.specs.declared.kept.Kept.{Kept}
+use Rattle.mdl_context.specs.declared.request.Mark.{Mark}
+use Rattle.mdl_context.specs.Contexts.{ContextView, held_for, is_stale, gained_since, of_transaction, has_number, without}
+use Rattle.mdl_context.specs.Holdings.{is_of, without_number}
+use Rattle.mdl_context.specs.Requests.{Outcome}
+
+-- tickets are released, one after the other
+abbrev pub releasing_all : ℕ → List Kept → Program (Unit {0})
+releasing_all who [] = Give tt
+releasing_all who (ticket ∷ tickets) = Ask (Release who ticket.id) (λ _. releasing_all who tickets)
+
+-- a context gives tickets up, and keeps the others
+abbrev pub giving_up : List Kept → ContextView → Program (Outcome (Unit {0}))
+giving_up gone context = releasing_all context.who gone >> Give (Ok tt, record context { kept = without gone context.kept })
+
+-- refused by the fault, where there is one
+abbrev pub unless : {A : Type 0} → Option ContextError → ContextView → Program (Outcome A) → Program (Outcome A)
+unless (Some fault) context program = Give (Err fault, context)
+unless None context program = program
+
+-- why a context that waits is refused
+abbrev pub waiting_fault : ContextView → Option ContextError
+waiting_fault context = if is_some context.wait then Some Waiting else None
+
+-- why a ticket can't be released
+abbrev pub release_fault : ℕ → ContextView → Option ContextError
+release_fault id context = if not (has_number context.kept id) then Some NotHeld else waiting_fault context
+
+-- why the session can't go back to a mark
+abbrev pub rollback_fault : Mark → ContextView → Option ContextError
+rollback_fault mark context = if is_stale mark context.kept then Some StaleSavepoint else waiting_fault context
+
+-- a ticket is released
+abbrev pub releasing : ℕ → ContextView → Program (Outcome (Unit {0}))
+releasing id context =
+    unless (release_fault id context) context
+    (Ask (Release context.who id) (λ _. Give (Ok tt, record context { kept = without_number id context.kept })))
+
+-- all tickets of a key are released
+abbrev pub releasing_name : KeyName → ContextView → Program (Outcome (Unit {0}))
+releasing_name key context = unless (waiting_fault context) context (giving_up (filter (is_of key) context.kept) context)
+
+-- the session goes back to a mark
+abbrev pub rolling_back : Mark → ContextView → Program (Outcome (Unit {0}))
+rolling_back mark context = unless (rollback_fault mark context) context (giving_up (gained_since mark context.kept) context)
+
+-- a statement ends
+abbrev pub ending_statement : ContextView → Program (Outcome (Unit {0}))
+ending_statement context = unless (waiting_fault context) context (giving_up (held_for Statement context.kept) context)
+
+-- a transaction ends
+abbrev pub ending_transaction : ContextView → Program (Outcome (Unit {0}))
+ending_transaction context = unless (waiting_fault context) context (giving_up (of_transaction context.kept) context)

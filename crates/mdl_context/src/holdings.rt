@@ -1,0 +1,217 @@
+//! The tickets that a context keeps, and its wait.
+ghost use Rattle.std.specs.Prelude.{◌≡◌, ℕ, true, Some, None, [], ◌∷◌, ◌++◌, map, filter, length, is_some, OnOk, slice_get, position};
+ghost use Rattle.std.specs.Option.{option_map};
+ghost use Rattle.mdl_key.specs.declared.mode.Duration.TheVariants.{Explicit};
+ghost use Rattle.mdl_space.specs.Strength.{covers};
+ghost use Rattle.mdl_context.specs.Contexts.{AreRising, lasts, held_for, has_number, held_of};
+ghost use Rattle.mdl_context.specs.Holdings.{without_number, is_of, is_ticket, earliest, kept_for};
+ghost use Rattle.mdl_context.specs.Requests.{suffices, is_reusable};
+
+use crate::{Kept, Request, Wanted};
+use mdl_key::{Duration, Key, Kind, Mode, at_least};
+use mdl_space::{Held, TicketId};
+use std::alloc::{AllocError, Global};
+use std::marker::Model;
+
+/// The tickets that a context keeps, in order of gain, and its wait.
+///
+/// While there is a wait, there is room for the ticket that is waited for, so taking it up takes no memory.
+#[derive(Drop)]
+pub(crate) struct Holdings {
+    tickets: Vec<Kept>,
+    wait: Option<Wanted>,
+}
+
+impl Model for Holdings {
+    ghost use Rattle.std.specs.Prelude.{◌<◌, nat_lt, length};
+    ghost use Rattle.std.specs.Option.{IfSome};
+    ghost use Rattle.std.specs.Vec.{vec_capacity};
+    ghost use Rattle.mdl_context.specs.Holdings.{HoldingsView};
+
+    ghost Value = { HoldingsView };
+
+    ghost view = { λ holdings. record {
+      kept = holdings.tickets.items;
+      wait = holdings.wait;
+      has_room = nat_lt (length holdings.tickets.items) (vec_capacity holdings.tickets);
+    } };
+
+    ghost invariant = { λ holdings. IfSome holdings.wait (λ _. length holdings.tickets.items < vec_capacity holdings.tickets) };
+}
+
+impl Holdings {
+    /// Nothing. It takes no memory.
+    pub(crate) fn new(alloc: Global) -> Holdings
+        ensures kept { result.kept ≡ [] }
+        ensures wait { result.wait ≡ None }
+    {
+        Holdings {
+            tickets: Vec::new(alloc),
+            wait: None,
+        }
+    }
+
+    /// The tickets, in order of gain.
+    pub(crate) fn tickets(&self) -> &[Kept]
+        ensures { result.now ≡ self.now.kept }
+    {
+        &self.tickets
+    }
+
+    /// Whether there is a wait.
+    pub(crate) fn is_waiting(&self) -> bool
+        ensures { result ≡ is_some self.now.wait }
+    {
+        self.wait.is_some()
+    }
+
+    /// Makes room for one more ticket.
+    pub(crate) fn reserve(&mut self) -> Result<(), AllocError>
+        ensures room { OnOk result (self.new.has_room ≡ true) }
+        ensures kept { self.new.kept ≡ self.old.kept }
+        ensures wait { self.new.wait ≡ self.old.wait }
+    {
+        self.tickets.reserve(1)
+    }
+
+    /// Puts a new ticket last. It takes no memory.
+    pub(crate) fn keep(&mut self, ticket: Kept)
+        requires room { self.old.has_room ≡ true }
+        requires idle { self.old.wait ≡ None }
+        ensures kept { self.new.kept ≡ self.old.kept ++ ticket ∷ [] }
+        ensures wait { self.new.wait ≡ None }
+    {
+        self.tickets.push(ticket).unwrap();
+    }
+
+    /// Begins a wait.
+    pub(crate) fn begin_wait(&mut self, wanted: Wanted)
+        requires { self.old.has_room ≡ true }
+        ensures kept { self.new.kept ≡ self.old.kept }
+        ensures wait { self.new.wait ≡ Some wanted }
+    {
+        self.wait = Some(wanted);
+    }
+
+    /// Ends the wait, if there is one, without a ticket.
+    pub(crate) fn drop_wait(&mut self)
+        ensures kept { self.new.kept ≡ self.old.kept }
+        ensures wait { self.new.wait ≡ None }
+    {
+        self.wait = None;
+    }
+
+    /// Whether there is a ticket of this number.
+    pub(crate) fn has(&self, id: TicketId) -> bool
+        requires { AreRising self.now.kept }
+        ensures { result ≡ has_number self.now.kept id }
+    {
+        place_of(&self.tickets, id).is_some()
+    }
+
+    /// How many tickets are kept so long.
+    pub(crate) fn count(&self, duration: Duration) -> usize
+        ensures { result ≡ length (held_for duration self.now.kept) }
+    {
+        self.tickets
+            .iter()
+            .filter(|ticket| ticket.lasts(duration))
+            .count()
+    }
+
+    /// The earliest ticket that a request can use again.
+    pub(crate) fn reusable(&self, request: &Request) -> Option<Held>
+        ensures { result ≡ earliest (is_reusable request.now) self.now.kept }
+    {
+        for ticket in &self.tickets {
+            if request.can_reuse(ticket) {
+                return Some(ticket.held());
+            }
+        }
+        None
+    }
+
+    /// The earliest ticket that suffices for a request.
+    pub(crate) fn sufficient(&self, request: &Request) -> Option<Held>
+        ensures { result ≡ earliest (suffices request.now) self.now.kept }
+    {
+        for ticket in &self.tickets {
+            if request.is_met_by(ticket) {
+                return Some(ticket.held());
+            }
+        }
+        None
+    }
+
+    /// The earliest ticket of a key.
+    pub(crate) fn of_key(&self, key: &Key) -> Option<Held>
+        ensures { result ≡ earliest (is_of key.now) self.now.kept }
+    {
+        for ticket in &self.tickets {
+            if ticket.key == *key {
+                return Some(ticket.held());
+            }
+        }
+        None
+    }
+}
+
+// Where the ticket of a number stands, among tickets whose numbers rise.
+fn place_of(tickets: &[Kept], id: TicketId) -> Option<usize>
+    requires { AreRising tickets.now }
+    ensures { result ≡ position (is_ticket id) tickets.now }
+{
+    tickets.binary_search_by_key(&id, |ticket| ticket.id).ok()
+}
+
+impl Kept {
+    // As the lock space holds it.
+    fn held(&self) -> Held
+        ensures { result ≡ held_of self.now }
+    {
+        Held {
+            id: self.id,
+            place: self.place,
+            mode: self.mode,
+        }
+    }
+
+    // Whether the ticket is kept so long.
+    fn lasts(&self, duration: Duration) -> bool
+        ensures { result ≡ lasts duration self.now }
+    {
+        self.duration == duration
+    }
+}
+
+impl Request {
+    // Whether a ticket suffices for the request.
+    fn is_met_by(&self, ticket: &Kept) -> bool
+        ensures { result ≡ suffices self.now ticket.now }
+    {
+        ticket.key == self.key
+            && covers(ticket.mode, self.mode)
+            && self.key.kind().has_mode(self.mode)
+    }
+
+    // Whether a ticket can be used again for the request.
+    fn can_reuse(&self, ticket: &Kept) -> bool
+        ensures { result ≡ is_reusable self.now ticket.now }
+    {
+        self.is_met_by(ticket)
+            && ticket.lasts(self.duration)
+            && !ticket.lasts(Duration::Explicit)
+    }
+}
+
+// Whether a mode is at least as strong as another one of its kind.
+fn covers(held: Mode, mode: Mode) -> bool
+    ensures { result ≡ covers held mode }
+{
+    let kind = if Kind::Object.has_mode(held) && Kind::Object.has_mode(mode) {
+        Kind::Object
+    } else {
+        Kind::Scoped
+    };
+    at_least(kind, held, mode)
+}
