@@ -1,2 +1,3 @@
 pub mod FrontLemmas
 pub mod SearchLemmas
+pub mod ServingLemmas

@@ -1,19 +1,20 @@
 -- Tickets whose numbers rise: where a search by halves ends.
 use Rattle.std.proofs.Common.{◌≡◌, ℕ, zero, suc, ◌<◌, ◌≤◌, Bool, true, false, cond, List, [], ◌∷◌, length, get_or, Some, None, Option, Result, Ok, Err, refl, sym, ap, ◌∙◌, ltb, arith}
-use Rattle.std.specs.Prelude.{position, is_some, IsTrue, nat_lt, map}
-use Rattle.std.specs.List.{list_all, list_any, position_or_len}
+use Rattle.std.specs.Prelude.{position, is_some, nat_lt}
+use Rattle.std.specs.List.{list_any, position_or_len, remove}
 use Rattle.std.specs.List.Sorted.{IsSearchInRange, IsBinarySearchResult, IsNonDecreasingBy}
 use Rattle.std.specs.Ordering.{nat_cmp, ordering_index}
 use Rattle.std.specs.Result.{result_ok}
 use Rattle.std.proofs.lemmas.Cmp.{ranked}
 use Rattle.std.proofs.lemmas.Bool.Decides.{nat_tests}
 use Rattle.std.proofs.lemmas.List.Sums.{position_or_len_is}
+use Rattle.std.proofs.lemmas.List.Quantifiers.{position-Some}
 use Rattle.mdl_key.specs.declared.mode.Mode.TheVariants.{X}
 use Rattle.mdl_key.specs.declared.mode.Duration.TheVariants.{Explicit}
 use Rattle.mdl_key.specs.Keys.{global_key}
 use Rattle.mdl_context.specs.declared.kept.Kept.{Kept}
-use Rattle.mdl_context.specs.Contexts.{AreRising, held_of, has_number}
-use Rattle.mdl_context.specs.Holdings.{is_ticket}
+use Rattle.mdl_context.specs.Contexts.{AreRising, has_number}
+use Rattle.mdl_context.specs.Holdings.{is_ticket, without_number}
 use Rattle.mdl_context.proofs.FrontLemmas.{Above}
 
 below_at : (n : ℕ) (xs : List Kept) (j : ℕ) (d : Kept) → Above n xs → j < length xs → n < (get_or xs j d).id
@@ -63,3 +64,31 @@ chosen false n = refl
 -- a number has a place just where a ticket has it
 pub placed : (id : ℕ) (xs : List Kept) (place : Option ℕ) → place ≡ position (is_ticket id) xs → is_some place ≡ has_number xs id
 placed id xs place at = ap is_some at ∙ chosen _ _ ∙ inside-any (is_ticket id) xs
+
+-- ---- without a ticket
+
+all_others : (id : ℕ) (xs : List Kept) → Above id xs → without_number id xs ≡ xs
+all_others id [] above = refl
+all_others id (x ∷ xs) above = grind (arith, nat_tests, all_others id xs)
+
+taken_at : (id : ℕ) (xs : List Kept) (at : ℕ) (d : Kept) → AreRising xs → at < length xs → (get_or xs at d).id ≡ id → without_number id xs ≡ remove xs at
+taken_at id [] at d rising inside here = absurd (omega arith)
+taken_at id (x ∷ xs) zero d rising inside here = grind (arith, nat_tests, all_others id xs)
+taken_at id (x ∷ xs) (suc at) d rising inside here =
+    let before : x.id < id = grind (arith, rises (x ∷ xs) 0 (suc at) d rising) in
+    grind (arith, nat_tests, taken_at id xs at d)
+
+-- where a number is, to take the ticket out at its place is to keep those of other numbers
+pub without_at : (id : ℕ) (xs : List Kept) (at : ℕ) → AreRising xs → Some at ≡ position (is_ticket id) xs → without_number id xs ≡ remove xs at
+without_at id xs at rising place =
+    let found = position-Some (is_ticket id) xs at no_ticket (sym place) in
+    let here : (get_or xs at no_ticket).id ≡ id = grind (arith, nat_tests, found.1) in
+    taken_at id xs at no_ticket rising found.0 here
+
+none_taken : (id : ℕ) (xs : List Kept) → has_number xs id ≡ false → without_number id xs ≡ xs
+none_taken id [] none = refl
+none_taken id (x ∷ xs) none = grind (arith, nat_tests, none_taken id xs)
+
+-- where no ticket has a number, all are of others
+pub without_none : (id : ℕ) (xs : List Kept) → None ≡ position (is_ticket id) xs → without_number id xs ≡ xs
+without_none id xs place = none_taken id xs (sym (placed id xs None place))

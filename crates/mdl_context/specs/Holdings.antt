@@ -1,8 +1,8 @@
 -- What a context keeps of its session's tickets and wait, as its own code sees it.
-use Rattle.std.specs.Prelude.{ℕ, Bool, not, ◌&&◌, ◌==◌, nat_le, List, map, filter, find, Option}
+use Rattle.std.specs.Prelude.{ℕ, Bool, not, ◌==◌, List, filter, find, Option}
 use Rattle.std.specs.Option.{option_map}
 use Rattle.mdl_key.specs.declared.mode.Duration.{Duration}
-use Rattle.mdl_key.specs.declared.mode.Duration.TheVariants.{Explicit}
+use Rattle.mdl_key.specs.declared.mode.Duration.TheVariants.{Transaction, Explicit}
 use Rattle.mdl_key.specs.Keys.{KeyName, key_eq}
 use Rattle.mdl_space.specs.declared.answers.Held.{Held}
 use Rattle.mdl_context.specs.declared.kept.Kept.{Kept}
@@ -38,3 +38,12 @@ earliest test kept = option_map held_of (find test kept)
 -- a ticket that is kept for another duration
 abbrev pub kept_for : Duration → Kept → Kept
 kept_for duration ticket = record ticket { duration = duration }
+
+-- how long a ticket lasts where it ends with the transaction
+abbrev pub in_transaction : Duration → Duration
+in_transaction Explicit = Transaction
+in_transaction duration = duration
+
+-- a ticket that ends with the transaction
+abbrev pub transactional : Kept → Kept
+transactional ticket = kept_for (in_transaction ticket.duration) ticket

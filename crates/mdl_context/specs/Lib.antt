@@ -1,5 +1,6 @@
 pub mod Contexts
 pub mod DurationLaws
+pub mod Goings
 pub mod Holdings
 pub mod Releases
 pub mod Requests

@@ -1,10 +1,12 @@
 //! The tickets that a context keeps, and its wait.
-ghost use Rattle.std.specs.Prelude.{◌≡◌, ℕ, true, Some, None, [], ◌∷◌, ◌++◌, map, filter, length, is_some, OnOk, slice_get, position};
+ghost use Rattle.std.specs.Prelude.{◌≡◌, ℕ, true, Some, None, [], ◌∷◌, ◌++◌, map, filter, length, is_some, OnOk, slice_get, position, not, ◌≤◌};
+ghost use Rattle.std.specs.Vec.{vec_capacity};
+ghost use Rattle.mdl_context.specs.Goings.{goes};
 ghost use Rattle.std.specs.Option.{option_map};
 ghost use Rattle.mdl_key.specs.declared.mode.Duration.TheVariants.{Explicit};
 ghost use Rattle.mdl_space.specs.Strength.{covers};
 ghost use Rattle.mdl_context.specs.Contexts.{AreRising, lasts, held_for, has_number, held_of};
-ghost use Rattle.mdl_context.specs.Holdings.{without_number, is_of, is_ticket, earliest, kept_for};
+ghost use Rattle.mdl_context.specs.Holdings.{without_number, is_of, is_ticket, earliest, kept_for, in_transaction, transactional};
 ghost use Rattle.mdl_context.specs.Requests.{suffices, is_reusable};
 
 use crate::{Kept, Request, Wanted};
@@ -119,6 +121,57 @@ impl Holdings {
             .count()
     }
 
+    /// The ticket behind so many of a duration.
+    pub(crate) fn nth_for(&self, duration: Duration, most: usize) -> Option<TicketId>
+        ensures { result ≡ option_map (λ ticket. ticket.id) (slice_get (held_for duration self.now.kept) most) }
+    {
+        let mut left = most;
+        for ticket in &self.tickets {
+            if ticket.lasts(duration) {
+                if left == 0 {
+                    return Some(ticket.id);
+                }
+                left -= 1;
+            }
+        }
+        None
+    }
+
+    /// Takes the ticket of a number out, if there is one. It takes no memory.
+    pub(crate) fn remove(&mut self, id: TicketId)
+        requires { AreRising self.old.kept }
+        ensures kept { self.new.kept ≡ without_number id self.old.kept }
+        ensures wait { self.new.wait ≡ self.old.wait }
+    {
+        if let Some(at) = place_of(&self.tickets, id) {
+            self.tickets.remove(at);
+        }
+    }
+
+    /// Takes out the tickets that are given up. It takes no memory.
+    pub(crate) fn remove_all(&mut self, going: &Going)
+        ensures kept { self.new.kept ≡ filter (λ ticket. not (goes going.now ticket)) self.old.kept }
+        ensures wait { self.new.wait ≡ self.old.wait }
+    {
+        keep_others(&mut self.tickets, going);
+    }
+
+    /// Keeps all tickets until they are released.
+    pub(crate) fn make_explicit(&mut self)
+        ensures kept { self.new.kept ≡ map (kept_for Explicit) self.old.kept }
+        ensures wait { self.new.wait ≡ self.old.wait }
+    {
+        make_all_explicit(&mut self.tickets);
+    }
+
+    /// Keeps the explicit tickets until the transaction ends.
+    pub(crate) fn make_transactional(&mut self)
+        ensures kept { self.new.kept ≡ map transactional self.old.kept }
+        ensures wait { self.new.wait ≡ self.old.wait }
+    {
+        make_all_transactional(&mut self.tickets);
+    }
+
     /// The earliest ticket that a request can use again.
     pub(crate) fn reusable(&self, request: &Request) -> Option<Held>
         ensures { result ≡ earliest (is_reusable request.now) self.now.kept }
@@ -162,6 +215,63 @@ fn place_of(tickets: &[Kept], id: TicketId) -> Option<usize>
     ensures { result ≡ position (is_ticket id) tickets.now }
 {
     tickets.binary_search_by_key(&id, |ticket| ticket.id).ok()
+}
+
+// Keeps tickets until they are released.
+fn make_all_explicit(tickets: &mut [Kept])
+    ensures { tickets.new ≡ map (kept_for Explicit) tickets.old }
+{
+    for ticket in tickets.iter_mut() {
+        ticket.duration = Duration::Explicit;
+    }
+}
+
+// Keeps those that are explicit until the transaction ends.
+fn make_all_transactional(tickets: &mut [Kept])
+    ensures { tickets.new ≡ map transactional tickets.old }
+{
+    for ticket in tickets.iter_mut() {
+        ticket.duration = in_transaction(ticket.duration);
+    }
+}
+
+// How long a ticket lasts where it ends with the transaction.
+fn in_transaction(duration: Duration) -> Duration
+    ensures { result ≡ in_transaction duration }
+{
+    match duration {
+        Duration::Explicit => Duration::Transaction,
+        shorter => shorter,
+    }
+}
+
+// Keeps the tickets that aren't given up.
+fn keep_others(tickets: &mut Vec<Kept>, going: &Going)
+    ensures kept { tickets.new.items ≡ filter (λ ticket. not (goes going.now ticket)) tickets.old.items }
+    ensures bound { length tickets.new.items ≤ length tickets.old.items }
+    ensures capacity { vec_capacity tickets.new ≡ vec_capacity tickets.old }
+{
+    tickets.retain(|ticket| !going.names(ticket));
+}
+
+/// Which tickets are given up.
+pub(crate) enum Going<'a> {
+    /// Those of a duration from a number on.
+    From(Duration, TicketId),
+    /// Those of a key.
+    OfKey(&'a Key),
+}
+
+impl Going<'_> {
+    /// Whether a ticket is given up.
+    pub(crate) fn names(&self, ticket: &Kept) -> bool
+        ensures { result ≡ goes self.now ticket.now }
+    {
+        match self {
+            Going::From(duration, id) => ticket.lasts(*duration) && *id <= ticket.id,
+            Going::OfKey(key) => ticket.key == **key,
+        }
+    }
 }
 
 impl Kept {

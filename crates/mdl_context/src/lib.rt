@@ -1,12 +1,14 @@
 //! What a session keeps of its metadata locks: its tickets by how long they last.
 #![tactic(auto)]
 
+mod context;
 mod context_error;
 mod holdings;
 mod kept;
 mod laws;
 mod request;
 
+pub use context::Context;
 pub use context_error::ContextError;
 pub use kept::{Kept, Wanted};
 pub use laws::{

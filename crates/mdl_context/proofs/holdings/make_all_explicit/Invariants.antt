@@ -1,0 +1,9 @@
+-- The tickets so far are changed, and the others are as they were.
+use Rattle.std.proofs.Common.{◌≡◌, ◌++◌, take, drop}
+use Rattle.std.specs.Prelude.{map}
+use Rattle.mdl_key.specs.declared.mode.Duration.TheVariants.{Explicit}
+use Rattle.mdl_context.specs.Holdings.{kept_for}
+use Rattle.mdl_context.proofs.holdings.make_all_explicit.Given as goal
+
+abbrev pub invariant-loop-ticket : goal.invariant-loop-ticket
+invariant-loop-ticket l = l.tickets ≡ map (kept_for Explicit) (take l.ticket-index l.fn.tickets) ++ drop l.ticket-index l.fn.tickets

@@ -1,0 +1,91 @@
+//! A session's tickets by how long they last.
+ghost use Rattle.std.specs.Prelude.{◌≡◌, Some, None, [], map, OnOk, OnErr};
+ghost use Rattle.mdl_key.specs.declared.mode.Duration.TheVariants.{Explicit};
+ghost use Rattle.mdl_key.specs.Refusals.{RefusesJust};
+ghost use Rattle.mdl_space.specs.Own.{Own};
+ghost use Rattle.mdl_context.specs.Contexts.{ContextView, mark_of, Serves};
+ghost use Rattle.mdl_context.specs.Holdings.{kept_for, transactional};
+ghost use Rattle.mdl_context.specs.Releases.{waiting_fault};
+
+use crate::holdings::Holdings;
+use crate::{ContextError, Mark};
+use mdl_key::Duration;
+use mdl_space::LockSpace;
+use std::alloc::Global;
+use std::marker::{Model, PhantomData};
+
+/// A session's tickets in a lock space by how long they last, and its wait.
+///
+/// After MySQL 5.7, `MDL_context` of `sql/mdl.h`.
+#[derive(Drop)]
+pub struct Context<S: LockSpace> {
+    who: u16,
+    holdings: Holdings,
+    space: PhantomData<S>,
+}
+
+impl<S: LockSpace> Model for Context<S> {
+    ghost use Rattle.mdl_context.specs.Contexts.{ContextView};
+    ghost use Rattle.mdl_context.specs.Holdings.{context_of};
+
+    ghost Value = { ContextView };
+
+    ghost view = { λ context. context_of context.who context.holdings };
+}
+
+impl<S: LockSpace> Context<S> {
+    /// The context of a session that has nothing. It takes no memory.
+    pub fn new(alloc: Global, who: u16) -> Context<S>
+        ensures { result ≡ record { who = who; kept = []; wait = None } }
+    {
+        Context {
+            who,
+            holdings: Holdings::new(alloc),
+            space: PhantomData,
+        }
+    }
+
+    /// Where the session stands now.
+    ///
+    /// After MySQL 5.7, `MDL_context::mdl_savepoint` of `sql/mdl.h`.
+    pub fn savepoint(&self) -> Mark
+        ensures { result ≡ mark_of self.now.kept }
+    {
+        Mark {
+            statement: self.holdings.count(Duration::Statement),
+            transaction: self.holdings.count(Duration::Transaction),
+        }
+    }
+
+    /// Keeps all tickets until they are released.
+    ///
+    /// After MySQL 5.7, `MDL_context::set_explicit_duration_for_all_locks` of `sql/mdl.cc`.
+    pub fn make_explicit(&mut self) -> Result<(), ContextError>
+        ensures refused { RefusesJust (waiting_fault self.old) result }
+        ensures done { OnOk result (self.new ≡ record self.old { kept = map (kept_for Explicit) self.old.kept }) }
+        ensures unchanged { OnErr result (self.new ≡ self.old) }
+        ensures serves { (own : Own) → Serves own self.old → Serves own self.new }
+    {
+        if self.holdings.is_waiting() {
+            return Err(ContextError::Waiting);
+        }
+        self.holdings.make_explicit();
+        Ok(())
+    }
+
+    /// Keeps the explicit tickets until the transaction ends.
+    ///
+    /// After MySQL 5.7, `MDL_context::set_transaction_duration_for_all_locks` of `sql/mdl.cc`.
+    pub fn make_transactional(&mut self) -> Result<(), ContextError>
+        ensures refused { RefusesJust (waiting_fault self.old) result }
+        ensures done { OnOk result (self.new ≡ record self.old { kept = map transactional self.old.kept }) }
+        ensures unchanged { OnErr result (self.new ≡ self.old) }
+        ensures serves { (own : Own) → Serves own self.old → Serves own self.new }
+    {
+        if self.holdings.is_waiting() {
+            return Err(ContextError::Waiting);
+        }
+        self.holdings.make_transactional();
+        Ok(())
+    }
+}
