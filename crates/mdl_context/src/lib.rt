@@ -6,6 +6,7 @@ mod context_error;
 mod holdings;
 mod kept;
 mod laws;
+mod releases;
 mod request;
 
 pub use context::Context;
