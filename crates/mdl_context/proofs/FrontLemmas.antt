@@ -83,6 +83,10 @@ statement_apart e different m kept = front-other (lasts Statement) (lasts e) (ap
 transaction_apart : (e : Duration) (different : (duration_rank Transaction ≡ duration_rank e) → ⊥) (m : ℕ) (kept : List Kept) → held_for e (front (lasts Transaction) m kept) ≡ held_for e kept
 transaction_apart e different m kept = front-other (lasts Transaction) (lasts e) (apart Transaction e different) m kept
 
+-- the tickets of the transaction are the same once those of the statement are gone
+pub statement-gone : (m : ℕ) (kept : List Kept) → AreRising kept → held_for Transaction (without (drop m (held_for Statement kept)) kept) ≡ held_for Transaction kept
+statement-gone m kept rising = ap (held_for Transaction) (left-beyond (lasts Statement) m kept rising) ∙ statement_apart Transaction (λ e. cc) m kept
+
 -- what stays where the session goes back
 pub left-since : (mark : Mark) (kept : List Kept) → AreRising kept
     → without (gained_since mark kept) kept ≡ front (lasts Transaction) mark.transaction (front (lasts Statement) mark.statement kept)

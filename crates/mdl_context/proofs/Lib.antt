@@ -1,3 +1,4 @@
+pub mod BeyondLemmas
 pub mod FrontLemmas
 pub mod ReleaseLemmas
 pub mod SearchLemmas

@@ -78,3 +78,8 @@ wish_here wanted = (wanted.place, wanted.mode)
 pub record Serves (own : Own) (context : ContextView) : Type 0 where
   pub held : own.held ≡ map held_of context.kept
   pub wait : option_map wish_there own.wait ≡ option_map wish_here context.wait
+
+-- the lock space speaks for the context's session, and the context keeps what that has there
+pub record Attends {S : Type 0} (speaks_for : S → ℕ → Type 0) (own : S → ℕ → Own) (space : S) (context : ContextView) : Type 0 where
+  pub speaks : speaks_for space context.who
+  pub serves : Serves (own space context.who) context

@@ -3,14 +3,16 @@ ghost use Rattle.std.specs.Prelude.{◌≡◌, Some, None, [], map, OnOk, OnErr}
 ghost use Rattle.mdl_key.specs.declared.mode.Duration.TheVariants.{Explicit};
 ghost use Rattle.mdl_key.specs.Refusals.{RefusesJust};
 ghost use Rattle.mdl_space.specs.Own.{Own};
-ghost use Rattle.mdl_context.specs.Contexts.{ContextView, mark_of, Serves};
+ghost use Rattle.mdl_space.specs.Runs.{Runs};
+ghost use Rattle.mdl_context.specs.Contexts.{ContextView, mark_of, beyond, gained_since, without, Serves, Attends};
 ghost use Rattle.mdl_context.specs.Holdings.{kept_for, transactional};
-ghost use Rattle.mdl_context.specs.Releases.{waiting_fault};
+ghost use Rattle.mdl_context.specs.Releases.{releasing_all, giving_up, waiting_fault, release_fault, rollback_fault, releasing, releasing_name, rolling_back, ending_statement, ending_transaction};
 
-use crate::holdings::Holdings;
+use crate::holdings::{Going, Holdings};
+use crate::releases::{give_up, let_go};
 use crate::{ContextError, Mark};
-use mdl_key::Duration;
-use mdl_space::LockSpace;
+use mdl_key::{Duration, Key};
+use mdl_space::{LockSpace, TicketId};
 use std::alloc::Global;
 use std::marker::{Model, PhantomData};
 
@@ -87,5 +89,121 @@ impl<S: LockSpace> Context<S> {
         }
         self.holdings.make_transactional();
         Ok(())
+    }
+
+    /// Releases a ticket. It takes no memory.
+    ///
+    /// After MySQL 5.7, `MDL_context::release_lock` of `sql/mdl.cc`.
+    pub fn release(&mut self, space: &mut S, id: TicketId) -> Result<(), ContextError>
+        requires { Attends S.speaks_for S.own space.old self.old }
+        ensures refused { RefusesJust (release_fault id self.old) result }
+        ensures run { Runs S.joins space.old (releasing id self.old) (result, self.new) space.new }
+        ensures attends { Attends S.speaks_for S.own space.new self.new }
+    {
+        if !self.holdings.has(id) {
+            return Err(ContextError::NotHeld);
+        }
+        if self.holdings.is_waiting() {
+            return Err(ContextError::Waiting);
+        }
+        let_go(space, self.who, id);
+        self.holdings.remove(id);
+        Ok(())
+    }
+
+    /// Releases all tickets of a key, in order of gain. It takes no memory.
+    ///
+    /// After MySQL 5.7, `MDL_context::release_all_locks_for_name` of `sql/mdl.cc`.
+    pub fn release_name(&mut self, space: &mut S, key: &Key) -> Result<(), ContextError>
+        requires { Attends S.speaks_for S.own space.old self.old }
+        ensures refused { RefusesJust (waiting_fault self.old) result }
+        ensures run { Runs S.joins space.old (releasing_name key.now self.old) (result, self.new) space.new }
+        ensures attends { Attends S.speaks_for S.own space.new self.new }
+    {
+        if self.holdings.is_waiting() {
+            return Err(ContextError::Waiting);
+        }
+        give_up(space, self.who, &mut self.holdings, &Going::OfKey(key));
+        Ok(())
+    }
+
+    /// Goes back to where the session stood at a mark: the tickets of the statement and of the transaction that were gained
+    /// since then are released. It takes no memory.
+    ///
+    /// After MySQL 5.7, `MDL_context::rollback_to_savepoint` of `sql/mdl.cc`.
+    pub fn rollback_to(&mut self, space: &mut S, mark: Mark) -> Result<(), ContextError>
+        requires { Attends S.speaks_for S.own space.old self.old }
+        ensures refused { RefusesJust (rollback_fault mark self.old) result }
+        ensures run { Runs S.joins space.old (rolling_back mark self.old) (result, self.new) space.new }
+        ensures attends { Attends S.speaks_for S.own space.new self.new }
+    {
+        let now = self.savepoint();
+        if now.statement < mark.statement || now.transaction < mark.transaction {
+            return Err(ContextError::StaleSavepoint);
+        }
+        if self.holdings.is_waiting() {
+            return Err(ContextError::Waiting);
+        }
+        self.go_back(space, mark);
+        Ok(())
+    }
+
+    /// Ends a statement: its tickets are released, in order of gain. It takes no memory.
+    ///
+    /// After MySQL 5.7, `MDL_context::release_statement_locks` of `sql/mdl.h`.
+    pub fn end_statement(&mut self, space: &mut S) -> Result<(), ContextError>
+        requires { Attends S.speaks_for S.own space.old self.old }
+        ensures refused { RefusesJust (waiting_fault self.old) result }
+        ensures run { Runs S.joins space.old (ending_statement self.old) (result, self.new) space.new }
+        ensures attends { Attends S.speaks_for S.own space.new self.new }
+    {
+        if self.holdings.is_waiting() {
+            return Err(ContextError::Waiting);
+        }
+        self.give_up_beyond(space, Duration::Statement, 0);
+        Ok(())
+    }
+
+    /// Ends a transaction: the tickets of the statement are released, and then those of the transaction. It takes no memory.
+    ///
+    /// After MySQL 5.7, `MDL_context::release_transactional_locks` of `sql/mdl.cc`.
+    pub fn end_transaction(&mut self, space: &mut S) -> Result<(), ContextError>
+        requires { Attends S.speaks_for S.own space.old self.old }
+        ensures refused { RefusesJust (waiting_fault self.old) result }
+        ensures run { Runs S.joins space.old (ending_transaction self.old) (result, self.new) space.new }
+        ensures attends { Attends S.speaks_for S.own space.new self.new }
+    {
+        if self.holdings.is_waiting() {
+            return Err(ContextError::Waiting);
+        }
+        let start = Mark {
+            statement: 0,
+            transaction: 0,
+        };
+        self.go_back(space, start);
+        Ok(())
+    }
+
+    // Releases what was gained since a mark.
+    fn go_back(&mut self, space: &mut S, mark: Mark)
+        requires { Attends S.speaks_for S.own space.old self.old }
+        ensures run { Runs S.joins space.old (giving_up (gained_since mark self.old.kept) self.old) (Ok tt, self.new) space.new }
+        ensures attends { Attends S.speaks_for S.own space.new self.new }
+    {
+        self.give_up_beyond(space, Duration::Statement, mark.statement);
+        self.give_up_beyond(space, Duration::Transaction, mark.transaction);
+    }
+
+    // Releases the tickets of a duration behind so many.
+    fn give_up_beyond(&mut self, space: &mut S, duration: Duration, most: usize)
+        requires { Attends S.speaks_for S.own space.old self.old }
+        ensures run { Runs S.joins space.old (releasing_all self.old.who (beyond duration most self.old.kept)) tt space.new }
+        ensures kept { self.new ≡ record self.old { kept = without (beyond duration most self.old.kept) self.old.kept } }
+        ensures attends { Attends S.speaks_for S.own space.new self.new }
+    {
+        if let Some(first) = self.holdings.nth_for(duration, most) {
+            let going = Going::From(duration, first);
+            give_up(space, self.who, &mut self.holdings, &going);
+        }
     }
 }

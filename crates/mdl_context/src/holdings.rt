@@ -255,6 +255,7 @@ fn keep_others(tickets: &mut Vec<Kept>, going: &Going)
 }
 
 /// Which tickets are given up.
+#[derive(Drop)]
 pub(crate) enum Going<'a> {
     /// Those of a duration from a number on.
     From(Duration, TicketId),

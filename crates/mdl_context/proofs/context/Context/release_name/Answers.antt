@@ -1,0 +1,21 @@
+-- What goes is what is of the key.
+use Rattle.std.proofs.Common.{◌≡◌, false, sym, ap, ◌∙◌}
+use Rattle.std.specs.Prelude.{is_some, filter}
+use Rattle.mdl_context.specs.Contexts.{ContextView, AreRising}
+use Rattle.mdl_context.specs.Holdings.{is_of}
+use Rattle.mdl_context.specs.Releases.{giving_up}
+use Rattle.mdl_context.proofs.BeyondLemmas.{rising-kept, others-without, same-context, no-wait, run-unless, run-given-up}
+use Rattle.mdl_context.proofs.context.Context.release_name.Goals as goal
+
+pub returns-clause-run : goal.returns-clause-run
+returns-clause-run g c =
+    let joins = g.S.LockSpace.joins in
+    let kept = c.self.inside.holdings.kept in
+    let rising : AreRising kept = rw (← c.self.view_is) at (rising-kept _ _ (g.met.S.LockSpace.rising _ _ c.requires.speaks) c.requires.serves) in
+    let before : ContextView = record { who = c.self.inside.who; kept = kept; wait = c.self.inside.holdings.wait } in
+    let after : ContextView = record { who = c.self.inside.who; kept = c.give_up.new.holdings.kept; wait = c.give_up.new.holdings.wait } in
+    let gone = filter (is_of c.args.key.now) kept in
+    let left = same-context c.self.inside.who _ _ _ _ (c.give_up.ensures.kept ∙ others-without (is_of c.args.key.now) kept rising) c.give_up.ensures.waits in
+    let run = run-given-up joins gone before after c.args.space.now c.give_up.new.space c.give_up.ensures.run left in
+    rw (← c.self.view_is)
+    (run-unless joins _ before (giving_up gone before) c.args.space.now c.give_up.new.space _ (no-wait before (sym c.is_waiting.ensures ∙ c.if-is_waiting.false)) run)
