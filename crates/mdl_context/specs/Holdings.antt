@@ -1,5 +1,5 @@
 -- What a context keeps of its session's tickets and wait, as its own code sees it.
-use Rattle.std.specs.Prelude.{ℕ, Bool, not, ◌==◌, List, filter, find, Option}
+use Rattle.std.specs.Prelude.{ℕ, Bool, not, ◌==◌, List, [], ◌∷◌, ◌++◌, filter, find, Option, Some, None}
 use Rattle.std.specs.Option.{option_map}
 use Rattle.mdl_key.specs.declared.mode.Duration.{Duration}
 use Rattle.mdl_key.specs.declared.mode.Duration.TheVariants.{Transaction, Explicit}
@@ -7,6 +7,7 @@ use Rattle.mdl_key.specs.Keys.{KeyName, key_eq}
 use Rattle.mdl_space.specs.declared.answers.Held.{Held}
 use Rattle.mdl_context.specs.declared.kept.Kept.{Kept}
 use Rattle.mdl_context.specs.declared.kept.Wanted.{Wanted}
+use Rattle.mdl_context.specs.declared.request.Request.{Request}
 use Rattle.mdl_context.specs.Contexts.{ContextView, held_of}
 
 -- the kept tickets in order of gain, the wait, and whether there is room for one more ticket
@@ -47,3 +48,17 @@ in_transaction duration = duration
 -- a ticket that ends with the transaction
 abbrev pub transactional : Kept → Kept
 transactional ticket = kept_for (in_transaction ticket.duration) ticket
+
+-- the ticket that a request gains
+abbrev pub kept_of : ℕ → ℕ → Request → Kept
+kept_of id place request = record { id = id; key = request.key; place = place; mode = request.mode; duration = request.duration }
+
+-- the ticket that a request waits for
+abbrev pub wanted_of : ℕ → Request → Wanted
+wanted_of place request = record { key = request.key; place = place; mode = request.mode; duration = request.duration }
+
+-- the tickets with the one that was waited for
+abbrev pub with_wanted : ℕ → Option Wanted → List Kept → List Kept
+with_wanted id None kept = kept
+with_wanted id (Some wanted) kept =
+    kept ++ record { id = id; key = wanted.key; place = wanted.place; mode = wanted.mode; duration = wanted.duration } ∷ []

@@ -1,13 +1,13 @@
 -- How a session comes by its tickets, after MySQL 5.7: `MDL_context::try_acquire_lock_impl`, `find_ticket` and
 -- `acquire_lock` of sql/mdl.cc. A wait is seen through by calls of its own.
-use Rattle.std.specs.Prelude.{ℕ, Bool, true, false, not, ◌&&◌, List, [], ◌∷◌, ◌++◌, Option, Some, None, is_some, Result, Ok, Err, if◌then◌else◌}
+use Rattle.std.specs.Prelude.{ℕ, Bool, false, not, ◌&&◌, List, [], ◌∷◌, ◌++◌, Option, Some, None, is_some, Result, Ok, Err, if◌then◌else◌}
 use Rattle.mdl_key.specs.declared.mode.Duration.TheVariants.{Explicit}
 use Rattle.mdl_key.specs.Keys.{key_eq}
 use Rattle.mdl_key.specs.Modes.{kind_of, is_mode_of}
 use Rattle.mdl_space.specs.declared.answers.Held.{Held}
 use Rattle.mdl_space.specs.declared.space_error.SpaceError.{SpaceError}
-use Rattle.mdl_space.specs.declared.space_error.SpaceError.TheVariants.{NoWait, WrongKind, OutOfMemory}
-use Rattle.mdl_space.specs.Answers.{Answer, Refused, At_place, Granted, Waits, Pending, Is_settled, Lost}
+use Rattle.mdl_space.specs.declared.space_error.SpaceError.TheVariants.{NoWait, WrongKind}
+use Rattle.mdl_space.specs.Answers.{Answer, Refused, finds_no_memory, At_place, Granted, Waits, Pending, Is_settled, Lost}
 use Rattle.mdl_space.specs.Calls.{Resolve, Begin_wait, Clone_ticket, Poll_wait, Settle_timeout, End_wait}
 use Rattle.mdl_space.specs.Runs.{Program, Give, Ask}
 use Rattle.mdl_space.specs.Strength.{covers}
@@ -21,7 +21,7 @@ use Rattle.mdl_context.specs.declared.request.Acquire.TheVariants.{Acquired, Mus
 use Rattle.mdl_context.specs.declared.request.Resume.{Resume}
 use Rattle.mdl_context.specs.declared.request.Resume.TheVariants as resume_as
 use Rattle.mdl_context.specs.Contexts.{ContextView, lasts}
-use Rattle.mdl_context.specs.Holdings.{is_of, earliest}
+use Rattle.mdl_context.specs.Holdings.{is_of, earliest, kept_of, wanted_of, with_wanted}
 
 -- what a call of a context comes to: its answer, and the context then
 abbrev pub Outcome : Type 0 → Type 0
@@ -29,7 +29,7 @@ Outcome A = Result A ContextError × ContextView
 
 -- whether a call found no memory
 abbrev pub wants_memory : {A : Type 0} → Result A ContextError → Bool
-wants_memory (Err (Space OutOfMemory)) = true
+wants_memory (Err (Space refusal)) = finds_no_memory (Refused refusal)
 wants_memory _ = false
 
 -- whether a ticket is of the wanted key, in a mode at least as strong as the wanted one, which is one of the key's kind
@@ -43,12 +43,12 @@ is_reusable request ticket = suffices request ticket && lasts request.duration t
 -- with the wanted ticket
 abbrev pub keeping : ℕ → ℕ → Request → ContextView → ContextView
 keeping id place request context =
-    record context { kept = context.kept ++ record { id = id; key = request.key; place = place; mode = request.mode; duration = request.duration } ∷ [] }
+    record context { kept = context.kept ++ kept_of id place request ∷ [] }
 
 -- with a wait for the wanted ticket
 abbrev pub awaiting : ℕ → Request → ContextView → ContextView
 awaiting place request context =
-    record context { wait = Some (record { key = request.key; place = place; mode = request.mode; duration = request.duration }) }
+    record context { wait = Some (wanted_of place request) }
 
 -- the refusal that an answer is. An answer that is none doesn't come here.
 abbrev pub refusal_of : Answer → SpaceError
@@ -91,16 +91,12 @@ acquiring request context =
     if is_some context.wait then Give (Err Waiting, context) else having (earliest (is_reusable request) context.kept) request context
 
 -- with the ticket that was waited for
-abbrev pub taking_up : ℕ → Option Wanted → ContextView → ContextView
-taking_up id None context = context
-taking_up id (Some wanted) context = record context {
-  kept = context.kept ++ record { id = id; key = wanted.key; place = wanted.place; mode = wanted.mode; duration = wanted.duration } ∷ [];
-  wait = None;
-}
+abbrev pub taking_up : ℕ → ContextView → ContextView
+taking_up id context = record context { kept = with_wanted id context.wait context.kept; wait = None }
 
 -- the end of the wait is answered
 abbrev pub ending : ContextView → Answer → Program (Outcome Resume)
-ending context (Granted id) = Give (Ok (resume_as.Acquired id), taking_up id context.wait context)
+ending context (Granted id) = Give (Ok (resume_as.Acquired id), taking_up id context)
 ending context (Lost how) = Give (Ok (resume_as.Lost how), record context { wait = None })
 ending context answer = Give (Err (Space (refusal_of answer)), context)
 

@@ -1,18 +1,21 @@
 //! A session's tickets by how long they last.
-ghost use Rattle.std.specs.Prelude.{◌≡◌, Some, None, [], map, OnOk, OnErr};
+ghost use Rattle.std.specs.Prelude.{◌≡◌, false, Some, None, [], map, OnOk, OnErr};
 ghost use Rattle.mdl_key.specs.declared.mode.Duration.TheVariants.{Explicit};
 ghost use Rattle.mdl_key.specs.Refusals.{RefusesJust};
 ghost use Rattle.mdl_space.specs.Own.{Own};
-ghost use Rattle.mdl_space.specs.Runs.{Runs};
+ghost use Rattle.mdl_space.specs.Calls.{End_wait};
+ghost use Rattle.mdl_space.specs.Runs.{Runs, Ask};
 ghost use Rattle.mdl_context.specs.Contexts.{ContextView, mark_of, beyond, gained_since, without, Serves, Attends};
 ghost use Rattle.mdl_context.specs.Holdings.{kept_for, transactional};
+ghost use Rattle.mdl_context.specs.Requests.{wants_memory, acquiring, resuming, giving_up_wait, ending};
 ghost use Rattle.mdl_context.specs.Releases.{releasing_all, giving_up, waiting_fault, release_fault, rollback_fault, releasing, releasing_name, rolling_back, ending_statement, ending_transaction};
 
 use crate::holdings::{Going, Holdings};
 use crate::releases::{give_up, let_go};
-use crate::{ContextError, Mark};
+use crate::requests::{ask, copy};
+use crate::{Acquire, ContextError, Mark, Request, Resume};
 use mdl_key::{Duration, Key};
-use mdl_space::{LockSpace, TicketId};
+use mdl_space::{Ended, LockSpace, Poll, Settled, SpaceError, TicketId};
 use std::alloc::Global;
 use std::marker::{Model, PhantomData};
 
@@ -89,6 +92,85 @@ impl<S: LockSpace> Context<S> {
         }
         self.holdings.make_transactional();
         Ok(())
+    }
+
+    /// Comes by a lock: a ticket of the session that is at least as strong is used again, or else cloned, and where there is
+    /// none a new one is asked for.
+    ///
+    /// No explicit ticket is used again. After MySQL 5.7, `MDL_context::acquire_lock` of `sql/mdl.cc`.
+    pub fn acquire(&mut self, space: &mut S, request: Request) -> Result<Acquire, ContextError>
+        requires { Attends S.speaks_for S.own space.old self.old }
+        ensures run { wants_memory result ≡ false → Runs S.joins space.old (acquiring request self.old) (result, self.new) space.new }
+        ensures attends { Attends S.speaks_for S.own space.new self.new }
+        ensures unchanged { OnErr result (self.new ≡ self.old) }
+        ensures own { OnErr result (S.own space.new self.old.who ≡ S.own space.old self.old.who) }
+    {
+        if self.holdings.is_waiting() {
+            return Err(ContextError::Waiting);
+        }
+        if let Some(ticket) = self.holdings.reusable(&request) {
+            return Ok(Acquire::Acquired(ticket.id));
+        }
+        if self.holdings.reserve().is_err() {
+            return Err(ContextError::Space(SpaceError::OutOfMemory));
+        }
+        match self.holdings.sufficient(&request) {
+            Some(ticket) => copy(space, self.who, &mut self.holdings, ticket, request),
+            None => ask(space, self.who, &mut self.holdings, request),
+        }
+    }
+
+    /// Sees how the wait stands, and ends it once it is settled. It takes no memory.
+    ///
+    /// After MySQL 5.7, `MDL_context::acquire_lock` of `sql/mdl.cc`, from its wait on.
+    pub fn resume(&mut self, space: &mut S) -> Result<Resume, ContextError>
+        requires { Attends S.speaks_for S.own space.old self.old }
+        ensures run { Runs S.joins space.old (resuming self.old) (result, self.new) space.new }
+        ensures attends { Attends S.speaks_for S.own space.new self.new }
+    {
+        if !self.holdings.is_waiting() {
+            return Err(ContextError::Space(SpaceError::NoWait));
+        }
+        match space.poll_wait(self.who) {
+            Ok(Poll::Pending) => Ok(Resume::Waiting),
+            Ok(Poll::Settled(_)) => self.end_wait(space),
+            Err(refusal) => Err(ContextError::Space(refusal)),
+        }
+    }
+
+    /// Gives the wait up, unless it is settled already, and ends it. It takes no memory.
+    pub fn give_up(&mut self, space: &mut S) -> Result<Resume, ContextError>
+        requires { Attends S.speaks_for S.own space.old self.old }
+        ensures run { Runs S.joins space.old (giving_up_wait self.old) (result, self.new) space.new }
+        ensures attends { Attends S.speaks_for S.own space.new self.new }
+    {
+        if !self.holdings.is_waiting() {
+            return Err(ContextError::Space(SpaceError::NoWait));
+        }
+        match space.settle_timeout(self.who) {
+            Ok(_) => self.resume(space),
+            Err(refusal) => Err(ContextError::Space(refusal)),
+        }
+    }
+
+    // Ends the wait, which is settled.
+    fn end_wait(&mut self, space: &mut S) -> Result<Resume, ContextError>
+        requires { Attends S.speaks_for S.own space.old self.old }
+        ensures run { Runs S.joins space.old (Ask (End_wait self.old.who) (ending self.old)) (result, self.new) space.new }
+        ensures attends { Attends S.speaks_for S.own space.new self.new }
+    {
+        let how = match space.end_wait(self.who) {
+            Ok(Ended::Granted(id)) => {
+                self.holdings.take_up(id);
+                return Ok(Resume::Acquired(id));
+            }
+            Ok(Ended::Victim) => Settled::Victim,
+            Ok(Ended::Timeout) => Settled::Timeout,
+            Ok(Ended::Killed) => Settled::Killed,
+            Err(refusal) => return Err(ContextError::Space(refusal)),
+        };
+        self.holdings.drop_wait();
+        Ok(Resume::Lost(how))
     }
 
     /// Releases a ticket. It takes no memory.

@@ -6,12 +6,12 @@ ghost use Rattle.std.specs.Option.{option_map};
 ghost use Rattle.mdl_key.specs.declared.mode.Duration.TheVariants.{Explicit};
 ghost use Rattle.mdl_space.specs.Strength.{covers};
 ghost use Rattle.mdl_context.specs.Contexts.{AreRising, lasts, held_for, has_number, held_of};
-ghost use Rattle.mdl_context.specs.Holdings.{without_number, is_of, is_ticket, earliest, kept_for, in_transaction, transactional};
+ghost use Rattle.mdl_context.specs.Holdings.{without_number, is_of, is_ticket, earliest, kept_for, in_transaction, transactional, kept_of, wanted_of, with_wanted};
 ghost use Rattle.mdl_context.specs.Requests.{suffices, is_reusable};
 
 use crate::{Kept, Request, Wanted};
 use mdl_key::{Duration, Key, Kind, Mode, at_least};
-use mdl_space::{Held, TicketId};
+use mdl_space::{Held, Place, TicketId};
 use std::alloc::{AllocError, Global};
 use std::marker::Model;
 
@@ -93,6 +93,23 @@ impl Holdings {
         ensures wait { self.new.wait ≡ Some wanted }
     {
         self.wait = Some(wanted);
+    }
+
+    /// Ends the wait, if there is one, with the ticket of this number. It takes no memory.
+    pub(crate) fn take_up(&mut self, id: TicketId)
+        ensures kept { self.new.kept ≡ with_wanted id self.old.wait self.old.kept }
+        ensures wait { self.new.wait ≡ None }
+    {
+        if let Some(wanted) = self.wait.take() {
+            let ticket = Kept {
+                id,
+                key: wanted.key,
+                place: wanted.place,
+                mode: wanted.mode,
+                duration: wanted.duration,
+            };
+            self.tickets.push(ticket).unwrap();
+        }
     }
 
     /// Ends the wait, if there is one, without a ticket.
@@ -303,6 +320,31 @@ impl Request {
         ticket.key == self.key
             && covers(ticket.mode, self.mode)
             && self.key.kind().has_mode(self.mode)
+    }
+
+    /// The ticket that the request gains.
+    pub(crate) fn into_kept(self, id: TicketId, place: Place) -> Kept
+        ensures { result ≡ kept_of id place self }
+    {
+        Kept {
+            id,
+            key: self.key,
+            place,
+            mode: self.mode,
+            duration: self.duration,
+        }
+    }
+
+    /// The ticket that the request waits for.
+    pub(crate) fn into_wanted(self, place: Place) -> Wanted
+        ensures { result ≡ wanted_of place self }
+    {
+        Wanted {
+            key: self.key,
+            place,
+            mode: self.mode,
+            duration: self.duration,
+        }
     }
 
     // Whether a ticket can be used again for the request.

@@ -8,6 +8,7 @@ mod kept;
 mod laws;
 mod releases;
 mod request;
+mod requests;
 
 pub use context::Context;
 pub use context_error::ContextError;

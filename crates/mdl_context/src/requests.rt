@@ -1,0 +1,91 @@
+//! Requests made to a lock space, of any kind.
+ghost use Rattle.std.specs.Prelude.{◌≡◌, true, false, Some, None, OnErr};
+ghost use Rattle.mdl_space.specs.Calls.{Clone_ticket};
+ghost use Rattle.mdl_space.specs.Own.{ticket_held};
+ghost use Rattle.mdl_space.specs.Runs.{Runs, Ask};
+ghost use Rattle.mdl_context.specs.Contexts.{Attends};
+ghost use Rattle.mdl_context.specs.Holdings.{context_of, earliest, is_of};
+ghost use Rattle.mdl_context.specs.Requests.{wants_memory, gaining, asking_at, asking};
+
+use crate::holdings::Holdings;
+use crate::{Acquire, ContextError, Request};
+use mdl_space::{Begun, Held, LockSpace, Place};
+
+/// Clones a held ticket for a request.
+pub(crate) fn copy<S: LockSpace>(
+    space: &mut S,
+    who: u16,
+    holdings: &mut Holdings,
+    ticket: Held,
+    request: Request,
+) -> Result<Acquire, ContextError>
+    requires attends { Attends S.speaks_for S.own space.old (context_of who holdings.old) }
+    requires room { holdings.old.has_room ≡ true }
+    requires idle { holdings.old.wait ≡ None }
+    requires held { ticket_held ticket.id (S.own space.old who) ≡ Some ticket }
+    ensures run { wants_memory result ≡ false → Runs S.joins space.old (Ask (Clone_ticket who ticket.id request.mode) (gaining ticket.place request (context_of who holdings.old))) (result, context_of who holdings.new) space.new }
+    ensures attends { Attends S.speaks_for S.own space.new (context_of who holdings.new) }
+    ensures own { OnErr result (S.own space.new who ≡ S.own space.old who) }
+    ensures unchanged { OnErr result (holdings.new ≡ holdings.old) }
+{
+    match space.clone_ticket(who, ticket.id, request.mode) {
+        Ok(id) => {
+            holdings.keep(request.into_kept(id, ticket.place));
+            Ok(Acquire::Acquired(id))
+        }
+        Err(refusal) => Err(ContextError::Space(refusal)),
+    }
+}
+
+/// Asks for a new ticket, at the place of a ticket of the key where there is one.
+pub(crate) fn ask<S: LockSpace>(
+    space: &mut S,
+    who: u16,
+    holdings: &mut Holdings,
+    request: Request,
+) -> Result<Acquire, ContextError>
+    requires attends { Attends S.speaks_for S.own space.old (context_of who holdings.old) }
+    requires room { holdings.old.has_room ≡ true }
+    requires idle { holdings.old.wait ≡ None }
+    ensures run { wants_memory result ≡ false → Runs S.joins space.old (asking (earliest (is_of request.key) holdings.old.kept) request (context_of who holdings.old)) (result, context_of who holdings.new) space.new }
+    ensures attends { Attends S.speaks_for S.own space.new (context_of who holdings.new) }
+    ensures own { OnErr result (S.own space.new who ≡ S.own space.old who) }
+    ensures unchanged { OnErr result (holdings.new ≡ holdings.old) }
+{
+    if let Some(ticket) = holdings.of_key(&request.key) {
+        return ask_at(space, who, holdings, ticket.place, request);
+    }
+    match space.resolve(who, &request.key) {
+        Ok(place) => ask_at(space, who, holdings, place, request),
+        Err(refusal) => Err(ContextError::Space(refusal)),
+    }
+}
+
+// Asks for a ticket at a place, and begins to wait for it where it can't be had now.
+fn ask_at<S: LockSpace>(
+    space: &mut S,
+    who: u16,
+    holdings: &mut Holdings,
+    place: Place,
+    request: Request,
+) -> Result<Acquire, ContextError>
+    requires attends { Attends S.speaks_for S.own space.old (context_of who holdings.old) }
+    requires room { holdings.old.has_room ≡ true }
+    requires idle { holdings.old.wait ≡ None }
+    ensures run { wants_memory result ≡ false → Runs S.joins space.old (asking_at place request (context_of who holdings.old)) (result, context_of who holdings.new) space.new }
+    ensures attends { Attends S.speaks_for S.own space.new (context_of who holdings.new) }
+    ensures own { OnErr result (S.own space.new who ≡ S.own space.old who) }
+    ensures unchanged { OnErr result (holdings.new ≡ holdings.old) }
+{
+    match space.begin_wait(who, place, request.mode) {
+        Ok(Begun::Granted(id)) => {
+            holdings.keep(request.into_kept(id, place));
+            Ok(Acquire::Acquired(id))
+        }
+        Ok(Begun::Waiting(number)) => {
+            holdings.begin_wait(request.into_wanted(place));
+            Ok(Acquire::MustWait(number))
+        }
+        Err(refusal) => Err(ContextError::Space(refusal)),
+    }
+}
