@@ -3,3 +3,4 @@ pub mod FrontLemmas
 pub mod ReleaseLemmas
 pub mod SearchLemmas
 pub mod ServingLemmas
+pub mod WaitLemmas

@@ -3,19 +3,19 @@ ghost use Rattle.std.specs.Prelude.{◌≡◌, false, Some, None, [], map, OnOk,
 ghost use Rattle.mdl_key.specs.declared.mode.Duration.TheVariants.{Explicit};
 ghost use Rattle.mdl_key.specs.Refusals.{RefusesJust};
 ghost use Rattle.mdl_space.specs.Own.{Own};
-ghost use Rattle.mdl_space.specs.Calls.{End_wait};
-ghost use Rattle.mdl_space.specs.Runs.{Runs, Ask};
+ghost use Rattle.mdl_space.specs.Runs.{Runs};
 ghost use Rattle.mdl_context.specs.Contexts.{ContextView, mark_of, beyond, gained_since, without, Serves, Attends};
 ghost use Rattle.mdl_context.specs.Holdings.{kept_for, transactional};
-ghost use Rattle.mdl_context.specs.Requests.{wants_memory, acquiring, resuming, giving_up_wait, ending};
+ghost use Rattle.mdl_context.specs.Requests.{wants_memory, acquiring, resuming, giving_up_wait};
 ghost use Rattle.mdl_context.specs.Releases.{releasing_all, giving_up, waiting_fault, release_fault, rollback_fault, releasing, releasing_name, rolling_back, ending_statement, ending_transaction};
 
 use crate::holdings::{Going, Holdings};
 use crate::releases::{give_up, let_go};
 use crate::requests::{ask, copy};
+use crate::waits::{lose_patience, resume};
 use crate::{Acquire, ContextError, Mark, Request, Resume};
 use mdl_key::{Duration, Key};
-use mdl_space::{Ended, LockSpace, Poll, Settled, SpaceError, TicketId};
+use mdl_space::{LockSpace, SpaceError, TicketId};
 use std::alloc::Global;
 use std::marker::{Model, PhantomData};
 
@@ -128,14 +128,7 @@ impl<S: LockSpace> Context<S> {
         ensures run { Runs S.joins space.old (resuming self.old) (result, self.new) space.new }
         ensures attends { Attends S.speaks_for S.own space.new self.new }
     {
-        if !self.holdings.is_waiting() {
-            return Err(ContextError::Space(SpaceError::NoWait));
-        }
-        match space.poll_wait(self.who) {
-            Ok(Poll::Pending) => Ok(Resume::Waiting),
-            Ok(Poll::Settled(_)) => self.end_wait(space),
-            Err(refusal) => Err(ContextError::Space(refusal)),
-        }
+        resume(space, self.who, &mut self.holdings)
     }
 
     /// Gives the wait up, unless it is settled already, and ends it. It takes no memory.
@@ -144,33 +137,7 @@ impl<S: LockSpace> Context<S> {
         ensures run { Runs S.joins space.old (giving_up_wait self.old) (result, self.new) space.new }
         ensures attends { Attends S.speaks_for S.own space.new self.new }
     {
-        if !self.holdings.is_waiting() {
-            return Err(ContextError::Space(SpaceError::NoWait));
-        }
-        match space.settle_timeout(self.who) {
-            Ok(_) => self.resume(space),
-            Err(refusal) => Err(ContextError::Space(refusal)),
-        }
-    }
-
-    // Ends the wait, which is settled.
-    fn end_wait(&mut self, space: &mut S) -> Result<Resume, ContextError>
-        requires { Attends S.speaks_for S.own space.old self.old }
-        ensures run { Runs S.joins space.old (Ask (End_wait self.old.who) (ending self.old)) (result, self.new) space.new }
-        ensures attends { Attends S.speaks_for S.own space.new self.new }
-    {
-        let how = match space.end_wait(self.who) {
-            Ok(Ended::Granted(id)) => {
-                self.holdings.take_up(id);
-                return Ok(Resume::Acquired(id));
-            }
-            Ok(Ended::Victim) => Settled::Victim,
-            Ok(Ended::Timeout) => Settled::Timeout,
-            Ok(Ended::Killed) => Settled::Killed,
-            Err(refusal) => return Err(ContextError::Space(refusal)),
-        };
-        self.holdings.drop_wait();
-        Ok(Resume::Lost(how))
+        lose_patience(space, self.who, &mut self.holdings)
     }
 
     /// Releases a ticket. It takes no memory.

@@ -9,6 +9,7 @@ mod laws;
 mod releases;
 mod request;
 mod requests;
+mod waits;
 
 pub use context::Context;
 pub use context_error::ContextError;
