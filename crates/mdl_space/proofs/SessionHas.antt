@@ -1,6 +1,6 @@
 -- The seat of a session says what the system of locks says of it.
-use Rattle.std.proofs.Common.{◌≡◌, ◌≢◌, ◌↔◌, ℕ, suc, ◌+◌, ◌<◌, true, inl, inr, List, [], ◌∷◌, length, map, Option, Some, None, refl, sym, ap, subst, ◌∙◌, arith}
-use Rattle.std.specs.Prelude.{Contains, AllPairs, MatchOption, slice_index_or}
+use Rattle.std.proofs.Common.{◌≡◌, ◌≢◌, ℕ, ◌<◌, true, inl, inr, List, [], ◌∷◌, map, Option, Some, None, refl, sym, ap, subst, ◌∙◌, arith}
+use Rattle.std.specs.Prelude.{Contains, AllPairs, MatchOption}
 use Rattle.std.proofs.lemmas.List.Kept.{AllPairs-cons}
 use Rattle.mdl_key.specs.Keys.{KeyName}
 use Rattle.mdl_book.specs.declared.lists.Lists.{Lists}
@@ -9,17 +9,16 @@ use Rattle.mdl_space.specs.declared.answers.Held.{Held}
 use Rattle.mdl_space.specs.declared.answers.Settled.{Settled}
 use Rattle.mdl_space.specs.declared.answers.Settled.TheVariants as settled_as
 use Rattle.mdl_space.specs.declared.seat.Pending.{Pending}
-use Rattle.mdl_space.specs.BookLaws.{in_book}
-use Rattle.mdl_space.specs.Cores.{Core, book_at, seat_at, key_at, has_key, has_session, index_of}
+use Rattle.mdl_space.specs.Cores.{Core, book_at, seat_at, key_at, has_session}
 use Rattle.mdl_space.specs.CoreSystems.{unended_at, unended_of, waiter_of, waiter_in, system_of}
-use Rattle.mdl_space.specs.Seats.{SeatView, ticket_of_wait}
-use Rattle.mdl_space.specs.SessionLaws.{holdings_of, HasWait, waiter_for, HasWon, WaitsAt, HasWhatTheSystemSays, SessionsHaveWhatTheSystemSays}
+use Rattle.mdl_space.specs.Seats.{ticket_of_wait}
+use Rattle.mdl_space.specs.SessionLaws.{holdings_of, HasWait, waiter_for, HasWon, WaitsAt, SessionsHaveWhatTheSystemSays}
 use Rattle.mdl_space.specs.Systems.{Holding, Waiter, GrantedWait, Held as Holds, HasNoWait}
-use Rattle.mdl_space.specs.Ties.{IsTied, Has, in_book_of}
+use Rattle.mdl_space.specs.Ties.{IsTied, in_book_of}
 use Rattle.mdl_space.specs.Lemmas.CoreEvents.{held-in}
 use Rattle.mdl_space.specs.Lemmas.CoreGranted.{holding_of, granted-place}
 use Rattle.mdl_space.specs.Lemmas.CoreUnended.{own-unended, granted_of}
-use Rattle.mdl_space.specs.Lemmas.CoreWaiting.{IsWaitAt, wait-at, place_of_wait, place_told, book-there, book-nowhere, waiter-found, no_wait}
+use Rattle.mdl_space.specs.Lemmas.CoreWaiting.{wait-at, place_of_wait, place_told, book-there, book-nowhere, waiter-found, no_wait}
 use Rattle.mdl_space.specs.Lemmas.MemberLemmas.{Contains-map, Contains-map_from}
 use Rattle.mdl_space.specs.Lemmas.PairLemmas.{below, all-from_members, pairs-from_rising, pairs-head, pairs-tail}
 

@@ -1,19 +1,16 @@
 -- No call is refused by a limit that isn't met.
-use Rattle.std.proofs.Common.{◌≡◌, ◌≢◌, ℕ, ◌+◌, ◌-◌, ◌≤◌, ◌^◌, Bool, true, false, not, ◌&&◌, nat_le, List, [], ◌∷◌, length, Option, Some, None, if◌then◌else◌, refl, sym, ap, subst, ◌∙◌, arith}
+use Rattle.std.proofs.Common.{◌≡◌, ℕ, ◌+◌, ◌-◌, ◌≤◌, ◌^◌, Bool, true, false, not, nat_le, List, [], ◌∷◌, length, Option, Some, None, if◌then◌else◌, refl, subst, arith}
 use Rattle.std.proofs.lemmas.Bool.Decides.{nat_tests}
 use Rattle.mdl_key.specs.Keys.{KeyName}
-use Rattle.mdl_key.specs.Modes.{is_mode_of}
 use Rattle.mdl_key.specs.declared.mode.Mode.{Mode}
-use Rattle.mdl_book.specs.Books.{lock_kind, ticket_count}
+use Rattle.mdl_book.specs.Books.{ticket_count}
 use Rattle.mdl_space.specs.declared.answers.Held.{Held}
-use Rattle.mdl_space.specs.declared.seat.Pending.{Pending}
 use Rattle.mdl_space.specs.declared.space_error.SpaceError.{SpaceError}
-use Rattle.mdl_space.specs.declared.space_error.SpaceError.TheVariants.{NoPlace, NotHeld, AlreadyWaiting, BadMode, CounterFull, Full, OutOfMemory}
+use Rattle.mdl_space.specs.declared.space_error.SpaceError.TheVariants.{NoPlace, NotHeld, CounterFull, Full, OutOfMemory}
 use Rattle.mdl_space.specs.Answers.{Answer, Refused, At_place, Granted, Would_wait, Waits}
 use Rattle.mdl_space.specs.Calls.{Call, Resolve, Try_now, Begin_wait, Poll_wait, Settle_timeout, End_wait, Wait_of, Kill, Release, Clone_ticket, List_held}
 use Rattle.mdl_space.specs.CoreCalls.{has_call, outcome, refused_or, first_cause, is_counted_out, is_full, placing, resolving, request_causes, granted_unless_full, queued_unless_full, trying, beginning, clone_causes, cloning_of, cloning, held_ticket}
-use Rattle.mdl_space.specs.CoreJoins.{Joins}
-use Rattle.mdl_space.specs.Cores.{Core, book_at, seat_at, key_at, has_key, index_of, is_free}
+use Rattle.mdl_space.specs.Cores.{Core, book_at, seat_at, has_key, index_of, is_free}
 use Rattle.mdl_space.specs.Moves.{opening, granting_to, queueing}
 use Rattle.mdl_space.specs.SessionLaws.{IsNowhere, HasNoRoom, HasNoNumber, MeetsLimit, RefusesForCause}
 use Rattle.mdl_space.specs.CoreProofs.Cases.{poll_cases, timeout_cases, end_cases, kill_cases, release_cases}

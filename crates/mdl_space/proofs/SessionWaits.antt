@@ -1,5 +1,5 @@
 -- What a kill and a look after a wait say is so.
-use Rattle.std.proofs.Common.{◌≡◌, ◌↔◌, ℕ, ◌==◌, Bool, true, false, not, ◌&&◌, Option, Some, None, is_some, option_map, if◌then◌else◌, refl, sym, ap, subst, ◌∙◌, inl, inr}
+use Rattle.std.proofs.Common.{◌≡◌, ◌↔◌, ℕ, Bool, true, false, not, ◌&&◌, Option, Some, None, is_some, option_map, refl, sym, ap, ◌∙◌, inl, inr}
 use Rattle.std.proofs.lemmas.Bool.Decides.{Decides-eqb}
 use Rattle.mdl_space.specs.declared.answers.Settled.TheVariants as settled_as
 use Rattle.mdl_space.specs.declared.seat.Pending.{Pending}
@@ -10,8 +10,8 @@ use Rattle.mdl_space.specs.CoreJoins.{Joins, own_at}
 use Rattle.mdl_space.specs.Cores.{Core, seat_at, has_session}
 use Rattle.mdl_space.specs.Moves.{losing}
 use Rattle.mdl_space.specs.Own.{wait_number}
-use Rattle.mdl_space.specs.Seats.{SeatView, own_of, is_open}
-use Rattle.mdl_space.specs.SessionLaws.{HasWait, WaitsUnsettled, KillsJustThatWait}
+use Rattle.mdl_space.specs.Seats.{SeatView, own_of}
+use Rattle.mdl_space.specs.SessionLaws.{WaitsUnsettled, KillsJustThatWait}
 use Rattle.mdl_space.specs.CoreProofs.Cases.{kill_cases}
 use Rattle.mdl_space.specs.CoreProofs.Choices.{test_cases, if-true, if-false}
 use Rattle.mdl_space.specs.CoreProofs.Owned.{joined}
