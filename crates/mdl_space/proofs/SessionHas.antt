@@ -1,5 +1,5 @@
 -- The seat of a session says what the system of locks says of it.
-use Rattle.std.proofs.Common.{◌≡◌, ◌≢◌, ℕ, ◌<◌, true, inl, inr, List, [], ◌∷◌, map, Option, Some, None, refl, sym, ap, subst, ◌∙◌, arith}
+use Rattle.std.proofs.Common.{◌≡◌, ◌≢◌, ◌↔◌, ℕ, ◌<◌, true, false, inl, inr, List, [], ◌∷◌, map, Option, Some, None, refl, sym, ap, subst, ◌∙◌, arith}
 use Rattle.std.specs.Prelude.{Contains, AllPairs, MatchOption}
 use Rattle.std.proofs.lemmas.List.Kept.{AllPairs-cons}
 use Rattle.mdl_key.specs.Keys.{KeyName}
@@ -10,14 +10,15 @@ use Rattle.mdl_space.specs.declared.answers.Settled.{Settled}
 use Rattle.mdl_space.specs.declared.answers.Settled.TheVariants as settled_as
 use Rattle.mdl_space.specs.declared.seat.Pending.{Pending}
 use Rattle.mdl_space.specs.Cores.{Core, book_at, seat_at, key_at, has_session}
-use Rattle.mdl_space.specs.CoreSystems.{unended_at, unended_of, waiter_of, waiter_in, system_of}
+use Rattle.mdl_space.specs.CoreSystems.{state_of, unended_at, unended_of, waiter_of, waiter_in, system_of}
 use Rattle.mdl_space.specs.Seats.{ticket_of_wait}
-use Rattle.mdl_space.specs.SessionLaws.{holdings_of, HasWait, waiter_for, HasWon, WaitsAt, SessionsHaveWhatTheSystemSays}
-use Rattle.mdl_space.specs.Systems.{Holding, Waiter, GrantedWait, Held as Holds, HasNoWait}
-use Rattle.mdl_space.specs.Ties.{IsTied, in_book_of}
+use Rattle.mdl_space.specs.BookLaws.{in_book}
+use Rattle.mdl_space.specs.SessionLaws.{holdings_of, HasWait, waiter_for, HasWon, WaitsAt, HasWhatTheSystemSays, HasNothing, SessionsHaveWhatTheSystemSays, WaitsUnsettled, WaitsSomewhere}
+use Rattle.mdl_space.specs.Systems.{Unsettled, Holding, Waiter, GrantedWait, Held as Holds, HasNoWait}
+use Rattle.mdl_space.specs.Ties.{IsTied, IsSound, in_book_of}
 use Rattle.mdl_space.specs.Lemmas.CoreEvents.{held-in}
 use Rattle.mdl_space.specs.Lemmas.CoreGranted.{holding_of, granted-place}
-use Rattle.mdl_space.specs.Lemmas.CoreUnended.{own-unended, granted_of}
+use Rattle.mdl_space.specs.Lemmas.CoreUnended.{own-unended, unended-members, granted_of}
 use Rattle.mdl_space.specs.Lemmas.CoreWaiting.{wait-at, place_of_wait, place_told, book-there, book-nowhere, waiter-found, no_wait}
 use Rattle.mdl_space.specs.Lemmas.MemberLemmas.{Contains-map, Contains-map_from}
 use Rattle.mdl_space.specs.Lemmas.PairLemmas.{below, all-from_members, pairs-from_rising, pairs-head, pairs-tail}
@@ -139,15 +140,73 @@ holdings-rise core who (ticket ∷ tickets) rising =
     AllPairs-cons Rises (holding_of who ticket core) after (all-from_members Rises (Rises (holding_of who ticket core)) after above)
     (holdings-rise core who tickets (pairs-tail below ticket tickets rising))
 
+-- ---- what is no session
+
+-- a waiting ticket is of a session
+pub waiter-session : (core : Core) (key : KeyName) (waiter : Waiter) → IsTied core → Contains ((system_of core).waiting key) waiter
+    → has_session waiter.ticket.session core ≡ true
+waiter-session core key waiter tied among = elim (place_told core key) [
+  | inl at ↦ (
+      let found = waiter-found core at.0 waiter tied at.1 (subst (λ k. Contains ((system_of core).waiting k) waiter) (sym at.2) among) in
+      (tied.waiting_by at.0 at.1 waiter.ticket found.0).0)
+  | inr nowhere ↦ absurd (let lt = (subst (λ (b : Lists). Contains (map (waiter_in core) b.waiting) waiter) (book-nowhere core key nowhere) among).1 in omega arith)
+]
+
+has-nothing : (core : Core) (who : ℕ) → IsTied core → has_session who core ≡ false → HasNothing (system_of core) who
+has-nothing core who tied none = (
+  (λ held among own. (let at = granted-place core held among in no held.session own (tied.granted_by at.0 at.1 (in_book held) at.3).0)),
+  (
+    (λ key waiter among own. no waiter.ticket.session own (waiter-session core key waiter tied among)),
+    λ wait among own. no wait.session own ((unended-members core wait).0 among).0,
+  ),
+)
+  where
+    no : (session : ℕ) → session ≡ who → has_session session core ≡ true → ⊥
+    no session own has = let is : false ≡ true = sym none ∙ ap (λ n. has_session n core) (sym own) ∙ has in cc
+
+has-what : (core : Core) (who : ℕ) → IsTied core → has_session who core ≡ true → HasWhatTheSystemSays core who
+has-what core who tied has = record {
+  held = (
+    holdings-rise core who (seat_at who core).held (pairs-from_rising (seat_at who core).held (tied.numbered who has).rising),
+    λ held. (held-from core who tied has held, held-to core who tied has held),
+  );
+  free = (no_wait core who tied has, free-to core who tied has);
+  won = λ number id. (won-to core who tied has number id, won-from core who tied has number id);
+  waits = λ key waiter. (waits-to core who tied has key waiter, λ both. waits-from core who tied has key waiter both.0 both.1);
+}
+
 pub sessions-have : SessionsHaveWhatTheSystemSays
-sessions-have core who sound has =
-    let tied = sound.tied in
-    record {
-      held = (
-        holdings-rise core who (seat_at who core).held (pairs-from_rising (seat_at who core).held (tied.numbered who has).rising),
-        λ held. (held-from core who tied has held, held-to core who tied has held),
-      );
-      free = (no_wait core who tied has, free-to core who tied has);
-      won = λ number id. (won-to core who tied has number id, won-from core who tied has number id);
-      waits = λ key waiter. (waits-to core who tied has key waiter, λ both. waits-from core who tied has key waiter both.0 both.1);
-    }
+sessions-have core who sound = ((λ has. has-what core who sound.tied has), λ none. has-nothing core who sound.tied none)
+
+-- ---- the unsettled wait
+
+-- that a waiting ticket stands unsettled says that its wait is so
+unsettled : (settled : Option Settled) → settled ≢ Some settled_as.Granted → state_of settled ≡ Unsettled → settled ≡ None
+unsettled None other e = refl
+unsettled (Some settled_as.Granted) other e = absurd (other refl)
+unsettled (Some settled_as.Victim) other e = cc
+unsettled (Some settled_as.Timeout) other e = cc
+unsettled (Some settled_as.Killed) other e = cc
+
+pub waits-somewhere : (core : Core) (target number : ℕ) → IsSound core → WaitsUnsettled core target number ↔ WaitsSomewhere (system_of core) target number
+waits-somewhere core target number sound = (there, back)
+  where
+    there : WaitsUnsettled core target number → WaitsSomewhere (system_of core) target number
+    there waits =
+        let wait : Pending = waits.1 in
+        let open_still : wait.settled ≢ Some settled_as.Granted = λ e. (let no = sym waits.4 ∙ e in cc) in
+        let key = key_at wait.place core in
+        let h = waits-to core target sound.tied waits.0 key (waiter_for target wait) (wait, waits.2, open_still, refl, refl) in
+        (key, waiter_for target wait, h.0, refl, waits.3, ap state_of waits.4)
+
+    back : WaitsSomewhere (system_of core) target number → WaitsUnsettled core target number
+    back waits =
+        let waiter : Waiter = waits.1 in
+        let has : has_session target core ≡ true = subst (λ n. has_session n core ≡ true) waits.3 (waiter-session core waits.0 waiter sound.tied waits.2) in
+        let h = waits-from core target sound.tied has waits.0 waiter waits.2 waits.3 in (
+          has,
+          h.0,
+          h.1,
+          sym (ap (λ (w : Waiter). w.wait) h.4) ∙ waits.4,
+          unsettled h.0.settled h.2 (sym (ap (λ (w : Waiter). w.state) h.4) ∙ waits.5),
+        )

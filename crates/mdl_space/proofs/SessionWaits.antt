@@ -12,6 +12,7 @@ use Rattle.mdl_space.specs.Moves.{losing}
 use Rattle.mdl_space.specs.Own.{wait_number}
 use Rattle.mdl_space.specs.Seats.{SeatView, own_of}
 use Rattle.mdl_space.specs.SessionLaws.{WaitsUnsettled, KillsJustThatWait}
+use Rattle.mdl_space.proofs.SessionHas.{waits-somewhere}
 use Rattle.mdl_space.specs.CoreProofs.Cases.{kill_cases}
 use Rattle.mdl_space.specs.CoreProofs.Choices.{test_cases, if-true, if-false}
 use Rattle.mdl_space.specs.CoreProofs.Owned.{joined}
@@ -80,4 +81,4 @@ tells a b target number joins = (
 )
 
 pub kills-just : KillsJustThatWait
-kills-just = (kills, tells)
+kills-just = (kills, waits-somewhere, tells)

@@ -14,7 +14,7 @@ use Rattle.mdl_space.specs.CoreJoins.{Joins, own_at}
 use Rattle.mdl_space.specs.Cores.{Core, book_at, seat_at, key_at, has_key, has_session}
 use Rattle.mdl_space.specs.CoreSystems.{system_of, state_of}
 use Rattle.mdl_space.specs.Own.{wait_number}
-use Rattle.mdl_space.specs.Systems.{Holding, Waiter, ListsHeld, HasNoWait}
+use Rattle.mdl_space.specs.Systems.{Unsettled, Holding, Waiter, System, ListsHeld, HasNoWait}
 use Rattle.mdl_space.specs.Ties.{IsSound}
 
 -- ---- what a session has
@@ -60,9 +60,15 @@ pub record HasWhatTheSystemSays (core : Core) (who : ℕ) : Type 0 where
   pub waits : (key : KeyName) (waiter : Waiter)
       → WaitsAt core who key waiter ↔ (Contains ((system_of core).waiting key) waiter × (waiter.ticket.session ≡ who))
 
--- each session's seat says what the system says of the session
+-- what is no session has nothing in the system
+abbrev pub HasNothing : {D : Type 0} → System D → ℕ → Type 0
+HasNothing system who = ((held : Holding) → Contains system.granted held → held.session ≢ who) × HasNoWait system who
+
+-- each session's seat says what the system says of it, and nothing there is of what is no session
 abbrev pub SessionsHaveWhatTheSystemSays : Type 0
-SessionsHaveWhatTheSystemSays = (core : Core) (who : ℕ) → IsSound core → has_session who core ≡ true → HasWhatTheSystemSays core who
+SessionsHaveWhatTheSystemSays =
+    (core : Core) (who : ℕ) → IsSound core →
+    (has_session who core ≡ true → HasWhatTheSystemSays core who) × (has_session who core ≡ false → HasNothing (system_of core) who)
 
 -- ---- waits of others
 
@@ -71,12 +77,20 @@ abbrev pub WaitsUnsettled : Core → ℕ → ℕ → Type 0
 WaitsUnsettled core target number =
     (has_session target core ≡ true) × (wait : Pending) × HasWait core target wait × (wait.number ≡ number) × (wait.settled ≡ None)
 
--- a kill says that it killed exactly where the wait of this number was there and unsettled, and else it changes nothing. The
--- number that is told of a wait is that of the session's wait, and of what is no session none is told
+-- in the system a ticket of the session waits somewhere, with this number of its wait and unsettled
+abbrev pub WaitsSomewhere : {D : Type 0} → System D → ℕ → ℕ → Type 0
+WaitsSomewhere system target number =
+    (key : KeyName) × (waiter : Waiter) × Contains (system.waiting key) waiter
+    × (waiter.ticket.session ≡ target) × (waiter.wait ≡ number) × (waiter.state ≡ Unsettled)
+
+-- a kill says that it killed exactly where the wait of this number was there and unsettled, which is where it waits in the
+-- system, and else it changes nothing. The number that is told of a wait is that of the session's wait, and of what is no
+-- session none is told
 abbrev pub KillsJustThatWait : Type 0
 KillsJustThatWait =
     ((a b : Core) (target number : ℕ) (killed : Bool) → Joins a (Kill target number) (Has_killed killed) b
     → ((killed ≡ true) ↔ WaitsUnsettled a target number) × (killed ≡ false → b ≡ a))
+    × ((a : Core) (target number : ℕ) → IsSound a → WaitsUnsettled a target number ↔ WaitsSomewhere (system_of a) target number)
     × ((a b : Core) (target : ℕ) (number : Option ℕ) → Joins a (Wait_of target) (Has_wait number) b
     → (has_session target a ≡ true → number ≡ wait_number (own_at a target)) × (has_session target a ≡ false → number ≡ None))
 
