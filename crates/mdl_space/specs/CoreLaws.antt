@@ -1,5 +1,5 @@
 -- Laws of the lock space of one thread: its calls are events of the system of locks.
-use Rattle.std.specs.Prelude.{◌≡◌, ◌⊎◌, ℕ, Bool, true, false, List, Option, Some, All}
+use Rattle.std.specs.Prelude.{◌≡◌, ◌⊎◌, ℕ, Bool, true, false, List, [], ◌∷◌, Option, Some, All}
 use Rattle.mdl_key.specs.Keys.{KeyName}
 use Rattle.mdl_key.specs.declared.mode.Mode.{Mode}
 use Rattle.mdl_defs.specs.declared.definition.Definition.{Definition}
@@ -74,11 +74,16 @@ GrantsWhatIsGrantable =
     × ((id : ℕ) → Joins a (Begin_wait who place mode) (Granted id) b → IsGrantable (system_of a) who (key_at place a) mode)
     × ((number : ℕ) → Joins a (Begin_wait who place mode) (Waits number) b → IsGrantable (system_of a) who (key_at place a) mode → ⊥)
 
--- so whatever is asked of an empty space, all that has happened in the end is events from the empty system on, which is lawful,
--- and nobody is forgotten
+-- events lead from one system to another, in pieces, of which the last comes first
+abbrev pub Reaches : {C D : Type 0} → (KeyName → C → Option D → Option (Option D)) → List (List (Event C)) → System D → System D → Type 0
+Reaches apply [] a b = SameSystem a b
+Reaches {C} {D} apply (events ∷ before) a b = (between : System D) × Reaches apply before a between × Run apply events between b
+
+-- so whatever is asked of an empty space, events have led to what it is in the end from the empty system, call after call; it is
+-- lawful, and nobody is forgotten
 abbrev pub RunsAreEvents : Type 0 → Type 0 → Type 0
 RunsAreEvents A C =
     (apply : KeyName → C → Option Definition → Option (Option Definition)) (places sessions : ℕ)
     (program : Program A) (reply : A) (b : Core) → Runs Joins (empty_core places sessions) program reply b →
-    ((events : List (Event C)) × Run apply events empty_system (system_of b))
+    ((events : List (List (Event C))) × Reaches apply events empty_system (system_of b))
     × IsLawful (system_of b) × NoneForgotten (system_of b)

@@ -1,7 +1,7 @@
 -- Which of two modes is the stronger, and which mode a held one may become, after MySQL 5.7:
 -- `MDL_ticket::has_stronger_or_equal_type`, `MDL_context::upgrade_shared_lock` and `MDL_ticket::downgrade_lock` of
 -- sql/mdl.cc. Which changes of mode there are is this project's own choice.
-use Rattle.std.specs.Prelude.{Bool, ◌&&◌, List, [], ◌∷◌, if◌then◌else◌}
+use Rattle.std.specs.Prelude.{◌≡◌, Bool, true, ◌&&◌, List, [], ◌∷◌, if◌then◌else◌}
 use Rattle.std.specs.List.{list_any}
 use Rattle.mdl_key.specs.declared.namespace.Kind.{Kind}
 use Rattle.mdl_key.specs.declared.namespace.Kind.TheVariants.{Scoped, Object}
@@ -38,3 +38,8 @@ may_upgrade held mode = list_any (same_mode mode) (upgrades held)
 -- whether a held mode may become another by a downgrade
 abbrev pub may_downgrade : Mode → Mode → Bool
 may_downgrade held mode = list_any (same_mode mode) (downgrades held)
+
+-- at any lock, between modes that it uses, this is the strength of its kind
+abbrev pub CoversByKind : Type 0
+CoversByKind =
+    (kind : Kind) (held mode : Mode) → is_mode_of kind held ≡ true → is_mode_of kind mode ≡ true → covers held mode ≡ is_at_least kind held mode

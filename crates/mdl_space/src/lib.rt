@@ -11,6 +11,7 @@
 #![tactic(auto)]
 
 mod answers;
+mod core_laws;
 mod core_space;
 mod granting;
 mod laws;
@@ -18,8 +19,12 @@ mod lock_space;
 mod new_error;
 mod seat;
 mod space_error;
+mod strength;
 
 pub use answers::{Attempt, Begun, Ended, Held, Poll, Settled, TimedOut};
+pub use core_laws::{
+    calls_are_events, calls_keep_sound, covers_by_kind, grants_what_is_grantable, runs_are_events,
+};
 pub use core_space::CoreSpace;
 pub use laws::{
     changes_by_lists, definitions_change_exclusively, definitions_stand_still, events_change_held,

@@ -1,0 +1,30 @@
+//! Laws of the lock space of one thread: its calls are events of the system of locks. Each is proved as the contract of a
+//! function that does nothing.
+ghost use Rattle.mdl_space.specs.CoreLaws.{CallsAreEvents, CallsKeepSound, GrantsWhatIsGrantable, RunsAreEvents};
+ghost use Rattle.mdl_space.specs.Strength.{CoversByKind};
+
+/// A call changes nothing in the system of locks, or it is an event there, after which waiters of that event's key are granted.
+pub fn calls_are_events<C>()
+    ensures { CallsAreEvents C }
+{}
+
+/// After each call books and sessions tell the same, no two sessions hold clashing tickets of one key, and no waiter is
+/// forgotten.
+pub fn calls_keep_sound()
+    ensures { CallsKeepSound }
+{}
+
+/// A lock is had at once exactly where the wish for it is grantable.
+pub fn grants_what_is_grantable()
+    ensures { GrantsWhatIsGrantable }
+{}
+
+/// Whatever is asked of an empty space, events have led from the empty system to what it is in the end.
+pub fn runs_are_events<A, C>()
+    ensures { RunsAreEvents A C }
+{}
+
+/// How strong one mode is beside another is, at each lock, what the matrix of its kind says.
+pub fn covers_by_kind()
+    ensures { CoversByKind }
+{}
