@@ -14,6 +14,8 @@ ghost use Rattle.mdl_space.specs.Moves.{leaving, freeing, serving};
 ghost use Rattle.mdl_space.specs.Own.{are_rising};
 ghost use Rattle.mdl_space.specs.Answers.{Has_wait, Has_killed, placed, attempted, begun, polled, timed_out, ended, done, cloned, listed};
 
+mod serving;
+
 use crate::granting::{give, is_free, queue};
 use crate::seat::{Pending, Seat};
 use crate::strength::covers;
@@ -391,6 +393,5 @@ fn place_of(books: &[Book], key: &Key) -> Option<usize>
     books.iter().position(|book| *book.key() == *key)
 }
 
-mod serving;
 #[cfg(test)]
 mod tests;
