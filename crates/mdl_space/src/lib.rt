@@ -19,6 +19,7 @@ mod lock_space;
 mod new_error;
 mod seat;
 mod space_error;
+mod strength;
 
 pub use answers::{Attempt, Begun, Ended, Held, Poll, Settled, TimedOut};
 pub use core_laws::{
