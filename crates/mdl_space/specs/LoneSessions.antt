@@ -7,7 +7,7 @@ use Rattle.mdl_space.specs.declared.answers.Settled.{Settled}
 use Rattle.mdl_space.specs.declared.answers.Settled.TheVariants.{Killed}
 use Rattle.mdl_space.specs.Calls.{Call, Resolve, End_wait, Wait_of, Kill, caller}
 use Rattle.mdl_space.specs.Answers.{Answer, At_place, Has_wait, Has_killed, Holds, is_answer_of}
-use Rattle.mdl_space.specs.Own.{Own, own_after, wait_number, IsRising}
+use Rattle.mdl_space.specs.Own.{Own, own_after, wait_number, is_waiting, IsRising}
 use Rattle.mdl_space.specs.Causes.{IsExplained}
 use Rattle.mdl_space.specs.Waits.{told, IsToldOf}
 
@@ -27,9 +27,14 @@ abbrev pub last_of : {A : Type 0} → Option (Option A) → Option A
 last_of None = None
 last_of (Some value) = value
 
+-- what is always so: the numbers of tickets rise, and only a wait is settled
+pub record IsWhole (a : Lone) : Type 0 where
+  pub rising : IsRising a.own
+  pub waits : (how : Settled) → a.settled ≡ Some how → is_waiting a.own ≡ true
+
 -- the space speaks for its session
 abbrev pub SpeaksFor : Lone → ℕ → Type 0
-SpeaksFor a who = (who ≡ a.who) × IsRising a.own
+SpeaksFor a who = (who ≡ a.who) × IsWhole a
 
 -- its key is at place 1
 abbrev pub Knows : Lone → ℕ → ℕ → KeyName → Type 0
@@ -59,7 +64,7 @@ pub record Joins (a : Lone) (call : Call) (answer : Answer) (b : Lone) : Type 0 
   pub allowed : IfSome (caller call) (SpeaksFor a)
   pub same : (b.who ≡ a.who) × (b.key ≡ a.key)
   pub changed : b.own ≡ own_after call answer a.own
-  pub rising : IsRising a.own → IsRising b.own
+  pub whole : IsWhole a → IsWhole b
   pub fits : is_answer_of call answer ≡ true
   pub explained : IsExplained (Knows a a.who) call answer a.own
   pub told_truly : IsTold a call answer b

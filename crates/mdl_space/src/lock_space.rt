@@ -5,8 +5,8 @@ ghost use Rattle.mdl_key.specs.Keys.{KeyName};
 ghost use Rattle.mdl_space.specs.declared.answers.Settled.{Settled};
 ghost use Rattle.mdl_space.specs.declared.answers.Held.{Held};
 ghost use Rattle.mdl_space.specs.Calls.{Call, Resolve, Try_now, Begin_wait, Poll_wait, Settle_timeout, End_wait, Wait_of, Kill, Release, Clone_ticket, List_held, Unpin, caller};
-ghost use Rattle.mdl_space.specs.Answers.{Answer, At_place, Has_wait, Has_killed, Holds, is_answer_of, placed, attempted, begun, polled, timed_out, ended, done, cloned, listed};
-ghost use Rattle.mdl_space.specs.Own.{Own, own_after, wait_number, IsRising};
+ghost use Rattle.mdl_space.specs.Answers.{Answer, Done, At_place, Has_wait, Has_killed, Holds, is_answer_of, placed, attempted, begun, polled, timed_out, ended, done, cloned, listed};
+ghost use Rattle.mdl_space.specs.Own.{Own, own_after, wait_number, is_waiting, IsRising};
 ghost use Rattle.mdl_space.specs.Causes.{IsExplained};
 ghost use Rattle.mdl_space.specs.Waits.{told, IsToldOf};
 
@@ -128,9 +128,9 @@ pub trait LockSpace {
     ghost resolves: { (a b : Self) (who place : ℕ) (key : KeyName) → joins a (Resolve who key) (At_place place) b
         → knows b who place key };
 
-    // A place keeps its key, for all who know it, until they need it no longer.
+    // A place keeps its key, for all who know it, until they are done with it.
     ghost remembers: { (a b : Self) (call : Call) (answer : Answer) (w place : ℕ) (key : KeyName) → speaks_for a w
-        → (call ≡ Unpin w place → ⊥) → joins a call answer b → knows a w place key → knows b w place key };
+        → (call ≡ Unpin w place → answer ≡ Done → ⊥) → joins a call answer b → knows a w place key → knows b w place key };
 
     // A place has one key.
     ghost one_key: { (a : Self) (w place : ℕ) (key other : KeyName) → speaks_for a w → knows a w place key
@@ -143,6 +143,14 @@ pub trait LockSpace {
     // An answer that tells how the caller's wait is settled is true.
     ghost tells: { (a b : Self) (call : Call) (answer : Answer) (who : ℕ) (how : Settled) → caller call ≡ Some who
         → told call answer ≡ Some how → joins a call answer b → is_settled b who how };
+
+    // Only a wait is settled.
+    ghost waits_settled: { (a : Self) (w : ℕ) (how : Settled) → speaks_for a w → is_settled a w how
+        → is_waiting (own a w) ≡ true };
+
+    // A wait is settled in one way.
+    ghost settled_once: { (a : Self) (w : ℕ) (how other : Settled) → speaks_for a w → is_settled a w how
+        → is_settled a w other → how ≡ other };
 
     // What a wait is settled as stays, until the wait is ended.
     ghost stays: { (a b : Self) (call : Call) (answer : Answer) (w : ℕ) (how : Settled) → speaks_for a w

@@ -13,7 +13,7 @@ use Rattle.mdl_book.specs.declared.lists.Lists.{Lists}
 use Rattle.mdl_key.specs.declared.namespace.Namespace.{Namespace}
 use Rattle.mdl_key.specs.declared.namespace.Namespace.TheVariants.{Global, Schema, Table, Commit}
 use Rattle.mdl_key.specs.Keys.{KeyName, namespace_rank, global_key, key_eq}
-use Rattle.mdl_space.specs.Answers.{Answer, At_place}
+use Rattle.mdl_space.specs.Answers.{Answer, Done, At_place}
 use Rattle.mdl_space.specs.Calls.{Call, Resolve, Unpin}
 use Rattle.mdl_space.specs.CoreJoins.{SpeaksFor, Knows, Joins}
 use Rattle.mdl_space.specs.Cores.{Core, key_at, index_of}
@@ -88,8 +88,8 @@ core-resolves a b who place key joins =
     place refl
 
 -- a place keeps its key, for all who know it
-pub core-remembers : (a b : Core) (call : Call) (answer : Answer) (w place : ℕ) (key : KeyName) → SpeaksFor a w → (call ≡ Unpin w place → ⊥)
-    → Joins a call answer b → Knows a w place key → Knows b w place key
+pub core-remembers : (a b : Core) (call : Call) (answer : Answer) (w place : ℕ) (key : KeyName) → SpeaksFor a w
+    → (call ≡ Unpin w place → answer ≡ Done → ⊥) → Joins a call answer b → Knows a w place key → Knows b w place key
 core-remembers a b call answer w place key speaks stays joins knows = (joins-steps a b call answer joins).keys w place key knows
 
 -- a place has one key

@@ -10,7 +10,7 @@ use Rattle.mdl_space.specs.CoreCalls.{wait_at, killing}
 use Rattle.mdl_space.specs.CoreJoins.{SpeaksFor, own_at, IsSettledAs, Joins}
 use Rattle.mdl_space.specs.Cores.{Core, seat_at, has_session}
 use Rattle.mdl_space.specs.Moves.{losing}
-use Rattle.mdl_space.specs.Own.{wait_number}
+use Rattle.mdl_space.specs.Own.{wait_number, is_waiting}
 use Rattle.mdl_space.specs.Seats.{SeatView, own_of, settling}
 use Rattle.mdl_space.specs.Waits.{told, IsEndOf, IsToldOf}
 use Rattle.mdl_space.specs.CoreProofs.Cases.{poll_cases, timeout_cases, end_cases, kill_cases}
@@ -43,6 +43,27 @@ lost-settled a who wait how is its =
     subst (λ s. HasSettled s how) (sym (seat-written a (losing who how a) who (settling how (seat_at who a)) is refl))
     (settled_at (settling how (seat_at who a)) (record wait { settled = Some how }) how
     (ap (λ (o : Option Pending). option_map (λ (w : Pending). record w { settled = Some how }) o) its) refl)
+
+-- ---- a settled wait
+
+waiting-settled : (seat : SeatView) (how : Settled) → HasSettled seat how → is_waiting (own_of seat) ≡ true
+waiting-settled seat how = go seat.wait
+  where
+    go : (o : Option Pending) → MatchOption o ⊥ (λ (w : Pending). w.settled ≡ Some how) → is_waiting (own_of (record seat { wait = o })) ≡ true
+    go None none = absurd none
+    go (Some wait) settled = refl
+
+-- only a wait is settled
+pub core-waits_settled : (a : Core) (w : ℕ) (how : Settled) → SpeaksFor a w → IsSettledAs a w how → is_waiting (own_at a w) ≡ true
+core-waits_settled a w how speaks settled = waiting-settled (seat_at w a) how (settled-seat a w how speaks.0 settled)
+
+-- a wait is settled in one way
+pub core-settled_once : (a : Core) (w : ℕ) (how other : Settled) → SpeaksFor a w → IsSettledAs a w how → IsSettledAs a w other → how ≡ other
+core-settled_once a w how other speaks = go (wait_at w a)
+  where
+    go : (o : Option Pending) → MatchOption o ⊥ (λ (x : Pending). x.settled ≡ Some how) → MatchOption o ⊥ (λ (x : Pending). x.settled ≡ Some other) → how ≡ other
+    go None none also = absurd none
+    go (Some wait) one two = let e = sym one ∙ two in cc
 
 -- ---- what is told is true
 

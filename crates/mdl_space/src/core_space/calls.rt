@@ -2,7 +2,7 @@
 ghost use Rattle.mdl_space.specs.CoreJoins.{SpeaksFor, own_at, Knows, IsSettledAs, Joins};
 ghost use Rattle.mdl_space.specs.CoreProofs.Owned.{core-allowed, core-keeps, core-changes, core-others, core-rising, core-fits, core-lists};
 ghost use Rattle.mdl_space.specs.CoreProofs.Places.{core-resolves, core-remembers, core-one_key, core-one_place};
-ghost use Rattle.mdl_space.specs.CoreProofs.Waits.{core-tells, core-stays, core-agrees, core-counts, core-kills};
+ghost use Rattle.mdl_space.specs.CoreProofs.Waits.{core-waits_settled, core-settled_once, core-tells, core-stays, core-agrees, core-counts, core-kills};
 ghost use Rattle.mdl_space.specs.CoreProofs.Causes.{core-explains};
 ghost use Rattle.mdl_space.specs.Lemmas.CoreSound.{calls_keep-sound};
 
@@ -95,6 +95,10 @@ impl LockSpace for CoreSpace {
     ghost one_place = { core-one_place };
 
     ghost tells = { core-tells };
+
+    ghost waits_settled = { core-waits_settled };
+
+    ghost settled_once = { core-settled_once };
 
     ghost stays = { core-stays };
 

@@ -126,7 +126,7 @@ impl LockSpace for LoneSession {
 
     ghost others = { Prim.search rules };
 
-    ghost rising = { λ a w speaks. speaks.1 };
+    ghost rising = { λ a w speaks. speaks.1.rising };
 
     ghost fits = { λ a b call answer j. j.fits };
 
@@ -143,6 +143,10 @@ impl LockSpace for LoneSession {
     ghost one_place = { Prim.search rules };
 
     ghost tells = { Prim.search rules };
+
+    ghost waits_settled = { λ a w how speaks settled. speaks.1.waits how settled.1 };
+
+    ghost settled_once = { Prim.search rules };
 
     ghost stays = { Prim.search rules };
 
