@@ -1,12 +1,12 @@
 -- What is told of waits in the space of one thread, and that a settled wait stays as it is settled.
-use Rattle.std.proofs.Common.{◌≡◌, ◌⊎◌, ℕ, true, false, Option, Some, None, MatchOption, IfSome, option_map, refl, sym, ap, subst, ◌∙◌, inl, inr}
+use Rattle.std.proofs.Common.{◌≡◌, ◌⊎◌, ℕ, true, false, not, ◌&&◌, is_some, Option, Some, None, MatchOption, IfSome, option_map, refl, sym, ap, subst, ◌∙◌, inl, inr, eq-eqb}
 use Rattle.mdl_space.specs.declared.answers.Settled.{Settled}
 use Rattle.mdl_space.specs.declared.answers.Settled.TheVariants as settled_as
 use Rattle.mdl_space.specs.declared.answers.TimedOut.TheVariants.{Already}
 use Rattle.mdl_space.specs.declared.seat.Pending.{Pending}
 use Rattle.mdl_space.specs.Answers.{Answer, Granted, Lost, Has_wait, Has_killed, Is_settled, Timed_out}
 use Rattle.mdl_space.specs.Calls.{Call, Poll_wait, Settle_timeout, End_wait, Wait_of, Kill, caller}
-use Rattle.mdl_space.specs.CoreCalls.{wait_at, killing}
+use Rattle.mdl_space.specs.CoreCalls.{wait_at, is_open_wait, killing}
 use Rattle.mdl_space.specs.CoreJoins.{SpeaksFor, own_at, IsSettledAs, Joins}
 use Rattle.mdl_space.specs.Cores.{Core, seat_at, has_session}
 use Rattle.mdl_space.specs.Moves.{losing}
@@ -17,7 +17,7 @@ use Rattle.mdl_space.specs.CoreProofs.Cases.{poll_cases, timeout_cases, end_case
 use Rattle.mdl_space.specs.CoreProofs.Owned.{joined, called, caller-speaks, joins-steps, core-keeps_sessions}
 use Rattle.mdl_space.specs.CoreProofs.Seats.{HasSettled, settled-seat, seat-settled, seat-written, wait-of_session}
 use Rattle.mdl_space.specs.CoreProofs.Steps.{subject, ends_wait}
-use Rattle.mdl_space.specs.CoreProofs.Choices.{nat_told}
+use Rattle.mdl_space.specs.CoreProofs.Choices.{nat_told, test_cases}
 
 -- ---- seats with a settled wait
 
@@ -182,3 +182,34 @@ core-kills a b w number speaks joins =
           lost-settled a w wait settled_as.Killed is its,
         ))
         (λ e. cc)
+
+-- the wait of a number that isn't open is settled
+shut-settled : (number : ℕ) (o : Option Pending) → option_map (λ (wait : Pending). wait.number) o ≡ Some number → is_open_wait number o ≡ false
+    → (how : Settled) × MatchOption o ⊥ (λ (wait : Pending). wait.settled ≡ Some how)
+shut-settled number None e shut = cc
+shut-settled number (Some wait) e shut = at wait.settled refl
+  where
+    same : wait.number ≡ number
+    same = cc
+
+    at : (s : Option Settled) → wait.settled ≡ s → (how : Settled) × (wait.settled ≡ Some how)
+    at (Some how) f = (how, f)
+    at None f =
+        let opened : is_open_wait number (Some wait) ≡ true = ap (λ b. b && not (is_some wait.settled)) (eq-eqb wait.number number same) ∙ ap (λ s. not (is_some s)) f in
+        cc
+
+abbrev Misses : Core → ℕ → ℕ → Answer × Core → Type 0
+Misses a w number result = result.0 ≡ Has_killed false → wait_number (own_at a w) ≡ Some number → (how : Settled) × HasSettled (seat_at w result.1) how
+
+-- a kill that kills nothing found another wait, or a settled one
+pub core-kills_or_settled : (a b : Core) (w number : ℕ) → SpeaksFor a w → Joins a (Kill w number) (Has_killed false) b
+    → wait_number (own_at a w) ≡ Some number → (how : Settled) × IsSettledAs b w how
+core-kills_or_settled a b w number speaks joins waits =
+    let h = joined (Misses a w number) a b (Kill w number) (Has_killed false) joins (λ takes. cc) made refl waits in
+    (h.0, seat-settled b w h.0 (core-keeps_sessions a b (Kill w number) (Has_killed false) w speaks.0 joins) h.1)
+  where
+    made : Misses a w number (killing w number a)
+    made = test_cases (Misses a w number) (is_open_wait number (wait_at w a)) (Has_killed true, losing w settled_as.Killed a) (Has_killed false, a)
+        (λ opened e. cc)
+        (λ shut e n. shut-settled number (seat_at w a).wait (number-same (seat_at w a) ∙ n)
+        (ap (is_open_wait number) (sym (wait-of_session a w speaks.0)) ∙ shut))
