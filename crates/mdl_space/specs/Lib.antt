@@ -10,6 +10,7 @@ pub mod CoreProofs
 pub mod CoreSystems
 pub mod Cores
 pub mod Lemmas
+pub mod LoneProofs
 pub mod LoneSessions
 pub mod Moves
 pub mod NumberingLaws
