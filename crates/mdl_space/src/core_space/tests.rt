@@ -83,3 +83,12 @@ fn what_is_held_is_listed(rt: HostRuntime) -> Result<(), Fail> {
     );
     Ok(())
 }
+
+mod acts;
+mod fixture;
+mod full;
+mod life;
+mod memory;
+mod plain;
+mod refusals;
+mod seeded;
