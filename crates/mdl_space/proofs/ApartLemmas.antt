@@ -6,7 +6,7 @@ use Rattle.std.proofs.lemmas.List.Kept.{AllPairs-cons}
 use Rattle.std.proofs.lemmas.List.Quantifiers.{all_pairs_push}
 use Rattle.mdl_space.specs.Systems.{Waiter}
 use Rattle.mdl_space.specs.Steps.{LeavesOrder, TakesTurn}
-use Rattle.mdl_space.proofs.OrderLemmas.{Contains-cons_cases, around, around_cases, middle, within}
+use Rattle.mdl_space.specs.Lemmas.OrderLemmas.{Contains-cons_cases, around, around_cases, middle, within}
 
 -- two waiters are of different sessions
 abbrev pub apart : Waiter → Waiter → Type 0

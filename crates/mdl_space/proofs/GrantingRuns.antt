@@ -8,8 +8,8 @@ use Rattle.mdl_key.specs.Matrices.{clashes, waits_behind, Clashes, WaitsBehind}
 use Rattle.mdl_space.specs.Systems.{WaitState, Unsettled, Victim, TimedOut, Killed, Holding, Waiter, System, lock_kind, IsGrantable, NoneForgottenAt}
 use Rattle.mdl_space.specs.Steps.{Event, GrantWaiter, GrantsWaiter, Run, Gains, LeavesOrder, granted_ticket, granted_wait}
 use Rattle.mdl_space.specs.BlockingLaws.{IsGrantAt}
-use Rattle.mdl_space.proofs.Deciding.{both_told, key_told, nat_told}
-use Rattle.mdl_space.proofs.OrderLemmas.{Contains-cons_cases, Contains-here, Contains-later}
+use Rattle.mdl_space.specs.Lemmas.Deciding.{both_told, key_told, nat_told}
+use Rattle.mdl_space.specs.Lemmas.OrderLemmas.{Contains-cons_cases, Contains-here, Contains-later}
 
 -- ---- what can be told
 

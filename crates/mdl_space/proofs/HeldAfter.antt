@@ -6,7 +6,7 @@ use Rattle.mdl_key.specs.Keys.{KeyName}
 use Rattle.mdl_space.specs.Systems.{Holding, GrantedWait, System, Held}
 use Rattle.mdl_space.specs.Steps.{Event, Grant, Clone, BeginWait, GrantWaiter, SettleLost, EndGrantedWait, EndLostWait, Release, Upgrade, Merge, Downgrade, ChangeDefinition, Happens, SameMembers, Gains, Replaces, EndsGrantedWait, in_mode, session_of}
 use Rattle.mdl_space.specs.NumberingLaws.{IsWellNumbered, IsHeldAfter}
-use Rattle.mdl_space.proofs.Deciding.{nat_told}
+use Rattle.mdl_space.specs.Lemmas.Deciding.{nat_told}
 use Rattle.mdl_space.proofs.NumberingLemmas.{leaves-held}
 
 module _ {D : Type 0} (a b : System D) where

@@ -12,9 +12,9 @@ use Rattle.mdl_key.specs.Modes.{all_modes, is_mode_of}
 use Rattle.mdl_key.proofs.MatrixLemmas.{each_mode}
 use Rattle.mdl_space.specs.Systems.{Holding, GrantedWait, System, lock_kind, Held, IsLawful}
 use Rattle.mdl_space.specs.Steps.{Event, Grant, Clone, BeginWait, GrantWaiter, SettleLost, EndGrantedWait, EndLostWait, Release, Upgrade, Merge, Downgrade, ChangeDefinition, Happens, in_mode, granted_ticket, granted_wait, session_of}
-use Rattle.mdl_space.proofs.Deciding.{key_told}
-use Rattle.mdl_space.proofs.LawfulLemmas.{implied}
-use Rattle.mdl_space.proofs.OrderLemmas.{gained-others, lost-others}
+use Rattle.mdl_space.specs.Lemmas.Deciding.{key_told}
+use Rattle.mdl_space.specs.Lemmas.LawfulLemmas.{implied}
+use Rattle.mdl_space.specs.Lemmas.OrderLemmas.{gained-others, lost-others}
 
 -- ---- held by another session
 

@@ -5,9 +5,9 @@ use Rattle.mdl_key.specs.Keys.{KeyName}
 use Rattle.mdl_space.specs.Systems.{Holding, Waiter, Versioned, System}
 use Rattle.mdl_space.specs.Steps.{Event, Grant, Clone, BeginWait, GrantWaiter, SettleLost, EndGrantedWait, EndLostWait, Release, Upgrade, Merge, Downgrade, ChangeDefinition, Happens, SameMembers, SameElsewhere, ElseSame, Loses, Replaces, in_mode}
 use Rattle.mdl_space.specs.PermittedEvents.{IsPermitted}
-use Rattle.mdl_space.proofs.Deciding.{key_told, ticket_told, wait_told}
+use Rattle.mdl_space.specs.Lemmas.Deciding.{key_told, ticket_told, wait_told}
 use Rattle.mdl_space.proofs.GrantingRuns.{chosen, chosen-yes, chosen-no, gains-cons, granting_to, granting-step}
-use Rattle.mdl_space.proofs.OrderLemmas.{Contains-cons_cases, Contains-here, Contains-later, middle, within}
+use Rattle.mdl_space.specs.Lemmas.OrderLemmas.{Contains-cons_cases, Contains-here, Contains-later, middle, within}
 
 -- ---- lists
 

@@ -8,9 +8,9 @@ use Rattle.mdl_space.specs.Systems.{WaitState, Holding, Waiter, GrantedWait, Sys
 use Rattle.mdl_space.specs.Steps.{Event, Grant, Clone, BeginWait, GrantWaiter, SettleLost, EndGrantedWait, EndLostWait, Release, Upgrade, Merge, Downgrade, ChangeDefinition, Happens, Run, BeginsWait, GrantsWaiter, SettlesLost, SameMembers, SameAt, SameWaits, Gains, Replaces, IsNewNumber, in_mode, granted_ticket, granted_wait}
 use Rattle.mdl_space.specs.NumberingLaws.{IsWellNumbered, LeavesHeld}
 use Rattle.mdl_space.proofs.ApartLemmas.{apart, leaves-apart, leaves-others, turn-apart, joins-apart}
-use Rattle.mdl_space.proofs.BlockingLemmas.{at_any}
+use Rattle.mdl_space.specs.Lemmas.BlockingLemmas.{at_any}
 use Rattle.mdl_space.proofs.HeldLemmas.{held-same}
-use Rattle.mdl_space.proofs.OrderLemmas.{within, gone-before, changed-before, middle}
+use Rattle.mdl_space.specs.Lemmas.OrderLemmas.{within, gone-before, changed-before, middle}
 
 module _ {D : Type 0} (a b : System D) (well : IsWellNumbered a) where
   -- ---- where no ticket comes

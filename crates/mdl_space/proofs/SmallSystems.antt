@@ -6,9 +6,9 @@ use Rattle.mdl_key.specs.Keys.{KeyName}
 use Rattle.mdl_space.specs.Systems.{Holding, Waiter, System, empty_system, Held, HasNoWait, IsLawful, IsGrantable}
 use Rattle.mdl_space.specs.Steps.{Event, Grant, Clone, BeginWait, GrantWaiter, SettleLost, EndGrantedWait, EndLostWait, Release, Upgrade, Merge, Downgrade, ChangeDefinition, Happens}
 use Rattle.mdl_space.specs.PermittedEvents.{IsPermitted, IsPlausible}
-use Rattle.mdl_space.proofs.LawfulLemmas.{empty-lawful}
+use Rattle.mdl_space.specs.Lemmas.LawfulLemmas.{empty-lawful}
 use Rattle.mdl_space.proofs.NextSystems.{next, put, put-there}
-use Rattle.mdl_space.proofs.OrderLemmas.{Contains-cons_cases, Contains-here, Contains-later, within}
+use Rattle.mdl_space.specs.Lemmas.OrderLemmas.{Contains-cons_cases, Contains-here, Contains-later, within}
 
 none : {T : Type 0} (x : T) → Contains [] x → ⊥
 none x among = let lt = among.1 in omega arith

@@ -6,8 +6,10 @@ pub mod Causes
 pub mod CoreCalls
 pub mod CoreJoins
 pub mod CoreLaws
+pub mod CoreProofs
 pub mod CoreSystems
 pub mod Cores
+pub mod Lemmas
 pub mod LoneSessions
 pub mod Moves
 pub mod NumberingLaws

@@ -1,14 +1,20 @@
 //! The lock space of one thread.
-ghost use Rattle.std.specs.Prelude.{◌≡◌, ◌<◌, ◌+◌, ◌^◌, Some, None, IfOk, OnOk, MatchResult, length, true};
+ghost use Rattle.std.specs.Prelude.{◌≡◌, ℕ, ◌<◌, ◌≤◌, ◌+◌, ◌^◌, Some, None, IfOk, OnOk, MatchResult, IsSome, IsTrue, length, true, false};
 ghost use Rattle.std.specs.Option.{IfSome};
 ghost use Rattle.mdl_key.specs.Refusals.{Refuses};
-ghost use Rattle.mdl_space.specs.Cores.{empty_core, has_session, index_of, seat_at};
-ghost use Rattle.mdl_space.specs.CoreCalls.{new_fault, first_cause, request_causes, listing, resolving, trying, Makes};
-ghost use Rattle.mdl_space.specs.Answers.{placed, attempted, listed};
+ghost use Rattle.mdl_book.specs.Tickets.{ticket_of};
+ghost use Rattle.mdl_space.specs.Cores.{empty_core, book_at, has_key, has_session, index_of, seat_at};
+ghost use Rattle.mdl_space.specs.CoreCalls.{new_fault, first_cause, request_causes, listing, resolving, trying, beginning, polling, timing_out, ending, looking_after, killing, releasing, Makes};
+ghost use Rattle.mdl_space.specs.CoreJoins.{SpeaksFor};
+ghost use Rattle.mdl_space.specs.Moves.{leaving, freeing, serving};
+ghost use Rattle.mdl_space.specs.Own.{are_rising};
+ghost use Rattle.mdl_space.specs.Answers.{Has_wait, Has_killed, placed, attempted, begun, polled, timed_out, ended, done, listed};
 
-use crate::granting::{give, is_free};
-use crate::seat::Seat;
-use crate::{Attempt, Held, NewError, Place, SpaceError};
+use crate::granting::{give, is_free, queue};
+use crate::seat::{Pending, Seat};
+use crate::{
+    Attempt, Begun, Ended, Held, NewError, Place, Poll, Settled, SpaceError, TicketId, TimedOut,
+};
 use mdl_book::Book;
 use mdl_key::{Key, Mode};
 use std::alloc::Global;
@@ -51,6 +57,7 @@ impl CoreSpace {
     /// A space of so many places and sessions, where nobody has asked for anything.
     pub fn new(alloc: Global, places: u16, sessions: u16) -> Result<CoreSpace, NewError>
         ensures made { IfOk result (λ space. space ≡ empty_core places sessions) }
+        ensures speaks { IfOk result (λ space. (who : ℕ) → 1 ≤ who → who ≤ sessions → SpeaksFor space who) }
         ensures refused { Refuses (new_fault places sessions) NewError.OutOfMemory result }
     {
         if places == 0 || places > MOST_PLACES {
@@ -116,6 +123,135 @@ impl CoreSpace {
         }
     }
 
+    /// Grants a lock, or begins a wait for it where it can't be had now.
+    pub(crate) fn begin_lock(
+        &mut self,
+        who: u16,
+        place: Place,
+        mode: Mode,
+    ) -> Result<Begun, SpaceError>
+        requires { has_session who self.old ≡ true }
+        ensures { Makes true (beginning who place mode) self.old (begun result) self.new }
+    {
+        self.check_request(who, place, mode)?;
+        let book = &mut self.books[usize::from(place) - 1];
+        let seat = &mut self.seats[usize::from(who) - 1];
+        if !is_free(book, who, mode) {
+            return match queue(seat, book, who, place, mode) {
+                Ok(number) => Ok(Begun::Waiting(number)),
+                Err(cause) => Err(cause),
+            };
+        }
+        match give(seat, book, who, place, mode) {
+            Ok(id) => Ok(Begun::Granted(id)),
+            Err(cause) => Err(cause),
+        }
+    }
+
+    /// How a session's wait stands.
+    pub(crate) fn poll(&self, who: u16) -> Result<Poll, SpaceError>
+        requires { has_session who self.now ≡ true }
+        ensures { Makes false (polling who) self.now (polled result) self.now }
+    {
+        match self.seats[usize::from(who) - 1].wait() {
+            Some(wait) => match wait.settled {
+                Some(how) => Ok(Poll::Settled(how)),
+                None => Ok(Poll::Pending),
+            },
+            None => Err(SpaceError::NoWait),
+        }
+    }
+
+    /// Settles a session's wait as a timeout, unless it is settled.
+    pub(crate) fn time_out(&mut self, who: u16) -> Result<TimedOut, SpaceError>
+        requires { has_session who self.old ≡ true }
+        ensures { Makes false (timing_out who) self.old (timed_out result) self.new }
+    {
+        let seat = &mut self.seats[usize::from(who) - 1];
+        let Some(wait) = seat.wait() else {
+            return Err(SpaceError::NoWait);
+        };
+        if let Some(how) = wait.settled {
+            return Ok(TimedOut::Already(how));
+        }
+        seat.settle(Settled::Timeout);
+        Ok(TimedOut::ByThisCall)
+    }
+
+    /// Ends a session's wait, which is settled: with the ticket if it was granted, else without.
+    pub(crate) fn finish_wait(&mut self, who: u16) -> Result<Ended, SpaceError>
+        requires { SpeaksFor self.old who }
+        ensures { Makes false (ending who) self.old (ended result) self.new }
+    {
+        let Some(wait) = self.seats[usize::from(who) - 1].wait() else {
+            return Err(SpaceError::NoWait);
+        };
+        let Some(how) = wait.settled else {
+            return Err(SpaceError::Unsettled);
+        };
+        match how {
+            Settled::Granted => {
+                self.seats[usize::from(who) - 1].take_up(wait);
+                Ok(Ended::Granted(wait.id))
+            }
+            Settled::Victim => {
+                self.leave(who, wait);
+                Ok(Ended::Victim)
+            }
+            Settled::Timeout => {
+                self.leave(who, wait);
+                Ok(Ended::Timeout)
+            }
+            Settled::Killed => {
+                self.leave(who, wait);
+                Ok(Ended::Killed)
+            }
+        }
+    }
+
+    /// The number of any session's wait.
+    pub(crate) fn wait_number(&self, target: u16) -> Option<u64>
+        ensures { Makes false (looking_after target) self.now (Has_wait result) self.now }
+    {
+        if target == 0 || usize::from(target) > self.seats.len() {
+            return None;
+        }
+        match self.seats[usize::from(target) - 1].wait() {
+            Some(wait) => Some(wait.number),
+            None => None,
+        }
+    }
+
+    /// Settles any session's wait of this number as killed, unless it is settled. Whether this call settled it.
+    pub(crate) fn kill_wait(&mut self, target: u16, number: u64) -> bool
+        ensures { Makes false (killing target number) self.old (Has_killed result) self.new }
+    {
+        if target == 0 || usize::from(target) > self.seats.len() {
+            return false;
+        }
+        let seat = &mut self.seats[usize::from(target) - 1];
+        let Some(wait) = seat.wait() else {
+            return false;
+        };
+        if wait.number != number || wait.settled.is_some() {
+            return false;
+        }
+        seat.settle(Settled::Killed);
+        true
+    }
+
+    /// Gives a held ticket up.
+    pub(crate) fn give_back(&mut self, who: u16, id: TicketId) -> Result<(), SpaceError>
+        requires { SpeaksFor self.old who }
+        ensures { Makes false (releasing who id) self.old (done result) self.new }
+    {
+        let Some(ticket) = self.seats[usize::from(who) - 1].ticket(id) else {
+            return Err(SpaceError::NotHeld);
+        };
+        self.free(who, ticket);
+        Ok(())
+    }
+
     /// The tickets that a session holds.
     pub(crate) fn list_held(&self, who: u16) -> Result<Vec<Held>, SpaceError>
         requires { has_session who self.now ≡ true }
@@ -129,6 +265,33 @@ impl CoreSpace {
         Ok(tickets)
     }
 
+    /// Ends a session's lost wait, and then grants waiters of its place.
+    fn leave(&mut self, who: u16, wait: Pending)
+        requires session { has_session who self.old ≡ true }
+        requires key { has_key wait.place self.old ≡ true }
+        requires waits { IsSome (ticket_of who wait.id (book_at wait.place self.old).waiting) }
+        ensures { self.new ≡ serving wait.place (leaving who wait self.old) }
+    {
+        self.seats[usize::from(who) - 1].drop_wait();
+        let book = &mut self.books[usize::from(wait.place) - 1];
+        book.cancel(who, wait.id).unwrap();
+        self.serve(wait.place);
+    }
+
+    /// Gives up a session's held ticket, and then grants waiters of its place.
+    fn free(&mut self, who: u16, ticket: Held)
+        requires session { has_session who self.old ≡ true }
+        requires key { has_key ticket.place self.old ≡ true }
+        requires stands { IsSome (ticket_of who ticket.id (book_at ticket.place self.old).granted) }
+        requires rising { IsTrue (are_rising (seat_at who self.old).held) }
+        ensures { self.new ≡ serving ticket.place (freeing who ticket.place ticket.id self.old) }
+    {
+        self.seats[usize::from(who) - 1].give_up(ticket.id);
+        let book = &mut self.books[usize::from(ticket.place) - 1];
+        book.remove(who, ticket.id).unwrap();
+        self.serve(ticket.place);
+    }
+
     /// Looks whether a session can ask for a lock.
     fn check_request(&self, who: u16, place: Place, mode: Mode) -> Result<(), SpaceError>
         requires { has_session who self.now ≡ true }
@@ -136,6 +299,7 @@ impl CoreSpace {
             (λ _. first_cause (request_causes who place mode self.now) ≡ None)
             (λ e. first_cause (request_causes who place mode self.now) ≡ Some e) }
         ensures numbers { OnOk result ((seat_at who self.now).last_ticket + 1 < 2 ^ 60) }
+        ensures idle { OnOk result ((seat_at who self.now).wait ≡ None) }
     {
         let place = usize::from(place);
         if place == 0 || place > self.books.len() {
@@ -163,5 +327,7 @@ fn place_of(books: &[Book], key: &Key) -> Option<usize>
     books.iter().position(|book| *book.key() == *key)
 }
 
+mod calls;
+mod serving;
 #[cfg(test)]
 mod tests;

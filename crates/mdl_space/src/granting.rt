@@ -1,9 +1,9 @@
 //! Granting a lock: a ticket in the lock's book, and the same ticket in the session's hands.
-ghost use Rattle.std.specs.Prelude.{◌≡◌, ◌+◌, ◌<◌, ◌^◌, ◌⊎◌, OnErr, MatchResult, nat_le, true, false};
-ghost use Rattle.mdl_book.specs.Books.{lock_kind, granting, ticket_count};
+ghost use Rattle.std.specs.Prelude.{◌≡◌, ◌+◌, ◌<◌, ◌^◌, ◌⊎◌, None, OnErr, MatchResult, nat_le, true, false};
+ghost use Rattle.mdl_book.specs.Books.{lock_kind, granting, enqueueing, ticket_count};
 ghost use Rattle.mdl_book.specs.Granting.{is_grantable};
 ghost use Rattle.mdl_space.specs.CoreCalls.{cause_in};
-ghost use Rattle.mdl_space.specs.Seats.{holding};
+ghost use Rattle.mdl_space.specs.Seats.{holding, beginning_wait};
 
 use crate::seat::Seat;
 use crate::{Place, SpaceError, TicketId};
@@ -12,7 +12,7 @@ use mdl_key::Mode;
 use mdl_word::Word;
 
 // The word of a lock: over one thread no ticket is a fast one.
-const NO_FAST: Word = Word(0);
+pub(crate) const NO_FAST: Word = Word(0);
 
 /// Whether a session's wish for a mode can be granted now.
 pub(crate) fn is_free(book: &Book, who: u16, mode: Mode) -> bool
@@ -30,6 +30,7 @@ pub(crate) fn give(
     mode: Mode,
 ) -> Result<TicketId, SpaceError>
     requires numbers { seat.old.last_ticket + 1 < 2 ^ 60 }
+    requires idle { seat.old.wait ≡ None }
     requires free { is_grantable (lock_kind book.old) book.old.granted book.old.waiting who mode ≡ true }
     ensures given { MatchResult result
         (λ id. (id ≡ seat.old.last_ticket + 1)
@@ -50,6 +51,39 @@ pub(crate) fn give(
         Ok(()) => Ok(number),
         Err(error) => {
             seat.unhold();
+            Err(cause_of(error))
+        }
+    }
+}
+
+/// Begins a wait, and answers its number. Where it is refused, nothing has changed.
+pub(crate) fn queue(
+    seat: &mut Seat,
+    book: &mut Book,
+    who: u16,
+    place: Place,
+    mode: Mode,
+) -> Result<u64, SpaceError>
+    requires numbers { seat.old.last_ticket + 1 < 2 ^ 60 }
+    requires idle { seat.old.wait ≡ None }
+    ensures queued { MatchResult result
+        (λ number. (number ≡ seat.old.last_wait + 1)
+        × (nat_le 65535 (ticket_count book.old) ≡ false)
+        × (seat.new ≡ beginning_wait place mode seat.old)
+        × (book.new ≡ enqueueing (record { session = who; number = seat.old.last_ticket + 1; mode = mode }) book.old))
+        (λ e. (e ≡ SpaceError.OutOfMemory) ⊎ ((e ≡ SpaceError.Full) × (nat_le 65535 (ticket_count book.old) ≡ true))) }
+    ensures unchanged { OnErr result ((seat.new ≡ seat.old) × (book.new ≡ book.old)) }
+{
+    seat.begin_wait(place, mode)?;
+    let ticket = Ticket {
+        session: who,
+        number: seat.last_ticket(),
+        mode,
+    };
+    match book.enqueue(ticket) {
+        Ok(()) => Ok(seat.last_wait()),
+        Err(error) => {
+            seat.unbegin_wait();
             Err(cause_of(error))
         }
     }

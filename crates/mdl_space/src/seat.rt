@@ -1,8 +1,8 @@
 //! What a lock space keeps of one session.
-ghost use Rattle.std.specs.Prelude.{◌≡◌, ℕ, ◌<◌, ◌^◌, find, filter, not, OnOk, OnErr, IsOkUnless};
+ghost use Rattle.std.specs.Prelude.{◌≡◌, ℕ, ◌+◌, ◌<◌, ◌^◌, find, position, Some, None, IsTrue, OnOk, OnErr, IsOkUnless};
 ghost use Rattle.mdl_key.specs.declared.mode.Mode.{Mode};
-ghost use Rattle.mdl_space.specs.Own.{is_number};
-ghost use Rattle.mdl_space.specs.Seats.{SeatView, empty_seat, holding, without_ticket};
+ghost use Rattle.mdl_space.specs.Own.{are_rising, is_number};
+ghost use Rattle.mdl_space.specs.Seats.{SeatView, empty_seat, holding, without_ticket, beginning_wait, is_open, settling, without_wait, with_ticket_of};
 
 use crate::{Held, Place, Settled, SpaceError, TicketId};
 use mdl_key::Mode;
@@ -20,6 +20,8 @@ pub(crate) struct Pending {
 }
 
 /// A session's tickets and its wait.
+///
+/// While there is a wait, there is room for the ticket that is waited for, so taking it up takes no memory.
 #[derive(Drop)]
 pub(crate) struct Seat {
     held: Vec<Held>,
@@ -29,11 +31,19 @@ pub(crate) struct Seat {
 }
 
 impl Model for Seat {
+    ghost use Rattle.std.specs.Prelude.{◌<◌, ◌≤◌, length};
+    ghost use Rattle.std.specs.Option.{IfSome};
+    ghost use Rattle.std.specs.Vec.{vec_capacity};
     ghost use Rattle.mdl_space.specs.Seats.{SeatView};
 
     ghost Value = { SeatView };
 
     ghost view = { λ seat. record { held = seat.held.items; wait = seat.wait; last_ticket = seat.last_ticket; last_wait = seat.last_wait } };
+
+    ghost invariant = { λ seat. record {
+      order : seat.last_wait ≤ seat.last_ticket;
+      room : IfSome seat.wait (λ _. length seat.held.items < vec_capacity seat.held);
+    } };
 }
 
 impl Seat {
@@ -70,10 +80,29 @@ impl Seat {
         self.last_ticket
     }
 
+    /// The number of the last wait.
+    pub(crate) fn last_wait(&self) -> u64
+        ensures { result ≡ self.now.last_wait }
+    {
+        self.last_wait
+    }
+
+    /// Whether there is a wait that isn't settled.
+    pub(crate) fn is_waiting(&self) -> bool
+        ensures { result ≡ is_open self.now.wait }
+    {
+        match self.wait {
+            Some(wait) => wait.settled.is_none(),
+            None => false,
+        }
+    }
+
     /// Puts a new ticket last.
     pub(crate) fn hold(&mut self, place: Place, mode: Mode) -> Result<(), SpaceError>
-        requires { self.old.last_ticket < 2 ^ 60 }
+        requires numbers { self.old.last_ticket < 2 ^ 60 }
+        requires idle { self.old.wait ≡ None }
         ensures held { OnOk result (self.new ≡ holding place mode self.old) }
+        ensures order { OnOk result (self.new.last_wait < self.new.last_ticket) }
         ensures unchanged { OnErr result (self.new ≡ self.old) }
         ensures memory { IsOkUnless result SpaceError.OutOfMemory }
     {
@@ -87,42 +116,103 @@ impl Seat {
 
     /// Takes the newest ticket back, as if it had never been.
     pub(crate) fn unhold(&mut self)
+        requires { self.old.last_wait < self.old.last_ticket }
         ensures { (place : ℕ) (mode : Mode) (before : SeatView) → self.old ≡ holding place mode before → self.new ≡ before }
     {
         self.held.pop();
+        self.last_ticket -= 1;
+    }
+
+    /// Begins a wait for a new ticket, and makes room for that.
+    pub(crate) fn begin_wait(&mut self, place: Place, mode: Mode) -> Result<(), SpaceError>
+        requires { self.old.last_ticket < 2 ^ 60 }
+        ensures begun { OnOk result (self.new ≡ beginning_wait place mode self.old) }
+        ensures unchanged { OnErr result (self.new ≡ self.old) }
+        ensures memory { IsOkUnless result SpaceError.OutOfMemory }
+    {
+        if self.held.reserve(1).is_err() {
+            return Err(SpaceError::OutOfMemory);
+        }
+        self.last_ticket += 1;
+        self.last_wait += 1;
+        self.wait = Some(Pending {
+            number: self.last_wait,
+            id: self.last_ticket,
+            place,
+            mode,
+            settled: None,
+        });
+        Ok(())
+    }
+
+    /// Takes the newest wait back, as if it had never been.
+    pub(crate) fn unbegin_wait(&mut self)
+        ensures { (place : ℕ) (mode : Mode) (before : SeatView) → before.wait ≡ None → self.old ≡ beginning_wait place mode before → self.new ≡ before }
+    {
+        self.wait = None;
         self.last_ticket = self.last_ticket.saturating_sub(1);
+        self.last_wait = self.last_wait.saturating_sub(1);
+    }
+
+    /// Settles the wait, if there is one.
+    pub(crate) fn settle(&mut self, how: Settled)
+        ensures { self.new ≡ settling how self.old }
+    {
+        if let Some(wait) = self.wait {
+            self.wait = Some(Pending {
+                settled: Some(how),
+                ..wait
+            });
+        }
+    }
+
+    /// Ends the wait with the ticket that was waited for. It takes no memory.
+    pub(crate) fn take_up(&mut self, wait: Pending)
+        requires { self.old.wait ≡ Some wait }
+        ensures { self.new ≡ with_ticket_of wait self.old }
+    {
+        let ticket = Held {
+            id: wait.id,
+            place: wait.place,
+            mode: wait.mode,
+        };
+        self.held.push(ticket).unwrap();
+        self.wait = None;
+    }
+
+    /// Ends the wait, if there is one, without a ticket.
+    pub(crate) fn drop_wait(&mut self)
+        ensures { self.new ≡ without_wait self.old }
+    {
+        self.wait = None;
     }
 
     /// The held ticket of a number.
     pub(crate) fn ticket(&self, id: TicketId) -> Option<Held>
+        requires { IsTrue (are_rising self.now.held) }
         ensures { result ≡ find (is_number id) self.now.held }
     {
-        ticket_in(&self.held, id)
+        match place_of(&self.held, id) {
+            Some(at) => Some(self.held[at]),
+            None => None,
+        }
     }
 
     /// Gives up the ticket of a number, if it is held. It takes no memory.
     pub(crate) fn give_up(&mut self, id: TicketId)
+        requires { IsTrue (are_rising self.old.held) }
         ensures { self.new ≡ without_ticket id self.old }
     {
-        keep_others(&mut self.held, id);
-    }
-}
-
-// The ticket of a number.
-fn ticket_in(held: &[Held], id: TicketId) -> Option<Held>
-    ensures { result ≡ find (is_number id) held.now }
-{
-    for ticket in held {
-        if ticket.id == id {
-            return Some(*ticket);
+        if let Some(at) = place_of(&self.held, id) {
+            self.held.remove(at);
         }
     }
-    None
 }
 
-// Keeps the tickets of other numbers.
-fn keep_others(held: &mut Vec<Held>, id: TicketId)
-    ensures { held.new.items ≡ filter (λ ticket. not (is_number id ticket)) held.old.items }
+// Where the ticket of a number stands, among tickets whose numbers rise.
+fn place_of(held: &[Held], id: TicketId) -> Option<usize>
+    requires { IsTrue (are_rising held.now) }
+    ensures { result ≡ position (is_number id) held.now }
 {
-    held.retain(|ticket| ticket.id != id);
+    held.binary_search_by_key(&id, |ticket| ticket.id).ok()
 }

@@ -1,5 +1,5 @@
 -- By its lemma.
-use Rattle.mdl_space.proofs.CoreSound.{calls_are-events}
+use Rattle.mdl_space.specs.Lemmas.CoreSound.{calls_are-events}
 use Rattle.mdl_space.proofs.core_laws.calls_are_events.Goals as goal
 
 pub returns : goal.returns

@@ -1,5 +1,5 @@
 -- By its lemma.
-use Rattle.mdl_space.proofs.CoreSound.{calls_keep-sound}
+use Rattle.mdl_space.specs.Lemmas.CoreSound.{calls_keep-sound}
 use Rattle.mdl_space.proofs.core_laws.calls_keep_sound.Goals as goal
 
 pub returns : goal.returns

@@ -1,5 +1,5 @@
 -- By its lemma.
-use Rattle.mdl_space.proofs.CoreSound.{runs_are-events}
+use Rattle.mdl_space.specs.Lemmas.CoreSound.{runs_are-events}
 use Rattle.mdl_space.proofs.core_laws.runs_are_events.Goals as goal
 
 pub returns : goal.returns

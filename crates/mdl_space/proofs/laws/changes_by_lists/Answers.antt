@@ -1,5 +1,5 @@
 -- By its lemma.
-use Rattle.mdl_space.proofs.BookLemmas.{changes-by_lists}
+use Rattle.mdl_space.specs.Lemmas.BookLemmas.{changes-by_lists}
 use Rattle.mdl_space.proofs.laws.changes_by_lists.Goals as goal
 
 pub returns : goal.returns

@@ -1,5 +1,5 @@
 -- By its lemma.
-use Rattle.mdl_space.proofs.ConcernLemmas.{step-concerns}
+use Rattle.mdl_space.specs.Lemmas.ConcernLemmas.{step-concerns}
 use Rattle.mdl_space.proofs.laws.events_concern_one_key.Goals as goal
 
 pub returns : goal.returns

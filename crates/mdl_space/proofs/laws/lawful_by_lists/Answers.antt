@@ -1,5 +1,5 @@
 -- By its lemma.
-use Rattle.mdl_space.proofs.BookLemmas.{lawful-by_lists}
+use Rattle.mdl_space.specs.Lemmas.BookLemmas.{lawful-by_lists}
 use Rattle.mdl_space.proofs.laws.lawful_by_lists.Goals as goal
 
 pub returns : goal.returns

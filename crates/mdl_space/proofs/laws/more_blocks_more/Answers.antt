@@ -1,5 +1,5 @@
 -- By what covers and what still waits.
-use Rattle.mdl_space.proofs.BlockingLemmas.{more-blocks}
+use Rattle.mdl_space.specs.Lemmas.BlockingLemmas.{more-blocks}
 use Rattle.mdl_space.proofs.laws.more_blocks_more.Goals as goal
 
 pub returns : goal.returns

@@ -1,5 +1,5 @@
 -- After such an event the system blocks as much as before.
-use Rattle.mdl_space.proofs.BlockingLemmas.{more-blocks, step-blocks}
+use Rattle.mdl_space.specs.Lemmas.BlockingLemmas.{more-blocks, step-blocks}
 use Rattle.mdl_space.proofs.laws.only_going_frees.Goals as goal
 
 pub returns : goal.returns

@@ -1,7 +1,0 @@
--- The closure tells other numbers from this one.
-use Rattle.std.proofs.Common.{rules}
-use Rattle.std.proofs.lemmas.Fn.{filter_same}
-use Rattle.mdl_space.proofs.seat.keep_others.Goals as goal
-
-pub returns : goal.returns
-returns c = filter_same _ _ _ (λ x b f k. search rules) _ _ c.retain.ensures.filtered

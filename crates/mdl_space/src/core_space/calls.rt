@@ -1,0 +1,106 @@
+//! The space of one thread as a lock space: each call has just one outcome, but that memory may run out.
+ghost use Rattle.mdl_space.specs.CoreJoins.{SpeaksFor, own_at, Knows, IsSettledAs, Joins};
+ghost use Rattle.mdl_space.specs.CoreProofs.Owned.{core-allowed, core-keeps, core-changes, core-others, core-rising, core-fits, core-lists};
+ghost use Rattle.mdl_space.specs.CoreProofs.Places.{core-resolves, core-remembers, core-one_key, core-one_place};
+ghost use Rattle.mdl_space.specs.CoreProofs.Waits.{core-tells, core-stays, core-agrees, core-counts, core-kills};
+ghost use Rattle.mdl_space.specs.CoreProofs.Causes.{core-explains};
+ghost use Rattle.mdl_space.specs.Lemmas.CoreSound.{calls_keep-sound};
+
+use super::CoreSpace;
+use crate::{Attempt, Begun, Ended, Held, LockSpace, Place, Poll, SpaceError, TicketId, TimedOut};
+use mdl_key::{Key, Mode};
+
+impl LockSpace for CoreSpace {
+    ghost speaks_for = { SpeaksFor };
+
+    ghost own = { own_at };
+
+    ghost knows = { Knows };
+
+    ghost is_settled = { IsSettledAs };
+
+    ghost joins = { Joins };
+
+    fn resolve(&mut self, _who: u16, key: &Key) -> Result<Place, SpaceError> {
+        self.place_key(key)
+    }
+
+    fn try_now(&mut self, who: u16, place: Place, mode: Mode) -> Result<Attempt, SpaceError> {
+        self.try_lock(who, place, mode)
+    }
+
+    fn begin_wait(&mut self, who: u16, place: Place, mode: Mode) -> Result<Begun, SpaceError> {
+        self.begin_lock(who, place, mode)
+    }
+
+    fn poll_wait(&mut self, who: u16) -> Result<Poll, SpaceError> {
+        self.poll(who)
+    }
+
+    fn settle_timeout(&mut self, who: u16) -> Result<TimedOut, SpaceError> {
+        self.time_out(who)
+    }
+
+    fn end_wait(&mut self, who: u16) -> Result<Ended, SpaceError> {
+        self.finish_wait(who)
+    }
+
+    fn wait_of(&mut self, target: u16) -> Option<u64> {
+        self.wait_number(target)
+    }
+
+    fn kill(&mut self, target: u16, number: u64) -> bool {
+        self.kill_wait(target, number)
+    }
+
+    fn release(&mut self, who: u16, id: TicketId) -> Result<(), SpaceError> {
+        self.give_back(who, id)
+    }
+
+    fn clone_ticket(
+        &mut self,
+        _who: u16,
+        _id: TicketId,
+        _mode: Mode,
+    ) -> Result<TicketId, SpaceError> {
+        Err(SpaceError::OutOfMemory)
+    }
+
+    fn held(&self, who: u16) -> Result<Vec<Held>, SpaceError> {
+        self.list_held(who)
+    }
+
+    ghost allowed = { core-allowed };
+
+    ghost keeps = { core-keeps calls_keep-sound };
+
+    ghost changes = { core-changes };
+
+    ghost others = { core-others };
+
+    ghost rising = { core-rising };
+
+    ghost fits = { core-fits };
+
+    ghost lists = { core-lists };
+
+    ghost explains = { core-explains };
+
+    ghost resolves = { core-resolves };
+
+    ghost remembers = { core-remembers };
+
+    ghost one_key = { core-one_key };
+
+    ghost one_place = { core-one_place };
+
+    ghost tells = { core-tells };
+
+    ghost stays = { core-stays };
+
+    ghost agrees = { core-agrees };
+
+    ghost counts = { core-counts };
+
+    ghost kills = { core-kills };
+}

@@ -1,0 +1,71 @@
+//! Granting the waiters of a place.
+ghost use Rattle.std.specs.Prelude.{◌≡◌, ℕ, is_some, true};
+ghost use Rattle.std.specs.FinSet as set;
+ghost use Rattle.std.specs.Option.{option_map};
+ghost use Rattle.mdl_book.specs.Tickets.{ticket_id};
+ghost use Rattle.mdl_space.specs.Cores.{has_key};
+ghost use Rattle.mdl_space.specs.Moves.{is_unsettled, next_ready, admitting_if, serving};
+
+use crate::core_space::CoreSpace;
+use crate::granting::NO_FAST;
+use crate::{Place, Settled};
+use mdl_book::Sessions;
+
+impl CoreSpace {
+    /// Grants waiters of a place in order of arrival, as long as there is one that can be granted. It takes no memory.
+    pub(crate) fn serve(&mut self, place: Place)
+        requires { has_key place self.old ≡ true }
+        ensures { self.new ≡ serving place self.old }
+    {
+        let waiting = self.books[usize::from(place) - 1].waiting().len();
+        if waiting == 0 {
+            return;
+        }
+        let mut unsettled = self.unsettled_sessions();
+        for _turn in 0..waiting {
+            if !self.serve_next(place, &mut unsettled) {
+                return;
+            }
+        }
+    }
+
+    /// Grants the first waiter of a place that can be granted. Whether there was one.
+    fn serve_next(&mut self, place: Place, unsettled: &mut Sessions) -> bool
+        requires key { has_key place self.old ≡ true }
+        requires unsettled { (who : ℕ) → set.contains unsettled.old who ≡ is_unsettled who self.old }
+        ensures found { result ≡ is_some (next_ready place self.old) }
+        ensures served { self.new ≡ admitting_if place (next_ready place self.old) self.old }
+        ensures unsettled { (who : ℕ) → set.contains unsettled.new who ≡ is_unsettled who self.new }
+    {
+        let Some((who, number)) = self.next_waiter(place, unsettled) else {
+            return false;
+        };
+        let book = &mut self.books[usize::from(place) - 1];
+        book.admit(who, number).unwrap();
+        self.seats[usize::from(who) - 1].settle(Settled::Granted);
+        unsettled.remove(who);
+        true
+    }
+
+    /// The first waiter of a place that can be granted: its session, and the number of its ticket.
+    fn next_waiter(&self, place: Place, unsettled: &Sessions) -> Option<(u16, u64)>
+        requires key { has_key place self.now ≡ true }
+        requires unsettled { (who : ℕ) → set.contains unsettled.now who ≡ is_unsettled who self.now }
+        ensures { result ≡ option_map ticket_id (next_ready place self.now) }
+    {
+        self.books[usize::from(place) - 1].next_grantable(NO_FAST, unsettled)
+    }
+
+    /// The sessions whose waits aren't settled.
+    fn unsettled_sessions(&self) -> Sessions
+        ensures { (who : ℕ) → set.contains result who ≡ is_unsettled who self.now }
+    {
+        let mut unsettled = Sessions::new();
+        for (index, seat) in self.seats.iter().enumerate() {
+            if seat.is_waiting() {
+                unsettled.insert(index as u16 + 1);
+            }
+        }
+        unsettled
+    }
+}
