@@ -19,10 +19,12 @@ mod lock_space;
 mod new_error;
 mod seat;
 mod space_error;
+mod strength;
 
 pub use answers::{Attempt, Begun, Ended, Held, Poll, Settled, TimedOut};
 pub use core_laws::{
-    calls_are_events, calls_keep_sound, covers_by_kind, grants_what_is_grantable, runs_are_events,
+    calls_are_events, calls_keep_sound, calls_lead_by_events, covers_by_kind,
+    grants_what_is_grantable,
 };
 pub use core_space::CoreSpace;
 pub use laws::{

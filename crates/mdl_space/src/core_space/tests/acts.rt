@@ -2,7 +2,9 @@
 ghost use Rattle.mdl_space.specs.Ties.{IsSound};
 
 use crate::core_space::CoreSpace;
-use crate::{Attempt, Begun, Ended, LockSpace, Place, Poll, Settled, SpaceError, TicketId, TimedOut};
+use crate::{
+    Attempt, Begun, Ended, LockSpace, Place, Poll, Settled, SpaceError, TicketId, TimedOut,
+};
 use mdl_key::Mode;
 
 /// A call of the space, which a session makes, or anyone of a session.
@@ -52,12 +54,17 @@ pub(super) fn session_of(act: Act) -> u16 {
     }
 }
 
-/// Makes a call. Where there is no such session, it makes none.
+/// Makes a call. For a session that there isn't, it makes only those that anyone may make.
 pub(super) fn make(space: &mut CoreSpace, act: Act) -> Reply
     requires { IsSound space.old }
     ensures { IsSound space.new }
 {
     let who = session_of(act);
+    match act {
+        Act::WaitOf(target) => return numbered(space.wait_of(target)),
+        Act::Kill(target, number) => return Reply::Killed(space.kill(target, number)),
+        _ => {}
+    }
     if who == 0 || usize::from(who) > space.seats.len() {
         return Reply::NoSession;
     }
@@ -67,10 +74,9 @@ pub(super) fn make(space: &mut CoreSpace, act: Act) -> Reply
         Act::Poll(_) => polled(space.poll_wait(who)),
         Act::TimeOut(_) => timed_out(space.settle_timeout(who)),
         Act::EndWait(_) => ended(space.end_wait(who)),
-        Act::WaitOf(_) => numbered(space.wait_of(who)),
-        Act::Kill(_, number) => Reply::Killed(space.kill(who, number)),
         Act::Release(_, id) => done(space.release(who, id)),
         Act::Clone(_, id, mode) => cloned(space.clone_ticket(who, id, mode)),
+        _ => Reply::NoSession,
     }
 }
 

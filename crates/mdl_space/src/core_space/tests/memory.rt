@@ -3,6 +3,7 @@ ghost use Rattle.std.specs.Prelude.{IfOk};
 ghost use Rattle.mdl_space.specs.Ties.{IsSound};
 
 use super::acts::{Act, Reply, make, session_of};
+use super::fixture::{key_place, new_space};
 use crate::core_space::CoreSpace;
 use crate::{Held, LockSpace, NewError, Place, SpaceError};
 use mdl_key::{Key, KeyError, Mode};
@@ -20,11 +21,11 @@ fn table(alloc: Global, name: &str) -> Result<Key, KeyError> {
 }
 
 // Likewise.
-fn new_space(alloc: Global) -> Result<CoreSpace, NewError>
+fn space_of_two(alloc: Global) -> Result<CoreSpace, NewError>
     ensures { IfOk result (λ space. IsSound space) }
 {
-    match CoreSpace::new(alloc, 2, SESSIONS) {
-        Err(NewError::OutOfMemory) => CoreSpace::new(alloc, 2, SESSIONS),
+    match new_space(alloc, 2, SESSIONS) {
+        Err(NewError::OutOfMemory) => new_space(alloc, 2, SESSIONS),
         outcome => outcome,
     }
 }
@@ -34,14 +35,12 @@ fn place_of(space: &mut CoreSpace, key: &Key) -> Result<Place, SpaceError>
     requires { IsSound space.old }
     ensures { IsSound space.new }
 {
-    if space.seats.is_empty() {
-        return Err(SpaceError::NoPlace);
-    }
     let places = space.books.len();
-    match space.resolve(1, key) {
-        Err(SpaceError::OutOfMemory) if space.books.len() == places => space.resolve(1, key),
-        outcome => outcome,
+    let first = key_place(space, key);
+    if first == Err(SpaceError::OutOfMemory) && space.books.len() == places {
+        return key_place(space, key);
     }
+    first
 }
 
 // What a session holds, likewise.
@@ -70,15 +69,15 @@ fn outlives(space: &mut CoreSpace, act: Act, want: Reply) -> Result<bool, SpaceE
         return Ok(reply == want);
     }
     let after = held_by(space, who)?;
-    Ok(after.as_slice() == before.as_slice()
-        && make(space, Act::WaitOf(who)) == Reply::HasNone
-        && make(space, act) == want)
+    let waits = make(space, Act::WaitOf(who));
+    let again = make(space, act);
+    Ok(after.as_slice() == before.as_slice() && waits == Reply::HasNone && again == want)
 }
 
 #[test]
 fn outlives_want_of_memory(rt: HostRuntime) -> Result<(), Fail> {
     let alloc = rt.alloc();
-    let mut space = new_space(alloc)?;
+    let mut space = space_of_two(alloc)?;
     let first = place_of(&mut space, &table(alloc, "a")?)?;
     assert_eq!(rt; first, 1);
     let second = place_of(&mut space, &table(alloc, "b")?)?;
@@ -88,17 +87,29 @@ fn outlives_want_of_memory(rt: HostRuntime) -> Result<(), Fail> {
     assert!(rt; outlives(&mut space, Act::BeginWait(2, 2, Mode::X), Reply::Granted(1))?);
     for number in 1..40 {
         let granted = Reply::Granted(number + 1);
-        assert!(rt; outlives(&mut space, Act::Clone(1, number, Mode::SW), granted)?, "{number}");
+        assert!(rt;
+            outlives(&mut space, Act::Clone(1, number, Mode::SW), granted)?,
+            "{number}"
+        );
     }
     for who in 3..SESSIONS + 1 {
         let waits = Reply::Waiting(1);
-        assert!(rt; outlives(&mut space, Act::BeginWait(who, 2, Mode::S), waits)?, "{who}");
+        assert!(rt;
+            outlives(&mut space, Act::BeginWait(who, 2, Mode::S), waits)?,
+            "{who}"
+        );
     }
     // Each of them is granted by one release, which takes no memory.
     assert!(rt; outlives(&mut space, Act::Release(2, 1), Reply::Done)?);
     for who in 3..SESSIONS + 1 {
-        assert!(rt; outlives(&mut space, Act::EndWait(who), Reply::Granted(1))?, "{who}");
-        assert!(rt; outlives(&mut space, Act::TryNow(who, 1, Mode::SR), Reply::Granted(2))?, "{who}");
+        assert!(rt;
+            outlives(&mut space, Act::EndWait(who), Reply::Granted(1))?,
+            "{who}"
+        );
+        assert!(rt;
+            outlives(&mut space, Act::TryNow(who, 1, Mode::SR), Reply::Granted(2))?,
+            "{who}"
+        );
     }
     Ok(())
 }

@@ -67,8 +67,11 @@ impl Plain {
     /// What an act is answered.
     pub(super) fn answer(&mut self, act: Act) -> Result<Reply, AllocError> {
         let who = session_of(act);
-        if who == 0 || usize::from(who) > self.used.len() {
-            return Ok(Reply::NoSession);
+        match act {
+            // These anyone may make, of whomever.
+            Act::WaitOf(_) | Act::Kill(_, _) => {}
+            _ if who == 0 || usize::from(who) > self.used.len() => return Ok(Reply::NoSession),
+            _ => {}
         }
         match act {
             Act::TryNow(_, place, mode) => self.try_now(who, place, mode),
@@ -223,8 +226,8 @@ impl Plain {
     // Lets a ticket go, and grants waiters of its place: again and again the first in order of arrival whose wait isn't
     // settled and whose wish can be granted, until there is none.
     fn let_go(&mut self, gone: Ticket) {
-        self.tickets
-            .retain(|ticket| ticket.session != gone.session || ticket.number != gone.number);
+        self.tickets.retain(|ticket| ticket.session != gone.session
+            || ticket.number != gone.number);
         for _grant in 0..self.waits.len() {
             match self.next_waiter(gone.place) {
                 Some(ticket) => self.grant(ticket),

@@ -51,7 +51,10 @@ fn who_waits_asks_for_nothing_else(rt: HostRuntime) -> Result<(), Fail> {
         (Act::TryNow(2, TABLE, Mode::IX), waits),
         (Act::BeginWait(2, SCHEMA, Mode::SR), waits),
         (Act::Clone(2, 1, Mode::X), waits),
-        (Act::Clone(2, 9, Mode::IX), Reply::Refused(SpaceError::NotHeld)),
+        (
+            Act::Clone(2, 9, Mode::IX),
+            Reply::Refused(SpaceError::NotHeld),
+        ),
     ];
     assert_eq!(rt; first_wrong(&mut space, &rows), None);
     // A settled wait is a wait, until it is ended.
@@ -126,6 +129,13 @@ fn waits_are_refused(rt: HostRuntime) -> Result<(), Fail> {
         (Act::Poll(1), no_wait),
         (Act::TimeOut(1), no_wait),
         (Act::WaitOf(1), Reply::HasNone),
+        // Of sessions that there aren't.
+        (Act::WaitOf(0), Reply::HasNone),
+        (Act::WaitOf(6), Reply::HasNone),
+        (Act::Kill(0, 1), Reply::Killed(false)),
+        (Act::Kill(6, 1), Reply::Killed(false)),
+        (Act::Poll(0), Reply::NoSession),
+        (Act::EndWait(6), Reply::NoSession),
     ];
     assert_eq!(rt; first_wrong(&mut space, &rows), None);
     Ok(())

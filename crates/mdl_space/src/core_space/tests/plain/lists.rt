@@ -75,7 +75,13 @@ impl Plain {
     }
 
     // Puts a new ticket last, and gives its number.
-    pub(super) fn add(&mut self, who: u16, place: Place, mode: Mode, is_granted: bool) -> Result<u64, AllocError> {
+    pub(super) fn add(
+        &mut self,
+        who: u16,
+        place: Place,
+        mode: Mode,
+        is_granted: bool,
+    ) -> Result<u64, AllocError> {
         let number = self.next_ticket(who);
         self.tickets.push(Ticket {
             session: who,

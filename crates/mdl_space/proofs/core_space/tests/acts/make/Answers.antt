@@ -19,7 +19,7 @@ pub returns-in-EndWait : goal.returns-in-EndWait
 returns-in-EndWait c = calls_keep-sound _ _ (End_wait c.session_of-who.result) _ c.requires c.end_wait.ensures
 
 pub returns-in-Kill : goal.returns-in-Kill
-returns-in-Kill c = calls_keep-sound _ _ (Kill c.session_of-who.result c.in-Kill.number) _ c.requires c.kill.ensures
+returns-in-Kill c = calls_keep-sound _ _ (Kill c.in-Kill.target c.in-Kill.number) _ c.requires c.kill.ensures
 
 pub returns-in-Release : goal.returns-in-Release
 returns-in-Release c = calls_keep-sound _ _ (Release c.session_of-who.result c.in-Release.id) _ c.requires c.release.ensures
