@@ -60,13 +60,8 @@ impl LockSpace for CoreSpace {
         self.give_back(who, id)
     }
 
-    fn clone_ticket(
-        &mut self,
-        _who: u16,
-        _id: TicketId,
-        _mode: Mode,
-    ) -> Result<TicketId, SpaceError> {
-        Err(SpaceError::OutOfMemory)
+    fn clone_ticket(&mut self, who: u16, id: TicketId, mode: Mode) -> Result<TicketId, SpaceError> {
+        self.clone_held(who, id, mode)
     }
 
     fn held(&self, who: u16) -> Result<Vec<Held>, SpaceError> {

@@ -83,3 +83,45 @@ fn what_is_held_is_listed(rt: HostRuntime) -> Result<(), Fail> {
     );
     Ok(())
 }
+
+#[test]
+fn waits_are_begun(rt: HostRuntime) -> Result<(), Fail> {
+    let alloc = rt.alloc();
+    let mut space = CoreSpace::new(alloc, 1, 2)?;
+    let place = space.place_key(&Key::table(alloc, "test", "t")?)?;
+    assert_eq!(rt; space.begin_lock(1, place, Mode::SR), Ok(Begun::Granted(1)));
+    assert_eq!(rt; space.begin_lock(2, place, Mode::X), Ok(Begun::Waiting(1)));
+    assert_eq!(rt; space.poll(2), Ok(Poll::Pending));
+    assert_eq!(rt; space.poll(1), Err(SpaceError::NoWait));
+    Ok(())
+}
+
+#[test]
+fn patience_ends_once(rt: HostRuntime) -> Result<(), Fail> {
+    let alloc = rt.alloc();
+    let mut space = CoreSpace::new(alloc, 1, 2)?;
+    let place = space.place_key(&Key::table(alloc, "test", "t")?)?;
+    space.try_lock(1, place, Mode::X)?;
+    space.begin_lock(2, place, Mode::SR)?;
+    assert_eq!(rt; space.time_out(2), Ok(TimedOut::ByThisCall));
+    assert_eq!(rt; space.time_out(2), Ok(TimedOut::Already(Settled::Timeout)));
+    Ok(())
+}
+
+#[test]
+fn waits_are_killed_by_their_numbers(rt: HostRuntime) -> Result<(), Fail> {
+    let alloc = rt.alloc();
+    let mut space = CoreSpace::new(alloc, 1, 2)?;
+    let place = space.place_key(&Key::table(alloc, "test", "t")?)?;
+    space.try_lock(1, place, Mode::X)?;
+    space.begin_lock(2, place, Mode::SR)?;
+    for (target, number) in [(0, None), (1, None), (2, Some(1)), (3, None)] {
+        assert_eq!(rt; space.wait_number(target), number, "of {target}");
+    }
+    for (target, number) in [(0, 1), (1, 1), (2, 2), (3, 1)] {
+        assert!(rt; !space.kill_wait(target, number), "of {target}");
+    }
+    assert!(rt; space.kill_wait(2, 1));
+    assert!(rt; !space.kill_wait(2, 1));
+    Ok(())
+}
