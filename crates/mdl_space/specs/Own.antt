@@ -123,11 +123,12 @@ DrawsTicket id before after = (id ≡ before.last_ticket + 1) × (after ≡ tick
 abbrev pub DrawsWait : ℕ → Numbers → Numbers → Type 0
 DrawsWait number before after = (number ≡ before.last_wait + 1) × (after ≡ wait_drawn before)
 
--- which numbers a call with this answer gives its caller. What isn't named here gives none: the ticket of a wait that is ended
--- was given its number as the wait began.
+-- which numbers a call with this answer gives its caller. What isn't named here gives none. The ticket of a wait that is ended
+-- has the number that it was given as the wait began, which is still the last one.
 abbrev pub Draws : Call → Answer → Numbers → Numbers → Type 0
 Draws (Try_now who place mode) (Granted id) before after = DrawsTicket id before after
 Draws (Begin_wait who place mode) (Granted id) before after = DrawsTicket id before after
 Draws (Begin_wait who place mode) (Waits number) before after = DrawsWait number before after
+Draws (End_wait who) (Granted id) before after = (id ≡ before.last_ticket) × (after ≡ before)
 Draws (Clone_ticket who id mode) (Granted copy) before after = DrawsTicket copy before after
 Draws _ _ before after = after ≡ before

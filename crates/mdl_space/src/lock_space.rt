@@ -179,11 +179,11 @@ pub trait LockSpace {
     ghost kills: { (a b : Self) (w number : ℕ) → speaks_for a w → joins a (Kill w number) (Has_killed true) b
         → (wait_number (own a w) ≡ Some number) × is_settled b w Settled.Killed };
 
-    // A kill that kills nothing found another wait, or a settled one, or none.
+    // A kill that kills nothing found no wait of the number that was named, or a settled one.
     ghost kills_or_settled: { (a b : Self) (w number : ℕ) → speaks_for a w → joins a (Kill w number) (Has_killed false) b
         → wait_number (own a w) ≡ Some number → (how : Settled) × is_settled b w how };
 
-    // A new ticket or wait of the caller is given the next number, and nothing else is given one.
+    // A new ticket or wait of the caller is given the next number, and a ticket that was waited for keeps the one it was given.
     ghost draws: { (a b : Self) (call : Call) (answer : Answer) (who : ℕ) → caller call ≡ Some who
         → joins a call answer b → Draws call answer (numbers a who) (numbers b who) };
 

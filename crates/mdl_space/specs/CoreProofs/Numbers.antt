@@ -1,6 +1,7 @@
 -- Which numbers the calls of the space of one thread give tickets and waits.
-use Rattle.std.proofs.Common.{◌≡◌, ◌⊎◌, ℕ, ◌+◌, true, Some, IfSome, refl, sym, ap, subst, ◌∙◌, inl, inr}
+use Rattle.std.proofs.Common.{◌≡◌, ◌⊎◌, ℕ, ◌+◌, ◌<◌, ◌≤◌, true, Option, Some, MatchOption, IfSome, Contains, refl, sym, ap, subst, ◌∙◌, inl, inr}
 use Rattle.mdl_key.specs.declared.mode.Mode.{Mode}
+use Rattle.mdl_space.specs.declared.answers.Held.{Held}
 use Rattle.mdl_space.specs.declared.answers.Settled.{Settled}
 use Rattle.mdl_space.specs.declared.answers.Settled.TheVariants as settled_as
 use Rattle.mdl_space.specs.declared.seat.Pending.{Pending}
@@ -12,11 +13,12 @@ use Rattle.mdl_space.specs.CoreJoins.{SpeaksFor, numbers_at, Joins}
 use Rattle.mdl_space.specs.Cores.{Core, seat_at, has_session}
 use Rattle.mdl_space.specs.Moves.{granting_to, queueing, losing, taking_up, leaving, freeing, serving}
 use Rattle.mdl_space.specs.Own.{Numbers, DrawsTicket, DrawsWait, Draws}
-use Rattle.mdl_space.specs.Seats.{numbers_of, holding, without_ticket, beginning_wait, settling, without_wait, with_ticket_of}
+use Rattle.mdl_space.specs.Seats.{SeatView, numbers_of, holding, without_ticket, beginning_wait, settling, without_wait, with_ticket_of}
+use Rattle.mdl_space.specs.Ties.{IsNumbered}
 use Rattle.mdl_space.specs.CoreProofs.Cases.{resolve_cases, try_cases, begin_cases, clone_cases, release_cases, poll_cases, timeout_cases, end_cases, kill_cases}
 use Rattle.mdl_space.specs.CoreProofs.Choices.{nat_told}
 use Rattle.mdl_space.specs.CoreProofs.Moves.{serving-serves}
-use Rattle.mdl_space.specs.CoreProofs.Owned.{joined, called, session_of, joins-steps}
+use Rattle.mdl_space.specs.CoreProofs.Owned.{joined, called, joins-steps}
 use Rattle.mdl_space.specs.CoreProofs.Seats.{seat-written, sessions-written}
 use Rattle.mdl_space.specs.CoreProofs.Steps.{subject}
 
@@ -50,28 +52,38 @@ module _ (a : Core) (who : ℕ) (is : has_session who a ≡ true) where
 abbrev Numbered : Core → Call → Answer × Core → Type 0
 Numbered a call result = Draws call result.0 (numbers_at a (subject call)) (numbers_at result.1 (subject call))
 
-numbered : (a : Core) (call : Call) → has_call call ≡ true → IfSome (caller call) (λ who. has_session who a ≡ true) → Numbered a call (outcome call a)
+-- the ticket that is waited for was given the last number
+last-waits : (seat : SeatView) (wait : Pending) → IsNumbered seat → seat.wait ≡ Some wait → wait.id ≡ seat.last_ticket
+last-waits seat wait numbers its =
+    let h = subst
+    (λ (o : Option Pending). MatchOption o (Unit {0}) (λ (w : Pending).
+    (w.id ≡ seat.last_ticket) × (w.number ≤ seat.last_wait) × ((ticket : Held) → Contains seat.held ticket → ticket.id < w.id)))
+    its numbers.wait in
+    h.0
+
+numbered : (a : Core) (call : Call) → has_call call ≡ true → IfSome (caller call) (SpeaksFor a) → Numbered a call (outcome call a)
 numbered a (Resolve who key) has is = resolve_cases (Numbered a (Resolve who key)) key a (λ index e. refl) (λ e. refl) (λ e. refl)
 numbered a (Try_now who place mode) has is =
-    try_cases (Numbered a (Try_now who place mode)) who place mode a (λ refusal _. refl) (λ _. refl) (λ _. granting-draws a who is place mode)
+    try_cases (Numbered a (Try_now who place mode)) who place mode a (λ refusal _. refl) (λ _. refl) (λ _. granting-draws a who is.0 place mode)
 numbered a (Begin_wait who place mode) has is =
     begin_cases (Numbered a (Begin_wait who place mode)) who place mode a (λ refusal _. refl)
-    (λ _. queueing-draws a who is place mode) (λ _. granting-draws a who is place mode)
+    (λ _. queueing-draws a who is.0 place mode) (λ _. granting-draws a who is.0 place mode)
 numbered a (Poll_wait who) has is =
     poll_cases (Numbered a (Poll_wait who)) who a (λ _. refl) (λ wait _ _. refl) (λ wait _ how _. refl)
 numbered a (Settle_timeout who) has is =
-    timeout_cases (Numbered a (Settle_timeout who)) who a (λ _. refl) (λ wait _ _. losing-same a who is settled_as.Timeout) (λ wait _ how _. refl)
+    timeout_cases (Numbered a (Settle_timeout who)) who a (λ _. refl) (λ wait _ _. losing-same a who is.0 settled_as.Timeout) (λ wait _ how _. refl)
 numbered a (End_wait who) has is =
-    end_cases (Numbered a (End_wait who)) who a (λ _. refl) (λ wait _ _. refl) (λ wait _ _. taking_up-same a who is wait)
-    (λ wait _ how _ _. leaving-same a who is wait)
+    end_cases (Numbered a (End_wait who)) who a (λ _. refl) (λ wait _ _. refl)
+    (λ wait its _. (last-waits (seat_at who a) wait (is.1.tied.numbered who is.0) its, taking_up-same a who is.0 wait))
+    (λ wait _ how _ _. leaving-same a who is.0 wait)
 numbered a (Wait_of target) has is = refl
 numbered a (Kill target number) has is =
     kill_cases (Numbered a (Kill target number)) target number a (λ wait its _ _ _. losing-same a target its settled_as.Killed) refl
 numbered a (Release who id) has is =
-    release_cases (Numbered a (Release who id)) who id a (λ _. refl) (λ ticket _. freeing-same a who is ticket.place ticket.id)
+    release_cases (Numbered a (Release who id)) who id a (λ _. refl) (λ ticket _. freeing-same a who is.0 ticket.place ticket.id)
 numbered a (Clone_ticket who id mode) has is =
     clone_cases (Numbered a (Clone_ticket who id mode)) who id mode a (λ _. refl) (λ ticket _ refusal _. refl)
-    (λ ticket _ _. granting-draws a who is ticket.place mode)
+    (λ ticket _ _. granting-draws a who is.0 ticket.place mode)
 numbered a (List_held who) has is = refl
 numbered a _ has is = cc
 
@@ -83,7 +95,7 @@ refused-draws _ numbers = refl
 joins-numbered : (a b : Core) (call : Call) (answer : Answer) → Joins a call answer b → Numbered a call (answer, b)
 joins-numbered a b call answer joins =
     joined (Numbered a call) a b call answer joins (λ _. refused-draws call (numbers_at a (subject call)))
-    (numbered a call joins.1 (session_of a (caller call) joins.0))
+    (numbered a call joins.1 joins.0)
 
 -- a call that nobody makes gives none
 none-drawn : (call : Call) (answer : Answer) (before after : Numbers) → Draws call answer before after

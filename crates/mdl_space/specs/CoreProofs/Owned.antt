@@ -42,7 +42,7 @@ caller-or_same _ = inl refl
 pub called : (call : Call) (who : ℕ) → caller call ≡ Some who → subject call ≡ who
 called call who made = elim (caller-or_same call) [ inl own ↦ (let e = own in cc) | inr none ↦ (let e = none.0 in cc) ]
 
-pub session_of : (a : Core) (o : Option ℕ) → IfSome o (SpeaksFor a) → IfSome o (λ who. has_session who a ≡ true)
+session_of : (a : Core) (o : Option ℕ) → IfSome o (SpeaksFor a) → IfSome o (λ who. has_session who a ≡ true)
 session_of a None speaks = speaks
 session_of a (Some who) speaks = speaks.0
 

@@ -201,7 +201,7 @@ shut-settled number (Some wait) e shut = at wait.settled refl
 abbrev Misses : Core → ℕ → ℕ → Answer × Core → Type 0
 Misses a w number result = result.0 ≡ Has_killed false → wait_number (own_at a w) ≡ Some number → (how : Settled) × HasSettled (seat_at w result.1) how
 
--- a kill that kills nothing found another wait, or a settled one
+-- a kill that kills nothing found no wait of the number that was named, or a settled one
 pub core-kills_or_settled : (a b : Core) (w number : ℕ) → SpeaksFor a w → Joins a (Kill w number) (Has_killed false) b
     → wait_number (own_at a w) ≡ Some number → (how : Settled) × IsSettledAs b w how
 core-kills_or_settled a b w number speaks joins waits =

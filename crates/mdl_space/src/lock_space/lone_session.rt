@@ -1,11 +1,11 @@
 //! A lock space for tests: one session, one key and one ticket at most, while another session comes and goes.
-ghost use Rattle.std.specs.Prelude.{◌≡◌, ◌+◌, MatchResult};
+ghost use Rattle.std.specs.Prelude.{◌≡◌, ◌+◌, false, MatchResult};
 ghost use Rattle.std.proofs.Common.{rules, refl, sym, ◌∙◌};
 ghost use Rattle.mdl_space.specs.Calls.{Begin_wait};
 ghost use Rattle.mdl_space.specs.Causes.{IsClear, IsCause};
 ghost use Rattle.mdl_space.specs.LoneSessions.{Lone, SpeaksFor, Knows, IsSettled, Joins, alone, numbering};
 ghost use Rattle.mdl_space.specs.LoneProofs.{held-at_one, wait-at_one, settled-how};
-ghost use Rattle.mdl_space.specs.Own.{ticket_drawn};
+ghost use Rattle.mdl_space.specs.Own.{ticket_drawn, is_waiting};
 
 use super::{LockSpace, Place, TicketId};
 use crate::{Attempt, Begun, Ended, Held, Poll, Settled, SpaceError, TimedOut};
@@ -54,7 +54,7 @@ impl Model for LoneSession {
       numbers = record { last_ticket = s.last_ticket; last_wait = s.last_wait };
     } };
 
-    ghost invariant = { λ s. IfSome s.wait (λ _. s.ticket ≡ None) };
+    ghost invariant = { λ s. IfSome s.wait (λ w. (s.ticket ≡ None) × (w.id ≡ s.last_ticket)) };
 }
 
 impl LoneSession {
@@ -84,6 +84,7 @@ impl LoneSession {
 
     // Gives a ticket its number.
     fn draw_ticket(&mut self) -> Result<TicketId, SpaceError>
+        requires { is_waiting self.old.own ≡ false }
         ensures { MatchResult result
             (λ id. (id ≡ self.old.numbers.last_ticket + 1) × (self.new ≡ numbering (ticket_drawn self.old.numbers) self.old))
             (λ e. (e ≡ SpaceError.CounterFull) × (self.new ≡ self.old)) }
