@@ -17,6 +17,7 @@ pub mod Own
 pub mod PermittedEvents
 pub mod Runs
 pub mod Seats
+pub mod SessionLaws
 pub mod Steps
 pub mod Strength
 pub mod SystemLaws

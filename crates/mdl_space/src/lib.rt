@@ -18,6 +18,7 @@ mod laws;
 mod lock_space;
 mod new_error;
 mod seat;
+mod session_laws;
 mod space_error;
 mod strength;
 
@@ -36,4 +37,7 @@ pub use laws::{
 };
 pub use lock_space::{LockSpace, Place, TicketId};
 pub use new_error::NewError;
+pub use session_laws::{
+    kills_just_that_wait, refuses_for_cause, sessions_have_what_the_system_says,
+};
 pub use space_error::SpaceError;
