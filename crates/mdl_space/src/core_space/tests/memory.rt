@@ -10,7 +10,7 @@ use mdl_key::{Key, KeyError, Mode};
 use std::alloc::Global;
 use std::test::Fail;
 
-const SESSIONS: u16 = 64;
+const SESSIONS: u16 = 16;
 
 // At the second try, where memory was refused to the first.
 fn table(alloc: Global, name: &str) -> Result<Key, KeyError> {
@@ -56,60 +56,101 @@ fn held_by(space: &CoreSpace, who: u16) -> Result<Vec<Held>, SpaceError>
     }
 }
 
+// How many tickets a session holds.
+fn held_count(space: &CoreSpace, who: u16) -> usize {
+    match space.seats.get(usize::from(who.saturating_sub(1))) {
+        Some(seat) => seat.held().len(),
+        None => 0,
+    }
+}
+
 // Whether a call has this answer: at once, or at the second try, where memory was refused to the first, after which the
-// session held the same and had no wait.
-fn outlives(space: &mut CoreSpace, act: Act, want: Reply) -> Result<bool, SpaceError>
+// session held no more and no less and had no wait.
+fn outlives(space: &mut CoreSpace, act: Act, want: Reply) -> bool
     requires { IsSound space.old }
     ensures { IsSound space.new }
 {
     let who = session_of(act);
-    let before = held_by(space, who)?;
+    let before = held_count(space, who);
     let reply = make(space, act);
     if reply != Reply::Refused(SpaceError::OutOfMemory) {
-        return Ok(reply == want);
+        return reply == want;
     }
-    let after = held_by(space, who)?;
+    let after = held_count(space, who);
     let waits = make(space, Act::WaitOf(who));
     let again = make(space, act);
-    Ok(after.as_slice() == before.as_slice() && waits == Reply::HasNone && again == want)
+    after == before && waits == Reply::HasNone && again == want
+}
+
+// Whether each call outlives it, as a row of them goes.
+fn all_outlive(space: &mut CoreSpace, rows: &[(Act, Reply)]) -> bool
+    requires { IsSound space.old }
+    ensures { IsSound space.new }
+{
+    for (act, reply) in rows {
+        if !outlives(space, *act, *reply) {
+            return false;
+        }
+    }
+    true
+}
+
+// Whether so many clones of a session's first ticket can be made.
+fn clones(space: &mut CoreSpace, who: u16, most: u64) -> bool
+    requires { IsSound space.old }
+    ensures { IsSound space.new }
+{
+    for number in 2..most {
+        if !outlives(space, Act::Clone(who, 1, Mode::SW), Reply::Granted(number)) {
+            return false;
+        }
+    }
+    true
+}
+
+// Whether all sessions from this one on begin to wait for a lock, and then, when it is had, end their waits.
+fn all_wait(space: &mut CoreSpace, from: u16) -> bool
+    requires { IsSound space.old }
+    ensures { IsSound space.new }
+{
+    for who in from..SESSIONS + 1 {
+        if !outlives(space, Act::BeginWait(who, 2, Mode::S), Reply::Waiting(1)) {
+            return false;
+        }
+    }
+    true
+}
+
+fn all_are_granted(space: &mut CoreSpace, from: u16) -> bool
+    requires { IsSound space.old }
+    ensures { IsSound space.new }
+{
+    for who in from..SESSIONS + 1 {
+        if make(space, Act::EndWait(who)) != Reply::Granted(1) {
+            return false;
+        }
+    }
+    true
 }
 
 #[test]
 fn outlives_want_of_memory(rt: HostRuntime) -> Result<(), Fail> {
     let alloc = rt.alloc();
     let mut space = space_of_two(alloc)?;
-    let first = place_of(&mut space, &table(alloc, "a")?)?;
-    assert_eq!(rt; first, 1);
-    let second = place_of(&mut space, &table(alloc, "b")?)?;
-    assert_eq!(rt; second, 2);
+    assert_eq!(rt; place_of(&mut space, &table(alloc, "a")?), Ok(1));
+    assert_eq!(rt; place_of(&mut space, &table(alloc, "b")?), Ok(2));
+    let rows = [
+        (Act::TryNow(1, 1, Mode::SW), Reply::Granted(1)),
+        (Act::BeginWait(2, 2, Mode::X), Reply::Granted(1)),
+    ];
+    assert!(rt; all_outlive(&mut space, &rows));
     // Many tickets of one session, beside a lock that all others wait for.
-    assert!(rt; outlives(&mut space, Act::TryNow(1, 1, Mode::SW), Reply::Granted(1))?);
-    assert!(rt; outlives(&mut space, Act::BeginWait(2, 2, Mode::X), Reply::Granted(1))?);
-    for number in 1..40 {
-        let granted = Reply::Granted(number + 1);
-        assert!(rt;
-            outlives(&mut space, Act::Clone(1, number, Mode::SW), granted)?,
-            "{number}"
-        );
-    }
-    for who in 3..SESSIONS + 1 {
-        let waits = Reply::Waiting(1);
-        assert!(rt;
-            outlives(&mut space, Act::BeginWait(who, 2, Mode::S), waits)?,
-            "{who}"
-        );
-    }
-    // Each of them is granted by one release, which takes no memory.
-    assert!(rt; outlives(&mut space, Act::Release(2, 1), Reply::Done)?);
-    for who in 3..SESSIONS + 1 {
-        assert!(rt;
-            outlives(&mut space, Act::EndWait(who), Reply::Granted(1))?,
-            "{who}"
-        );
-        assert!(rt;
-            outlives(&mut space, Act::TryNow(who, 1, Mode::SR), Reply::Granted(2))?,
-            "{who}"
-        );
-    }
+    assert!(rt; clones(&mut space, 1, 40));
+    assert!(rt; all_wait(&mut space, 3));
+    // All of them are granted by one release, which takes no memory.
+    let released = [(Act::Release(2, 1), Reply::Done)];
+    assert!(rt; all_outlive(&mut space, &released));
+    assert!(rt; all_are_granted(&mut space, 3));
+    assert_eq!(rt; held_by(&space, 1)?.len(), 39);
     Ok(())
 }
