@@ -8,5 +8,8 @@ pub mod NumberingLemmas
 pub mod OwnLemmas
 pub mod SearchLemmas
 pub mod ServingLemmas
+pub mod SessionHas
+pub mod SessionLimits
+pub mod SessionWaits
 pub mod SmallSystems
 pub mod SpeakingLemmas

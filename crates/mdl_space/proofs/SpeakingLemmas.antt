@@ -3,16 +3,28 @@ use Rattle.std.proofs.Common.{◌≡◌, ◌≢◌, ℕ, zero, suc, ◌<◌, Boo
 use Rattle.std.specs.Prelude.{find, is_some, Contains, IsTrue}
 use Rattle.std.proofs.lemmas.List.Elements.{Contains-get_or, Contains-append_right, All-contains}
 use Rattle.std.proofs.lemmas.Bool.Decides.{nat_tests}
+use Rattle.mdl_key.specs.declared.mode.Mode.{Mode}
+use Rattle.mdl_key.specs.Modes.{is_mode_of}
+use Rattle.mdl_book.specs.Books.{lock_kind}
+use Rattle.mdl_book.specs.Granting.{is_compatible}
 use Rattle.mdl_book.specs.Tickets.{is_ticket, ticket_of}
+use Rattle.mdl_book.specs.declared.lists.Lists.{Lists}
 use Rattle.mdl_space.specs.declared.answers.Held.{Held}
 use Rattle.mdl_space.specs.declared.answers.Settled.{Settled}
 use Rattle.mdl_space.specs.declared.answers.Settled.TheVariants as settled_as
 use Rattle.mdl_space.specs.declared.seat.Pending.{Pending}
 use Rattle.mdl_space.specs.Own.{are_rising, is_number}
 use Rattle.mdl_space.specs.Seats.{SeatView, ticket_of_wait}
-use Rattle.mdl_space.specs.Cores.{Core, book_at, seat_at, has_key}
+use Rattle.mdl_space.specs.Cores.{Core, book_at, seat_at, key_at, has_key}
+use Rattle.mdl_space.specs.BookLaws.{of_lock}
+use Rattle.mdl_space.specs.CoreSystems.{system_of}
+use Rattle.mdl_space.specs.Strength.{covers}
 use Rattle.mdl_space.specs.CoreJoins.{SpeaksFor}
-use Rattle.mdl_space.specs.Ties.{Has, WaitsFor, in_book_of}
+use Rattle.mdl_space.specs.Ties.{IsTied, Has, WaitsFor, in_book_of}
+use Rattle.mdl_space.specs.Lemmas.BookLemmas.{compatible-Decides}
+use Rattle.mdl_space.specs.Lemmas.CoreGranted.{granted-from_place, holding_of, granted-of_held}
+use Rattle.mdl_space.specs.Lemmas.LawfulLemmas.{compatible-from_weaker}
+use Rattle.mdl_space.specs.Lemmas.StrengthLemmas.{covers-at_least}
 
 -- what is found is one of them
 pub found_among : {X : Type 0} (p : X → Bool) (xs : List X) (x : X) → find p xs ≡ Some x → Contains xs x
@@ -67,11 +79,15 @@ module _ (core : Core) (who : ℕ) (speaks : SpeaksFor core who) where
         ((speaks.1.tied.waiting who (ticket_of_wait wait) speaks.0 wait-key).1 waits_for) (itself who (ticket_of_wait wait))
 
 -- what is read of a held ticket
+pub held-found : (core : Core) (who id : ℕ) (seat : SeatView) (read : Option Held) (ticket : Held) → seat ≡ seat_at who core
+    → read ≡ find (is_number id) seat.held → read ≡ Some ticket → find (is_number id) (seat_at who core).held ≡ Some ticket
+held-found core who id seat read ticket here is found = ap (λ (s : SeatView). find (is_number id) s.held) (sym here) ∙ sym is ∙ found
+
 pub held-stands : (core : Core) (who id : ℕ) → SpeaksFor core who → (seat : SeatView) (read : Option Held) (ticket : Held) → seat ≡ seat_at who core
     → read ≡ find (is_number id) seat.held → read ≡ Some ticket
     → (has_key ticket.place core ≡ true) × (is_some (ticket_of who ticket.id (book_at ticket.place core).granted) ≡ true)
 held-stands core who id speaks seat read ticket here is found =
-    let held : find (is_number id) (seat_at who core).held ≡ Some ticket = ap (λ (s : SeatView). find (is_number id) s.held) (sym here) ∙ sym is ∙ found in
+    let held : find (is_number id) (seat_at who core).held ≡ Some ticket = held-found core who id seat read ticket here is found in
     (held-key core who speaks id ticket held, held-in_book core who speaks id ticket held)
 
 -- what is read of a lost wait
@@ -81,3 +97,17 @@ pub wait-stands : (core : Core) (who : ℕ) → SpeaksFor core who → (seat : S
 wait-stands core who speaks seat read wait how here is found settled lost =
     let has : (seat_at who core).wait ≡ Some wait = ap (λ (s : SeatView). s.wait) (sym here) ∙ sym is ∙ found in
     (wait-key core who speaks wait how has settled lost, wait-in_book core who speaks wait how has settled lost)
+
+-- a ticket that covers a mode, in which the lock can be held, keeps all tickets away that clash with it
+pub clone-compatible : (core : Core) (who : ℕ) (ticket : Held) (mode : Mode) → SpeaksFor core who → Contains (seat_at who core).held ticket
+    → covers ticket.mode mode ≡ true → is_mode_of (lock_kind (book_at ticket.place core)) mode ≡ true
+    → is_compatible (lock_kind (book_at ticket.place core)) (book_at ticket.place core).granted who mode ≡ true
+clone-compatible core who ticket mode speaks held strong fit =
+    let tied : IsTied core = speaks.1.tied in
+    let key : has_key ticket.place core ≡ true = tied.placed who ticket speaks.0 (inl (inl held)) in
+    let lists : Lists = book_at ticket.place core in
+    let own_fits = (tied.granted_by ticket.place key (in_book_of who ticket) ((tied.granted who ticket speaks.0 key).1 (inl held))).1 in
+    let clashes_none = compatible-from_weaker (system_of core) speaks.1.lawful (holding_of who ticket core) mode (granted-of_held core who ticket tied speaks.0 held)
+    (covers-at_least (lock_kind lists) ticket.mode mode own_fits fit strong) in
+    (compatible-Decides (lock_kind lists) lists.granted who mode).1
+    (λ t among other clash. clashes_none (of_lock (key_at ticket.place core) t) (granted-from_place core ticket.place (of_lock (key_at ticket.place core) t) key refl among) refl other clash)

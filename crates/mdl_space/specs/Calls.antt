@@ -77,7 +77,7 @@ abbrev pub change_takes_memory : Change → Bool
 change_takes_memory change.Drop = false
 change_takes_memory _ = true
 
--- whether a call may need memory: what gives up, and what ends or settles a wait, doesn't
+-- whether a call may need memory: what gives up, and what polls, times out, kills or ends a wait, doesn't
 abbrev pub takes_memory : Call → Bool
 takes_memory (Release _ _) = false
 takes_memory (Downgrade _ _ _) = false

@@ -8,8 +8,8 @@ use Rattle.mdl_space.specs.Answers.{Answer}
 use Rattle.mdl_space.specs.Calls.{Call, caller, takes_memory}
 use Rattle.mdl_space.specs.CoreCalls.{has_call, outcome, Makes, wait_at}
 use Rattle.mdl_space.specs.Cores.{Core, seat_at, has_key, has_session, key_at}
-use Rattle.mdl_space.specs.Own.{Own}
-use Rattle.mdl_space.specs.Seats.{own_of}
+use Rattle.mdl_space.specs.Own.{Own, Numbers}
+use Rattle.mdl_space.specs.Seats.{own_of, numbers_of}
 use Rattle.mdl_space.specs.Ties.{IsSound}
 
 -- the space speaks for each of its sessions
@@ -19,6 +19,10 @@ SpeaksFor core who = (has_session who core ≡ true) × IsSound core
 -- what a session has
 abbrev pub own_at : Core → ℕ → Own
 own_at core who = own_of (seat_at who core)
+
+-- the last numbers that its tickets and waits were given
+abbrev pub numbers_at : Core → ℕ → Numbers
+numbers_at core who = numbers_of (seat_at who core)
 
 -- every session knows the keys of all places
 abbrev pub Knows : Core → ℕ → ℕ → KeyName → Type 0

@@ -1,21 +1,20 @@
 -- Laws of the lock space of one thread: its calls are events of the system of locks.
-use Rattle.std.specs.Prelude.{◌≡◌, ◌⊎◌, ℕ, Bool, true, false, List, [], ◌∷◌, Option, Some, All}
+use Rattle.std.specs.Prelude.{◌≡◌, ◌⊎◌, ℕ, Bool, true, false, List, [], ◌∷◌, ◌++◌, Option, Some, Contains}
 use Rattle.mdl_key.specs.Keys.{KeyName}
 use Rattle.mdl_key.specs.declared.mode.Mode.{Mode}
 use Rattle.mdl_defs.specs.declared.definition.Definition.{Definition}
 use Rattle.mdl_space.specs.declared.answers.TimedOut.TheVariants.{ByThisCall}
 use Rattle.mdl_space.specs.Answers.{Answer, Done, Granted, Would_wait, Waits, Timed_out, Lost, Has_killed}
-use Rattle.mdl_space.specs.BlockingLaws.{IsAbout, IsGrantAt}
+use Rattle.mdl_space.specs.BlockingLaws.{IsAbout}
 use Rattle.mdl_space.specs.Calls.{Call, Try_now, Begin_wait, Settle_timeout, End_wait, Kill, Release, Clone_ticket}
 use Rattle.mdl_space.specs.CoreJoins.{Joins}
 use Rattle.mdl_space.specs.Cores.{Core, empty_core, key_at}
 use Rattle.mdl_space.specs.CoreSystems.{system_of, state_of}
-use Rattle.mdl_space.specs.Runs.{Program, Runs}
-use Rattle.mdl_space.specs.Steps.{Event, Grant, Clone, BeginWait, SettleLost, EndGrantedWait, EndLostWait, Release as Give_up, Happens, Run, SameSystem}
+use Rattle.mdl_space.specs.Steps.{Event, Grant, Clone, BeginWait, GrantWaiter, SettleLost, EndGrantedWait, EndLostWait, Release as Give_up, Happens, Run, SameSystem}
 use Rattle.mdl_space.specs.Systems.{Unsettled, TimedOut, Killed, Holding, Waiter, System, empty_system, IsLawful, IsGrantable, NoneForgotten}
 use Rattle.mdl_space.specs.Ties.{IsSound}
 
--- whether a call with this answer changes who holds what or who waits for what
+-- whether a call with this answer changes who holds what, who waits for what, or how a wait is settled
 abbrev pub is_change : Call → Answer → Bool
 is_change (Try_now _ _ _) (Granted _) = true
 is_change (Begin_wait _ _ _) (Granted _) = true
@@ -51,6 +50,19 @@ IsEventOf a (Clone_ticket who id mode) (Granted copy) event =
     × (event ≡ Clone ticket (record { session = who; number = copy; key = ticket.key; mode = mode }))
 IsEventOf a _ _ event = ⊥
 
+-- a waiter of a key before whom none waits there whose wait is unsettled and whose wish is grantable
+abbrev pub IsFirst : {D : Type 0} → System D → KeyName → Waiter → Type 0
+IsFirst a key waiter =
+    (before : List Waiter) × (after : List Waiter) × (a.waiting key ≡ before ++ waiter ∷ after)
+    × ((earlier : Waiter) → Contains before earlier → earlier.state ≡ Unsettled → IsGrantable a earlier.ticket.session key earlier.ticket.mode → ⊥)
+
+-- waiters of a key are granted, each time the first that can be
+abbrev pub GrantsInOrder : {C D : Type 0} → (KeyName → C → Option D → Option (Option D)) → KeyName → List (Event C) → System D → System D → Type 0
+GrantsInOrder apply key [] a b = SameSystem a b
+GrantsInOrder {C} {D} apply key (event ∷ events) a b =
+    (waiter : Waiter) × (between : System D) × (event ≡ GrantWaiter key waiter) × IsFirst a key waiter
+    × Happens apply event a between × GrantsInOrder apply key events between b
+
 -- a call changes nothing in the system, or it is an event there, after which waiters of that event's key are granted
 abbrev pub CallsAreEvents : Type 0 → Type 0
 CallsAreEvents C =
@@ -58,8 +70,8 @@ CallsAreEvents C =
     IsSound a → Joins a call answer b →
     ((is_change call answer ≡ false) × SameSystem (system_of a) (system_of b))
     ⊎ ((event : Event C) × (grants : List (Event C)) × (between : System Definition) × (key : KeyName)
-    × IsEventOf a call answer event × ((other : KeyName) → IsAbout event other → other ≡ key) × All (IsGrantAt key) grants
-    × Happens apply event (system_of a) between × Run apply grants between (system_of b))
+    × IsEventOf a call answer event × ((other : KeyName) → IsAbout event other → other ≡ key)
+    × Happens apply event (system_of a) between × GrantsInOrder apply key grants between (system_of b))
 
 -- after each call books and sessions tell the same, the system is lawful, and nobody is forgotten
 abbrev pub CallsKeepSound : Type 0
@@ -74,16 +86,21 @@ GrantsWhatIsGrantable =
     × ((id : ℕ) → Joins a (Begin_wait who place mode) (Granted id) b → IsGrantable (system_of a) who (key_at place a) mode)
     × ((number : ℕ) → Joins a (Begin_wait who place mode) (Waits number) b → IsGrantable (system_of a) who (key_at place a) mode → ⊥)
 
+-- calls, each with its answer, lead from one space to another
+abbrev pub Joined : List (Call × Answer) → Core → Core → Type 0
+Joined [] a b = a ≡ b
+Joined ((call, answer) ∷ calls) a b = (between : Core) × Joins a call answer between × Joined calls between b
+
 -- events lead from one system to another, in pieces, of which the last comes first
 abbrev pub Reaches : {C D : Type 0} → (KeyName → C → Option D → Option (Option D)) → List (List (Event C)) → System D → System D → Type 0
 Reaches apply [] a b = SameSystem a b
 Reaches {C} {D} apply (events ∷ before) a b = (between : System D) × Reaches apply before a between × Run apply events between b
 
--- so whatever is asked of an empty space, events have led to what it is in the end from the empty system, call after call; it is
--- lawful, and nobody is forgotten
-abbrev pub RunsAreEvents : Type 0 → Type 0 → Type 0
-RunsAreEvents A C =
+-- so whatever is asked of an empty space, events have led from the empty system to what it is in the end; that is lawful, and
+-- nobody is forgotten in it
+abbrev pub CallsLeadByEvents : Type 0 → Type 0
+CallsLeadByEvents C =
     (apply : KeyName → C → Option Definition → Option (Option Definition)) (places sessions : ℕ)
-    (program : Program A) (reply : A) (b : Core) → Runs Joins (empty_core places sessions) program reply b →
+    (calls : List (Call × Answer)) (b : Core) → Joined calls (empty_core places sessions) b →
     ((events : List (List (Event C))) × Reaches apply events empty_system (system_of b))
     × IsLawful (system_of b) × NoneForgotten (system_of b)

@@ -3,6 +3,7 @@ pub mod Cases
 pub mod Causes
 pub mod Choices
 pub mod Moves
+pub mod Numbers
 pub mod Owned
 pub mod Places
 pub mod Seats

@@ -10,6 +10,7 @@ pub mod CoreProofs
 pub mod CoreSystems
 pub mod Cores
 pub mod Lemmas
+pub mod LoneProofs
 pub mod LoneSessions
 pub mod Moves
 pub mod NumberingLaws
@@ -17,6 +18,7 @@ pub mod Own
 pub mod PermittedEvents
 pub mod Runs
 pub mod Seats
+pub mod SessionLaws
 pub mod Steps
 pub mod Strength
 pub mod SystemLaws

@@ -1,4 +1,4 @@
--- Tickets and waits can be told apart by their sessions and numbers. How sessions number them is this project's own choice; that
+-- Tickets can be told apart by their sessions and numbers, and a session has one wait at most. How sessions number them is this project's own choice; that
 -- a session waits for one lock at most is MySQL 5.7's: `MDL_context::m_waiting_for` of sql/mdl.h.
 use Rattle.std.specs.Prelude.{◌≡◌, ◌≢◌, ◌⊎◌, ◌↔◌, ℕ, List, Option, Contains, AllPairs}
 use Rattle.mdl_key.specs.Keys.{KeyName}

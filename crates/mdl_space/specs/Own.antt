@@ -1,5 +1,5 @@
 -- What a session has in a lock space, and what each call does to it.
-use Rattle.std.specs.Prelude.{ℕ, Bool, true, not, ◌&&◌, ◌==◌, nat_lt, List, [], ◌∷◌, ◌++◌, map, filter, find, Option, Some, None, is_some, if◌then◌else◌, IsTrue}
+use Rattle.std.specs.Prelude.{◌≡◌, ℕ, ◌+◌, Bool, true, not, ◌&&◌, ◌==◌, nat_lt, List, [], ◌∷◌, ◌++◌, map, filter, find, Option, Some, None, is_some, if◌then◌else◌, IsTrue}
 use Rattle.std.specs.List.{list_all}
 use Rattle.std.specs.Option.{option_map}
 use Rattle.mdl_key.specs.declared.mode.Mode.{Mode}
@@ -18,6 +18,11 @@ pub record Wait : Type 0 where
 pub record Own : Type 0 where
   pub held : List Held
   pub wait : Option Wait
+
+-- the last numbers that a session's tickets and waits were given
+pub record Numbers : Type 0 where
+  pub last_ticket : ℕ
+  pub last_wait : ℕ
 
 -- the numbers of tickets rise: each is below all later ones
 abbrev pub are_rising : List Held → Bool
@@ -101,3 +106,29 @@ own_after (Upgrade_now who id mode) Upgraded own = changing id (upgraded mode) o
 own_after (Merge who old new) Done own = merging old new (ticket_held new own) own
 own_after (Downgrade who id mode) Done own = changing id (λ _. mode) own
 own_after _ _ own = own
+
+-- with a number for a ticket
+abbrev pub ticket_drawn : Numbers → Numbers
+ticket_drawn numbers = record numbers { last_ticket = numbers.last_ticket + 1 }
+
+-- with a number for a wait, and one for the ticket that waits
+abbrev pub wait_drawn : Numbers → Numbers
+wait_drawn numbers = record { last_ticket = numbers.last_ticket + 1; last_wait = numbers.last_wait + 1 }
+
+-- a ticket is given the next number
+abbrev pub DrawsTicket : ℕ → Numbers → Numbers → Type 0
+DrawsTicket id before after = (id ≡ before.last_ticket + 1) × (after ≡ ticket_drawn before)
+
+-- a wait is
+abbrev pub DrawsWait : ℕ → Numbers → Numbers → Type 0
+DrawsWait number before after = (number ≡ before.last_wait + 1) × (after ≡ wait_drawn before)
+
+-- which numbers a call with this answer gives its caller. What isn't named here gives none. The ticket of a wait that is ended
+-- has the number that it was given as the wait began, which is still the last one.
+abbrev pub Draws : Call → Answer → Numbers → Numbers → Type 0
+Draws (Try_now who place mode) (Granted id) before after = DrawsTicket id before after
+Draws (Begin_wait who place mode) (Granted id) before after = DrawsTicket id before after
+Draws (Begin_wait who place mode) (Waits number) before after = DrawsWait number before after
+Draws (End_wait who) (Granted id) before after = (id ≡ before.last_ticket) × (after ≡ before)
+Draws (Clone_ticket who id mode) (Granted copy) before after = DrawsTicket copy before after
+Draws _ _ before after = after ≡ before

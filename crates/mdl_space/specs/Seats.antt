@@ -5,7 +5,7 @@ use Rattle.mdl_key.specs.declared.mode.Mode.{Mode}
 use Rattle.mdl_space.specs.declared.answers.Held.{Held}
 use Rattle.mdl_space.specs.declared.answers.Settled.{Settled}
 use Rattle.mdl_space.specs.declared.seat.Pending.{Pending}
-use Rattle.mdl_space.specs.Own.{Own, is_number}
+use Rattle.mdl_space.specs.Own.{Own, Numbers, is_number}
 
 -- the held tickets in order of gain, the wait that isn't ended, and the last numbers that tickets and waits were given
 pub record SeatView : Type 0 where
@@ -24,6 +24,10 @@ own_of seat = record {
   held = seat.held;
   wait = option_map (λ wait. record { number = wait.number; place = wait.place; mode = wait.mode }) seat.wait;
 }
+
+-- the last numbers that the session was given
+abbrev pub numbers_of : SeatView → Numbers
+numbers_of seat = record { last_ticket = seat.last_ticket; last_wait = seat.last_wait }
 
 -- with a new ticket
 abbrev pub holding : ℕ → Mode → SeatView → SeatView

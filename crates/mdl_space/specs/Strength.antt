@@ -10,7 +10,7 @@ use Rattle.mdl_key.specs.declared.mode.Mode.TheVariants.{SU, SNW, SNRW, X}
 use Rattle.mdl_key.specs.Modes.{same_mode, is_mode_of}
 use Rattle.mdl_key.specs.Classes.{is_at_least}
 
--- a kind that has both modes. S and X are modes of both kinds, in which they clash alike with each other.
+-- a kind that has both modes, where there is one. S and X are modes of both kinds, in which they clash alike with each other.
 abbrev pub common_kind : Mode → Mode → Kind
 common_kind a b = if is_mode_of Object a && is_mode_of Object b then Object else Scoped
 

@@ -28,13 +28,13 @@ WaitsFor seat ticket = MatchOption seat.wait ⊥ (λ (wait : Pending). (wait.set
 abbrev pub in_book_of : ℕ → Held → Ticket
 in_book_of who ticket = record { session = who; number = ticket.id; mode = ticket.mode }
 
--- the numbers of a session's tickets and waits: those of held tickets rise, that of a ticket waited for is greater, and none is
--- above the last one
+-- the numbers of a session's tickets and waits: those of held tickets rise, none is above the last one given, and that of a
+-- ticket waited for is the last one and above theirs
 pub record IsNumbered (seat : SeatView) : Type 0 where
   pub rising : IsRising (own_of seat)
   pub held : (ticket : Held) → Contains seat.held ticket → ticket.id ≤ seat.last_ticket
   pub wait : MatchOption seat.wait (Unit {0}) (λ (wait : Pending).
-      (wait.id ≤ seat.last_ticket) × (wait.number ≤ seat.last_wait) × ((ticket : Held) → Contains seat.held ticket → ticket.id < wait.id))
+      (wait.id ≡ seat.last_ticket) × (wait.number ≤ seat.last_wait) × ((ticket : Held) → Contains seat.held ticket → ticket.id < wait.id))
 
 -- books and sessions tell the same
 pub record IsTied (core : Core) : Type 0 where

@@ -1,9 +1,10 @@
 //! Laws of the lock space of one thread: its calls are events of the system of locks. Each is proved as the contract of a
 //! function that does nothing.
-ghost use Rattle.mdl_space.specs.CoreLaws.{CallsAreEvents, CallsKeepSound, GrantsWhatIsGrantable, RunsAreEvents};
+ghost use Rattle.mdl_space.specs.CoreLaws.{CallsAreEvents, CallsKeepSound, GrantsWhatIsGrantable, CallsLeadByEvents};
 ghost use Rattle.mdl_space.specs.Strength.{CoversByKind};
 
-/// A call changes nothing in the system of locks, or it is an event there, after which waiters of that event's key are granted.
+/// A call changes nothing in the system of locks, or it is an event there, after which waiters of that event's key are granted,
+/// each time the first that can be.
 pub fn calls_are_events<C>()
     ensures { CallsAreEvents C }
 {}
@@ -20,8 +21,8 @@ pub fn grants_what_is_grantable()
 {}
 
 /// Whatever is asked of an empty space, events have led from the empty system to what it is in the end.
-pub fn runs_are_events<A, C>()
-    ensures { RunsAreEvents A C }
+pub fn calls_lead_by_events<C>()
+    ensures { CallsLeadByEvents C }
 {}
 
 /// How strong one mode is beside another is, at each lock, what the matrix of its kind says.

@@ -2,16 +2,21 @@
 ghost use Rattle.std.specs.Prelude.{◌≡◌, ℕ, ◌<◌, ◌≤◌, ◌+◌, ◌^◌, Some, None, IfOk, OnOk, MatchResult, IsSome, IsTrue, length, true, false};
 ghost use Rattle.std.specs.Option.{IfSome};
 ghost use Rattle.mdl_key.specs.Refusals.{Refuses};
+ghost use Rattle.mdl_key.specs.Modes.{is_mode_of};
+ghost use Rattle.mdl_book.specs.Books.{lock_kind};
+ghost use Rattle.mdl_book.specs.Granting.{is_compatible};
 ghost use Rattle.mdl_book.specs.Tickets.{ticket_of};
+ghost use Rattle.mdl_space.specs.Strength.{covers};
 ghost use Rattle.mdl_space.specs.Cores.{empty_core, book_at, has_key, has_session, index_of, seat_at};
-ghost use Rattle.mdl_space.specs.CoreCalls.{new_fault, first_cause, request_causes, listing, resolving, trying, beginning, polling, timing_out, ending, looking_after, killing, releasing, Makes};
+ghost use Rattle.mdl_space.specs.CoreCalls.{new_fault, first_cause, request_causes, clone_causes, listing, resolving, trying, beginning, polling, timing_out, ending, looking_after, killing, releasing, granted_unless_full, cloning, Makes};
 ghost use Rattle.mdl_space.specs.CoreJoins.{SpeaksFor};
 ghost use Rattle.mdl_space.specs.Moves.{leaving, freeing, serving};
 ghost use Rattle.mdl_space.specs.Own.{are_rising};
-ghost use Rattle.mdl_space.specs.Answers.{Has_wait, Has_killed, placed, attempted, begun, polled, timed_out, ended, done, listed};
+ghost use Rattle.mdl_space.specs.Answers.{Has_wait, Has_killed, placed, attempted, begun, polled, timed_out, ended, done, cloned, listed};
 
 use crate::granting::{give, is_free, queue};
 use crate::seat::{Pending, Seat};
+use crate::strength::covers;
 use crate::{
     Attempt, Begun, Ended, Held, NewError, Place, Poll, Settled, SpaceError, TicketId, TimedOut,
 };
@@ -252,6 +257,23 @@ impl CoreSpace {
         Ok(())
     }
 
+    /// Grants a second ticket of a held one's place.
+    pub(crate) fn clone_held(
+        &mut self,
+        who: u16,
+        id: TicketId,
+        mode: Mode,
+    ) -> Result<TicketId, SpaceError>
+        requires { SpeaksFor self.old who }
+        ensures { Makes true (cloning who id mode) self.old (cloned result) self.new }
+    {
+        let Some(ticket) = self.seats[usize::from(who) - 1].ticket(id) else {
+            return Err(SpaceError::NotHeld);
+        };
+        self.check_clone(who, ticket, mode)?;
+        self.grant_at(who, ticket.place, mode)
+    }
+
     /// The tickets that a session holds.
     pub(crate) fn list_held(&self, who: u16) -> Result<Vec<Held>, SpaceError>
         requires { has_session who self.now ≡ true }
@@ -263,6 +285,49 @@ impl CoreSpace {
             return Err(SpaceError::OutOfMemory);
         }
         Ok(tickets)
+    }
+
+    /// Looks whether a session can clone a held ticket.
+    fn check_clone(&self, who: u16, ticket: Held, mode: Mode) -> Result<(), SpaceError>
+        requires session { has_session who self.now ≡ true }
+        requires key { has_key ticket.place self.now ≡ true }
+        ensures refused { MatchResult result
+            (λ _. first_cause (clone_causes who mode ticket self.now) ≡ None)
+            (λ e. first_cause (clone_causes who mode ticket self.now) ≡ Some e) }
+        ensures covers { OnOk result (covers ticket.mode mode ≡ true) }
+        ensures fits { OnOk result (is_mode_of (lock_kind (book_at ticket.place self.now)) mode ≡ true) }
+        ensures numbers { OnOk result ((seat_at who self.now).last_ticket + 1 < 2 ^ 60) }
+        ensures idle { OnOk result ((seat_at who self.now).wait ≡ None) }
+    {
+        let seat = &self.seats[usize::from(who) - 1];
+        if seat.wait().is_some() {
+            return Err(SpaceError::AlreadyWaiting);
+        }
+        let kind = self.books[usize::from(ticket.place) - 1].key().kind();
+        if !covers(ticket.mode, mode) || !kind.has_mode(mode) {
+            return Err(SpaceError::BadMode);
+        }
+        if seat.last_ticket() >= MOST_NUMBERS {
+            return Err(SpaceError::CounterFull);
+        }
+        Ok(())
+    }
+
+    /// Grants a session a lock that clashes with no granted ticket.
+    fn grant_at(&mut self, who: u16, place: Place, mode: Mode) -> Result<TicketId, SpaceError>
+        requires session { has_session who self.old ≡ true }
+        requires key { has_key place self.old ≡ true }
+        requires numbers { (seat_at who self.old).last_ticket + 1 < 2 ^ 60 }
+        requires idle { (seat_at who self.old).wait ≡ None }
+        requires compatible { is_compatible (lock_kind (book_at place self.old)) (book_at place self.old).granted who mode ≡ true }
+        ensures { Makes true (granted_unless_full who place mode) self.old (cloned result) self.new }
+    {
+        let book = &mut self.books[usize::from(place) - 1];
+        let seat = &mut self.seats[usize::from(who) - 1];
+        match give(seat, book, who, place, mode) {
+            Ok(id) => Ok(id),
+            Err(cause) => Err(cause),
+        }
     }
 
     /// Ends a session's lost wait, and then grants waiters of its place.

@@ -1,7 +1,7 @@
 //! Granting a lock: a ticket in the lock's book, and the same ticket in the session's hands.
 ghost use Rattle.std.specs.Prelude.{◌≡◌, ◌+◌, ◌<◌, ◌^◌, ◌⊎◌, None, OnErr, MatchResult, nat_le, true, false};
 ghost use Rattle.mdl_book.specs.Books.{lock_kind, granting, enqueueing, ticket_count};
-ghost use Rattle.mdl_book.specs.Granting.{is_grantable};
+ghost use Rattle.mdl_book.specs.Granting.{is_compatible, is_grantable};
 ghost use Rattle.mdl_space.specs.CoreCalls.{cause_in};
 ghost use Rattle.mdl_space.specs.Seats.{holding, beginning_wait};
 
@@ -21,7 +21,7 @@ pub(crate) fn is_free(book: &Book, who: u16, mode: Mode) -> bool
     book.can_grant(who, mode, NO_FAST)
 }
 
-/// Grants a wish that can be granted. Where it is refused, nothing has changed.
+/// Grants a wish that clashes with no granted ticket. Where it is refused, nothing has changed.
 pub(crate) fn give(
     seat: &mut Seat,
     book: &mut Book,
@@ -31,7 +31,7 @@ pub(crate) fn give(
 ) -> Result<TicketId, SpaceError>
     requires numbers { seat.old.last_ticket + 1 < 2 ^ 60 }
     requires idle { seat.old.wait ≡ None }
-    requires free { is_grantable (lock_kind book.old) book.old.granted book.old.waiting who mode ≡ true }
+    requires compatible { is_compatible (lock_kind book.old) book.old.granted who mode ≡ true }
     ensures given { MatchResult result
         (λ id. (id ≡ seat.old.last_ticket + 1)
         × (nat_le 65535 (ticket_count book.old) ≡ false)
@@ -89,12 +89,14 @@ pub(crate) fn queue(
     }
 }
 
-// Why a book can't take a ticket of a wish that can be granted.
+// Why a book can't take a ticket that may stand there.
 fn cause_of(error: BookError) -> SpaceError
+    requires { (error ≡ BookError.Full) ⊎ (error ≡ BookError.OutOfMemory) }
     ensures { result ≡ cause_in error }
 {
     match error {
         BookError::Full => SpaceError::Full,
-        _ => SpaceError::OutOfMemory,
+        BookError::OutOfMemory => SpaceError::OutOfMemory,
+        BookError::NotHere | BookError::WouldConflict => unreachable!(),
     }
 }

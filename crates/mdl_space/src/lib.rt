@@ -18,11 +18,14 @@ mod laws;
 mod lock_space;
 mod new_error;
 mod seat;
+mod session_laws;
 mod space_error;
+mod strength;
 
 pub use answers::{Attempt, Begun, Ended, Held, Poll, Settled, TimedOut};
 pub use core_laws::{
-    calls_are_events, calls_keep_sound, covers_by_kind, grants_what_is_grantable, runs_are_events,
+    calls_are_events, calls_keep_sound, calls_lead_by_events, covers_by_kind,
+    grants_what_is_grantable,
 };
 pub use core_space::CoreSpace;
 pub use laws::{
@@ -34,4 +37,7 @@ pub use laws::{
 };
 pub use lock_space::{LockSpace, Place, TicketId};
 pub use new_error::NewError;
+pub use session_laws::{
+    kills_just_that_wait, refuses_for_cause, sessions_have_what_the_system_says,
+};
 pub use space_error::SpaceError;

@@ -1,12 +1,12 @@
 //! What every lock space does, for whoever stands on it.
-ghost use Rattle.std.specs.Prelude.{◌≡◌, ℕ, Some, true, List, Option};
+ghost use Rattle.std.specs.Prelude.{◌≡◌, ℕ, Some, true, false, List, Option, Contains};
 ghost use Rattle.std.specs.Option.{IfSome};
 ghost use Rattle.mdl_key.specs.Keys.{KeyName};
 ghost use Rattle.mdl_space.specs.declared.answers.Settled.{Settled};
 ghost use Rattle.mdl_space.specs.declared.answers.Held.{Held};
 ghost use Rattle.mdl_space.specs.Calls.{Call, Resolve, Try_now, Begin_wait, Poll_wait, Settle_timeout, End_wait, Wait_of, Kill, Release, Clone_ticket, List_held, Unpin, caller};
-ghost use Rattle.mdl_space.specs.Answers.{Answer, At_place, Has_wait, Has_killed, Holds, is_answer_of, placed, attempted, begun, polled, timed_out, ended, done, cloned, listed};
-ghost use Rattle.mdl_space.specs.Own.{Own, own_after, wait_number, IsRising};
+ghost use Rattle.mdl_space.specs.Answers.{Answer, Done, At_place, Has_wait, Has_killed, Holds, is_answer_of, placed, attempted, begun, polled, timed_out, ended, done, cloned, listed};
+ghost use Rattle.mdl_space.specs.Own.{Own, Wait, Numbers, own_after, wait_number, is_waiting, IsRising, Draws};
 ghost use Rattle.mdl_space.specs.Causes.{IsExplained};
 ghost use Rattle.mdl_space.specs.Waits.{told, IsToldOf};
 
@@ -38,6 +38,9 @@ pub trait LockSpace {
 
     // A session's wait is settled so.
     ghost is_settled: { Self → ℕ → Settled → Type 0 };
+
+    // The last numbers that a session's tickets and waits were given.
+    ghost numbers: { Self → ℕ → Numbers };
 
     // A call and its answer join the space before to the space after.
     ghost joins: { Self → Call → Answer → Self → Type 0 };
@@ -128,9 +131,9 @@ pub trait LockSpace {
     ghost resolves: { (a b : Self) (who place : ℕ) (key : KeyName) → joins a (Resolve who key) (At_place place) b
         → knows b who place key };
 
-    // A place keeps its key, for all who know it, until they need it no longer.
+    // A place keeps its key, for all who know it, until they are done with it.
     ghost remembers: { (a b : Self) (call : Call) (answer : Answer) (w place : ℕ) (key : KeyName) → speaks_for a w
-        → (call ≡ Unpin w place → ⊥) → joins a call answer b → knows a w place key → knows b w place key };
+        → (call ≡ Unpin w place → answer ≡ Done → ⊥) → joins a call answer b → knows a w place key → knows b w place key };
 
     // A place has one key.
     ghost one_key: { (a : Self) (w place : ℕ) (key other : KeyName) → speaks_for a w → knows a w place key
@@ -140,9 +143,25 @@ pub trait LockSpace {
     ghost one_place: { (a : Self) (w place other : ℕ) (key : KeyName) → speaks_for a w → knows a w place key
         → knows a w other key → place ≡ other };
 
+    // Whoever holds a ticket knows the key of its place.
+    ghost held_places: { (a : Self) (w : ℕ) (ticket : Held) → speaks_for a w → Contains (own a w).held ticket
+        → (key : KeyName) × knows a w ticket.place key };
+
+    // Whoever waits knows the key of the place that is waited for.
+    ghost wait_place: { (a : Self) (w : ℕ) (wait : Wait) → speaks_for a w → (own a w).wait ≡ Some wait
+        → (key : KeyName) × knows a w wait.place key };
+
     // An answer that tells how the caller's wait is settled is true.
     ghost tells: { (a b : Self) (call : Call) (answer : Answer) (who : ℕ) (how : Settled) → caller call ≡ Some who
         → told call answer ≡ Some how → joins a call answer b → is_settled b who how };
+
+    // Only a wait is settled.
+    ghost waits_settled: { (a : Self) (w : ℕ) (how : Settled) → speaks_for a w → is_settled a w how
+        → is_waiting (own a w) ≡ true };
+
+    // A wait is settled in one way.
+    ghost settled_once: { (a : Self) (w : ℕ) (how other : Settled) → speaks_for a w → is_settled a w how
+        → is_settled a w other → how ≡ other };
 
     // What a wait is settled as stays, until the wait is ended.
     ghost stays: { (a b : Self) (call : Call) (answer : Answer) (w : ℕ) (how : Settled) → speaks_for a w
@@ -159,6 +178,18 @@ pub trait LockSpace {
     // Only the wait of the number that was named is killed.
     ghost kills: { (a b : Self) (w number : ℕ) → speaks_for a w → joins a (Kill w number) (Has_killed true) b
         → (wait_number (own a w) ≡ Some number) × is_settled b w Settled.Killed };
+
+    // A kill that kills nothing found no wait of the number that was named, or a settled one.
+    ghost kills_or_settled: { (a b : Self) (w number : ℕ) → speaks_for a w → joins a (Kill w number) (Has_killed false) b
+        → wait_number (own a w) ≡ Some number → (how : Settled) × is_settled b w how };
+
+    // A new ticket or wait of the caller is given the next number, and a ticket that was waited for keeps the one it was given.
+    ghost draws: { (a b : Self) (call : Call) (answer : Answer) (who : ℕ) → caller call ≡ Some who
+        → joins a call answer b → Draws call answer (numbers a who) (numbers b who) };
+
+    // The others are given no numbers.
+    ghost others_draw: { (a b : Self) (call : Call) (answer : Answer) (w : ℕ) → speaks_for a w → (caller call ≡ Some w → ⊥)
+        → joins a call answer b → numbers b w ≡ numbers a w };
 }
 
 #[cfg(test)]

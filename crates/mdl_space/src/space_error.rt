@@ -14,7 +14,7 @@ pub enum SpaceError {
     /// The session holds no such ticket.
     #[error("no such ticket is held")]
     NotHeld,
-    /// The held mode can't become the other by an upgrade, or by a downgrade.
+    /// The held mode can't become the other by an upgrade, or by a downgrade, or the place's kind doesn't have the other.
     #[error("the held mode can't be changed so")]
     NotUpgradable,
     /// A definition is changed only under an exclusive lock.
@@ -23,7 +23,8 @@ pub enum SpaceError {
     /// The session has a wait that it hasn't ended.
     #[error("the session has a wait")]
     AlreadyWaiting,
-    /// The mode isn't one of the place's kind, or the held ticket isn't strong enough for it.
+    /// The mode isn't one of the place's kind, or the held ticket isn't strong enough for it; or two tickets can't be
+    /// merged: they are one, of two places, or the one that goes is the weaker.
     #[error("not a mode that the ticket can have")]
     BadMode,
     /// The definition had as many versions as it can have.

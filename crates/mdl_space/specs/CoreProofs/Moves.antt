@@ -15,8 +15,8 @@ use Rattle.mdl_space.specs.CoreJoins.{own_at, Knows}
 use Rattle.mdl_space.specs.Cores.{Core, book_at, seat_at, has_session}
 use Rattle.mdl_space.specs.Moves.{next_ticket, granting_to, queueing, losing, taking_up, leaving, freeing, admitting_at, is_ready, next_ready, admitting_if, admitting_up_to, serving}
 use Rattle.mdl_space.specs.Own.{Wait, gaining, waiting, ending, winning, giving_up}
-use Rattle.mdl_space.specs.Seats.{SeatView, own_of, holding, without_ticket, beginning_wait, is_open, settling, without_wait, with_ticket_of}
-use Rattle.mdl_space.specs.CoreProofs.Seats.{session_bounds, HasSettled, Moves, Serves, writes, serves-same, serves-then, serves-one}
+use Rattle.mdl_space.specs.Seats.{SeatView, own_of, numbers_of, holding, without_ticket, beginning_wait, is_open, settling, without_wait, with_ticket_of}
+use Rattle.mdl_space.specs.CoreProofs.Seats.{session_bounds, HasSettled, Moves, Serves, seat-written, writes, serves-same, serves-then, serves-one}
 use Rattle.mdl_space.specs.CoreProofs.Choices.{nat_told}
 
 -- ---- keys
@@ -41,7 +41,7 @@ keys-booked a b place book wrote same w other key knows = (
 -- ---- a session's own moves
 
 -- a wait, as its session has it
-abbrev as_wait : Pending → Wait
+abbrev pub as_wait : Pending → Wait
 as_wait wait = record { number = wait.number; place = wait.place; mode = wait.mode }
 
 module _ (a : Core) (who : ℕ) (is : has_session who a ≡ true) where
@@ -129,6 +129,7 @@ admitting-serves a place ticket ready =
     serves-one a (admitting_at place ticket a) ticket.session
     (settles a (admitting_at place ticket a) ticket.session settled_as.Granted unsettled.0 unsettled.1 refl
     (keys-booked a (admitting_at place ticket a) place (admitting ticket.session ticket.number (book_at place a)) refl refl))
+    (ap numbers_of (seat-written a (admitting_at place ticket a) ticket.session (settling settled_as.Granted (seat_at ticket.session a)) unsettled.0 refl))
 
 admitting_next-serves : (a : Core) (place : ℕ) → Serves a (admitting_if place (next_ready place a) a)
 admitting_next-serves a place = go (next_ready place a) refl

@@ -1,5 +1,5 @@
 -- Which keys are at which places in the space of one thread.
-use Rattle.std.proofs.Common.{◌≡◌, ℕ, ◌+◌, ◌-◌, ◌<◌, ◌≤◌, Bool, true, false, List, [], ◌∷◌, ◌++◌, length, position, get_or, Some, None, Decides, refl, sym, ap, subst, ◌∙◌, arith}
+use Rattle.std.proofs.Common.{◌≡◌, ◌⊎◌, ℕ, ◌+◌, ◌-◌, ◌<◌, ◌≤◌, Bool, true, false, List, [], ◌∷◌, ◌++◌, length, position, get_or, Option, Some, None, option_map, MatchOption, Contains, Decides, inl, inr, refl, sym, ap, subst, ◌∙◌, arith}
 use Rattle.std.specs.List.{position_or_len}
 use Rattle.std.proofs.lemmas.Bool.Decides.{nat_tests, Decides-and, Decides-like, Decides-eqb}
 use Rattle.std.proofs.lemmas.Grind.{common_steps}
@@ -13,12 +13,20 @@ use Rattle.mdl_book.specs.declared.lists.Lists.{Lists}
 use Rattle.mdl_key.specs.declared.namespace.Namespace.{Namespace}
 use Rattle.mdl_key.specs.declared.namespace.Namespace.TheVariants.{Global, Schema, Table, Commit}
 use Rattle.mdl_key.specs.Keys.{KeyName, namespace_rank, global_key, key_eq}
-use Rattle.mdl_space.specs.Answers.{Answer, At_place}
+use Rattle.mdl_space.specs.Answers.{Answer, Done, At_place}
 use Rattle.mdl_space.specs.Calls.{Call, Resolve, Unpin}
-use Rattle.mdl_space.specs.CoreJoins.{SpeaksFor, Knows, Joins}
-use Rattle.mdl_space.specs.Cores.{Core, key_at, index_of}
+use Rattle.mdl_space.specs.declared.answers.Held.{Held}
+use Rattle.mdl_space.specs.declared.answers.Settled.{Settled}
+use Rattle.mdl_space.specs.declared.answers.Settled.TheVariants as settled_as
+use Rattle.mdl_space.specs.declared.seat.Pending.{Pending}
+use Rattle.mdl_space.specs.CoreJoins.{SpeaksFor, own_at, Knows, Joins}
+use Rattle.mdl_space.specs.Cores.{Core, seat_at, key_at, has_key, index_of}
 use Rattle.mdl_space.specs.Moves.{opening}
+use Rattle.mdl_space.specs.Own.{Wait}
+use Rattle.mdl_space.specs.Seats.{SeatView, ticket_of_wait}
+use Rattle.mdl_space.specs.Ties.{Has, WaitsFor}
 use Rattle.mdl_space.specs.CoreProofs.Cases.{resolve_cases}
+use Rattle.mdl_space.specs.CoreProofs.Moves.{as_wait}
 use Rattle.mdl_space.specs.CoreProofs.Owned.{joined, joins-steps}
 use Rattle.mdl_space.specs.CoreProofs.Seats.{session_bounds}
 
@@ -88,8 +96,8 @@ core-resolves a b who place key joins =
     place refl
 
 -- a place keeps its key, for all who know it
-pub core-remembers : (a b : Core) (call : Call) (answer : Answer) (w place : ℕ) (key : KeyName) → SpeaksFor a w → (call ≡ Unpin w place → ⊥)
-    → Joins a call answer b → Knows a w place key → Knows b w place key
+pub core-remembers : (a b : Core) (call : Call) (answer : Answer) (w place : ℕ) (key : KeyName) → SpeaksFor a w
+    → (call ≡ Unpin w place → answer ≡ Done → ⊥) → Joins a call answer b → Knows a w place key → Knows b w place key
 core-remembers a b call answer w place key speaks stays joins knows = (joins-steps a b call answer joins).keys w place key knows
 
 -- a place has one key
@@ -99,3 +107,35 @@ core-one_key a w place key other speaks one two = sym one.1 ∙ two.1
 -- a key has one place
 pub core-one_place : (a : Core) (w place other : ℕ) (key : KeyName) → SpeaksFor a w → Knows a w place key → Knows a w other key → place ≡ other
 core-one_place a w place other key speaks one two = speaks.1.tied.keys place other one.0 two.0 (one.1 ∙ sym two.1)
+
+-- whoever holds a ticket knows the key of its place
+pub core-held_places : (a : Core) (w : ℕ) (ticket : Held) → SpeaksFor a w → Contains (own_at a w).held ticket
+    → (key : KeyName) × Knows a w ticket.place key
+core-held_places a w ticket speaks holds =
+    (key_at ticket.place a, (speaks.1.tied.placed w ticket speaks.0 (inl (inl holds)), refl))
+
+-- the ticket of a wait is had or waited for
+waits-ticket : (seat : SeatView) (wait : Pending) → seat.wait ≡ Some wait → Has seat (ticket_of_wait wait) ⊎ WaitsFor seat (ticket_of_wait wait)
+waits-ticket seat wait its = go wait.settled refl
+  where
+    at : (P : Pending → Type 0) → P wait → MatchOption seat.wait ⊥ P
+    at P h = subst (λ (o : Option Pending). MatchOption o ⊥ P) (sym its) h
+
+    go : (s : Option Settled) → wait.settled ≡ s → Has seat (ticket_of_wait wait) ⊎ WaitsFor seat (ticket_of_wait wait)
+    go None e = inr (at _ ((λ f. (let g = sym e ∙ f in cc)), refl))
+    go (Some settled_as.Granted) e = inl (inr (at _ (e, refl)))
+    go (Some settled_as.Victim) e = inr (at _ ((λ f. (let g = sym e ∙ f in cc)), refl))
+    go (Some settled_as.Timeout) e = inr (at _ ((λ f. (let g = sym e ∙ f in cc)), refl))
+    go (Some settled_as.Killed) e = inr (at _ ((λ f. (let g = sym e ∙ f in cc)), refl))
+
+-- whoever waits knows the key of the place that is waited for
+pub core-wait_place : (a : Core) (w : ℕ) (wait : Wait) → SpeaksFor a w → (own_at a w).wait ≡ Some wait
+    → (key : KeyName) × Knows a w wait.place key
+core-wait_place a w wait speaks = go (seat_at w a).wait refl
+  where
+    go : (o : Option Pending) → (seat_at w a).wait ≡ o → option_map as_wait o ≡ Some wait → (key : KeyName) × Knows a w wait.place key
+    go None its e = cc
+    go (Some pending) its e =
+        let same : as_wait pending ≡ wait = cc in
+        let known : has_key pending.place a ≡ true = speaks.1.tied.placed w (ticket_of_wait pending) speaks.0 (waits-ticket (seat_at w a) pending its) in
+        subst (λ (x : Wait). (key : KeyName) × Knows a w x.place key) same (key_at pending.place a, (known, refl))

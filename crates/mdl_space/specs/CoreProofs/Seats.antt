@@ -6,10 +6,10 @@ use Rattle.mdl_key.specs.Keys.{KeyName}
 use Rattle.mdl_space.specs.declared.answers.Settled.{Settled}
 use Rattle.mdl_space.specs.declared.seat.Pending.{Pending}
 use Rattle.mdl_space.specs.CoreCalls.{wait_at}
-use Rattle.mdl_space.specs.CoreJoins.{own_at, Knows, IsSettledAs}
+use Rattle.mdl_space.specs.CoreJoins.{own_at, numbers_at, Knows, IsSettledAs}
 use Rattle.mdl_space.specs.Cores.{Core, seat_at, has_session}
 use Rattle.mdl_space.specs.Own.{Own}
-use Rattle.mdl_space.specs.Seats.{SeatView, own_of, empty_seat}
+use Rattle.mdl_space.specs.Seats.{SeatView, own_of, numbers_of, empty_seat}
 use Rattle.mdl_space.specs.CoreProofs.Choices.{if-true}
 use Rattle.mdl_space.specs.CoreProofs.Choices.{nat_told}
 
@@ -43,6 +43,7 @@ pub record Moves (a : Core) (who : ℕ) (after : Own) (ends : Bool) (b : Core) :
   pub keys : (w place : ℕ) (key : KeyName) → Knows a w place key → Knows b w place key
   pub own : own_at b who ≡ after
   pub others : (w : ℕ) → has_session w a ≡ true → w ≢ who → own_at b w ≡ own_at a w
+  pub numbers_others : (w : ℕ) → has_session w a ≡ true → w ≢ who → numbers_at b w ≡ numbers_at a w
   pub settled : (how : Settled) → ends ≡ false → has_session who a ≡ true → HasSettled (seat_at who a) how → HasSettled (seat_at who b) how
   pub settled_others : (w : ℕ) (how : Settled) → has_session w a ≡ true → w ≢ who → HasSettled (seat_at w a) how → HasSettled (seat_at w b) how
 
@@ -53,13 +54,14 @@ stands a who ends = record {
   keys = λ w place key knows. knows;
   own = refl;
   others = λ w is apart. refl;
+  numbers_others = λ w is apart. refl;
   settled = λ how same is settled. settled;
   settled_others = λ w how is apart settled. settled;
 }
 
 -- one seat was written
 module _ (a b : Core) (who : ℕ) (seat : SeatView) (is : has_session who a ≡ true) (wrote : b.seats ≡ slice_set a.seats (who - 1) seat) where
-  sessions-written : (w : ℕ) → has_session w b ≡ has_session w a
+  pub sessions-written : (w : ℕ) → has_session w b ≡ has_session w a
   sessions-written w = ap (λ n. nat_le 1 w && nat_le w n) (ap length wrote ∙ length-set a.seats (who - 1) seat)
 
   pub seat-written : seat_at who b ≡ seat
@@ -81,6 +83,7 @@ module _ (a b : Core) (who : ℕ) (seat : SeatView) (is : has_session who a ≡ 
     keys = keys;
     own = ap own_of seat-written;
     others = λ w other apart. ap own_of (seat-left w other apart);
+    numbers_others = λ w other apart. ap numbers_of (seat-left w other apart);
     settled = λ how same _ settled. subst (λ s. HasSettled s how) (sym seat-written) (stays how same settled);
     settled_others = λ w how other apart settled. subst (λ s. HasSettled s how) (sym (seat-left w other apart)) settled;
   }
@@ -92,25 +95,37 @@ pub record Serves (a b : Core) : Type 0 where
   pub sessions : (w : ℕ) → has_session w b ≡ has_session w a
   pub keys : (w place : ℕ) (key : KeyName) → Knows a w place key → Knows b w place key
   pub own : (w : ℕ) → has_session w a ≡ true → own_at b w ≡ own_at a w
+  pub numbers : (w : ℕ) → has_session w a ≡ true → numbers_at b w ≡ numbers_at a w
   pub settled : (w : ℕ) (how : Settled) → has_session w a ≡ true → HasSettled (seat_at w a) how → HasSettled (seat_at w b) how
 
 pub serves-same : (a : Core) → Serves a a
-serves-same a = record { sessions = λ w. refl; keys = λ w place key knows. knows; own = λ w is. refl; settled = λ w how is settled. settled }
+serves-same a = record {
+  sessions = λ w. refl;
+  keys = λ w place key knows. knows;
+  own = λ w is. refl;
+  numbers = λ w is. refl;
+  settled = λ w how is settled. settled;
+}
 
 pub serves-then : (a b c : Core) → Serves a b → Serves b c → Serves a c
 serves-then a b c early late = record {
   sessions = λ w. late.sessions w ∙ early.sessions w;
   keys = λ w place key knows. late.keys w place key (early.keys w place key knows);
   own = λ w is. late.own w (early.sessions w ∙ is) ∙ early.own w is;
+  numbers = λ w is. late.numbers w (early.sessions w ∙ is) ∙ early.numbers w is;
   settled = λ w how is settled. late.settled w how (early.sessions w ∙ is) (early.settled w how is settled);
 }
 
--- one session's move after which it has what it had
-pub serves-one : (a b : Core) (who : ℕ) → Moves a who (own_at a who) false b → Serves a b
-serves-one a b who moves = record {
+-- one session's move after which it has what it had, and was given no numbers
+pub serves-one : (a b : Core) (who : ℕ) → Moves a who (own_at a who) false b → numbers_at b who ≡ numbers_at a who → Serves a b
+serves-one a b who moves same = record {
   sessions = moves.sessions;
   keys = moves.keys;
   own = λ w is. elim (nat_told w who) [ inl e ↦ subst (λ v. own_at b v ≡ own_at a v) (sym e) moves.own | inr apart ↦ moves.others w is apart ];
+  numbers = λ w is. elim (nat_told w who) [
+    | inl e ↦ subst (λ v. numbers_at b v ≡ numbers_at a v) (sym e) same
+    | inr apart ↦ moves.numbers_others w is apart
+  ];
   settled = λ w how is settled. elim (nat_told w who) [
     | inl e ↦ subst (λ v. has_session v a ≡ true → HasSettled (seat_at v a) how → HasSettled (seat_at v b) how) (sym e) (moves.settled how refl) is settled
     | inr apart ↦ moves.settled_others w how is apart settled
@@ -124,6 +139,7 @@ moves-then a b c who after ends is early late = record {
   keys = λ w place key knows. late.keys w place key (early.keys w place key knows);
   own = late.own who (early.sessions who ∙ is) ∙ early.own;
   others = λ w other apart. late.own w (early.sessions w ∙ other) ∙ early.others w other apart;
+  numbers_others = λ w other apart. late.numbers w (early.sessions w ∙ other) ∙ early.numbers_others w other apart;
   settled = λ how same h settled. late.settled who how (early.sessions who ∙ is) (early.settled how same h settled);
   settled_others = λ w how other apart settled. late.settled w how (early.sessions w ∙ other) (early.settled_others w how other apart settled);
 }

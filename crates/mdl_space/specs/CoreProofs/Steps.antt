@@ -72,6 +72,7 @@ resolve-steps a who key = resolve_cases (Steps a (Resolve who key)) key a (λ in
   keys = opening-keeps key a;
   own = refl;
   others = λ w is apart. refl;
+  numbers_others = λ w is apart. refl;
   settled = λ how same is settled. settled;
   settled_others = λ w how is apart settled. settled;
 })

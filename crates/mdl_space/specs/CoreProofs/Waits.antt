@@ -1,23 +1,23 @@
 -- What is told of waits in the space of one thread, and that a settled wait stays as it is settled.
-use Rattle.std.proofs.Common.{◌≡◌, ◌⊎◌, ℕ, true, false, Option, Some, None, MatchOption, IfSome, option_map, refl, sym, ap, subst, ◌∙◌, inl, inr}
+use Rattle.std.proofs.Common.{◌≡◌, ◌⊎◌, ℕ, true, false, not, ◌&&◌, is_some, Option, Some, None, MatchOption, IfSome, option_map, refl, sym, ap, subst, ◌∙◌, inl, inr, eq-eqb}
 use Rattle.mdl_space.specs.declared.answers.Settled.{Settled}
 use Rattle.mdl_space.specs.declared.answers.Settled.TheVariants as settled_as
 use Rattle.mdl_space.specs.declared.answers.TimedOut.TheVariants.{Already}
 use Rattle.mdl_space.specs.declared.seat.Pending.{Pending}
 use Rattle.mdl_space.specs.Answers.{Answer, Granted, Lost, Has_wait, Has_killed, Is_settled, Timed_out}
 use Rattle.mdl_space.specs.Calls.{Call, Poll_wait, Settle_timeout, End_wait, Wait_of, Kill, caller}
-use Rattle.mdl_space.specs.CoreCalls.{wait_at, killing}
+use Rattle.mdl_space.specs.CoreCalls.{wait_at, is_open_wait, killing}
 use Rattle.mdl_space.specs.CoreJoins.{SpeaksFor, own_at, IsSettledAs, Joins}
 use Rattle.mdl_space.specs.Cores.{Core, seat_at, has_session}
 use Rattle.mdl_space.specs.Moves.{losing}
-use Rattle.mdl_space.specs.Own.{wait_number}
+use Rattle.mdl_space.specs.Own.{wait_number, is_waiting}
 use Rattle.mdl_space.specs.Seats.{SeatView, own_of, settling}
 use Rattle.mdl_space.specs.Waits.{told, IsEndOf, IsToldOf}
 use Rattle.mdl_space.specs.CoreProofs.Cases.{poll_cases, timeout_cases, end_cases, kill_cases}
 use Rattle.mdl_space.specs.CoreProofs.Owned.{joined, called, caller-speaks, joins-steps, core-keeps_sessions}
 use Rattle.mdl_space.specs.CoreProofs.Seats.{HasSettled, settled-seat, seat-settled, seat-written, wait-of_session}
 use Rattle.mdl_space.specs.CoreProofs.Steps.{subject, ends_wait}
-use Rattle.mdl_space.specs.CoreProofs.Choices.{nat_told}
+use Rattle.mdl_space.specs.CoreProofs.Choices.{nat_told, test_cases}
 
 -- ---- seats with a settled wait
 
@@ -43,6 +43,27 @@ lost-settled a who wait how is its =
     subst (λ s. HasSettled s how) (sym (seat-written a (losing who how a) who (settling how (seat_at who a)) is refl))
     (settled_at (settling how (seat_at who a)) (record wait { settled = Some how }) how
     (ap (λ (o : Option Pending). option_map (λ (w : Pending). record w { settled = Some how }) o) its) refl)
+
+-- ---- a settled wait
+
+waiting-settled : (seat : SeatView) (how : Settled) → HasSettled seat how → is_waiting (own_of seat) ≡ true
+waiting-settled seat how = go seat.wait
+  where
+    go : (o : Option Pending) → MatchOption o ⊥ (λ (w : Pending). w.settled ≡ Some how) → is_waiting (own_of (record seat { wait = o })) ≡ true
+    go None none = absurd none
+    go (Some wait) settled = refl
+
+-- only a wait is settled
+pub core-waits_settled : (a : Core) (w : ℕ) (how : Settled) → SpeaksFor a w → IsSettledAs a w how → is_waiting (own_at a w) ≡ true
+core-waits_settled a w how speaks settled = waiting-settled (seat_at w a) how (settled-seat a w how speaks.0 settled)
+
+-- a wait is settled in one way
+pub core-settled_once : (a : Core) (w : ℕ) (how other : Settled) → SpeaksFor a w → IsSettledAs a w how → IsSettledAs a w other → how ≡ other
+core-settled_once a w how other speaks = go (wait_at w a)
+  where
+    go : (o : Option Pending) → MatchOption o ⊥ (λ (x : Pending). x.settled ≡ Some how) → MatchOption o ⊥ (λ (x : Pending). x.settled ≡ Some other) → how ≡ other
+    go None none also = absurd none
+    go (Some wait) one two = let e = sym one ∙ two in cc
 
 -- ---- what is told is true
 
@@ -161,3 +182,34 @@ core-kills a b w number speaks joins =
           lost-settled a w wait settled_as.Killed is its,
         ))
         (λ e. cc)
+
+-- the wait of a number that isn't open is settled
+shut-settled : (number : ℕ) (o : Option Pending) → option_map (λ (wait : Pending). wait.number) o ≡ Some number → is_open_wait number o ≡ false
+    → (how : Settled) × MatchOption o ⊥ (λ (wait : Pending). wait.settled ≡ Some how)
+shut-settled number None e shut = cc
+shut-settled number (Some wait) e shut = at wait.settled refl
+  where
+    same : wait.number ≡ number
+    same = cc
+
+    at : (s : Option Settled) → wait.settled ≡ s → (how : Settled) × (wait.settled ≡ Some how)
+    at (Some how) f = (how, f)
+    at None f =
+        let opened : is_open_wait number (Some wait) ≡ true = ap (λ b. b && not (is_some wait.settled)) (eq-eqb wait.number number same) ∙ ap (λ s. not (is_some s)) f in
+        cc
+
+abbrev Misses : Core → ℕ → ℕ → Answer × Core → Type 0
+Misses a w number result = result.0 ≡ Has_killed false → wait_number (own_at a w) ≡ Some number → (how : Settled) × HasSettled (seat_at w result.1) how
+
+-- a kill that kills nothing found no wait of the number that was named, or a settled one
+pub core-kills_or_settled : (a b : Core) (w number : ℕ) → SpeaksFor a w → Joins a (Kill w number) (Has_killed false) b
+    → wait_number (own_at a w) ≡ Some number → (how : Settled) × IsSettledAs b w how
+core-kills_or_settled a b w number speaks joins waits =
+    let h = joined (Misses a w number) a b (Kill w number) (Has_killed false) joins (λ takes. cc) made refl waits in
+    (h.0, seat-settled b w h.0 (core-keeps_sessions a b (Kill w number) (Has_killed false) w speaks.0 joins) h.1)
+  where
+    made : Misses a w number (killing w number a)
+    made = test_cases (Misses a w number) (is_open_wait number (wait_at w a)) (Has_killed true, losing w settled_as.Killed a) (Has_killed false, a)
+        (λ opened e. cc)
+        (λ shut e n. shut-settled number (seat_at w a).wait (number-same (seat_at w a) ∙ n)
+        (ap (is_open_wait number) (sym (wait-of_session a w speaks.0)) ∙ shut))

@@ -32,7 +32,7 @@ apart-Decides own other test = go (eqb_tells own other) test
     go (inr e) true = ((λ h _ _. let no : false ≡ true = sym (ap (λ b. b || false) e.0) ∙ h in cc), λ f. absurd (f e.1 refl))
     go (inr e) false = ((λ _ _ h. cc), λ _. ap (λ b. b || true) e.0)
 
-compatible-Decides : (kind : Kind) (granted : List Ticket) (session : ℕ) (mode : Mode)
+pub compatible-Decides : (kind : Kind) (granted : List Ticket) (session : ℕ) (mode : Mode)
     → Decides (book.is_compatible kind granted session mode) ((t : Ticket) → Contains granted t → t.session ≢ session → Clashes kind mode t.mode → ⊥)
 compatible-Decides kind granted session mode =
     each-Decides (book.stands_beside kind session mode) (λ t. t.session ≢ session → Clashes kind mode t.mode → ⊥)

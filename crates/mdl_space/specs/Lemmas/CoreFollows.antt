@@ -1,17 +1,16 @@
 -- What follows from an event in the lock space of one thread: it stays sound.
 use Rattle.std.proofs.Common.{◌≡◌, ◌⊎◌, ℕ, true, false, inl, inr, List, [], Option, sym, subst}
-use Rattle.std.specs.Prelude.{Contains, All}
-use Rattle.std.proofs.lemmas.List.Elements.{All-nil}
+use Rattle.std.specs.Prelude.{Contains}
 use Rattle.mdl_key.specs.Keys.{KeyName}
 use Rattle.mdl_defs.specs.declared.definition.Definition.{Definition}
 use Rattle.mdl_space.specs.Answers.{Answer}
-use Rattle.mdl_space.specs.BlockingLaws.{IsAbout, IsGrantAt, FreesNothing, WaitsForCause}
+use Rattle.mdl_space.specs.BlockingLaws.{IsAbout, FreesNothing, WaitsForCause}
 use Rattle.mdl_space.specs.Calls.{Call}
-use Rattle.mdl_space.specs.CoreLaws.{is_change, IsEventOf}
+use Rattle.mdl_space.specs.CoreLaws.{is_change, IsEventOf, GrantsInOrder}
 use Rattle.mdl_space.specs.Cores.{Core, key_at, has_key}
 use Rattle.mdl_space.specs.CoreSystems.{system_of}
 use Rattle.mdl_space.specs.Moves.{serving}
-use Rattle.mdl_space.specs.Steps.{Event, Happens, Run, SameSystem}
+use Rattle.mdl_space.specs.Steps.{Event, Happens, SameSystem}
 use Rattle.mdl_space.specs.Systems.{System, Waiter, NoneForgotten, IsLawful}
 use Rattle.mdl_space.specs.Ties.{IsTied, IsSound}
 use Rattle.mdl_space.specs.Lemmas.ConcernLemmas.{step-forgets, granting-there}
@@ -36,8 +35,8 @@ module _ {C : Type 0} (apply : KeyName → C → Option Definition → Option (O
     pub sound : IsSound b
     pub how : ((is_change call answer ≡ false) × SameSystem (system_of a) (system_of b))
         ⊎ ((event : Event C) × (grants : List (Event C)) × (between : System Definition) × (key : KeyName)
-        × IsEventOf a call answer event × ((other : KeyName) → IsAbout event other → other ≡ key) × All (IsGrantAt key) grants
-        × Happens apply event (system_of a) between × Run apply grants between (system_of b))
+        × IsEventOf a call answer event × ((other : KeyName) → IsAbout event other → other ≡ key)
+        × Happens apply event (system_of a) between × GrantsInOrder apply key grants between (system_of b))
 
   -- the same of an outcome
   abbrev pub LeadsTo : Core → Call → Answer × Core → Type 0
@@ -67,7 +66,7 @@ module _ {C : Type 0} (apply : KeyName → C → Option Definition → Option (O
       lawful = step-lawful apply event (system_of a) (system_of b) happens sound.lawful;
       none_forgotten = λ other. step-forgets apply event (system_of a) (system_of b) happens frees cause other (sound.none_forgotten other);
     };
-    how = inr (event, [], system_of b, key, is, about, All-nil (IsGrantAt key), happens, same_system (system_of b));
+    how = inr (event, [], system_of b, key, is, about, happens, same_system (system_of b));
   }
 
   -- an event by which a ticket of this place goes, after which its waiters are granted
@@ -84,5 +83,5 @@ module _ {C : Type 0} (apply : KeyName → C → Option Definition → Option (O
           none_forgotten = granting-there apply event served.events (system_of a) (system_of mid) (system_of (serving place mid)) (key_at place mid) about
               happens served.grants served.run served.none_forgotten sound.none_forgotten;
         };
-        how = inr (event, served.events, system_of mid, key_at place mid, is, about, served.grants, happens, served.run);
+        how = inr (event, served.events, system_of mid, key_at place mid, is, about, happens, served.in_order);
       }

@@ -126,12 +126,12 @@ has-numbered seat ticket numbered (inl held) = numbered.held ticket held
 has-numbered seat ticket numbered (inr wait) = waited seat.wait numbered.wait wait
   where
     waited : (o : Option Pending) → MatchOption o (Unit {0}) (λ (w : Pending).
-        (w.id ≤ seat.last_ticket) × (w.number ≤ seat.last_wait) × ((t : Held) → Contains seat.held t → t.id < w.id))
+        (w.id ≡ seat.last_ticket) × (w.number ≤ seat.last_wait) × ((t : Held) → Contains seat.held t → t.id < w.id))
         → MatchOption o ⊥ (λ (w : Pending). (w.settled ≡ Some settled_as.Granted) × (ticket ≡ ticket_of_wait w)) → ticket.id ≤ seat.last_ticket
     waited None below won = absurd won
     waited (Some w) below won =
         let same : ticket.id ≡ w.id = ap (λ (t : Held). t.id) won.1 in
-        let most : w.id ≤ seat.last_ticket = below.0 in
+        let most : w.id ≡ seat.last_ticket = below.0 in
         omega arith
 
 pub new_number : (core : Core) (who : ℕ) → IsTied core → has_session who core ≡ true → IsNewNumber (system_of core) who ((seat_at who core).last_ticket + 1)

@@ -1,8 +1,8 @@
 -- Granting the waiters of a place, one after another, until there is none who can be.
-use Rattle.std.proofs.Common.{◌≡◌, ◌⊎◌, ℕ, zero, suc, ◌≤◌, Bool, true, false, ◌&&◌, inl, inr, List, [], ◌∷◌, length, find, Option, Some, None, refl, sym, ap, subst, ◌∙◌, arith, length-append}
+use Rattle.std.proofs.Common.{◌++◌, map, ◌≡◌, ◌⊎◌, ℕ, zero, suc, ◌≤◌, Bool, true, false, ◌&&◌, inl, inr, List, [], ◌∷◌, length, find, Option, Some, None, refl, sym, ap, subst, ◌∙◌, arith, length-append}
 use Rattle.std.specs.Prelude.{Contains, All}
-use Rattle.std.proofs.lemmas.List.{length-map}
-use Rattle.std.proofs.lemmas.List.Elements.{All-nil, All-cons}
+use Rattle.std.proofs.lemmas.List.{length-map, map-append}
+use Rattle.std.proofs.lemmas.List.Elements.{All-nil, All-cons, Contains-append_left}
 use Rattle.mdl_key.specs.Keys.{KeyName}
 use Rattle.mdl_defs.specs.declared.definition.Definition.{Definition}
 use Rattle.mdl_book.specs.declared.ticket.Ticket.{Ticket}
@@ -10,19 +10,21 @@ use Rattle.mdl_book.specs.declared.lists.Lists.{Lists}
 use Rattle.mdl_book.specs.Books.{admitting}
 use Rattle.mdl_space.specs.declared.answers.Settled.TheVariants as settled_as
 use Rattle.mdl_space.specs.BlockingLaws.{IsGrantAt}
+use Rattle.mdl_space.specs.CoreLaws.{IsFirst, GrantsInOrder}
 use Rattle.mdl_space.specs.Cores.{Core, book_at, seat_at, key_at, has_key, is_free, seating}
 use Rattle.mdl_space.specs.CoreSystems.{system_of, book_of, waiter_in}
 use Rattle.mdl_space.specs.Moves.{admitting_at, admitting_if, admitting_up_to, is_ready, is_unsettled, next_ready, serving}
 use Rattle.mdl_space.specs.Seats.{settling}
 use Rattle.mdl_space.specs.Steps.{Event, GrantWaiter, Run, LeavesOrder}
-use Rattle.mdl_space.specs.Systems.{NoneForgottenAt}
+use Rattle.mdl_space.specs.Systems.{IsGrantable, NoneForgottenAt, Unsettled, Waiter}
 use Rattle.mdl_space.specs.Ties.{IsTied}
-use Rattle.mdl_space.specs.Lemmas.CoreEvents.{same_system, admitting-grants}
+use Rattle.mdl_space.specs.Lemmas.CoreEvents.{same_system, admitting-grants, ticket_of-waiter}
 use Rattle.mdl_space.specs.Lemmas.CoreReads.{has_key-booking, booked-same}
 use Rattle.mdl_space.specs.Lemmas.CoreGranted.{book_of-at, free-grantable}
 use Rattle.mdl_space.specs.Lemmas.CoreSettling.{waiting-admitting}
 use Rattle.mdl_space.specs.Lemmas.CoreWaiting.{waiter-found, unsettled-found}
 use Rattle.mdl_space.specs.Lemmas.TiedMoves.{tied-admitting}
+use Rattle.mdl_space.specs.Lemmas.MemberLemmas.{Contains-map_from}
 use Rattle.mdl_space.specs.Lemmas.OrderLemmas.{Contains-cons_cases, Contains-here, Contains-later}
 
 -- ---- the first that passes a test
@@ -57,6 +59,21 @@ module _ {T : Type 0} (p : T → Bool) where
       | inr same ↦ ap p same ∙ fails
     ]
   ]
+
+-- a list parted at the first that passes
+pub found-parted : {T : Type 0} (p : T → Bool) (xs : List T) (x : T) → find p xs ≡ Some x
+    → (before : List T) × (after : List T) × (xs ≡ before ++ x ∷ after) × ((y : T) → Contains before y → p y ≡ false)
+found-parted p [] x e = cc
+found-parted {T} p (y ∷ ys) x e = elim (truth (p y)) [
+  | inl passes ↦ ([], ys, ap (λ z. z ∷ ys) (some_same p x y (sym (find-here p y ys passes) ∙ e)), λ z among. let lt = among.1 in absurd (omega arith))
+  | inr fails ↦ (
+      let rest = found-parted p ys x (sym (find-later p y ys fails) ∙ e) in (
+        y ∷ rest.0,
+        rest.1,
+        ap (λ zs. y ∷ zs) rest.2,
+        λ z among. elim (Contains-cons_cases y rest.0 z among) [ inl later ↦ rest.3 z later | inr same ↦ ap p same ∙ fails ],
+      ))
+]
 
 -- ---- granting again and again
 
@@ -96,17 +113,38 @@ shorter x old new leaves =
     let after = ap length leaves.3 ∙ length-append leaves.0 leaves.1 in
     omega arith
 
--- a wish that isn't ready is forgotten by nobody
+-- a waiter that isn't ready isn't forgotten
+not_ready : (core : Core) (place : ℕ) → IsTied core → has_key place core ≡ true → (waiter : Waiter) → Contains ((system_of core).waiting (key_at place core)) waiter
+    → is_ready place core waiter.ticket ≡ false → waiter.state ≡ Unsettled → IsGrantable (system_of core) waiter.ticket.session (key_at place core) waiter.ticket.mode → ⊥
+not_ready core place tied key waiter among unready unsettled grantable =
+    let unended : is_unsettled waiter.ticket.session core ≡ true = unsettled-found core place waiter tied key among unsettled in
+    let free : is_free waiter.ticket.session place waiter.ticket.mode core ≡ true =
+    (free-grantable core waiter.ticket.session place waiter.ticket.mode tied key).1 grantable in
+    let ready : is_ready place core waiter.ticket ≡ true = ap (λ b. b && is_free waiter.ticket.session place waiter.ticket.mode core) unended ∙ free in
+    false_not_true _ unready ready
+
+-- where none is ready nobody is forgotten
 pub none_ready : (core : Core) (place : ℕ) → IsTied core → has_key place core ≡ true → next_ready place core ≡ None
     → NoneForgottenAt (system_of core) (key_at place core)
 none_ready core place tied key idle waiter among unsettled grantable =
     let found = waiter-found core place waiter tied key among in
-    let unended : is_unsettled waiter.ticket.session core ≡ true = unsettled-found core place waiter tied key among unsettled in
-    let free : is_free waiter.ticket.session place waiter.ticket.mode core ≡ true =
-    (free-grantable core waiter.ticket.session place waiter.ticket.mode tied key).1 grantable in
     let unready : is_ready place core waiter.ticket ≡ false = found-none (is_ready place core) (book_at place core).waiting waiter.ticket idle found.0 in
-    let ready : is_ready place core waiter.ticket ≡ true = ap (λ b. b && is_free waiter.ticket.session place waiter.ticket.mode core) unended ∙ free in
-    false_not_true _ unready ready
+    not_ready core place tied key waiter among unready unsettled grantable
+
+-- the next that is ready is the first of the waiters that can be granted
+first-ready : (core : Core) (place : ℕ) (ticket : Ticket) → IsTied core → has_key place core ≡ true → next_ready place core ≡ Some ticket
+    → IsFirst (system_of core) (key_at place core) (waiter_in core ticket)
+first-ready core place ticket tied key ready =
+    let parted = found-parted (is_ready place core) (book_at place core).waiting ticket ready in
+    let waiters : (system_of core).waiting (key_at place core) ≡ map (waiter_in core) parted.0 ++ waiter_in core ticket ∷ map (waiter_in core) parted.1 =
+    ap (λ (book : Lists). map (waiter_in core) book.waiting) (book_of-at core place tied key) ∙ ap (map (waiter_in core)) parted.2
+    ∙ map-append (waiter_in core) parted.0 (ticket ∷ parted.1) in
+    let earlier : (waiter : Waiter) → Contains (map (waiter_in core) parted.0) waiter → is_ready place core waiter.ticket ≡ false = λ waiter among.
+    let from = Contains-map_from (waiter_in core) parted.0 waiter among in
+    ap (λ (w : Waiter). is_ready place core w.ticket) from.2 ∙ ap (is_ready place core) (ticket_of-waiter from.0 (seat_at from.0.session core).wait) ∙ parted.3 from.0 from.1 in
+    let there : (waiter : Waiter) → Contains (map (waiter_in core) parted.0) waiter → Contains ((system_of core).waiting (key_at place core)) waiter = λ waiter among.
+    subst (λ ws. Contains ws waiter) (sym waiters) (Contains-append_left (map (waiter_in core) parted.0) (waiter_in core ticket ∷ map (waiter_in core) parted.1) waiter among) in
+    (map (waiter_in core) parted.0, map (waiter_in core) parted.1, waiters, λ waiter among. not_ready core place tied key waiter (there waiter among) (earlier waiter among))
 
 module _ {C : Type 0} (apply : KeyName → C → Option Definition → Option (Option Definition)) where
   -- what granting waiters of a place leads to
@@ -115,6 +153,7 @@ module _ {C : Type 0} (apply : KeyName → C → Option Definition → Option (O
     pub events : List (Event C)
     pub grants : All (IsGrantAt (key_at place a)) events
     pub run : Run apply events (system_of a) (system_of b)
+    pub in_order : GrantsInOrder apply (key_at place a) events (system_of a) (system_of b)
     pub none_forgotten : NoneForgottenAt (system_of b) (key_at place a)
 
   served-at_once : (a : Core) (place : ℕ) → IsTied a → has_key place a ≡ true → next_ready place a ≡ None → IsServed place a a
@@ -123,6 +162,7 @@ module _ {C : Type 0} (apply : KeyName → C → Option Definition → Option (O
     events = [];
     grants = All-nil (IsGrantAt (key_at place a));
     run = same_system (system_of a);
+    in_order = same_system (system_of a);
     none_forgotten = none_ready a place tied key idle;
   }
 
@@ -139,6 +179,14 @@ module _ {C : Type 0} (apply : KeyName → C → Option Definition → Option (O
         grants = All-cons (IsGrantAt (key_at place a)) (GrantWaiter (key_at place a) (waiter_in a ticket)) rest.events refl
             (subst (λ k. All (IsGrantAt k) rest.events) same rest.grants);
         run = (system_of (admitting_at place ticket a), admitting-grants a place ticket tied next key found.0 both.0 both.1, rest.run);
+        in_order = (
+          waiter_in a ticket,
+          system_of (admitting_at place ticket a),
+          refl,
+          first-ready a place ticket tied key ready,
+          admitting-grants a place ticket tied next key found.0 both.0 both.1,
+          subst (λ k. GrantsInOrder apply k rest.events (system_of (admitting_at place ticket a)) (system_of b)) same rest.in_order,
+        );
         none_forgotten = subst (λ k. NoneForgottenAt (system_of b) k) same rest.none_forgotten;
       }
 

@@ -1,7 +1,7 @@
 -- Each call of the lock space of one thread is an event of the system, and keeps the space sound; so does all that is asked of it.
 use Rattle.std.proofs.Common.{◌≡◌, ◌⊎◌, ℕ, Bool, true, false, not, inl, inr, zero, suc, ◌+◌, List, [], ◌∷◌, Option, Some, None, refl, sym, ap, subst, ◌∙◌, arith}
 use Rattle.std.specs.Option.{IfSome}
-use Rattle.std.specs.Prelude.{All, replicate, is_some, if◌then◌else◌}
+use Rattle.std.specs.Prelude.{replicate, is_some, if◌then◌else◌}
 use Rattle.mdl_key.specs.Keys.{KeyName}
 use Rattle.mdl_key.specs.declared.mode.Mode.{Mode}
 use Rattle.mdl_key.specs.Modes.{is_mode_of}
@@ -10,15 +10,14 @@ use Rattle.mdl_book.specs.Books.{lock_kind}
 use Rattle.mdl_space.specs.declared.space_error.SpaceError.{SpaceError}
 use Rattle.mdl_space.specs.declared.space_error.SpaceError.TheVariants.{OutOfMemory, Full}
 use Rattle.mdl_space.specs.Answers.{Answer, Refused, Granted, Would_wait, Waits}
-use Rattle.mdl_space.specs.BlockingLaws.{IsAbout, IsGrantAt}
+use Rattle.mdl_space.specs.BlockingLaws.{IsAbout}
 use Rattle.mdl_space.specs.Calls.{Call, Resolve, Try_now, Begin_wait, Search, Poll_wait, Settle_timeout, End_wait, Wait_of, Kill, Release, Clone_ticket, Upgrade_now, Merge, Downgrade, Read_definition, Change_definition, Tables_of, Key_of, Read_kept, List_held, Unpin, caller, takes_memory}
 use Rattle.mdl_space.specs.CoreCalls.{has_call, outcome, Makes, first_cause, refused_or, request_causes, is_full, is_counted_out, looking_after, listing}
 use Rattle.mdl_space.specs.CoreJoins.{Joins, SpeaksFor}
-use Rattle.mdl_space.specs.CoreLaws.{is_change, IsEventOf, Reaches, CallsAreEvents, CallsKeepSound, GrantsWhatIsGrantable}
+use Rattle.mdl_space.specs.CoreLaws.{is_change, IsEventOf, Reaches, CallsAreEvents, CallsKeepSound, GrantsWhatIsGrantable, GrantsInOrder, Joined}
 use Rattle.mdl_space.specs.Cores.{Core, empty_core, seat_at, book_at, key_at, has_key, is_free}
 use Rattle.mdl_space.specs.CoreSystems.{system_of, unended_from}
 use Rattle.mdl_space.specs.Moves.{granting_to, queueing}
-use Rattle.mdl_space.specs.Runs.{Program, Runs, runs_keeps}
 use Rattle.mdl_space.specs.Seats.{empty_seat}
 use Rattle.mdl_space.specs.Steps.{Event, Happens, Run, SameMembers, SameSystem}
 use Rattle.mdl_space.specs.Systems.{System, empty_system, IsGrantable, IsLawful, NoneForgotten}
@@ -208,10 +207,15 @@ empty-sound places sessions = record {
   none_forgotten = λ key waiter among _ _. let lt = among.1 in absurd (omega arith);
 }
 
--- ---- whole runs
+-- ---- whole lists of calls
 
 module _ {C : Type 0} (apply : KeyName → C → Option Definition → Option (Option Definition)) where
-  -- what is so after each call of a run
+  run-in_order : {D : Type 0} (make : KeyName → C → Option D → Option (Option D)) (key : KeyName) (events : List (Event C)) (a b : System D)
+      → GrantsInOrder make key events a b → Run make events a b
+  run-in_order make key [] a b same = same
+  run-in_order make key (event ∷ events) a b (waiter, between, is, next, happens, rest) = (between, happens, run-in_order make key events between b rest)
+
+  -- what is so after each call
   abbrev IsReached : Core → Type 0
   IsReached core = IsSound core × ((events : List (List (Event C))) × Reaches apply events empty_system (system_of core))
 
@@ -222,14 +226,19 @@ module _ {C : Type 0} (apply : KeyName → C → Option Definition → Option (O
     where
       by : ((is_change call answer ≡ false) × SameSystem (system_of a) (system_of b))
           ⊎ ((event : Event C) × (grants : List (Event C)) × (between : System Definition) × (key : KeyName)
-          × IsEventOf a call answer event × ((other : KeyName) → IsAbout event other → other ≡ key) × All (IsGrantAt key) grants
-          × Happens apply event (system_of a) between × Run apply grants between (system_of b))
+          × IsEventOf a call answer event × ((other : KeyName) → IsAbout event other → other ≡ key)
+          × Happens apply event (system_of a) between × GrantsInOrder apply key grants between (system_of b))
           → (all : List (List (Event C))) × Reaches apply all empty_system (system_of b)
       by (inl same) = ([] ∷ events, (system_of a, reached, same.1))
-      by (inr (event, grants, between, key, is, about, all, happens, run)) = ((event ∷ grants) ∷ events, (system_of a, reached, (between, happens, run)))
+      by (inr (event, grants, between, key, is, about, happens, order)) =
+          ((event ∷ grants) ∷ events, (system_of a, reached, (between, happens, run-in_order apply key grants between (system_of b) order)))
 
-  pub runs_are-events : {A : Type 0} (places sessions : ℕ) (program : Program A) (reply : A) (b : Core) → Runs Joins (empty_core places sessions) program reply b
+  all-reached : (calls : List (Call × Answer)) (a b : Core) → IsReached a → Joined calls a b → IsReached b
+  all-reached [] a b reached same = subst IsReached same reached
+  all-reached ((call, answer) ∷ calls) a b reached (between, joins, rest) = all-reached calls between b (goes-on a between call answer reached joins) rest
+
+  pub calls_lead-by_events : (places sessions : ℕ) (calls : List (Call × Answer)) (b : Core) → Joined calls (empty_core places sessions) b
       → ((events : List (List (Event C))) × Reaches apply events empty_system (system_of b)) × IsLawful (system_of b) × NoneForgotten (system_of b)
-  runs_are-events places sessions program reply b run =
-      let all = runs_keeps Joins IsReached goes-on program (empty_core places sessions) b reply (empty-sound places sessions, ([], empty-same places sessions)) run in
+  calls_lead-by_events places sessions calls b joined =
+      let all = all-reached calls (empty_core places sessions) b (empty-sound places sessions, ([], empty-same places sessions)) joined in
       (all.1, all.0.lawful, all.0.none_forgotten)

@@ -126,7 +126,7 @@ own-unended core who wait has own = (
 held_below : (seat : SeatView) (pending : Pending) (ticket : Held) → seat.wait ≡ Some pending → IsNumbered seat → Contains seat.held ticket → ticket.id < pending.id
 held_below seat pending ticket is numbered among =
     let h = subst (λ o. MatchOption o (Unit {0}) (λ (wait : Pending).
-    (wait.id ≤ seat.last_ticket) × (wait.number ≤ seat.last_wait) × ((ticket : Held) → Contains seat.held ticket → ticket.id < wait.id))) is numbered.wait in
+    (wait.id ≡ seat.last_ticket) × (wait.number ≤ seat.last_wait) × ((ticket : Held) → Contains seat.held ticket → ticket.id < wait.id))) is numbered.wait in
     h.2 ticket among
 
 -- a held ticket is none of a granted wait that isn't ended

@@ -38,7 +38,7 @@ open-wait (Some wait) e = (wait, refl, unsettled wait.settled e)
 
 -- what is known of a wait's number
 abbrev WaitNumbered : SeatView → Pending → Type 0
-WaitNumbered seat wait = (wait.id ≤ seat.last_ticket) × (wait.number ≤ seat.last_wait) × ((ticket : Held) → Contains seat.held ticket → ticket.id < wait.id)
+WaitNumbered seat wait = (wait.id ≡ seat.last_ticket) × (wait.number ≤ seat.last_wait) × ((ticket : Held) → Contains seat.held ticket → ticket.id < wait.id)
 
 -- the number of what a session has or waits for isn't above the last one
 pub number-bound : (seat : SeatView) → IsNumbered seat → (ticket : Held) → Has seat ticket ⊎ WaitsFor seat ticket → ticket.id ≤ seat.last_ticket

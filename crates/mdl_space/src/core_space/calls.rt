@@ -1,8 +1,9 @@
 //! The space of one thread as a lock space: each call has just one outcome, but that memory may run out.
-ghost use Rattle.mdl_space.specs.CoreJoins.{SpeaksFor, own_at, Knows, IsSettledAs, Joins};
+ghost use Rattle.mdl_space.specs.CoreJoins.{SpeaksFor, own_at, numbers_at, Knows, IsSettledAs, Joins};
 ghost use Rattle.mdl_space.specs.CoreProofs.Owned.{core-allowed, core-keeps, core-changes, core-others, core-rising, core-fits, core-lists};
-ghost use Rattle.mdl_space.specs.CoreProofs.Places.{core-resolves, core-remembers, core-one_key, core-one_place};
-ghost use Rattle.mdl_space.specs.CoreProofs.Waits.{core-tells, core-stays, core-agrees, core-counts, core-kills};
+ghost use Rattle.mdl_space.specs.CoreProofs.Places.{core-resolves, core-remembers, core-one_key, core-one_place, core-held_places, core-wait_place};
+ghost use Rattle.mdl_space.specs.CoreProofs.Waits.{core-waits_settled, core-settled_once, core-tells, core-stays, core-agrees, core-counts, core-kills, core-kills_or_settled};
+ghost use Rattle.mdl_space.specs.CoreProofs.Numbers.{core-draws, core-others_draw};
 ghost use Rattle.mdl_space.specs.CoreProofs.Causes.{core-explains};
 ghost use Rattle.mdl_space.specs.Lemmas.CoreSound.{calls_keep-sound};
 
@@ -18,6 +19,8 @@ impl LockSpace for CoreSpace {
     ghost knows = { Knows };
 
     ghost is_settled = { IsSettledAs };
+
+    ghost numbers = { numbers_at };
 
     ghost joins = { Joins };
 
@@ -57,13 +60,8 @@ impl LockSpace for CoreSpace {
         self.give_back(who, id)
     }
 
-    fn clone_ticket(
-        &mut self,
-        _who: u16,
-        _id: TicketId,
-        _mode: Mode,
-    ) -> Result<TicketId, SpaceError> {
-        Err(SpaceError::OutOfMemory)
+    fn clone_ticket(&mut self, who: u16, id: TicketId, mode: Mode) -> Result<TicketId, SpaceError> {
+        self.clone_held(who, id, mode)
     }
 
     fn held(&self, who: u16) -> Result<Vec<Held>, SpaceError> {
@@ -94,7 +92,15 @@ impl LockSpace for CoreSpace {
 
     ghost one_place = { core-one_place };
 
+    ghost held_places = { core-held_places };
+
+    ghost wait_place = { core-wait_place };
+
     ghost tells = { core-tells };
+
+    ghost waits_settled = { core-waits_settled };
+
+    ghost settled_once = { core-settled_once };
 
     ghost stays = { core-stays };
 
@@ -103,4 +109,10 @@ impl LockSpace for CoreSpace {
     ghost counts = { core-counts };
 
     ghost kills = { core-kills };
+
+    ghost kills_or_settled = { core-kills_or_settled };
+
+    ghost draws = { core-draws };
+
+    ghost others_draw = { core-others_draw };
 }

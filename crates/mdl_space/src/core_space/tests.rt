@@ -1,3 +1,13 @@
+//! Limits, places and lists of the space, and beside these its calls as rows.
+mod acts;
+mod fixture;
+mod full;
+mod life;
+mod memory;
+mod plain;
+mod refusals;
+mod seeded;
+
 use super::*;
 use std::test::Fail;
 
@@ -28,39 +38,6 @@ fn keys_keep_their_places(rt: HostRuntime) -> Result<(), Fail> {
         space.place_key(&Key::global(alloc)),
         Err(SpaceError::NoPlace)
     );
-    Ok(())
-}
-
-#[test]
-fn requests_are_refused_in_order(rt: HostRuntime) -> Result<(), Fail> {
-    let alloc = rt.alloc();
-    let mut space = CoreSpace::new(alloc, 2, 1)?;
-    assert_eq!(rt;
-        space.check_request(1, 1, Mode::IX),
-        Err(SpaceError::NoPlace)
-    );
-    space.place_key(&Key::table(alloc, "test", "t")?)?;
-    assert_eq!(rt;
-        space.check_request(1, 0, Mode::X),
-        Err(SpaceError::NoPlace)
-    );
-    assert_eq!(rt;
-        space.check_request(1, 1, Mode::IX),
-        Err(SpaceError::BadMode)
-    );
-    assert_eq!(rt; space.check_request(1, 1, Mode::X), Ok(()));
-    Ok(())
-}
-
-#[test]
-fn locks_are_had_where_they_can_be(rt: HostRuntime) -> Result<(), Fail> {
-    let alloc = rt.alloc();
-    let mut space = CoreSpace::new(alloc, 2, 3)?;
-    let place = space.place_key(&Key::table(alloc, "test", "t")?)?;
-    assert_eq!(rt; space.try_lock(1, place, Mode::SR), Ok(Attempt::Granted(1)));
-    assert_eq!(rt; space.try_lock(2, place, Mode::SW), Ok(Attempt::Granted(1)));
-    assert_eq!(rt; space.try_lock(2, place, Mode::SR), Ok(Attempt::Granted(2)));
-    assert_eq!(rt; space.try_lock(3, place, Mode::X), Ok(Attempt::WouldWait));
     Ok(())
 }
 

@@ -1,9 +1,11 @@
 //! A lock space for tests: one session, one key and one ticket at most, while another session comes and goes.
-ghost use Rattle.std.specs.Prelude.{◌≡◌, MatchResult};
-ghost use Rattle.std.proofs.Common.{rules};
+ghost use Rattle.std.specs.Prelude.{◌≡◌, ◌+◌, false, MatchResult};
+ghost use Rattle.std.proofs.Common.{rules, refl, sym, ◌∙◌};
 ghost use Rattle.mdl_space.specs.Calls.{Begin_wait};
 ghost use Rattle.mdl_space.specs.Causes.{IsClear, IsCause};
-ghost use Rattle.mdl_space.specs.LoneSessions.{Lone, SpeaksFor, Knows, IsSettled, Joins, alone};
+ghost use Rattle.mdl_space.specs.LoneSessions.{Lone, SpeaksFor, Knows, IsSettled, Joins, alone, numbering};
+ghost use Rattle.mdl_space.specs.LoneProofs.{held-at_one, wait-at_one, settled-how};
+ghost use Rattle.mdl_space.specs.Own.{ticket_drawn, is_waiting};
 
 use super::{LockSpace, Place, TicketId};
 use crate::{Attempt, Begun, Ended, Held, Poll, Settled, SpaceError, TimedOut};
@@ -15,6 +17,7 @@ use std::marker::Model;
 #[derive(Clone, Copy)]
 struct Waiting {
     number: u64,
+    id: TicketId,
     place: Place,
     mode: Mode,
     settled: Option<Settled>,
@@ -28,7 +31,8 @@ pub struct LoneSession {
     key: Key,
     ticket: Option<Held>,
     wait: Option<Waiting>,
-    last_number: u64,
+    last_ticket: u64,
+    last_wait: u64,
     crowded: bool,
 }
 
@@ -47,9 +51,10 @@ impl Model for LoneSession {
         wait = option_map (λ w. record { number = w.number; place = w.place; mode = w.mode }) s.wait;
       };
       settled = last_of (option_map (λ w. w.settled) s.wait);
+      numbers = record { last_ticket = s.last_ticket; last_wait = s.last_wait };
     } };
 
-    ghost invariant = { λ s. IfSome s.wait (λ _. s.ticket ≡ None) };
+    ghost invariant = { λ s. IfSome s.wait (λ w. (s.ticket ≡ None) × (w.id ≡ s.last_ticket)) };
 }
 
 impl LoneSession {
@@ -63,7 +68,8 @@ impl LoneSession {
             key,
             ticket: None,
             wait: None,
-            last_number: 0,
+            last_ticket: 0,
+            last_wait: 0,
             crowded: false,
         }
     }
@@ -76,22 +82,24 @@ impl LoneSession {
         self.crowded
     }
 
-    // Draws a number.
-    fn draw(&mut self) -> Result<u64, SpaceError>
-        ensures drawn { self.new ≡ self.old }
-        ensures refused { MatchResult result (λ _. Unit {0}) (λ e. e ≡ SpaceError.CounterFull) }
+    // Gives a ticket its number.
+    fn draw_ticket(&mut self) -> Result<TicketId, SpaceError>
+        requires { is_waiting self.old.own ≡ false }
+        ensures { MatchResult result
+            (λ id. (id ≡ self.old.numbers.last_ticket + 1) × (self.new ≡ numbering (ticket_drawn self.old.numbers) self.old))
+            (λ e. (e ≡ SpaceError.CounterFull) × (self.new ≡ self.old)) }
     {
-        if self.last_number == u64::MAX {
+        if self.last_ticket == u64::MAX {
             return Err(SpaceError::CounterFull);
         }
-        self.last_number += 1;
-        Ok(self.last_number)
+        self.last_ticket += 1;
+        Ok(self.last_ticket)
     }
 
     // Looks whether a lock can be asked for.
     fn check_request(&self, place: Place, mode: Mode) -> Result<(), SpaceError>
         ensures { MatchResult result
-            (λ _. IsClear (Knows self.now self.now.who) (Begin_wait self.now.who place mode) self.now.own)
+            (λ _. (place ≡ 1) × IsClear (Knows self.now self.now.who) (Begin_wait self.now.who place mode) self.now.own)
             (λ e. IsCause (Knows self.now self.now.who) (Begin_wait self.now.who place mode) e self.now.own) }
     {
         if place != 1 {
@@ -116,6 +124,8 @@ impl LockSpace for LoneSession {
 
     ghost is_settled = { IsSettled };
 
+    ghost numbers = { λ a _. a.numbers };
+
     ghost joins = { Joins };
 
     ghost allowed = { λ a b call answer j. j.allowed };
@@ -126,7 +136,7 @@ impl LockSpace for LoneSession {
 
     ghost others = { Prim.search rules };
 
-    ghost rising = { λ a w speaks. speaks.1 };
+    ghost rising = { λ a w speaks. speaks.1.rising };
 
     ghost fits = { λ a b call answer j. j.fits };
 
@@ -142,7 +152,15 @@ impl LockSpace for LoneSession {
 
     ghost one_place = { Prim.search rules };
 
+    ghost held_places = { λ a w ticket speaks holds. (a.key, (speaks.0, held-at_one (a.own.held) ticket speaks.1.held holds, refl)) };
+
+    ghost wait_place = { λ a w wait speaks its. (a.key, (speaks.0, wait-at_one (a.own.wait) wait speaks.1.wait its, refl)) };
+
     ghost tells = { Prim.search rules };
+
+    ghost waits_settled = { λ a w how speaks settled. speaks.1.waits how settled.1 };
+
+    ghost settled_once = { Prim.search rules };
 
     ghost stays = { Prim.search rules };
 
@@ -151,6 +169,12 @@ impl LockSpace for LoneSession {
     ghost counts = { Prim.search rules };
 
     ghost kills = { Prim.search rules };
+
+    ghost kills_or_settled = { λ a b w number speaks j waits. settled-how b w (speaks.0 ∙ sym (j.same.0)) (j.told_truly speaks.0 waits) };
+
+    ghost draws = { λ a b call answer who made j. j.drawn };
+
+    ghost others_draw = { Prim.search rules };
 
     fn resolve(&mut self, _who: u16, key: &Key) -> Result<Place, SpaceError> {
         if *key == self.key {
@@ -165,7 +189,7 @@ impl LockSpace for LoneSession {
         if self.meet() || self.ticket.is_some() {
             return Ok(Attempt::WouldWait);
         }
-        let id = self.draw()?;
+        let id = self.draw_ticket()?;
         self.ticket = Some(Held { id, place, mode });
         Ok(Attempt::Granted(id))
     }
@@ -175,22 +199,23 @@ impl LockSpace for LoneSession {
         if self.ticket.is_some() {
             return Err(SpaceError::Full);
         }
-        let number = self.draw()?;
+        if self.last_wait == u64::MAX {
+            return Err(SpaceError::CounterFull);
+        }
+        let id = self.draw_ticket()?;
         if self.meet() {
+            self.last_wait += 1;
             self.wait = Some(Waiting {
-                number,
+                number: self.last_wait,
+                id,
                 place,
                 mode,
                 settled: None,
             });
-            return Ok(Begun::Waiting(number));
+            return Ok(Begun::Waiting(self.last_wait));
         }
-        self.ticket = Some(Held {
-            id: number,
-            place,
-            mode,
-        });
-        Ok(Begun::Granted(number))
+        self.ticket = Some(Held { id, place, mode });
+        Ok(Begun::Granted(id))
     }
 
     fn poll_wait(&mut self, _who: u16) -> Result<Poll, SpaceError> {
@@ -232,11 +257,11 @@ impl LockSpace for LoneSession {
         Ok(match how {
             Settled::Granted => {
                 self.ticket = Some(Held {
-                    id: wait.number,
+                    id: wait.id,
                     place: wait.place,
                     mode: wait.mode,
                 });
-                Ended::Granted(wait.number)
+                Ended::Granted(wait.id)
             }
             Settled::Victim => Ended::Victim,
             Settled::Timeout => Ended::Timeout,
