@@ -1,4 +1,4 @@
-//! `mdl_bench` times the calls of one lock's book.
+//! `mdl_bench` times the calls of one lock's book, and of a lock space.
 //!
 //! It prints a line for each figure. With the argument `quick` it makes each call once, which shows that all of them work,
 //! and prints nothing.
@@ -10,6 +10,7 @@ ghost use Rattle.std.specs.Duration.{as_nanos};
 mod chain;
 mod crowd;
 mod failure;
+mod field;
 
 use chain::Chain;
 use crowd::Crowd;
@@ -24,6 +25,14 @@ const ASKED: u32 = 4_000_000;
 
 // The waiters that are granted one after another, and how often that is done.
 const CHAINS: [(u16, u32); 2] = [(64, 20_000), (640, 2_000)];
+
+// The tickets of a session, and as many of all others, and how often a lock is taken and given up.
+const HELD: [u16; 4] = [1, 10, 100, 1_000];
+
+const TAKEN: u32 = 1_000_000;
+
+// How often a lock goes through all sessions.
+const PASSED_ON: u32 = 2_000;
 
 fn main(rt: HostRuntime) -> ExitCode {
     let outcome = match is_quick(&rt) {
@@ -52,7 +61,16 @@ fn try_all(rt: &HostRuntime) -> Result<(), Failure> {
     crowd.ask(1);
     crowd.find(1);
     let mut chain = Chain::new(rt.alloc(), 1)?;
-    chain.grant_all()
+    chain.grant_all()?;
+    try_space(rt)
+}
+
+// Likewise, of a space.
+fn try_space(rt: &HostRuntime) -> Result<(), Failure> {
+    let mut space = field::open_space(rt.alloc())?;
+    field::pass_on(&mut space)?;
+    field::fill(&mut space, 1)?;
+    field::take_and_release(&mut space, 1)
 }
 
 // Prints all figures.
@@ -63,7 +81,10 @@ fn time_all(rt: &HostRuntime) -> Result<(), Failure> {
     for (waiters, turns) in CHAINS {
         time_chain(rt, waiters, turns)?;
     }
-    Ok(())
+    for tickets in HELD {
+        time_space(rt, tickets)?;
+    }
+    time_passing_on(rt)
 }
 
 // What one call costs on a book of so many tickets.
@@ -92,6 +113,31 @@ fn time_chain(rt: &HostRuntime, waiters: u16, turns: u32) -> Result<(), Failure>
     }
     let nanos = nanos_each(spent, turns);
     println!(rt; "{waiters:>6} waiters granted one after another: {nanos:>8} ns")?;
+    Ok(())
+}
+
+// What it costs to take a lock and give it up, where the session has so many tickets, and all others as many.
+fn time_space(rt: &HostRuntime, tickets: u16) -> Result<(), Failure> {
+    let mut space = field::open_space(rt.alloc())?;
+    field::fill(&mut space, tickets)?;
+    let began = Instant::now(rt)?;
+    field::take_and_release(&mut space, TAKEN)?;
+    let nanos = nanos_each(began.elapsed(rt)?, TAKEN);
+    println!(rt; "{tickets:>6} tickets held: try_now and release {nanos:>4} ns")?;
+    Ok(())
+}
+
+// What it costs to pass a lock on through all sessions, which wait for it in X.
+fn time_passing_on(rt: &HostRuntime) -> Result<(), Failure> {
+    let mut space = field::open_space(rt.alloc())?;
+    let began = Instant::now(rt)?;
+    for _ in 0..PASSED_ON {
+        field::pass_on(&mut space)?;
+    }
+    let nanos = nanos_each(began.elapsed(rt)?, PASSED_ON);
+    println!(rt;
+        "    63 waiters in X, each granted by the one before: {nanos:>8} ns with begin_wait and end_wait"
+    )?;
     Ok(())
 }
 
