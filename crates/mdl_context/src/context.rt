@@ -256,3 +256,6 @@ impl<S: LockSpace> Context<S> {
         }
     }
 }
+
+#[cfg(test)]
+mod tests;
