@@ -49,8 +49,17 @@ left-beyond q (suc m) [] rising = refl
 left-beyond q zero (t ∷ ts) rising =
     grind (arith, nat_tests, left-beyond q zero ts, above-filter t.id q ts, absent t.id (filter q ts), without-lower t (filter q ts) ts)
 left-beyond q (suc m) (t ∷ ts) rising =
-    grind (arith, nat_tests, left-beyond q m ts, left-beyond q (suc m) ts, above-filter t.id q ts, above-drop t.id m (filter q ts), above-drop t.id (suc m) (filter q ts),
-    absent t.id (drop m (filter q ts)), absent t.id (drop (suc m) (filter q ts)))
+    grind (
+      arith,
+      nat_tests,
+      left-beyond q m ts,
+      left-beyond q (suc m) ts,
+      above-filter t.id q ts,
+      above-drop t.id m (filter q ts),
+      above-drop t.id (suc m) (filter q ts),
+      absent t.id (drop m (filter q ts)),
+      absent t.id (drop (suc m) (filter q ts)),
+    )
 
 pub front-same : (q : Kept → Bool) (m : ℕ) (kept : List Kept) → filter q (front q m kept) ≡ take m (filter q kept)
 front-same q zero [] = refl

@@ -97,10 +97,7 @@ fn durations_change_and_tickets_go(rt: HostRuntime) -> Result<(), Fail> {
     assert_eq!(rt; context.make_transactional(), Ok(()));
     assert_eq!(rt; context.end_statement(&mut space), Ok(()));
     assert_eq!(rt; held(alloc, &space)?.as_slice(), [1].as_slice());
-    assert_eq!(rt;
-        context.release(&mut space, 2),
-        Err(ContextError::NotHeld)
-    );
+    assert_eq!(rt; context.release(&mut space, 2), Err(ContextError::NotHeld));
     assert_eq!(rt; context.release(&mut space, 1), Ok(()));
     assert_eq!(rt; held(alloc, &space)?.len(), 0);
     assert_eq!(rt;
