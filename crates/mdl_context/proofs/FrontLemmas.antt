@@ -1,14 +1,13 @@
 -- What is left of tickets in rising number without those that pass a test behind the first so many.
 use Rattle.std.proofs.Common.{◌≡◌, ℕ, zero, suc, Bool, true, false, List, [], ◌∷◌, ◌++◌, refl, sym, ap, ◌∙◌, subst, arith, take, drop}
 use Rattle.std.specs.Prelude.{not, ◌||◌, ◌==◌, map, filter, if◌then◌else◌, IsTrue, nat_lt}
-use Rattle.std.specs.List.{list_all, list_any}
+use Rattle.std.specs.List.{list_all}
 use Rattle.std.proofs.lemmas.Bool.Decides.{nat_tests}
 use Rattle.mdl_key.specs.declared.mode.Duration.{Duration}
 use Rattle.mdl_key.specs.declared.mode.Duration.TheVariants.{Statement, Transaction, Explicit}
-use Rattle.mdl_space.specs.Own.{are_rising}
 use Rattle.mdl_context.specs.declared.kept.Kept.{Kept}
 use Rattle.mdl_context.specs.declared.request.Mark.{Mark}
-use Rattle.mdl_context.specs.Contexts.{lasts, duration_rank, held_for, gained_since, of_transaction, has_number, without, held_of, AreRising}
+use Rattle.mdl_context.specs.Contexts.{lasts, duration_rank, held_for, gained_since, has_number, without, held_of, AreRising}
 
 -- all tickets have greater numbers
 abbrev pub Above : ℕ → List Kept → Type 0
