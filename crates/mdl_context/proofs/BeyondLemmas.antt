@@ -7,7 +7,7 @@ use Rattle.mdl_key.specs.declared.mode.Duration.{Duration}
 use Rattle.mdl_key.specs.declared.mode.Duration.TheVariants.{Statement, Transaction}
 use Rattle.mdl_space.specs.Answers.{Answer}
 use Rattle.mdl_space.specs.Calls.{Call}
-use Rattle.mdl_space.specs.Own.{Own, IsRising, are_rising, is_number, holds, giving_up}
+use Rattle.mdl_space.specs.Own.{Own, IsRising, is_number, holds, giving_up}
 use Rattle.mdl_space.specs.Runs.{Program, Runs, Give, runs_bind}
 use Rattle.mdl_context.specs.declared.context_error.ContextError.{ContextError}
 use Rattle.mdl_context.specs.declared.kept.Kept.{Kept}
@@ -19,7 +19,7 @@ use Rattle.mdl_context.specs.Contexts.{ContextView, held_of, lasts, held_for, be
 use Rattle.mdl_context.specs.Holdings.{without_number}
 use Rattle.mdl_context.specs.Releases as releases
 use Rattle.mdl_context.specs.Requests.{Outcome}
-use Rattle.mdl_context.proofs.FrontLemmas.{Above, front, left-beyond, statement-gone, without-append, above-filter}
+use Rattle.mdl_context.proofs.FrontLemmas.{Above, front, left-beyond, statement-gone, without-append}
 
 -- the numbers of what a context keeps rise
 pub rising-kept : (own : Own) (context : ContextView) → IsRising own → Serves own context → AreRising context.kept

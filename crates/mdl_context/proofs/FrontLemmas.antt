@@ -1,14 +1,13 @@
 -- What is left of tickets in rising number without those that pass a test behind the first so many.
 use Rattle.std.proofs.Common.{◌≡◌, ℕ, zero, suc, Bool, true, false, List, [], ◌∷◌, ◌++◌, refl, sym, ap, ◌∙◌, subst, arith, take, drop}
 use Rattle.std.specs.Prelude.{not, ◌||◌, ◌==◌, map, filter, if◌then◌else◌, IsTrue, nat_lt}
-use Rattle.std.specs.List.{list_all, list_any}
+use Rattle.std.specs.List.{list_all}
 use Rattle.std.proofs.lemmas.Bool.Decides.{nat_tests}
 use Rattle.mdl_key.specs.declared.mode.Duration.{Duration}
 use Rattle.mdl_key.specs.declared.mode.Duration.TheVariants.{Statement, Transaction, Explicit}
-use Rattle.mdl_space.specs.Own.{are_rising}
 use Rattle.mdl_context.specs.declared.kept.Kept.{Kept}
 use Rattle.mdl_context.specs.declared.request.Mark.{Mark}
-use Rattle.mdl_context.specs.Contexts.{lasts, duration_rank, held_for, gained_since, of_transaction, has_number, without, held_of, AreRising}
+use Rattle.mdl_context.specs.Contexts.{lasts, duration_rank, held_for, gained_since, has_number, without, held_of, AreRising}
 
 -- all tickets have greater numbers
 abbrev pub Above : ℕ → List Kept → Type 0
@@ -49,8 +48,17 @@ left-beyond q (suc m) [] rising = refl
 left-beyond q zero (t ∷ ts) rising =
     grind (arith, nat_tests, left-beyond q zero ts, above-filter t.id q ts, absent t.id (filter q ts), without-lower t (filter q ts) ts)
 left-beyond q (suc m) (t ∷ ts) rising =
-    grind (arith, nat_tests, left-beyond q m ts, left-beyond q (suc m) ts, above-filter t.id q ts, above-drop t.id m (filter q ts), above-drop t.id (suc m) (filter q ts),
-    absent t.id (drop m (filter q ts)), absent t.id (drop (suc m) (filter q ts)))
+    grind (
+      arith,
+      nat_tests,
+      left-beyond q m ts,
+      left-beyond q (suc m) ts,
+      above-filter t.id q ts,
+      above-drop t.id m (filter q ts),
+      above-drop t.id (suc m) (filter q ts),
+      absent t.id (drop m (filter q ts)),
+      absent t.id (drop (suc m) (filter q ts)),
+    )
 
 pub front-same : (q : Kept → Bool) (m : ℕ) (kept : List Kept) → filter q (front q m kept) ≡ take m (filter q kept)
 front-same q zero [] = refl

@@ -35,7 +35,7 @@ pub serves-gaining : (own after : Own) (before then : ContextView) (id place : �
     → then.kept ≡ before.kept ++ kept_of id place request ∷ [] → then.wait ≡ before.wait → Serves after then
 serves-gaining own after before then id place request serves gain kept wait = record {
   held = ap (λ (o : Own). o.held) gain ∙ ap (λ hs. hs ++ held_of (kept_of id place request) ∷ []) serves.held
-    ∙ sym (map-append held_of before.kept (kept_of id place request ∷ [])) ∙ sym (ap (map held_of) kept);
+      ∙ sym (map-append held_of before.kept (kept_of id place request ∷ [])) ∙ sym (ap (map held_of) kept);
   wait = ap (λ (o : Own). option_map wish_there o.wait) gain ∙ serves.wait ∙ sym (ap (option_map wish_here) wait);
 }
 

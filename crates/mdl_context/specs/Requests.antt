@@ -1,8 +1,7 @@
 -- How a session comes by its tickets, after MySQL 5.7: `MDL_context::try_acquire_lock_impl`, `find_ticket` and
 -- `acquire_lock` of sql/mdl.cc. A wait is seen through by calls of its own.
-use Rattle.std.specs.Prelude.{ℕ, Bool, false, not, ◌&&◌, List, [], ◌∷◌, ◌++◌, Option, Some, None, is_some, Result, Ok, Err, if◌then◌else◌}
+use Rattle.std.specs.Prelude.{ℕ, Bool, false, not, ◌&&◌, [], ◌∷◌, ◌++◌, Option, Some, None, is_some, Result, Ok, Err, if◌then◌else◌}
 use Rattle.mdl_key.specs.declared.mode.Duration.TheVariants.{Explicit}
-use Rattle.mdl_key.specs.Keys.{key_eq}
 use Rattle.mdl_key.specs.Modes.{kind_of, is_mode_of}
 use Rattle.mdl_space.specs.declared.answers.Held.{Held}
 use Rattle.mdl_space.specs.declared.space_error.SpaceError.{SpaceError}
@@ -14,7 +13,6 @@ use Rattle.mdl_space.specs.Strength.{covers}
 use Rattle.mdl_context.specs.declared.context_error.ContextError.{ContextError}
 use Rattle.mdl_context.specs.declared.context_error.ContextError.TheVariants.{Waiting, Space}
 use Rattle.mdl_context.specs.declared.kept.Kept.{Kept}
-use Rattle.mdl_context.specs.declared.kept.Wanted.{Wanted}
 use Rattle.mdl_context.specs.declared.request.Request.{Request}
 use Rattle.mdl_context.specs.declared.request.Acquire.{Acquire}
 use Rattle.mdl_context.specs.declared.request.Acquire.TheVariants.{Acquired, MustWait}

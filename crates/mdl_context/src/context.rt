@@ -256,6 +256,3 @@ impl<S: LockSpace> Context<S> {
         }
     }
 }
-
-#[cfg(test)]
-mod tests;

@@ -351,9 +351,7 @@ impl Request {
     fn can_reuse(&self, ticket: &Kept) -> bool
         ensures { result ≡ is_reusable self.now ticket.now }
     {
-        self.is_met_by(ticket)
-            && ticket.lasts(self.duration)
-            && !ticket.lasts(Duration::Explicit)
+        self.is_met_by(ticket) && ticket.lasts(self.duration) && !ticket.lasts(Duration::Explicit)
     }
 }
 

@@ -23,12 +23,7 @@ pub(crate) fn let_go<S: LockSpace>(space: &mut S, who: u16, id: TicketId)
 }
 
 /// Gives tickets up, in order of gain. It takes no memory.
-pub(crate) fn give_up<S: LockSpace>(
-    space: &mut S,
-    who: u16,
-    holdings: &mut Holdings,
-    going: &Going,
-)
+pub(crate) fn give_up<S: LockSpace>(space: &mut S, who: u16, holdings: &mut Holdings, going: &Going)
     requires speaks { S.speaks_for space.old who }
     requires held { (S.own space.old who).held ≡ map held_of holdings.old.kept }
     ensures speaks { S.speaks_for space.new who }

@@ -11,7 +11,7 @@ returns-in-Ok-Granted-clause-attends g c =
     record {
       speaks = laws.keeps _ _ _ _ _ c.requires.attends.speaks step;
       serves = serves-gaining _ _ _ _ arm.id c.args.place c.args.request c.requires.attends.serves (laws.changes _ _ _ _ _ refl step)
-        (c.keep.ensures.kept ∙ ap (λ ticket. c.args.holdings.now.kept ++ ticket ∷ []) c.into_kept.ensures) (c.keep.ensures.wait ∙ sym c.requires.idle);
+          (c.keep.ensures.kept ∙ ap (λ ticket. c.args.holdings.now.kept ++ ticket ∷ []) c.into_kept.ensures) (c.keep.ensures.wait ∙ sym c.requires.idle);
     }
 
 pub returns-in-Ok-Waiting-clause-attends : goal.returns-in-Ok-Waiting-clause-attends
@@ -22,7 +22,7 @@ returns-in-Ok-Waiting-clause-attends g c =
     record {
       speaks = laws.keeps _ _ _ _ _ c.requires.attends.speaks step;
       serves = serves-waiting _ _ _ _ arm.number c.args.place c.args.request c.requires.attends.serves (laws.changes _ _ _ _ _ refl step)
-        c.begin_wait-in-Ok-Waiting.ensures.kept (c.begin_wait-in-Ok-Waiting.ensures.wait ∙ ap (λ wanted. Some wanted) c.into_wanted.ensures);
+          c.begin_wait-in-Ok-Waiting.ensures.kept (c.begin_wait-in-Ok-Waiting.ensures.wait ∙ ap (λ wanted. Some wanted) c.into_wanted.ensures);
     }
 
 pub returns-in-Err-clause-own : goal.returns-in-Err-clause-own

@@ -12,7 +12,7 @@ returns-in-Ok-clause-attends g c =
     record {
       speaks = laws.keeps _ _ _ _ _ c.requires.attends.speaks step;
       serves = serves-gaining _ _ _ _ c.in-Ok.id c.args.ticket.place c.args.request c.requires.attends.serves gain
-        (c.keep.ensures.kept ∙ ap (λ ticket. c.args.holdings.now.kept ++ ticket ∷ []) c.into_kept.ensures) (c.keep.ensures.wait ∙ sym c.requires.idle);
+          (c.keep.ensures.kept ∙ ap (λ ticket. c.args.holdings.now.kept ++ ticket ∷ []) c.into_kept.ensures) (c.keep.ensures.wait ∙ sym c.requires.idle);
     }
 
 pub returns-in-Err-clause-own : goal.returns-in-Err-clause-own

@@ -1,6 +1,6 @@
 -- What goes is what is of the key.
-use Rattle.std.proofs.Common.{◌≡◌, false, sym, ap, ◌∙◌}
-use Rattle.std.specs.Prelude.{is_some, filter}
+use Rattle.std.proofs.Common.{sym, ◌∙◌}
+use Rattle.std.specs.Prelude.{filter}
 use Rattle.mdl_context.specs.Contexts.{ContextView, AreRising}
 use Rattle.mdl_context.specs.Holdings.{is_of}
 use Rattle.mdl_context.specs.Releases.{giving_up}
