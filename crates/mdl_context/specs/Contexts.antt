@@ -1,5 +1,5 @@
 -- The tickets of a session by how long it keeps them, after MySQL 5.7: `MDL_context` of sql/mdl.h and sql/mdl.cc.
-use Rattle.std.specs.Prelude.{◌≡◌, ℕ, Bool, not, ◌||◌, ◌==◌, nat_lt, List, ◌++◌, map, filter, drop, length, Option, IsTrue}
+use Rattle.std.specs.Prelude.{◌≡◌, ◌≢◌, ℕ, Bool, not, ◌||◌, ◌==◌, nat_lt, List, ◌++◌, map, filter, drop, length, Option, IsTrue}
 use Rattle.std.specs.List.{list_any}
 use Rattle.std.specs.Option.{option_map}
 use Rattle.mdl_key.specs.declared.mode.Mode.{Mode}
@@ -83,3 +83,7 @@ pub record Serves (own : Own) (context : ContextView) : Type 0 where
 pub record Attends {S : Type 0} (speaks_for : S → ℕ → Type 0) (own : S → ℕ → Own) (space : S) (context : ContextView) : Type 0 where
   pub speaks : speaks_for space context.who
   pub serves : Serves (own space context.who) context
+
+-- a lock space goes on to speak for all sessions but one, and nothing changes for them
+abbrev pub LeavesOthers : {S : Type 0} → (S → ℕ → Type 0) → (S → ℕ → Own) → ℕ → S → S → Type 0
+LeavesOthers speaks_for own who before after = (w : ℕ) → w ≢ who → speaks_for before w → speaks_for after w × (own after w ≡ own before w)

@@ -69,6 +69,7 @@ impl<S: LockSpace> Context<S> {
         ensures refused { RefusesJust (waiting_fault self.old) result }
         ensures done { OnOk result (self.new ≡ record self.old { kept = map (kept_for Explicit) self.old.kept }) }
         ensures unchanged { OnErr result (self.new ≡ self.old) }
+        ensures who { self.new.who ≡ self.old.who }
         ensures serves { (own : Own) → Serves own self.old → Serves own self.new }
     {
         if self.holdings.is_waiting() {
@@ -85,6 +86,7 @@ impl<S: LockSpace> Context<S> {
         ensures refused { RefusesJust (waiting_fault self.old) result }
         ensures done { OnOk result (self.new ≡ record self.old { kept = map transactional self.old.kept }) }
         ensures unchanged { OnErr result (self.new ≡ self.old) }
+        ensures who { self.new.who ≡ self.old.who }
         ensures serves { (own : Own) → Serves own self.old → Serves own self.new }
     {
         if self.holdings.is_waiting() {
@@ -256,3 +258,6 @@ impl<S: LockSpace> Context<S> {
         }
     }
 }
+
+#[cfg(test)]
+mod tests;
