@@ -1,6 +1,8 @@
+pub mod AcquireLemmas
 pub mod BeyondLemmas
 pub mod FrontLemmas
 pub mod IndexLemmas
+pub mod KeyLemmas
 pub mod ReleaseLemmas
 pub mod SearchLemmas
 pub mod ServingLemmas

@@ -1,5 +1,5 @@
 -- A session's tickets by key: the numbers of those of each key.
-use Rattle.std.specs.Prelude.{ℕ, Bool, not, true, false, ◌&&◌, ◌==◌, nat_lt, List, [], ◌∷◌, filter, length, Option, Some, None, IsTrue}
+use Rattle.std.specs.Prelude.{ℕ, Bool, not, true, false, ◌&&◌, ◌==◌, nat_lt, List, [], ◌∷◌, filter, length, Option, Some, None}
 use Rattle.std.specs.List.{list_all}
 use Rattle.std.specs.Map.{lookup}
 use Rattle.mdl_key.specs.Keys.{KeyName, key_eq}

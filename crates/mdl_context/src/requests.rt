@@ -4,7 +4,7 @@ ghost use Rattle.mdl_space.specs.Calls.{Clone_ticket};
 ghost use Rattle.mdl_space.specs.Own.{ticket_held};
 ghost use Rattle.mdl_space.specs.Runs.{Runs, Ask};
 ghost use Rattle.mdl_context.specs.Contexts.{Attends};
-ghost use Rattle.mdl_context.specs.Holdings.{context_of, earliest, is_of};
+ghost use Rattle.mdl_context.specs.Holdings.{context_of, has_room, earliest, is_of};
 ghost use Rattle.mdl_context.specs.Requests.{wants_memory, gaining, asking_at, asking};
 
 use crate::holdings::Holdings;
@@ -20,13 +20,13 @@ pub(crate) fn copy<S: LockSpace>(
     request: Request,
 ) -> Result<Acquire, ContextError>
     requires attends { Attends S.speaks_for S.own space.old (context_of who holdings.old) }
-    requires room { holdings.old.has_room ≡ true }
+    requires room { has_room request.key holdings.old ≡ true }
     requires idle { holdings.old.wait ≡ None }
     requires held { ticket_held ticket.id (S.own space.old who) ≡ Some ticket }
     ensures run { wants_memory result ≡ false → Runs S.joins space.old (Ask (Clone_ticket who ticket.id request.mode) (gaining ticket.place request (context_of who holdings.old))) (result, context_of who holdings.new) space.new }
     ensures attends { Attends S.speaks_for S.own space.new (context_of who holdings.new) }
     ensures own { OnErr result (S.own space.new who ≡ S.own space.old who) }
-    ensures unchanged { OnErr result (holdings.new ≡ holdings.old) }
+    ensures unchanged { OnErr result (context_of who holdings.new ≡ context_of who holdings.old) }
 {
     match space.clone_ticket(who, ticket.id, request.mode) {
         Ok(id) => {
@@ -45,19 +45,22 @@ pub(crate) fn ask<S: LockSpace>(
     request: Request,
 ) -> Result<Acquire, ContextError>
     requires attends { Attends S.speaks_for S.own space.old (context_of who holdings.old) }
-    requires room { holdings.old.has_room ≡ true }
+    requires room { has_room request.key holdings.old ≡ true }
     requires idle { holdings.old.wait ≡ None }
     ensures run { wants_memory result ≡ false → Runs S.joins space.old (asking (earliest (is_of request.key) holdings.old.kept) request (context_of who holdings.old)) (result, context_of who holdings.new) space.new }
     ensures attends { Attends S.speaks_for S.own space.new (context_of who holdings.new) }
     ensures own { OnErr result (S.own space.new who ≡ S.own space.old who) }
-    ensures unchanged { OnErr result (holdings.new ≡ holdings.old) }
+    ensures unchanged { OnErr result (context_of who holdings.new ≡ context_of who holdings.old) }
 {
     if let Some(ticket) = holdings.of_key(&request.key) {
         return ask_at(space, who, holdings, ticket.place, request);
     }
     match space.resolve(who, &request.key) {
         Ok(place) => ask_at(space, who, holdings, place, request),
-        Err(refusal) => Err(ContextError::Space(refusal)),
+        Err(refusal) => {
+            holdings.give_room_up(&request.key);
+            Err(ContextError::Space(refusal))
+        }
     }
 }
 
@@ -70,12 +73,12 @@ fn ask_at<S: LockSpace>(
     request: Request,
 ) -> Result<Acquire, ContextError>
     requires attends { Attends S.speaks_for S.own space.old (context_of who holdings.old) }
-    requires room { holdings.old.has_room ≡ true }
+    requires room { has_room request.key holdings.old ≡ true }
     requires idle { holdings.old.wait ≡ None }
     ensures run { wants_memory result ≡ false → Runs S.joins space.old (asking_at place request (context_of who holdings.old)) (result, context_of who holdings.new) space.new }
     ensures attends { Attends S.speaks_for S.own space.new (context_of who holdings.new) }
     ensures own { OnErr result (S.own space.new who ≡ S.own space.old who) }
-    ensures unchanged { OnErr result (holdings.new ≡ holdings.old) }
+    ensures unchanged { OnErr result (context_of who holdings.new ≡ context_of who holdings.old) }
 {
     match space.begin_wait(who, place, request.mode) {
         Ok(Begun::Granted(id)) => {
@@ -86,6 +89,9 @@ fn ask_at<S: LockSpace>(
             holdings.begin_wait(request.into_wanted(place));
             Ok(Acquire::MustWait(number))
         }
-        Err(refusal) => Err(ContextError::Space(refusal)),
+        Err(refusal) => {
+            holdings.give_room_up(&request.key);
+            Err(ContextError::Space(refusal))
+        }
     }
 }

@@ -1,6 +1,7 @@
 -- The ticket is gained, or the wait begins, or nothing has changed.
 use Rattle.std.proofs.Common.{refl, sym, ap, ◌∙◌, [], ◌∷◌, ◌++◌, Some}
 use Rattle.mdl_context.proofs.ServingLemmas.{serves-gaining, serves-waiting}
+use Rattle.mdl_context.proofs.BeyondLemmas.{same-context}
 use Rattle.mdl_context.proofs.requests.ask_at.Goals as goal
 
 pub returns-in-Ok-Granted-clause-attends : goal.returns-in-Ok-Granted-clause-attends
@@ -34,5 +35,5 @@ returns-in-Err-clause-attends g c =
     let step = rw c.in-Err.is at c.begin_wait.ensures in
     record {
       speaks = laws.keeps _ _ _ _ _ c.requires.attends.speaks step;
-      serves = rw (laws.changes _ _ _ _ _ refl step) c.requires.attends.serves;
+      serves = rw (same-context c.args.who _ _ _ _ c.give_room_up.ensures.kept c.give_room_up.ensures.wait, laws.changes _ _ _ _ _ refl step) c.requires.attends.serves;
     }
