@@ -1,0 +1,4 @@
+pub mod Cycles
+pub mod Graphs
+pub mod Victims
+pub mod WaitsFor

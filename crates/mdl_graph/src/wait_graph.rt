@@ -1,0 +1,67 @@
+//! Which session waits for which.
+ghost use Rattle.std.specs.Prelude.{◌≡◌, ℕ, ◌||◌, ◌++◌, [], ◌∷◌, List, OnOk, OnErr};
+ghost use Rattle.mdl_book.specs.declared.lists.Lists.{Lists};
+ghost use Rattle.mdl_graph.specs.Graphs.{empty_graph, IsGraphOf, deadlock};
+ghost use Rattle.mdl_graph.specs.WaitsFor.{SessionSet, waits_at, wishes_at};
+
+use crate::{Cycle, Member};
+use mdl_book::{Book, Sessions, Ticket};
+use mdl_key::{conflicts_granted, conflicts_waiting, weight};
+use std::alloc::{AllocError, Global};
+use std::marker::Model;
+
+/// That a session waits for another one.
+#[derive(Clone, Copy)]
+struct Tie {
+    waiter: u16,
+    other: u16,
+}
+
+/// Which session waits for which at the locks whose books were added.
+///
+/// A session that is settled waits no more, though its ticket may still stand among those that wait. After MySQL 5.7,
+/// `MDL_context::find_deadlock` of `sql/mdl.cc`, which looks at the locks as it goes.
+#[derive(Drop)]
+pub struct WaitGraph {
+    settled: Sessions,
+    wishes: Vec<Member>,
+    ties: Vec<Tie>,
+}
+
+impl WaitGraph {
+    /// The graph of no lock, these sessions' waits being settled. It takes no memory.
+    pub fn new(alloc: Global, settled: Sessions) -> WaitGraph
+        ensures { result ≡ empty_graph settled }
+    {
+        WaitGraph {
+            settled,
+            wishes: Vec::new(alloc),
+            ties: Vec::new(alloc),
+        }
+    }
+
+    /// Adds a lock: who waits there, and for whom. A refused growth leaves the graph as it was.
+    pub fn add(&mut self, book: &Book) -> Result<(), AllocError>
+        ensures settled { self.new.settled ≡ self.old.settled }
+        ensures wishes { OnOk result (self.new.wishes ≡ self.old.wishes ++ wishes_at self.old.settled book.now) }
+        ensures waits { OnOk result ((waiter other : ℕ) → self.new.waits waiter other
+            ≡ (self.old.waits waiter other || waits_at self.old.settled book.now waiter other)) }
+        ensures graph { OnOk result ((settled : SessionSet) (books : List Lists)
+            → IsGraphOf settled books self.old → IsGraphOf settled (books ++ book.now ∷ []) self.new) }
+        ensures unchanged { OnErr result (self.new ≡ self.old) }
+    {
+        let wishes = self.wishes.len();
+        let ties = self.ties.len();
+        let added = self.add_waiters(book);
+        if added.is_err() {
+            self.wishes.truncate(wishes);
+            self.ties.truncate(ties);
+        }
+        added
+    }
+
+    /// The shortest cycle of unsettled sessions through one of them, and of equal length the one whose list of numbers,
+    /// beginning with that session, is least. It takes time by the number of sessions and ties.
+    pub fn find_cycle(&self, from: u16) -> Result<Option<Cycle>, AllocError>
+        ensures { OnOk result (λ found. found ≡ deadlock self.now from) }
+}
