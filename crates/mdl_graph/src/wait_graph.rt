@@ -1,5 +1,5 @@
 //! Which session waits for which.
-ghost use Rattle.std.specs.Prelude.{◌≡◌, ℕ, ◌||◌, ◌++◌, [], ◌∷◌, List, OnOk, OnErr};
+ghost use Rattle.std.specs.Prelude.{◌≡◌, ℕ, ◌||◌, ◌++◌, [], ◌∷◌, List, OnOk, OnErr, IfOk};
 ghost use Rattle.mdl_book.specs.declared.lists.Lists.{Lists};
 ghost use Rattle.mdl_graph.specs.Graphs.{empty_graph, IsGraphOf, deadlock};
 ghost use Rattle.mdl_graph.specs.WaitsFor.{SessionSet, waits_at, wishes_at};
@@ -63,5 +63,5 @@ impl WaitGraph {
     /// The shortest cycle of unsettled sessions through one of them, and of equal length the one whose list of numbers,
     /// beginning with that session, is least. It takes time by the number of sessions and ties.
     pub fn find_cycle(&self, from: u16) -> Result<Option<Cycle>, AllocError>
-        ensures { OnOk result (λ found. found ≡ deadlock self.now from) }
+        ensures { IfOk result (λ found. found ≡ deadlock self.now from) }
 }
