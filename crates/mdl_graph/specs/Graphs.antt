@@ -5,21 +5,21 @@ use Rattle.mdl_book.specs.declared.lists.Lists.{Lists}
 use Rattle.mdl_graph.specs.declared.cycle.Member.{Member}
 use Rattle.mdl_graph.specs.Cycles.{chosen_cycle}
 use Rattle.mdl_graph.specs.Victims.{victim_of}
-use Rattle.mdl_graph.specs.WaitsFor.{SessionSet, waits_for, wishes_in}
+use Rattle.mdl_graph.specs.WaitsFor.{SessionTest, waits_for, wishes_in}
 
 -- the settled sessions, what the others wish for, and who waits for whom
 pub record GraphView : Type 0 where
-  pub settled : SessionSet
+  pub settled : SessionTest
   pub wishes : List Member
   pub waits : ℕ → ℕ → Bool
 
 -- no lock was added yet
-abbrev pub empty_graph : SessionSet → GraphView
+abbrev pub empty_graph : SessionTest → GraphView
 empty_graph settled = record { settled = settled; wishes = []; waits = λ _ _. false }
 
 -- the graph of these locks
-pub record IsGraphOf (settled : SessionSet) (books : List Lists) (graph : GraphView) : Type 0 where
-  pub settled : graph.settled ≡ settled
+pub record IsGraphOf (settled : SessionTest) (books : List Lists) (graph : GraphView) : Type 0 where
+  pub settled : (session : ℕ) → graph.settled session ≡ settled session
   pub wishes : graph.wishes ≡ wishes_in settled books
   pub waits : (waiter other : ℕ) → graph.waits waiter other ≡ waits_for settled books waiter other
 
@@ -42,9 +42,9 @@ abbrev pub deadlock : GraphView → ℕ → Option (List Member)
 deadlock graph from = cycle_found graph.wishes graph.waits from
 
 -- and that of these locks
-abbrev pub deadlock_in : SessionSet → List Lists → ℕ → Option (List Member)
+abbrev pub deadlock_in : SessionTest → List Lists → ℕ → Option (List Member)
 deadlock_in settled books from = cycle_found (wishes_in settled books) (waits_for settled books) from
 
 -- the victim of the chosen cycle through a session
-abbrev pub victim_in : SessionSet → List Lists → ℕ → Option ℕ
+abbrev pub victim_in : SessionTest → List Lists → ℕ → Option ℕ
 victim_in settled books from = option_map victim_of (deadlock_in settled books from)

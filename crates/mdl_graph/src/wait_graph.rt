@@ -1,8 +1,9 @@
 //! Which session waits for which.
 ghost use Rattle.std.specs.Prelude.{◌≡◌, ℕ, ◌||◌, ◌++◌, [], ◌∷◌, List, OnOk, OnErr, IfOk};
+ghost use Rattle.std.specs.FinSet as set;
 ghost use Rattle.mdl_book.specs.declared.lists.Lists.{Lists};
 ghost use Rattle.mdl_graph.specs.Graphs.{empty_graph, IsGraphOf, deadlock};
-ghost use Rattle.mdl_graph.specs.WaitsFor.{SessionSet, waits_at, wishes_at};
+ghost use Rattle.mdl_graph.specs.WaitsFor.{SessionTest, waits_at, wishes_at};
 
 use crate::{Cycle, Member};
 use mdl_book::{Book, Sessions, Ticket};
@@ -31,7 +32,7 @@ pub struct WaitGraph {
 impl WaitGraph {
     /// The graph of no lock, these sessions' waits being settled. It takes no memory.
     pub fn new(alloc: Global, settled: Sessions) -> WaitGraph
-        ensures { result ≡ empty_graph settled }
+        ensures { result ≡ empty_graph (set.contains settled) }
     {
         WaitGraph {
             settled,
@@ -46,7 +47,7 @@ impl WaitGraph {
         ensures wishes { OnOk result (self.new.wishes ≡ self.old.wishes ++ wishes_at self.old.settled book.now) }
         ensures waits { OnOk result ((waiter other : ℕ) → self.new.waits waiter other
             ≡ (self.old.waits waiter other || waits_at self.old.settled book.now waiter other)) }
-        ensures graph { OnOk result ((settled : SessionSet) (books : List Lists)
+        ensures graph { OnOk result ((settled : SessionTest) (books : List Lists)
             → IsGraphOf settled books self.old → IsGraphOf settled (books ++ book.now ∷ []) self.new) }
         ensures unchanged { OnErr result (self.new ≡ self.old) }
     {
