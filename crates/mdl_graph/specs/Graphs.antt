@@ -18,10 +18,10 @@ abbrev pub empty_graph : SessionTest → GraphView
 empty_graph settled = record { settled = settled; wishes = []; waits = λ _ _. false }
 
 -- the graph of these locks
-pub record IsGraphOf (settled : SessionTest) (books : List Lists) (graph : GraphView) : Type 0 where
-  pub settled : (session : ℕ) → graph.settled session ≡ settled session
-  pub wishes : graph.wishes ≡ wishes_in settled books
-  pub waits : (waiter other : ℕ) → graph.waits waiter other ≡ waits_for settled books waiter other
+pub record IsGraphOf (is_settled : SessionTest) (books : List Lists) (graph : GraphView) : Type 0 where
+  pub settled : (session : ℕ) → graph.settled session ≡ is_settled session
+  pub wishes : graph.wishes ≡ wishes_in is_settled books
+  pub waits : (waiter other : ℕ) → graph.waits waiter other ≡ waits_for is_settled books waiter other
 
 -- the weight of a wish, which is the first of its session's
 abbrev pub weight_found : Option Member → ℕ

@@ -1,3 +1,4 @@
+pub mod CycleLaws
 pub mod Cycles
 pub mod Graphs
 pub mod Victims
