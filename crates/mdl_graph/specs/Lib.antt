@@ -1,6 +1,7 @@
 pub mod CycleLaws
 pub mod CycleOrder
 pub mod Cycles
+pub mod GraphLaws
 pub mod Graphs
 pub mod Members
 pub mod Victims
