@@ -13,11 +13,13 @@ pub data SearchEnd : Type 0 where
   Cut_off : SearchEnd
   Failed : SpaceError → SearchEnd
 
+-- after a search with this answer: the end, or, where another session is the victim, what goes on
+abbrev pub after_search : ℕ → Answer → Program SearchEnd → Program SearchEnd
+after_search who (Victim_is victim) more = if victim == who then Give Over else more
+after_search who (Refused refusal) more = Give (Failed refusal)
+after_search who _ more = Give Over
+
 -- up to so many searches of a session
 unfoldable pub seeking : ℕ → ℕ → Program SearchEnd
 seeking zero who = Give Cut_off
-seeking (suc more) who = Ask (Search who) after where
-  after : Answer → Program SearchEnd
-  after (Victim_is victim) = if victim == who then Give Over else seeking more who
-  after (Refused refusal) = Give (Failed refusal)
-  after _ = Give Over
+seeking (suc more) who = Ask (Search who) (λ answer. after_search who answer (seeking more who))
