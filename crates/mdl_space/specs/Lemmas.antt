@@ -22,6 +22,7 @@ pub mod LawfulLemmas
 pub mod MemberLemmas
 pub mod OrderLemmas
 pub mod PairLemmas
+pub mod SearchRuns
 pub mod StrengthLemmas
 pub mod TiedBooks
 pub mod TiedMoves
