@@ -13,11 +13,13 @@ pub data SearchEnd : Type 0 where
   Cut_off : SearchEnd
   Failed : SpaceError → SearchEnd
 
+-- what follows on an answer, where there is more to come: another victim was named, and the session waits on
+abbrev pub after_search : ℕ → Program SearchEnd → Answer → Program SearchEnd
+after_search who more (Victim_is victim) = if victim == who then Give Over else more
+after_search who more (Refused refusal) = Give (Failed refusal)
+after_search who more _ = Give Over
+
 -- up to so many searches of a session
 unfoldable pub seeking : ℕ → ℕ → Program SearchEnd
 seeking zero who = Give Cut_off
-seeking (suc more) who = Ask (Search who) after where
-  after : Answer → Program SearchEnd
-  after (Victim_is victim) = if victim == who then Give Over else seeking more who
-  after (Refused refusal) = Give (Failed refusal)
-  after _ = Give Over
+seeking (suc more) who = Ask (Search who) (after_search who (seeking more who))
