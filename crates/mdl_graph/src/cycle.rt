@@ -1,5 +1,5 @@
 //! Cycles of sessions that wait for one another.
-ghost use Rattle.std.specs.Prelude.{◌≡◌};
+ghost use Rattle.std.specs.Prelude.{◌≡◌, ◌≤◌, length};
 ghost use Rattle.mdl_graph.specs.Victims.{victim_of, falls_before};
 
 use std::marker::Model;
@@ -31,9 +31,18 @@ impl Model for Cycle {
 }
 
 impl Cycle {
+    // A cycle of these members.
+    pub(crate) fn new(members: Vec<Member>) -> Cycle
+        requires { 2 ≤ length members.items }
+        ensures { result ≡ members.items }
+    {
+        Cycle { members }
+    }
+
     /// The members, beginning with the session that was asked for.
     pub fn members(&self) -> &[Member]
-        ensures { result.now ≡ self.now }
+        ensures members { result.now ≡ self.now }
+        ensures many { 2 ≤ length result.now }
     {
         &self.members
     }
@@ -44,8 +53,16 @@ impl Cycle {
 ///
 /// After MySQL 5.7, `Deadlock_detection_visitor` of `sql/mdl.cc`.
 pub fn victim(cycle: &Cycle) -> u16
+    ensures { result ≡ victim_of cycle.now }
 {
-    0
+    let members = cycle.members();
+    let mut weakest = members[0];
+    for &member in &members[1..] {
+        if !weakest.falls_before(member) {
+            weakest = member;
+        }
+    }
+    weakest.session
 }
 
 impl Member {

@@ -13,13 +13,13 @@ pub data SearchEnd : Type 0 where
   Cut_off : SearchEnd
   Failed : SpaceError → SearchEnd
 
--- after a search with this answer: the end, or, where another session is the victim, what goes on
-abbrev pub after_search : ℕ → Answer → Program SearchEnd → Program SearchEnd
-after_search who (Victim_is victim) more = if victim == who then Give Over else more
-after_search who (Refused refusal) more = Give (Failed refusal)
-after_search who _ more = Give Over
+-- what follows on an answer, where there is more to come: another victim was named, and the session waits on
+abbrev pub after_search : ℕ → Program SearchEnd → Answer → Program SearchEnd
+after_search who more (Victim_is victim) = if victim == who then Give Over else more
+after_search who more (Refused refusal) = Give (Failed refusal)
+after_search who more _ = Give Over
 
 -- up to so many searches of a session
 unfoldable pub seeking : ℕ → ℕ → Program SearchEnd
 seeking zero who = Give Cut_off
-seeking (suc more) who = Ask (Search who) (λ answer. after_search who answer (seeking more who))
+seeking (suc more) who = Ask (Search who) (after_search who (seeking more who))

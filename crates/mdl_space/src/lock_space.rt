@@ -4,7 +4,7 @@ ghost use Rattle.std.specs.Option.{IfSome};
 ghost use Rattle.mdl_key.specs.Keys.{KeyName};
 ghost use Rattle.mdl_space.specs.declared.answers.Settled.{Settled};
 ghost use Rattle.mdl_space.specs.declared.answers.Held.{Held};
-ghost use Rattle.mdl_space.specs.Calls.{Call, Resolve, Try_now, Begin_wait, Search, Poll_wait, Settle_timeout, End_wait, Wait_of, Kill, Release, Clone_ticket, List_held, Unpin, caller};
+ghost use Rattle.mdl_space.specs.Calls.{Call, Resolve, Try_now, Begin_wait, Search as Search_by, Poll_wait, Settle_timeout, End_wait, Wait_of, Kill, Release, Clone_ticket, List_held, Unpin, caller};
 ghost use Rattle.mdl_space.specs.Answers.{Answer, Done, At_place, Victim_is, Has_wait, Has_killed, Holds, is_answer_of, placed, attempted, begun, searched, polled, timed_out, ended, done, cloned, listed};
 ghost use Rattle.mdl_space.specs.Own.{Own, Wait, Numbers, own_after, wait_number, is_waiting, IsRising, Draws};
 ghost use Rattle.mdl_space.specs.Causes.{IsExplained};
@@ -66,7 +66,7 @@ pub trait LockSpace {
     /// After MySQL 5.7, `MDL_context::find_deadlock` of `sql/mdl.cc`.
     fn search(&mut self, who: u16) -> Result<Search, SpaceError>
         requires { speaks_for self.old who }
-        ensures { joins self.old (Search who) (searched result) self.new };
+        ensures { joins self.old (Search_by who) (searched result) self.new };
 
     /// How the session's wait stands. It takes no memory.
     fn poll_wait(&mut self, who: u16) -> Result<Poll, SpaceError>
@@ -180,7 +180,7 @@ pub trait LockSpace {
         → is_settled a who how → joins a call answer b → IsToldOf how call answer };
 
     // The victim of a deadlock has lost its wait.
-    ghost victims: { (a b : Self) (who victim : ℕ) → speaks_for a victim → joins a (Search who) (Victim_is victim) b
+    ghost victims: { (a b : Self) (who victim : ℕ) → speaks_for a victim → joins a (Search_by who) (Victim_is victim) b
         → is_settled b victim Settled.Victim };
 
     // The number of a wait is told truly.

@@ -8,7 +8,9 @@ ghost use Rattle.mdl_space.specs.CoreProofs.Causes.{core-explains};
 ghost use Rattle.mdl_space.specs.Lemmas.CoreSound.{calls_keep-sound};
 
 use super::CoreSpace;
-use crate::{Attempt, Begun, Ended, Held, LockSpace, Place, Poll, Search, SpaceError, TicketId, TimedOut};
+use crate::{
+    Attempt, Begun, Ended, Held, LockSpace, Place, Poll, Search, SpaceError, TicketId, TimedOut,
+};
 use mdl_key::{Key, Mode};
 
 impl LockSpace for CoreSpace {
