@@ -15,7 +15,7 @@ SearchesFindDeadlocks =
     (a b : Core) (who : ℕ) →
     (Joins a (Search who) No_cycle b → (cycle : List ℕ) → IsDeadlock (system_of a) who cycle → ⊥)
     × ((victim : ℕ) → Joins a (Search who) (Victim_is victim) b →
-        (cycle : List ℕ) × IsChosenDeadlock (system_of a) who cycle × IsVictimOf (system_of a) cycle victim)
+    (cycle : List ℕ) × IsChosenDeadlock (system_of a) who cycle × IsVictimOf (system_of a) cycle victim)
 
 -- a thousand and twenty-four searches are always enough where there are no more sessions
 abbrev pub SearchesSuffice : Type 0

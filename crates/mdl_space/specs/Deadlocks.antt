@@ -56,4 +56,4 @@ abbrev pub IsVictimOf : {D : Type 0} → System D → List ℕ → ℕ → Type 
 IsVictimOf system cycle victim =
     Contains cycle victim × ((weight : ℕ) × Weighs system victim weight
     × ((other heavier : ℕ) → Contains cycle other → Weighs system other heavier
-        → (weight < heavier) ⊎ ((weight ≡ heavier) × (other ≤ victim))))
+    → (weight < heavier) ⊎ ((weight ≡ heavier) × (other ≤ victim))))
