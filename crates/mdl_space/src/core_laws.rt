@@ -1,6 +1,7 @@
 //! Laws of the lock space of one thread: its calls are events of the system of locks. Each is proved as the contract of a
 //! function that does nothing.
 ghost use Rattle.mdl_space.specs.CoreLaws.{CallsAreEvents, CallsKeepSound, GrantsWhatIsGrantable, CallsLeadByEvents};
+ghost use Rattle.mdl_space.specs.DeadlockLaws.{SearchesFindDeadlocks, SearchesSuffice, SearchesLeaveNoDeadlock};
 ghost use Rattle.mdl_space.specs.Strength.{CoversByKind};
 
 /// A call changes nothing in the system of locks, or it is an event there, after which waiters of that event's key are granted,
@@ -28,4 +29,19 @@ pub fn calls_lead_by_events<C>()
 /// How strong one mode is beside another is, at each lock, what the matrix of its kind says.
 pub fn covers_by_kind()
     ensures { CoversByKind }
+{}
+
+/// A search finds no cycle exactly where the session is part of no deadlock; else it names the victim of the chosen one.
+pub fn searches_find_deadlocks()
+    ensures { SearchesFindDeadlocks }
+{}
+
+/// A thousand and twenty-four searches are enough for a session, in a space of no more sessions.
+pub fn searches_suffice()
+    ensures { SearchesSuffice }
+{}
+
+/// Where none of them was refused, the session is then part of no deadlock.
+pub fn searches_leave_no_deadlock()
+    ensures { SearchesLeaveNoDeadlock }
 {}

@@ -1,0 +1,6 @@
+pub mod AnyLemmas
+pub mod DeadlockLemmas
+pub mod OrderLemmas
+pub mod RoundLemmas
+pub mod VictimLemmas
+pub mod WaitingLemmas

@@ -1,0 +1,8 @@
+pub mod CycleLaws
+pub mod CycleOrder
+pub mod Cycles
+pub mod GraphLaws
+pub mod Graphs
+pub mod Members
+pub mod Victims
+pub mod WaitsFor

@@ -1,0 +1,256 @@
+-- What searches come to: each finds the deadlock that there is, and one after another they leave none.
+use Rattle.std.proofs.Common.{◌≡◌, ◌≢◌, ◌⊎◌, ℕ, zero, suc, ◌+◌, ◌-◌, ◌<◌, ◌≤◌, Bool, true, false, not, ◌&&◌, ◌==◌, cond, inl, inr, List, [], ◌∷◌, length, Option, Some, None, refl, sym, ap, subst, ◌∙◌, arith}
+use Rattle.std.specs.Prelude.{Contains, slice_index_or, slice_set, is_some}
+use Rattle.std.specs.Option.{option_map}
+use Rattle.std.proofs.lemmas.Bool.{cases_order, eqb-true, eq-eqb, false≢true}
+use Rattle.std.proofs.lemmas.Bool.Decides.{eqb_tells}
+use Rattle.mdl_key.specs.Keys.{KeyName}
+use Rattle.mdl_graph.specs.declared.cycle.Member.{Member}
+use Rattle.mdl_graph.specs.GraphLaws.{sessions_of}
+use Rattle.mdl_graph.specs.Graphs.{deadlock_in}
+use Rattle.mdl_graph.specs.Victims.{victim_of}
+use Rattle.mdl_space.specs.declared.answers.Settled.{Settled}
+use Rattle.mdl_space.specs.declared.answers.Settled.TheVariants as settled_as
+use Rattle.mdl_space.specs.declared.seat.Pending.{Pending}
+use Rattle.mdl_space.specs.declared.space_error.SpaceError.TheVariants.{OutOfMemory}
+use Rattle.mdl_space.specs.Answers.{Answer, Refused, No_cycle, Victim_is, finds_no_memory}
+use Rattle.mdl_space.specs.Calls.{Search}
+use Rattle.mdl_space.specs.CoreCalls.{has_settled, searching_of, victim_at}
+use Rattle.mdl_space.specs.CoreJoins.{Joins, SpeaksFor}
+use Rattle.mdl_space.specs.CoreLaws.{CallsKeepSound}
+use Rattle.mdl_space.specs.Cores.{Core, seat_at, has_session}
+use Rattle.mdl_space.specs.CoreSystems.{system_of}
+use Rattle.mdl_space.specs.DeadlockLaws.{SearchesFindDeadlocks, SearchesSuffice, SearchesLeaveNoDeadlock}
+use Rattle.mdl_space.specs.Deadlocks.{Wishes, WaitsFor, Leads, IsDeadlock, IsChosenDeadlock, IsVictimOf}
+use Rattle.mdl_space.specs.Moves.{losing}
+use Rattle.mdl_space.specs.Runs.{Runs, Give}
+use Rattle.mdl_space.specs.Searches.{SearchEnd, Over, Cut_off, Failed, seeking}
+use Rattle.mdl_space.specs.Seats.{SeatView, empty_seat, is_open, settling}
+use Rattle.mdl_space.specs.Systems.{Waiter}
+use Rattle.mdl_space.specs.Ties.{IsTied}
+use Rattle.mdl_space.specs.Lemmas.CoreReads.{within, has_session-seating, seated-same}
+use Rattle.mdl_space.specs.Lemmas.CoreWaiting.{wait-at}
+use Rattle.mdl_space.specs.Lemmas.DeadlockSystems.{none-found, some-found}
+use Rattle.mdl_space.specs.Lemmas.DeadlockWaits.{settled-of, wishes-place, wishes-there}
+
+-- ---- one search
+
+told-none : (o : Option ℕ) (a b : Core) → searching_of o a ≡ (No_cycle, b) → (o ≡ None) × (b ≡ a)
+told-none None a b e = (refl, sym (ap (λ (x : Answer × Core). x.1) e))
+told-none (Some victim) a b e = let clash : Victim_is victim ≡ No_cycle = ap (λ (x : Answer × Core). x.0) e in cc
+
+told-some : (o : Option ℕ) (a b : Core) (victim : ℕ) → searching_of o a ≡ (Victim_is victim, b) → (o ≡ Some victim) × (b ≡ losing victim settled_as.Victim a)
+told-some None a b victim e = let clash : No_cycle ≡ Victim_is victim = ap (λ (x : Answer × Core). x.0) e in cc
+told-some (Some v) a b victim e =
+    let is : Victim_is v ≡ Victim_is victim = ap (λ (x : Answer × Core). x.0) e in
+    let same : v ≡ victim = cc in
+    (ap Some same, sym (ap (λ (x : Answer × Core). x.1) e) ∙ ap (λ n. losing n settled_as.Victim a) same)
+
+told-other : (o : Option ℕ) (a b : Core) (answer : Answer) → searching_of o a ≡ (answer, b) → (answer ≡ No_cycle) ⊎ ((victim : ℕ) × (answer ≡ Victim_is victim))
+told-other None a b answer e = inl (sym (ap (λ (x : Answer × Core). x.0) e))
+told-other (Some victim) a b answer e = inr (victim, sym (ap (λ (x : Answer × Core). x.0) e))
+
+not_memory : (victim : ℕ) → Victim_is victim ≡ Refused OutOfMemory → ⊥
+not_memory victim e = cc
+
+none-memory : No_cycle ≡ Refused OutOfMemory → ⊥
+none-memory e = cc
+
+-- a search that names no victim
+none-joined : (a b : Core) (who : ℕ) → Joins a (Search who) No_cycle b → (victim_at who a ≡ None) × (b ≡ a)
+none-joined a b who (speaks, has, inl made) = absurd (none-memory made.1)
+none-joined a b who (speaks, has, inr made) = told-none (victim_at who a) a b made
+
+-- and one that does
+some-joined : (a b : Core) (who victim : ℕ) → Joins a (Search who) (Victim_is victim) b
+    → (victim_at who a ≡ Some victim) × (b ≡ losing victim settled_as.Victim a)
+some-joined a b who victim (speaks, has, inl made) = absurd (not_memory victim made.1)
+some-joined a b who victim (speaks, has, inr made) = told-some (victim_at who a) a b victim made
+
+-- ---- what a search finds
+
+victim-none : (o : Option (List Member)) → option_map victim_of o ≡ None → o ≡ None
+victim-none None e = refl
+victim-none (Some members) e = cc
+
+victim-some : (o : Option (List Member)) (victim : ℕ) → option_map victim_of o ≡ Some victim → (members : List Member) × (o ≡ Some members) × (victim_of members ≡ victim)
+victim-some None victim e = cc
+victim-some (Some members) victim e = (members, refl, cc)
+
+pub victim-found : (core : Core) (who victim : ℕ) → IsTied core → victim_at who core ≡ Some victim
+    → (cycle : List ℕ) × IsChosenDeadlock (system_of core) who cycle × IsVictimOf (system_of core) cycle victim
+victim-found core who victim tied is =
+    let h = victim-some (deadlock_in (has_settled core) core.books who) victim is in
+    let found = some-found core tied who h.0 h.1 in
+    (sessions_of h.0, found.0, subst (IsVictimOf (system_of core) (sessions_of h.0)) h.2 found.1)
+
+pub searches-find : SearchesFindDeadlocks
+searches-find a b who = (
+  (λ joins. none-found a joins.0.1.tied who (victim-none (deadlock_in (has_settled a) a.books who) (none-joined a b who joins).0)),
+  λ victim joins. victim-found a who victim joins.0.1.tied (some-joined a b who victim joins).0,
+)
+
+-- ---- a session that wishes has an unsettled wait
+
+pub wishes-open : (core : Core) (session : ℕ) (key : KeyName) (wish : Waiter) → IsTied core → Wishes (system_of core) session key wish
+    → (has_session session core ≡ true) × (is_open (seat_at session core).wait ≡ true)
+wishes-open core session key wish tied wishes =
+    let at = wishes-place core tied session key wish wishes in
+    let there = wishes-there core tied at.0 session wish at.1 (subst (λ k. Wishes (system_of core) session k wish) (sym at.2) wishes) in
+    let h = wait-at core at.0 wish.ticket tied at.1 there.0 in
+    let still : is_some h.0.settled ≡ false = sym (settled-of core at.0 wish.ticket h.0 h.1) ∙ ap (has_settled core) there.1 ∙ there.2 in (
+      ap (λ n. has_session n core) (sym there.1) ∙ h.1.has,
+      ap (λ n. is_open (seat_at n core).wait) (sym there.1) ∙ ap is_open h.1.waits ∙ ap not still,
+    )
+
+pub victim-open : (core : Core) (who victim : ℕ) → IsTied core → victim_at who core ≡ Some victim
+    → (has_session victim core ≡ true) × (is_open (seat_at victim core).wait ≡ true)
+victim-open core who victim tied is =
+    let h = victim-found core who victim tied is in
+    let weighs = h.2.1.1 in
+    wishes-open core victim weighs.0 weighs.1 tied weighs.2
+
+settled-closed : (how : Settled) (seat : SeatView) → is_open (settling how seat).wait ≡ false
+settled-closed how seat = go seat.wait
+  where
+    go : (o : Option Pending) → is_open (option_map (λ (wait : Pending). record wait { settled = Some how }) o) ≡ false
+    go None = refl
+    go (Some wait) = refl
+
+-- ---- the unsettled waits of all sessions but one
+
+abbrev one_if : Bool → ℕ
+one_if b = cond b 1 0
+
+-- in the seats from a session on
+abbrev open_others : ℕ → ℕ → List SeatView → ℕ
+open_others who from [] = 0
+open_others who from (seat ∷ seats) = one_if (not (from == who) && is_open seat.wait) + open_others who (from + 1) seats
+
+one-fewer : (who from : ℕ) (seats : List SeatView) (k : ℕ) (seat : SeatView) → k < length seats → from + k ≢ who
+    → is_open (slice_index_or seats k empty_seat).wait ≡ true → is_open seat.wait ≡ false
+    → suc (open_others who from (slice_set seats k seat)) ≡ open_others who from seats
+one-fewer who from [] k seat inside other was is = absurd (omega (arith, inside))
+one-fewer who from (old ∷ seats) zero seat inside other was is = elim (eqb_tells from who) [
+  | inl e ↦ absurd (let same : from ≡ who = e.1 in other (omega arith))
+  | inr e ↦
+      let now : one_if (not (from == who) && is_open seat.wait) ≡ 0 = λ i. one_if (not (e.0 i) && is i) in
+      let before : one_if (not (from == who) && is_open old.wait) ≡ 1 = λ i. one_if (not (e.0 i) && was i) in
+      omega (arith, now, before)
+]
+one-fewer who from (old ∷ seats) (suc k) seat inside other was is =
+    let rest = one-fewer who (from + 1) seats k seat (omega (arith, inside)) (λ e. other (omega arith)) was is in
+    omega (arith, rest)
+
+bit-most : (b : Bool) → one_if b ≤ 1
+bit-most true = omega arith
+bit-most false = omega arith
+
+above : (from who : ℕ) → from ≤ who → from ≢ who → from + 1 ≤ who
+above from who least other = elim (cases_order from who) [
+  | inl same ↦ absurd (other same)
+  | inr apart ↦ elim apart [ inl less ↦ omega (arith, less) | inr more ↦ absurd (omega (arith, least, more)) ]
+]
+
+at-most : (who from : ℕ) (seats : List SeatView) → open_others who from seats ≤ length seats
+at-most who from [] = omega arith
+at-most who from (seat ∷ seats) =
+    let rest = at-most who (from + 1) seats in
+    let one : one_if (not (from == who) && is_open seat.wait) ≤ 1 = bit-most (not (from == who) && is_open seat.wait) in
+    omega (arith, rest, one)
+
+fewer : (who from : ℕ) (seats : List SeatView) → from ≤ who → who < from + length seats → open_others who from seats < length seats
+fewer who from [] least most = absurd (omega (arith, least, most))
+fewer who from (seat ∷ seats) least most = elim (eqb_tells from who) [
+  | inl e ↦
+      let none : one_if (not (from == who) && is_open seat.wait) ≡ 0 = ap (λ b. one_if (not b && is_open seat.wait)) e.0 in
+      let rest = at-most who (from + 1) seats in
+      omega (arith, none, rest)
+  | inr e ↦
+      let one : one_if (not (from == who) && is_open seat.wait) ≤ 1 = bit-most (not (from == who) && is_open seat.wait) in
+      let rest = fewer who (from + 1) seats (above from who least e.1) (omega (arith, most)) in
+      omega (arith, one, rest)
+]
+
+-- in a space
+abbrev others_open : ℕ → Core → ℕ
+others_open who core = open_others who 1 core.seats
+
+-- a victim's is one less
+one-lost : (core : Core) (who victim : ℕ) → has_session victim core ≡ true → victim ≢ who → is_open (seat_at victim core).wait ≡ true
+    → suc (others_open who (losing victim settled_as.Victim core)) ≡ others_open who core
+one-lost core who victim has other was =
+    let fits = within victim (length core.seats) has in
+    one-fewer who 1 core.seats (victim - 1) (settling settled_as.Victim (seat_at victim core)) (omega arith) (λ e. other (omega arith)) was
+    (settled-closed settled_as.Victim (seat_at victim core))
+
+-- ---- searches one after another
+
+cut-over : Over ≡ Cut_off → ⊥
+cut-over e = cc
+
+-- a search that loses another session's wait keeps that there is such a session
+speaks-on : CallsKeepSound → (a b : Core) (who victim : ℕ) → SpeaksFor a who → Joins a (Search who) (Victim_is victim) b → SpeaksFor b who
+speaks-on keeps a b who victim speaks joins =
+    let is = some-joined a b who victim joins in (
+      ap (has_session who) is.1 ∙ has_session-seating a victim who (settling settled_as.Victim (seat_at victim a)) ∙ speaks.0,
+      keeps a b (Search who) (Victim_is victim) speaks.1 joins,
+    )
+
+module _ (keeps : CallsKeepSound) where
+  never-cut : (n : ℕ) (a b : Core) (who : ℕ) → others_open who a < n → SpeaksFor a who → Runs Joins a (seeking n who) Cut_off b → ⊥
+  unfolding seeking
+  never-cut zero a b who few speaks run = omega (arith, few)
+  never-cut (suc n) a b who few speaks (Victim_is victim, mid, joins, memory, run) =
+      elim (victim == who) as (λ t. (victim == who) ≡ t → Runs Joins mid (cond t (Give Over) (seeking n who)) Cut_off b → ⊥) [
+        | true ↦ λ e over. cut-over over.0
+        | false ↦ λ e more.
+            let is = some-joined a mid who victim joins in
+            let was = victim-open a who victim speaks.1.tied is.0 in
+            let lost : suc (others_open who mid) ≡ others_open who a =
+            ap (λ c. suc (others_open who c)) is.1 ∙ one-lost a who victim was.0 (λ same. false≢true (sym e ∙ eq-eqb victim who same)) was.1 in
+            never-cut n mid b who (omega (arith, few, lost)) (speaks-on keeps a mid who victim speaks joins) more
+      ] refl run
+  never-cut (suc n) a b who few speaks (_, mid, joins, memory, run) = let end = run.0 in cc
+
+  pub searches-suffice : SearchesSuffice
+  searches-suffice a b who most speaks run =
+      let fits = within who (length a.seats) speaks.0 in
+      let few = fewer who 1 a.seats (omega arith) (omega arith) in
+      never-cut 1024 a b who (omega (arith, few, most)) speaks run
+
+  -- whoever is a victim waits for nobody
+  lost-waits : (a b : Core) (who other : ℕ) → SpeaksFor a who → Joins a (Search who) (Victim_is who) b → WaitsFor (system_of b) who other → ⊥
+  lost-waits a b who other speaks joins waiting =
+      let is = some-joined a b who who joins in
+      let sound = keeps a b (Search who) (Victim_is who) speaks.1 joins in
+      let open_still = (wishes-open b who waiting.1.0 waiting.1.1 sound.tied waiting.1.2).1 in
+      let seat : seat_at who b ≡ settling settled_as.Victim (seat_at who a) =
+      ap (seat_at who) is.1 ∙ seated-same a who (settling settled_as.Victim (seat_at who a)) speaks.0 in
+      false≢true (sym (ap (λ (s : SeatView). is_open s.wait) seat ∙ settled-closed settled_as.Victim (seat_at who a)) ∙ open_still)
+
+  lost-deadlock : (a b : Core) (who : ℕ) → SpeaksFor a who → Joins a (Search who) (Victim_is who) b → (cycle : List ℕ) → IsDeadlock (system_of b) who cycle → ⊥
+  lost-deadlock a b who speaks joins cycle ([], same, distinct, leading) = lost-waits a b who who speaks joins leading
+  lost-deadlock a b who speaks joins cycle (next ∷ rest, same, distinct, leading) = lost-waits a b who next speaks joins leading.0
+
+  pub none-left : (n : ℕ) (a b : Core) (who : ℕ) → SpeaksFor a who → Runs Joins a (seeking n who) Over b → (cycle : List ℕ) → IsDeadlock (system_of b) who cycle → ⊥
+  unfolding seeking
+  none-left zero a b who speaks run = let end = run.0 in cc
+  none-left (suc n) a b who speaks (Victim_is victim, mid, joins, memory, run) =
+      elim (victim == who) as (λ t. (victim == who) ≡ t → Runs Joins mid (cond t (Give Over) (seeking n who)) Over b → (cycle : List ℕ) → IsDeadlock (system_of b) who cycle → ⊥) [
+        | true ↦ λ e over.
+            lost-deadlock a b who speaks
+            (subst (λ c. Joins a (Search who) (Victim_is who) c) over.1 (subst (λ n. Joins a (Search who) (Victim_is n) mid) (eqb-true victim who e) joins))
+        | false ↦ λ e more. none-left n mid b who (speaks-on keeps a mid who victim speaks joins) more
+      ] refl run
+  none-left (suc n) a b who speaks (No_cycle, mid, joins, memory, run) =
+      λ cycle is. (searches-find a mid who).0 joins cycle (subst (λ c. IsDeadlock (system_of c) who cycle) (sym run.1 ∙ (none-joined a mid who joins).1) is)
+  none-left (suc n) a b who speaks (Refused refusal, mid, joins, memory, run) = let end = run.0 in cc
+  none-left (suc n) a b who speaks (answer, mid, (speaks_too, has, inl made), memory, run) = let end = made.1 in cc
+  none-left (suc n) a b who speaks (answer, mid, (speaks_too, has, inr made), memory, run) = elim (told-other (victim_at who a) a mid answer made) [
+    | inl e ↦ cc
+    | inr h ↦ let e = h.1 in cc
+  ]
+
+  pub searches-leave : SearchesLeaveNoDeadlock
+  searches-leave a b who = none-left 1024 a b who
