@@ -1,13 +1,15 @@
 -- Laws of searches for deadlocks in the lock space of one thread.
-use Rattle.std.specs.Prelude.{◌≡◌, ℕ, ◌≤◌, List, length}
-use Rattle.mdl_space.specs.Answers.{Answer, No_cycle, Victim_is}
-use Rattle.mdl_space.specs.Calls.{Search}
+use Rattle.std.specs.Prelude.{◌≡◌, ℕ, ◌≤◌, List, length, Contains}
+use Rattle.mdl_key.specs.declared.mode.Mode.{Mode}
+use Rattle.mdl_space.specs.Answers.{Answer, Waits, No_cycle, Victim_is}
+use Rattle.mdl_space.specs.Calls.{Call, Begin_wait, Search}
 use Rattle.mdl_space.specs.CoreJoins.{Joins, SpeaksFor}
 use Rattle.mdl_space.specs.Cores.{Core}
 use Rattle.mdl_space.specs.CoreSystems.{system_of}
 use Rattle.mdl_space.specs.Deadlocks.{IsDeadlock, IsChosenDeadlock, IsVictimOf}
 use Rattle.mdl_space.specs.Runs.{Runs}
 use Rattle.mdl_space.specs.Searches.{Over, Cut_off, seeking}
+use Rattle.mdl_space.specs.Ties.{IsSound}
 
 -- a search finds no cycle exactly where the session is part of no deadlock, and else it names the victim of the chosen one
 abbrev pub SearchesFindDeadlocks : Type 0
@@ -25,3 +27,11 @@ SearchesSuffice = (a b : Core) (who : ℕ) → length a.seats ≤ 1024 → Speak
 abbrev pub SearchesLeaveNoDeadlock : Type 0
 SearchesLeaveNoDeadlock =
     (a b : Core) (who : ℕ) → SpeaksFor a who → Runs Joins a (seeking 1024 who) Over b → (cycle : List ℕ) → IsDeadlock (system_of b) who cycle → ⊥
+
+-- where no session is part of a deadlock, a call makes none; unless a session begins a wait by it, which is then part of each
+abbrev pub OnlyNewWaitsMakeDeadlocks : Type 0
+OnlyNewWaitsMakeDeadlocks =
+    (a b : Core) (call : Call) (answer : Answer) → IsSound a → Joins a call answer b →
+    ((session : ℕ) (cycle : List ℕ) → IsDeadlock (system_of a) session cycle → ⊥) →
+    (session : ℕ) (cycle : List ℕ) → IsDeadlock (system_of b) session cycle →
+    (who : ℕ) × (place : ℕ) × (mode : Mode) × (number : ℕ) × (call ≡ Begin_wait who place mode) × (answer ≡ Waits number) × Contains cycle who

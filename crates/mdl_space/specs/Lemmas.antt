@@ -14,6 +14,7 @@ pub mod CoreUnended
 pub mod CoreWaiting
 pub mod CoreWaits
 pub mod CoreWaitsFollow
+pub mod DeadlockEvents
 pub mod DeadlockSystems
 pub mod DeadlockWaits
 pub mod Deciding
