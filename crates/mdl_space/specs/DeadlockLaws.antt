@@ -1,12 +1,12 @@
 -- Laws of searches for deadlocks in the lock space of one thread.
-use Rattle.std.specs.Prelude.{◌≡◌, ℕ, ◌≤◌, List, length, Contains}
+use Rattle.std.specs.Prelude.{◌≡◌, ℕ, ◌≤◌, Bool, false, not, ◌&&◌, ◌||◌, ◌==◌, List, length}
 use Rattle.mdl_key.specs.declared.mode.Mode.{Mode}
 use Rattle.mdl_space.specs.Answers.{Answer, Waits, No_cycle, Victim_is}
 use Rattle.mdl_space.specs.Calls.{Call, Begin_wait, Search}
 use Rattle.mdl_space.specs.CoreJoins.{Joins, SpeaksFor}
 use Rattle.mdl_space.specs.Cores.{Core}
 use Rattle.mdl_space.specs.CoreSystems.{system_of}
-use Rattle.mdl_space.specs.Deadlocks.{IsDeadlock, IsChosenDeadlock, IsVictimOf}
+use Rattle.mdl_space.specs.Deadlocks.{IsDeadlock, IsChosenDeadlock, IsVictimOf, DeadlocksGoThrough, HasNoDeadlock}
 use Rattle.mdl_space.specs.Runs.{Runs}
 use Rattle.mdl_space.specs.Searches.{Over, Cut_off, seeking}
 use Rattle.mdl_space.specs.Ties.{IsSound}
@@ -28,10 +28,29 @@ abbrev pub SearchesLeaveNoDeadlock : Type 0
 SearchesLeaveNoDeadlock =
     (a b : Core) (who : ℕ) → SpeaksFor a who → Runs Joins a (seeking 1024 who) Over b → (cycle : List ℕ) → IsDeadlock (system_of b) who cycle → ⊥
 
--- where no session is part of a deadlock, a call makes none; unless a session begins a wait by it, which is then part of each
+-- whether a session begins to wait by a call with this answer
+abbrev pub begins_wait : Call → Answer → ℕ → Bool
+begins_wait (Begin_wait who place mode) (Waits number) session = session == who
+begins_wait _ _ session = false
+
+-- no call makes a deadlock but by a wait that it begins: where all deadlocks go through some sessions, after it they go through
+-- these or through the one that began to wait by it
 abbrev pub OnlyNewWaitsMakeDeadlocks : Type 0
 OnlyNewWaitsMakeDeadlocks =
-    (a b : Core) (call : Call) (answer : Answer) → IsSound a → Joins a call answer b →
-    ((session : ℕ) (cycle : List ℕ) → IsDeadlock (system_of a) session cycle → ⊥) →
-    (session : ℕ) (cycle : List ℕ) → IsDeadlock (system_of b) session cycle →
-    (who : ℕ) × (place : ℕ) × (mode : Mode) × (number : ℕ) × (call ≡ Begin_wait who place mode) × (answer ≡ Waits number) × Contains cycle who
+    (a b : Core) (call : Call) (answer : Answer) (sessions : ℕ → Bool) → IsSound a → Joins a call answer b →
+    DeadlocksGoThrough sessions (system_of a) →
+    DeadlocksGoThrough (λ session. sessions session || begins_wait call answer session) (system_of b)
+
+-- once a session's searches are over, all deadlocks go through these sessions but itself
+abbrev pub SearchingEndsDeadlocks : Type 0
+SearchingEndsDeadlocks =
+    (a b : Core) (who : ℕ) (sessions : ℕ → Bool) → SpeaksFor a who → Runs Joins a (seeking 1024 who) Over b →
+    DeadlocksGoThrough sessions (system_of a) →
+    DeadlocksGoThrough (λ session. sessions session && not (session == who)) (system_of b)
+
+-- so where there is no deadlock, and a session begins to wait and searches until that is over, there is none
+abbrev pub WaitingLeavesNoDeadlock : Type 0
+WaitingLeavesNoDeadlock =
+    (a b c : Core) (who place number : ℕ) (mode : Mode) →
+    Joins a (Begin_wait who place mode) (Waits number) b → Runs Joins b (seeking 1024 who) Over c →
+    HasNoDeadlock (system_of a) → HasNoDeadlock (system_of c)

@@ -13,7 +13,6 @@ use Rattle.mdl_space.specs.CoreJoins.{Joins}
 use Rattle.mdl_space.specs.CoreLaws.{is_change, IsEventOf, GrantsInOrder}
 use Rattle.mdl_space.specs.Cores.{Core, seat_at}
 use Rattle.mdl_space.specs.CoreSystems.{system_of}
-use Rattle.mdl_space.specs.DeadlockLaws.{OnlyNewWaitsMakeDeadlocks}
 use Rattle.mdl_space.specs.Deadlocks.{Wishes, WaitsFor, Leads, IsDeadlock}
 use Rattle.mdl_space.specs.Seats.{is_open}
 use Rattle.mdl_space.specs.Steps.{Event, Grant, Clone, BeginWait, GrantWaiter, SettleLost, EndGrantedWait, EndLostWait, Release, BeginsWait, GrantsWaiter, Happens, SameSystem, granted_wait}
@@ -119,7 +118,7 @@ wishless-apart system from cycle is member among none =
     none h.1.1.0 h.1.1.1 h.1.1.2
 
 -- whose wait is granted and not ended wishes for nothing
-granted-wishless : (core : Core) → IsTied core → (wait : GrantedWait) → Contains (system_of core).unended wait → Wishless (system_of core) wait.session
+pub granted-wishless : (core : Core) → IsTied core → (wait : GrantedWait) → Contains (system_of core).unended wait → Wishless (system_of core) wait.session
 granted-wishless core tied wait among key wish wishes =
     let still = (wishes-open core wait.session key wish tied wishes).1 in
     let h = granted_of wait.session (seat_at wait.session core).wait wait ((unended-members core wait).0 among).1 in
@@ -128,13 +127,13 @@ granted-wishless core tied wait among key wish wishes =
 -- ---- waiters are granted
 
 -- whoever holds a ticket more had its wait granted, and nobody waits who didn't
-record GrantsOnly {D : Type 0} (a b : System D) : Type 0 where
-  holds : (held : Holding) → Contains b.granted held
+pub record GrantsOnly {D : Type 0} (a b : System D) : Type 0 where
+  pub holds : (held : Holding) → Contains b.granted held
       → Contains a.granted held ⊎ ((wait : GrantedWait) × Contains b.unended wait × (wait.session ≡ held.session))
-  waits : (key : KeyName) (waiter : Waiter) → Contains (b.waiting key) waiter → Contains (a.waiting key) waiter
-  unended : (wait : GrantedWait) → Contains a.unended wait → Contains b.unended wait
+  pub waits : (key : KeyName) (waiter : Waiter) → Contains (b.waiting key) waiter → Contains (a.waiting key) waiter
+  pub unended : (wait : GrantedWait) → Contains a.unended wait → Contains b.unended wait
 
-grants_only : {C D : Type 0} (apply : KeyName → C → Option D → Option (Option D)) (key : KeyName) (events : List (Event C)) (a b : System D)
+pub grants_only : {C D : Type 0} (apply : KeyName → C → Option D → Option (Option D)) (key : KeyName) (events : List (Event C)) (a b : System D)
     → GrantsInOrder apply key events a b → GrantsOnly a b
 grants_only apply key [] a b same = record {
   holds = λ held among. inl ((same.granted held).0 among);
@@ -165,13 +164,13 @@ grants_only {C} {D} apply key (event ∷ events) a b (waiter, between, is, first
 -- ---- events by which no wait begins
 
 -- whoever holds a ticket more waits nowhere, and nobody wishes for what he didn't
-record IsCalm {D : Type 0} (a b : System D) : Type 0 where
-  holds : (held : Holding) → Contains b.granted held
+pub record IsCalm {D : Type 0} (a b : System D) : Type 0 where
+  pub holds : (held : Holding) → Contains b.granted held
       → Contains a.granted held ⊎ ((key : KeyName) (waiter : Waiter) → Contains (a.waiting key) waiter → waiter.ticket.session ≢ held.session)
-  wishes : (key : KeyName) (wish : Waiter) → Contains (b.waiting key) wish → wish.state ≡ Unsettled → Contains (a.waiting key) wish
+  pub wishes : (key : KeyName) (wish : Waiter) → Contains (b.waiting key) wish → wish.state ≡ Unsettled → Contains (a.waiting key) wish
 
 -- the events that calls are, but for a wait that begins
-abbrev IsCalmEvent : {C : Type 0} → Event C → Type 0
+abbrev pub IsCalmEvent : {C : Type 0} → Event C → Type 0
 IsCalmEvent (Grant ticket) = Unit {0}
 IsCalmEvent (Clone first second) = Unit {0}
 IsCalmEvent (SettleLost key waiter how) = Unit {0}
@@ -187,7 +186,7 @@ gained-calm : {D : Type 0} (ticket : Holding) (a b : System D) → ((key : KeyNa
 gained-calm ticket a b free held (inl before) = inl before
 gained-calm ticket a b free held (inr e) = inr (λ key waiter among own. free key waiter among (own ∙ ap (λ (h : Holding). h.session) e))
 
-calm : {C D : Type 0} (apply : KeyName → C → Option D → Option (Option D)) (event : Event C) (a b : System D) → IsCalmEvent event → Happens apply event a b → IsCalm a b
+pub calm : {C D : Type 0} (apply : KeyName → C → Option D → Option (Option D)) (event : Event C) (a b : System D) → IsCalmEvent event → Happens apply event a b → IsCalm a b
 calm apply (Grant ticket) a b is g = record {
   holds = λ held among. gained-calm ticket a b g.free.0 held ((g.granted held).0 among);
   wishes = λ key wish among _. subst (λ ws. Contains ws wish) (g.rest.waits.waiting key) among;

@@ -190,7 +190,7 @@ cut-over : Over ≡ Cut_off → ⊥
 cut-over e = cc
 
 -- a search that loses another session's wait keeps that there is such a session
-speaks-on : CallsKeepSound → (a b : Core) (who victim : ℕ) → SpeaksFor a who → Joins a (Search who) (Victim_is victim) b → SpeaksFor b who
+pub speaks-on : CallsKeepSound → (a b : Core) (who victim : ℕ) → SpeaksFor a who → Joins a (Search who) (Victim_is victim) b → SpeaksFor b who
 speaks-on keeps a b who victim speaks joins =
     let is = some-joined a b who victim joins in (
       ap (has_session who) is.1 ∙ has_session-seating a victim who (settling settled_as.Victim (seat_at victim a)) ∙ speaks.0,
