@@ -26,7 +26,7 @@ use Rattle.mdl_space.specs.Lemmas.Deciding.{key_told}
 use Rattle.mdl_space.specs.Lemmas.DeadlockEvents.{AddsOnly, deadlock-before, Wishless, wishless-apart, granted-wishless, GrantsOnly, grants_only, IsCalm, IsCalmEvent, calm}
 use Rattle.mdl_space.specs.Lemmas.DeadlockRounds.{deadlock-of_member}
 use Rattle.mdl_space.specs.Lemmas.MemberLemmas.{push-gains}
-use Rattle.mdl_space.specs.Lemmas.SearchRuns.{speaks-on, none-left}
+use Rattle.mdl_space.specs.Lemmas.SearchRuns.{none-joined, either-joined, speaks-on, none-left}
 
 -- ---- what an event and the grants after it add
 
@@ -83,3 +83,121 @@ of-call a (Kill target number) (Has_killed true) event (key, waiter, own, wait, 
 of-call a (Release who id) Done event (ticket, own, number, is) = inl (calm-event _ event is tt)
 of-call a (Clone_ticket who id mode) (Granted copy) event (ticket, own, number, is) = inl (calm-event _ event is tt)
 of-call a _ _ event is = absurd is
+
+-- ---- whatever is called
+
+-- a session in each deadlock
+module _ (a b : Core) (call : Call) (answer : Answer) (sessions : ℕ → Bool) (sound : IsSound a) (joins : Joins a call answer b) (through : DeadlocksGoThrough sessions (system_of a)) where
+  abbrev now : ℕ → Bool
+  now = λ session. sessions session || begins_wait call answer session
+
+  or-left : (p q : Bool) → p ≡ true → (p || q) ≡ true
+  or-left p q e = ap (λ r. r || q) e
+
+  or-right : (p q : Bool) → q ≡ true → (p || q) ≡ true
+  or-right true q e = refl
+  or-right false q e = e
+
+  still-through : (from : ℕ) (cycle : List ℕ) → IsDeadlock (system_of a) from cycle → (member : ℕ) × Contains cycle member × IsTrue (now member)
+  still-through from cycle is = let h = through from cycle is in (h.0, h.1, or-left (sessions h.0) (begins_wait call answer h.0) h.2)
+
+  none-granted : (wait : GrantedWait) → Contains (system_of b).unended wait → Wishless (system_of b) wait.session
+  none-granted = granted-wishless b (calls_keep-sound a b call answer sound joins).tied
+
+  calm-through : AddsOnly (Wishless (system_of b)) (system_of a) (system_of b) → DeadlocksGoThrough now (system_of b)
+  calm-through adds from cycle is = elim (deadlock-before (Wishless (system_of b)) (system_of a) (system_of b) adds from cycle is) [
+    | inl before ↦ still-through from cycle before
+    | inr new ↦ absurd (wishless-apart (system_of b) from cycle is new.0 new.1 new.2)
+  ]
+
+  begun-through : (who : ℕ) → begins_wait call answer who ≡ true → AddsOnly (λ session. (session ≡ who) ⊎ Wishless (system_of b) session) (system_of a) (system_of b)
+      → DeadlocksGoThrough now (system_of b)
+  begun-through who begun adds from cycle is =
+      elim (deadlock-before (λ session. (session ≡ who) ⊎ Wishless (system_of b) session) (system_of a) (system_of b) adds from cycle is) [
+        | inl before ↦ still-through from cycle before
+        | inr new ↦ elim new.2 [
+          | inl e ↦ (new.0, new.1, or-right (sessions new.0) (begins_wait call answer new.0) (ap (begins_wait call answer) e ∙ begun))
+          | inr none ↦ absurd (wishless-apart (system_of b) from cycle is new.0 new.1 none)
+        ]
+      ]
+
+  same-adds : SameSystem (system_of a) (system_of b) → AddsOnly (Wishless (system_of b)) (system_of a) (system_of b)
+  same-adds same = record {
+    holds = λ held among. inl ((same.granted held).0 among);
+    wishes = λ key wish among _. inl (subst (λ ws. Contains ws wish) (same.waits.waiting key) among);
+  }
+
+  event-through : (event : Event (Unit {0})) (key : KeyName) (grants : List (Event (Unit {0}))) (between : System Definition) → IsCalmEvent event ⊎ IsBegin call answer event
+      → Happens (λ _ _ _. None) event (system_of a) between → GrantsInOrder (λ _ _ _. None) key grants between (system_of b) → DeadlocksGoThrough now (system_of b)
+  event-through event key grants between (inl is) happens order =
+      let granted = grants_only (λ _ _ _. None) key grants between (system_of b) order in
+      calm-through (calm-adds (system_of a) between (system_of b) granted none-granted (calm (λ _ _ _. None) event (system_of a) between is happens))
+  event-through event key grants between (inr (at, waiter, is, begun)) happens order =
+      let granted = grants_only (λ _ _ _. None) key grants between (system_of b) order in
+      begun-through waiter.ticket.session begun
+      (begun-adds (system_of a) between (system_of b) granted none-granted at waiter (subst (λ e. Happens (λ _ _ _. None) e (system_of a) between) is happens))
+
+  call-through : DeadlocksGoThrough now (system_of b)
+  call-through = by (calls_are-events (Unit {0}) (λ _ _ _. None) a b call answer sound joins)
+    where
+      by : ((is_change call answer ≡ false) × SameSystem (system_of a) (system_of b))
+          ⊎ ((event : Event (Unit {0})) × (grants : List (Event (Unit {0}))) × (between : System Definition) × (key : KeyName)
+          × IsEventOf a call answer event × ((other : KeyName) → IsAbout event other → other ≡ key)
+          × Happens (λ _ _ _. None) event (system_of a) between × GrantsInOrder (λ _ _ _. None) key grants between (system_of b))
+          → DeadlocksGoThrough now (system_of b)
+      by (inl same) = calm-through (same-adds same.1)
+      by (inr (event, grants, between, key, is, about, happens, order)) = event-through event key grants between (of-call a call answer event is) happens order
+
+pub only-new_waits : OnlyNewWaitsMakeDeadlocks
+only-new_waits a b call answer sessions sound joins through = call-through a b call answer sessions sound joins through
+
+-- ---- searches
+
+-- a search begins no wait
+searched-through : (a b : Core) (who victim : ℕ) (sessions : ℕ → Bool) → IsSound a → Joins a (Search who) (Victim_is victim) b
+    → DeadlocksGoThrough sessions (system_of a) → DeadlocksGoThrough sessions (system_of b)
+searched-through a b who victim sessions sound joins through from cycle is =
+    let h = only-new_waits a b (Search who) (Victim_is victim) sessions sound joins through from cycle is in
+    (h.0, h.1, or-none (sessions h.0) h.2)
+  where
+    or-none : (p : Bool) → (p || false) ≡ true → p ≡ true
+    or-none true e = refl
+    or-none false e = e
+
+runs-through : (n : ℕ) (a b : Core) (who : ℕ) (sessions : ℕ → Bool) → SpeaksFor a who → Runs Joins a (seeking n who) Over b
+    → DeadlocksGoThrough sessions (system_of a) → DeadlocksGoThrough sessions (system_of b)
+unfolding seeking
+runs-through zero a b who sessions speaks run = let end = run.0 in cc
+runs-through (suc n) a b who sessions speaks (Victim_is victim, mid, joins, memory, run) =
+    elim (victim == who) as (λ t. Runs Joins mid (cond t (Give Over) (seeking n who)) Over b → DeadlocksGoThrough sessions (system_of a) → DeadlocksGoThrough sessions (system_of b)) [
+      | true ↦ λ over through. subst (λ c. DeadlocksGoThrough sessions (system_of c)) over.1 (searched-through a mid who victim sessions speaks.1 joins through)
+      | false ↦ λ more through. runs-through n mid b who sessions (speaks-on calls_keep-sound a mid who victim speaks joins) more (searched-through a mid who victim sessions speaks.1 joins through)
+    ] run
+runs-through (suc n) a b who sessions speaks (No_cycle, mid, joins, memory, run) =
+    λ through. subst (λ c. DeadlocksGoThrough sessions (system_of c)) (sym (none-joined a mid who joins).1 ∙ run.1) through
+runs-through (suc n) a b who sessions speaks (answer, mid, joins, memory, run) = elim (either-joined a mid who answer joins memory) [ inl e ↦ cc | inr h ↦ let e = h.1 in cc ]
+
+pub searching-ends : SearchingEndsDeadlocks
+searching-ends a b who sessions speaks run through from cycle is =
+    let h = runs-through 1024 a b who sessions speaks run through from cycle is in
+    (h.0, h.1, elim (eqb_tells h.0 who) [
+      | inl e ↦ absurd (let round = deadlock-of_member (system_of b) from cycle is h.0 h.1 in
+          none-left calls_keep-sound 1024 a b who speaks run round.0 (subst (λ n. IsDeadlock (system_of b) n round.0) e.1 round.1))
+      | inr e ↦ and_from (sessions h.0) (not (h.0 == who)) h.2 (ap not e.0)
+    ])
+
+seekers-speak : (n : ℕ) (a b : Core) (who : ℕ) → Runs Joins a (seeking n who) Over b → SpeaksFor a who
+unfolding seeking
+seekers-speak zero a b who run = let end = run.0 in cc
+seekers-speak (suc n) a b who (answer, mid, joins, memory, run) = joins.0
+
+pub waiting-leaves : WaitingLeavesNoDeadlock
+waiting-leaves a b c who place number mode joins run free from cycle is =
+    let begun : DeadlocksGoThrough (λ session. session == who) (system_of b) =
+    only-new_waits a b (Begin_wait who place mode) (Waits number) (λ _. false) joins.0.1 joins (λ first other is_one. absurd (free first other is_one)) in
+    let h = searching-ends b c who (λ session. session == who) (seekers-speak 1024 b c who run) run begun from cycle is in
+    apart (h.0 == who) h.2
+  where
+    apart : (p : Bool) → (p && not p) ≡ true → ⊥
+    apart true e = false≢true e
+    apart false e = false≢true e

@@ -57,7 +57,7 @@ none-memory : No_cycle ≡ Refused OutOfMemory → ⊥
 none-memory e = cc
 
 -- a search that names no victim
-none-joined : (a b : Core) (who : ℕ) → Joins a (Search who) No_cycle b → (victim_at who a ≡ None) × (b ≡ a)
+pub none-joined : (a b : Core) (who : ℕ) → Joins a (Search who) No_cycle b → (victim_at who a ≡ None) × (b ≡ a)
 none-joined a b who (speaks, has, inl made) = absurd (none-memory made.1)
 none-joined a b who (speaks, has, inr made) = told-none (victim_at who a) a b made
 
@@ -66,6 +66,12 @@ some-joined : (a b : Core) (who victim : ℕ) → Joins a (Search who) (Victim_i
     → (victim_at who a ≡ Some victim) × (b ≡ losing victim settled_as.Victim a)
 some-joined a b who victim (speaks, has, inl made) = absurd (not_memory victim made.1)
 some-joined a b who victim (speaks, has, inr made) = told-some (victim_at who a) a b victim made
+
+-- a search that finds memory is one of these
+pub either-joined : (a b : Core) (who : ℕ) (answer : Answer) → Joins a (Search who) answer b → finds_no_memory answer ≡ false
+    → (answer ≡ No_cycle) ⊎ ((victim : ℕ) × (answer ≡ Victim_is victim))
+either-joined a b who answer (speaks, has, inl made) memory = absurd (false≢true (sym memory ∙ ap finds_no_memory made.1))
+either-joined a b who answer (speaks, has, inr made) memory = told-other (victim_at who a) a b answer made
 
 -- ---- what a search finds
 
@@ -245,12 +251,7 @@ module _ (keeps : CallsKeepSound) where
       ] refl run
   none-left (suc n) a b who speaks (No_cycle, mid, joins, memory, run) =
       λ cycle is. (searches-find a mid who).0 joins cycle (subst (λ c. IsDeadlock (system_of c) who cycle) (sym run.1 ∙ (none-joined a mid who joins).1) is)
-  none-left (suc n) a b who speaks (Refused refusal, mid, joins, memory, run) = let end = run.0 in cc
-  none-left (suc n) a b who speaks (answer, mid, (speaks_too, has, inl made), memory, run) = let end = made.1 in cc
-  none-left (suc n) a b who speaks (answer, mid, (speaks_too, has, inr made), memory, run) = elim (told-other (victim_at who a) a mid answer made) [
-    | inl e ↦ cc
-    | inr h ↦ let e = h.1 in cc
-  ]
+  none-left (suc n) a b who speaks (answer, mid, joins, memory, run) = elim (either-joined a mid who answer joins memory) [ inl e ↦ cc | inr h ↦ let e = h.1 in cc ]
 
   pub searches-leave : SearchesLeaveNoDeadlock
   searches-leave a b who = none-left 1024 a b who
