@@ -26,7 +26,7 @@ use Rattle.mdl_space.specs.Lemmas.Deciding.{key_told}
 use Rattle.mdl_space.specs.Lemmas.DeadlockEvents.{AddsOnly, deadlock-before, Wishless, wishless-apart, granted-wishless, GrantsOnly, grants_only, IsCalm, IsCalmEvent, calm}
 use Rattle.mdl_space.specs.Lemmas.DeadlockRounds.{deadlock-of_member}
 use Rattle.mdl_space.specs.Lemmas.MemberLemmas.{push-gains}
-use Rattle.mdl_space.specs.Lemmas.SearchRuns.{none-joined, either-joined, speaks-on, none-left}
+use Rattle.mdl_space.specs.Lemmas.SearchRuns.{none-joined, over-cut, searched, speaks-on, searches-leave}
 
 -- ---- what an event and the grants after it add
 
@@ -166,36 +166,36 @@ searched-through a b who victim sessions sound joins through from cycle is =
 
 runs-through : (n : ℕ) (a b : Core) (who : ℕ) (sessions : ℕ → Bool) → SpeaksFor a who → Runs Joins a (seeking n who) Over b
     → DeadlocksGoThrough sessions (system_of a) → DeadlocksGoThrough sessions (system_of b)
-unfolding seeking
-runs-through zero a b who sessions speaks run = let end = run.0 in cc
-runs-through (suc n) a b who sessions speaks (Victim_is victim, mid, joins, memory, run) =
-    elim (victim == who) as (λ t. Runs Joins mid (cond t (Give Over) (seeking n who)) Over b → DeadlocksGoThrough sessions (system_of a) → DeadlocksGoThrough sessions (system_of b)) [
-      | true ↦ λ over through. subst (λ c. DeadlocksGoThrough sessions (system_of c)) over.1 (searched-through a mid who victim sessions speaks.1 joins through)
-      | false ↦ λ more through. runs-through n mid b who sessions (speaks-on calls_keep-sound a mid who victim speaks joins) more (searched-through a mid who victim sessions speaks.1 joins through)
-    ] run
-runs-through (suc n) a b who sessions speaks (No_cycle, mid, joins, memory, run) =
-    λ through. subst (λ c. DeadlocksGoThrough sessions (system_of c)) (sym (none-joined a mid who joins).1 ∙ run.1) through
-runs-through (suc n) a b who sessions speaks (answer, mid, joins, memory, run) = elim (either-joined a mid who answer joins memory) [ inl e ↦ cc | inr h ↦ let e = h.1 in cc ]
+runs-through zero a b who sessions speaks run through = absurd (over-cut a b who run)
+runs-through (suc n) a b who sessions speaks run through = elim (searched n Over a b who run) [
+  | inl none ↦ subst (λ c. DeadlocksGoThrough sessions (system_of c)) (sym (none-joined a b who none.1).1) through
+  | inr named ↦ elim named [
+    | inl own ↦ searched-through a b who who sessions speaks.1 own.1 through
+    | inr h ↦ runs-through n h.1 b who sessions (speaks-on calls_keep-sound a h.1 who h.0 speaks h.3) h.4 (searched-through a h.1 who h.0 sessions speaks.1 h.3 through)
+  ]
+]
 
 pub searching-ends : SearchingEndsDeadlocks
 searching-ends a b who sessions speaks run through from cycle is =
-    let h = runs-through 1024 a b who sessions speaks run through from cycle is in
-    (h.0, h.1, elim (eqb_tells h.0 who) [
-      | inl e ↦ absurd (let round = deadlock-of_member (system_of b) from cycle is h.0 h.1 in
-          none-left calls_keep-sound 1024 a b who speaks run round.0 (subst (λ n. IsDeadlock (system_of b) n round.0) e.1 round.1))
-      | inr e ↦ and_from (sessions h.0) (not (h.0 == who)) h.2 (ap not e.0)
-    ])
+    let h = runs-through 1024 a b who sessions speaks run through from cycle is in (
+      h.0,
+      h.1,
+      elim (eqb_tells h.0 who) [
+        | inl e ↦ absurd (let round = deadlock-of_member (system_of b) from cycle is h.0 h.1 in
+            searches-leave calls_keep-sound a b who speaks run round.0 (subst (λ n. IsDeadlock (system_of b) n round.0) e.1 round.1))
+        | inr e ↦ and_from (sessions h.0) (not (h.0 == who)) h.2 (ap not e.0)
+      ],
+    )
 
-seekers-speak : (n : ℕ) (a b : Core) (who : ℕ) → Runs Joins a (seeking n who) Over b → SpeaksFor a who
+seekers-speak : (n : ℕ) (a b : Core) (who : ℕ) → Runs Joins a (seeking (suc n) who) Over b → SpeaksFor a who
 unfolding seeking
-seekers-speak zero a b who run = let end = run.0 in cc
-seekers-speak (suc n) a b who (answer, mid, joins, memory, run) = joins.0
+seekers-speak n a b who (answer, mid, joins, memory, run) = joins.0
 
 pub waiting-leaves : WaitingLeavesNoDeadlock
 waiting-leaves a b c who place number mode joins run free from cycle is =
     let begun : DeadlocksGoThrough (λ session. session == who) (system_of b) =
     only-new_waits a b (Begin_wait who place mode) (Waits number) (λ _. false) joins.0.1 joins (λ first other is_one. absurd (free first other is_one)) in
-    let h = searching-ends b c who (λ session. session == who) (seekers-speak 1024 b c who run) run begun from cycle is in
+    let h = searching-ends b c who (λ session. session == who) (seekers-speak 1023 b c who run) run begun from cycle is in
     apart (h.0 == who) h.2
   where
     apart : (p : Bool) → (p && not p) ≡ true → ⊥
