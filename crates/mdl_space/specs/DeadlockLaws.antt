@@ -1,13 +1,15 @@
 -- Laws of searches for deadlocks in the lock space of one thread.
-use Rattle.std.specs.Prelude.{◌≡◌, ℕ, ◌≤◌, List, length}
-use Rattle.mdl_space.specs.Answers.{Answer, No_cycle, Victim_is}
-use Rattle.mdl_space.specs.Calls.{Search}
+use Rattle.std.specs.Prelude.{◌≡◌, ℕ, ◌≤◌, Bool, false, not, ◌&&◌, ◌||◌, ◌==◌, List, length}
+use Rattle.mdl_key.specs.declared.mode.Mode.{Mode}
+use Rattle.mdl_space.specs.Answers.{Answer, Waits, No_cycle, Victim_is}
+use Rattle.mdl_space.specs.Calls.{Call, Begin_wait, Search}
 use Rattle.mdl_space.specs.CoreJoins.{Joins, SpeaksFor}
 use Rattle.mdl_space.specs.Cores.{Core}
 use Rattle.mdl_space.specs.CoreSystems.{system_of}
-use Rattle.mdl_space.specs.Deadlocks.{IsDeadlock, IsChosenDeadlock, IsVictimOf}
+use Rattle.mdl_space.specs.Deadlocks.{IsDeadlock, IsChosenDeadlock, IsVictimOf, DeadlocksGoThrough, HasNoDeadlock}
 use Rattle.mdl_space.specs.Runs.{Runs}
 use Rattle.mdl_space.specs.Searches.{Over, Cut_off, seeking}
+use Rattle.mdl_space.specs.Ties.{IsSound}
 
 -- a search finds no cycle exactly where the session is part of no deadlock, and else it names the victim of the chosen one
 abbrev pub SearchesFindDeadlocks : Type 0
@@ -25,3 +27,30 @@ SearchesSuffice = (a b : Core) (who : ℕ) → length a.seats ≤ 1024 → Speak
 abbrev pub SearchesLeaveNoDeadlock : Type 0
 SearchesLeaveNoDeadlock =
     (a b : Core) (who : ℕ) → SpeaksFor a who → Runs Joins a (seeking 1024 who) Over b → (cycle : List ℕ) → IsDeadlock (system_of b) who cycle → ⊥
+
+-- whether a session begins to wait by a call with this answer
+abbrev pub begins_wait : Call → Answer → ℕ → Bool
+begins_wait (Begin_wait who place mode) (Waits number) session = session == who
+begins_wait _ _ session = false
+
+-- no call makes a deadlock but by a wait that it begins: where all deadlocks go through some sessions, after it they go through
+-- these or through the one that began to wait by it
+abbrev pub OnlyNewWaitsMakeDeadlocks : Type 0
+OnlyNewWaitsMakeDeadlocks =
+    (a b : Core) (call : Call) (answer : Answer) (sessions : ℕ → Bool) → IsSound a → Joins a call answer b →
+    DeadlocksGoThrough sessions (system_of a) →
+    DeadlocksGoThrough (λ session. sessions session || begins_wait call answer session) (system_of b)
+
+-- once a session's searches are over, all deadlocks go through these sessions but itself
+abbrev pub SearchingEndsDeadlocks : Type 0
+SearchingEndsDeadlocks =
+    (a b : Core) (who : ℕ) (sessions : ℕ → Bool) → SpeaksFor a who → Runs Joins a (seeking 1024 who) Over b →
+    DeadlocksGoThrough sessions (system_of a) →
+    DeadlocksGoThrough (λ session. sessions session && not (session == who)) (system_of b)
+
+-- so where there is no deadlock, and a session begins to wait and searches until that is over, there is none
+abbrev pub WaitingLeavesNoDeadlock : Type 0
+WaitingLeavesNoDeadlock =
+    (a b c : Core) (who place number : ℕ) (mode : Mode) →
+    Joins a (Begin_wait who place mode) (Waits number) b → Runs Joins b (seeking 1024 who) Over c →
+    HasNoDeadlock (system_of a) → HasNoDeadlock (system_of c)

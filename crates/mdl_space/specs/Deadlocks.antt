@@ -1,6 +1,6 @@
 -- Deadlocks in the system of locks, after MySQL 5.7: `MDL_context::find_deadlock` of sql/mdl.cc. Which cycle is chosen, and
 -- that of equal weights the greatest session number falls, is this project's own choice.
-use Rattle.std.specs.Prelude.{◌≡◌, ◌≢◌, ◌⊎◌, ℕ, ◌<◌, ◌≤◌, List, [], ◌∷◌, Contains, AllPairs, IsTrue}
+use Rattle.std.specs.Prelude.{◌≡◌, ◌≢◌, ◌⊎◌, ℕ, ◌<◌, ◌≤◌, Bool, List, [], ◌∷◌, Contains, AllPairs, IsTrue}
 use Rattle.mdl_key.specs.Classes.{weight_of}
 use Rattle.mdl_key.specs.Keys.{KeyName}
 use Rattle.mdl_key.specs.Matrices.{Clashes, WaitsBehind}
@@ -57,3 +57,12 @@ IsVictimOf system cycle victim =
     Contains cycle victim × ((weight : ℕ) × Weighs system victim weight
     × ((other heavier : ℕ) → Contains cycle other → Weighs system other heavier
     → (weight < heavier) ⊎ ((weight ≡ heavier) × (other ≤ victim))))
+
+-- all deadlocks go through some of these sessions
+abbrev pub DeadlocksGoThrough : {D : Type 0} → (ℕ → Bool) → System D → Type 0
+DeadlocksGoThrough sessions system =
+    (from : ℕ) (cycle : List ℕ) → IsDeadlock system from cycle → (member : ℕ) × Contains cycle member × IsTrue (sessions member)
+
+-- there is none
+abbrev pub HasNoDeadlock : {D : Type 0} → System D → Type 0
+HasNoDeadlock system = (from : ℕ) (cycle : List ℕ) → IsDeadlock system from cycle → ⊥

@@ -14,6 +14,9 @@ pub mod CoreUnended
 pub mod CoreWaiting
 pub mod CoreWaits
 pub mod CoreWaitsFollow
+pub mod DeadlockCauses
+pub mod DeadlockEvents
+pub mod DeadlockRounds
 pub mod DeadlockSystems
 pub mod DeadlockWaits
 pub mod Deciding

@@ -1,7 +1,7 @@
 //! Laws of the lock space of one thread: its calls are events of the system of locks. Each is proved as the contract of a
 //! function that does nothing.
 ghost use Rattle.mdl_space.specs.CoreLaws.{CallsAreEvents, CallsKeepSound, GrantsWhatIsGrantable, CallsLeadByEvents};
-ghost use Rattle.mdl_space.specs.DeadlockLaws.{SearchesFindDeadlocks, SearchesSuffice, SearchesLeaveNoDeadlock};
+ghost use Rattle.mdl_space.specs.DeadlockLaws.{SearchesFindDeadlocks, SearchesSuffice, SearchesLeaveNoDeadlock, OnlyNewWaitsMakeDeadlocks, SearchingEndsDeadlocks, WaitingLeavesNoDeadlock};
 ghost use Rattle.mdl_space.specs.Strength.{CoversByKind};
 
 /// A call changes nothing in the system of locks, or it is an event there, after which waiters of that event's key are granted,
@@ -44,4 +44,19 @@ pub fn searches_suffice()
 /// Where none of them was refused, the session is then part of no deadlock.
 pub fn searches_leave_no_deadlock()
     ensures { SearchesLeaveNoDeadlock }
+{}
+
+/// No call makes a deadlock but by a wait that it begins, and then its session is part of it.
+pub fn only_new_waits_make_deadlocks()
+    ensures { OnlyNewWaitsMakeDeadlocks }
+{}
+
+/// Once a session's searches are over, no deadlock goes through it, and the others are old.
+pub fn searching_ends_deadlocks()
+    ensures { SearchingEndsDeadlocks }
+{}
+
+/// So where there was no deadlock, there is none after a session began to wait and its searches are over.
+pub fn waiting_leaves_no_deadlock()
+    ensures { WaitingLeavesNoDeadlock }
 {}

@@ -25,8 +25,9 @@ mod strength;
 pub use answers::{Attempt, Begun, Ended, Held, Poll, Search, Settled, TimedOut};
 pub use core_laws::{
     calls_are_events, calls_keep_sound, calls_lead_by_events, covers_by_kind,
-    grants_what_is_grantable, searches_find_deadlocks, searches_leave_no_deadlock,
-    searches_suffice,
+    grants_what_is_grantable, only_new_waits_make_deadlocks, searches_find_deadlocks,
+    searches_leave_no_deadlock, searches_suffice, searching_ends_deadlocks,
+    waiting_leaves_no_deadlock,
 };
 pub use core_space::CoreSpace;
 pub use laws::{

@@ -1,6 +1,6 @@
 -- What searches come to: each finds the deadlock that there is, and one after another they leave none.
 use Rattle.std.proofs.Common.{◌≡◌, ◌≢◌, ◌⊎◌, ℕ, zero, suc, ◌+◌, ◌-◌, ◌<◌, ◌≤◌, Bool, true, false, not, ◌&&◌, ◌==◌, cond, inl, inr, List, [], ◌∷◌, length, Option, Some, None, refl, sym, ap, subst, ◌∙◌, arith}
-use Rattle.std.specs.Prelude.{Contains, slice_index_or, slice_set, is_some}
+use Rattle.std.specs.Prelude.{Contains, slice_index_or, slice_set, is_some, if◌then◌else◌}
 use Rattle.std.specs.Option.{option_map}
 use Rattle.std.proofs.lemmas.Bool.{cases_order, eqb-true, eq-eqb, false≢true}
 use Rattle.std.proofs.lemmas.Bool.Decides.{eqb_tells}
@@ -24,7 +24,7 @@ use Rattle.mdl_space.specs.DeadlockLaws.{SearchesFindDeadlocks, SearchesSuffice,
 use Rattle.mdl_space.specs.Deadlocks.{Wishes, WaitsFor, Leads, IsDeadlock, IsChosenDeadlock, IsVictimOf}
 use Rattle.mdl_space.specs.Moves.{losing}
 use Rattle.mdl_space.specs.Runs.{Runs, Give}
-use Rattle.mdl_space.specs.Searches.{SearchEnd, Over, Cut_off, Failed, seeking}
+use Rattle.mdl_space.specs.Searches.{SearchEnd, Over, Cut_off, after_search, seeking}
 use Rattle.mdl_space.specs.Seats.{SeatView, empty_seat, is_open, settling}
 use Rattle.mdl_space.specs.Systems.{Waiter}
 use Rattle.mdl_space.specs.Ties.{IsTied}
@@ -57,7 +57,7 @@ none-memory : No_cycle ≡ Refused OutOfMemory → ⊥
 none-memory e = cc
 
 -- a search that names no victim
-none-joined : (a b : Core) (who : ℕ) → Joins a (Search who) No_cycle b → (victim_at who a ≡ None) × (b ≡ a)
+pub none-joined : (a b : Core) (who : ℕ) → Joins a (Search who) No_cycle b → (victim_at who a ≡ None) × (b ≡ a)
 none-joined a b who (speaks, has, inl made) = absurd (none-memory made.1)
 none-joined a b who (speaks, has, inr made) = told-none (victim_at who a) a b made
 
@@ -66,6 +66,12 @@ some-joined : (a b : Core) (who victim : ℕ) → Joins a (Search who) (Victim_i
     → (victim_at who a ≡ Some victim) × (b ≡ losing victim settled_as.Victim a)
 some-joined a b who victim (speaks, has, inl made) = absurd (not_memory victim made.1)
 some-joined a b who victim (speaks, has, inr made) = told-some (victim_at who a) a b victim made
+
+-- a search that finds memory is one of these
+pub either-joined : (a b : Core) (who : ℕ) (answer : Answer) → Joins a (Search who) answer b → finds_no_memory answer ≡ false
+    → (answer ≡ No_cycle) ⊎ ((victim : ℕ) × (answer ≡ Victim_is victim))
+either-joined a b who answer (speaks, has, inl made) memory = absurd (false≢true (sym memory ∙ ap finds_no_memory made.1))
+either-joined a b who answer (speaks, has, inr made) memory = told-other (victim_at who a) a b answer made
 
 -- ---- what a search finds
 
@@ -189,8 +195,37 @@ one-lost core who victim has other was =
 cut-over : Over ≡ Cut_off → ⊥
 cut-over e = cc
 
+pub over-cut : (a b : Core) (who : ℕ) → Runs Joins a (seeking 0 who) Over b → ⊥
+unfolding seeking
+over-cut a b who run = cut-over (sym run.0)
+
+-- the first of some searches: it is the last one, where it finds no cycle or names the session itself; or more follow
+abbrev pub Searched : ℕ → SearchEnd → Core → Core → ℕ → Type 0
+Searched n end a b who =
+    ((end ≡ Over) × Joins a (Search who) No_cycle b)
+    ⊎ (((end ≡ Over) × Joins a (Search who) (Victim_is who) b)
+    ⊎ ((victim : ℕ) × (mid : Core) × (victim ≢ who) × Joins a (Search who) (Victim_is victim) mid × Runs Joins mid (seeking n who) end b))
+
+pub searched : (n : ℕ) (end : SearchEnd) (a b : Core) (who : ℕ) → Runs Joins a (seeking (suc n) who) end b → Searched n end a b who
+unfolding seeking
+searched n end a b who (answer, mid, joins, memory, run) = elim (either-joined a mid who answer joins memory) [
+  | inl e ↦ none (subst (λ r. Joins a (Search who) r mid) e joins) (subst (λ r. Runs Joins mid (after_search who (seeking n who) r) end b) e run)
+  | inr h ↦ named h.0 (eqb_tells h.0 who) (subst (λ r. Joins a (Search who) r mid) h.1 joins) (subst (λ r. Runs Joins mid (after_search who (seeking n who) r) end b) h.1 run)
+]
+  where
+    none : Joins a (Search who) No_cycle mid → Runs Joins mid (Give Over) end b → Searched n end a b who
+    none found over = inl (sym over.0, subst (λ c. Joins a (Search who) No_cycle c) over.1 found)
+
+    named : (victim : ℕ) → ((victim == who) ≡ true) × (victim ≡ who) ⊎ ((victim == who) ≡ false) × (victim ≢ who) → Joins a (Search who) (Victim_is victim) mid
+        → Runs Joins mid (if victim == who then Give Over else seeking n who) end b → Searched n end a b who
+    named victim (inl same) found rest =
+        let over : Runs Joins mid (Give Over) end b = subst (λ t. Runs Joins mid (if t then Give Over else seeking n who) end b) same.0 rest in
+        inr (inl (sym over.0, subst (λ c. Joins a (Search who) (Victim_is who) c) over.1 (subst (λ v. Joins a (Search who) (Victim_is v) mid) same.1 found)))
+    named victim (inr apart) found rest =
+        inr (inr (victim, mid, apart.1, found, subst (λ t. Runs Joins mid (if t then Give Over else seeking n who) end b) apart.0 rest))
+
 -- a search that loses another session's wait keeps that there is such a session
-speaks-on : CallsKeepSound → (a b : Core) (who victim : ℕ) → SpeaksFor a who → Joins a (Search who) (Victim_is victim) b → SpeaksFor b who
+pub speaks-on : CallsKeepSound → (a b : Core) (who victim : ℕ) → SpeaksFor a who → Joins a (Search who) (Victim_is victim) b → SpeaksFor b who
 speaks-on keeps a b who victim speaks joins =
     let is = some-joined a b who victim joins in (
       ap (has_session who) is.1 ∙ has_session-seating a victim who (settling settled_as.Victim (seat_at victim a)) ∙ speaks.0,
@@ -199,19 +234,20 @@ speaks-on keeps a b who victim speaks joins =
 
 module _ (keeps : CallsKeepSound) where
   never-cut : (n : ℕ) (a b : Core) (who : ℕ) → others_open who a < n → SpeaksFor a who → Runs Joins a (seeking n who) Cut_off b → ⊥
-  unfolding seeking
   never-cut zero a b who few speaks run = omega (arith, few)
-  never-cut (suc n) a b who few speaks (Victim_is victim, mid, joins, memory, run) =
-      elim (victim == who) as (λ t. (victim == who) ≡ t → Runs Joins mid (cond t (Give Over) (seeking n who)) Cut_off b → ⊥) [
-        | true ↦ λ e over. cut-over over.0
-        | false ↦ λ e more.
-            let is = some-joined a mid who victim joins in
-            let was = victim-open a who victim speaks.1.tied is.0 in
-            let lost : suc (others_open who mid) ≡ others_open who a =
-            ap (λ c. suc (others_open who c)) is.1 ∙ one-lost a who victim was.0 (λ same. false≢true (sym e ∙ eq-eqb victim who same)) was.1 in
-            never-cut n mid b who (omega (arith, few, lost)) (speaks-on keeps a mid who victim speaks joins) more
-      ] refl run
-  never-cut (suc n) a b who few speaks (_, mid, joins, memory, run) = let end = run.0 in cc
+  never-cut (suc n) a b who few speaks run = elim (searched n Cut_off a b who run) [
+    | inl none ↦ cut-over (sym none.0)
+    | inr named ↦ elim named [
+      | inl own ↦ cut-over (sym own.0)
+      | inr h ↦
+          let victim : ℕ = h.0 in
+          let mid : Core = h.1 in
+          let is = some-joined a mid who victim h.3 in
+          let was = victim-open a who victim speaks.1.tied is.0 in
+          let lost : suc (others_open who mid) ≡ others_open who a = ap (λ c. suc (others_open who c)) is.1 ∙ one-lost a who victim was.0 h.2 was.1 in
+          never-cut n mid b who (omega (arith, few, lost)) (speaks-on keeps a mid who victim speaks h.3) h.4
+    ]
+  ]
 
   pub searches-suffice : SearchesSuffice
   searches-suffice a b who most speaks run =
@@ -233,23 +269,14 @@ module _ (keeps : CallsKeepSound) where
   lost-deadlock a b who speaks joins cycle ([], same, distinct, leading) = lost-waits a b who who speaks joins leading
   lost-deadlock a b who speaks joins cycle (next ∷ rest, same, distinct, leading) = lost-waits a b who next speaks joins leading.0
 
-  pub none-left : (n : ℕ) (a b : Core) (who : ℕ) → SpeaksFor a who → Runs Joins a (seeking n who) Over b → (cycle : List ℕ) → IsDeadlock (system_of b) who cycle → ⊥
-  unfolding seeking
-  none-left zero a b who speaks run = let end = run.0 in cc
-  none-left (suc n) a b who speaks (Victim_is victim, mid, joins, memory, run) =
-      elim (victim == who) as (λ t. (victim == who) ≡ t → Runs Joins mid (cond t (Give Over) (seeking n who)) Over b → (cycle : List ℕ) → IsDeadlock (system_of b) who cycle → ⊥) [
-        | true ↦ λ e over.
-            lost-deadlock a b who speaks
-            (subst (λ c. Joins a (Search who) (Victim_is who) c) over.1 (subst (λ n. Joins a (Search who) (Victim_is n) mid) (eqb-true victim who e) joins))
-        | false ↦ λ e more. none-left n mid b who (speaks-on keeps a mid who victim speaks joins) more
-      ] refl run
-  none-left (suc n) a b who speaks (No_cycle, mid, joins, memory, run) =
-      λ cycle is. (searches-find a mid who).0 joins cycle (subst (λ c. IsDeadlock (system_of c) who cycle) (sym run.1 ∙ (none-joined a mid who joins).1) is)
-  none-left (suc n) a b who speaks (Refused refusal, mid, joins, memory, run) = let end = run.0 in cc
-  none-left (suc n) a b who speaks (answer, mid, (speaks_too, has, inl made), memory, run) = let end = made.1 in cc
-  none-left (suc n) a b who speaks (answer, mid, (speaks_too, has, inr made), memory, run) = elim (told-other (victim_at who a) a mid answer made) [
-    | inl e ↦ cc
-    | inr h ↦ let e = h.1 in cc
+  none-left : (n : ℕ) (a b : Core) (who : ℕ) → SpeaksFor a who → Runs Joins a (seeking n who) Over b → (cycle : List ℕ) → IsDeadlock (system_of b) who cycle → ⊥
+  none-left zero a b who speaks run cycle is = over-cut a b who run
+  none-left (suc n) a b who speaks run cycle is = elim (searched n Over a b who run) [
+    | inl none ↦ (searches-find a b who).0 none.1 cycle (subst (λ c. IsDeadlock (system_of c) who cycle) (none-joined a b who none.1).1 is)
+    | inr named ↦ elim named [
+      | inl own ↦ lost-deadlock a b who speaks own.1 cycle is
+      | inr h ↦ none-left n h.1 b who (speaks-on keeps a h.1 who h.0 speaks h.3) h.4 cycle is
+    ]
   ]
 
   pub searches-leave : SearchesLeaveNoDeadlock
