@@ -4,3 +4,4 @@ pub mod OrderLemmas
 pub mod RoundLemmas
 pub mod VictimLemmas
 pub mod WaitingLemmas
+pub mod WayLemmas

@@ -6,3 +6,4 @@ pub mod Graphs
 pub mod Members
 pub mod Victims
 pub mod WaitsFor
+pub mod Ways

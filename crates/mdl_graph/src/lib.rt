@@ -6,6 +6,8 @@
 
 mod cycle;
 mod laws;
+#[cfg(test)]
+mod plain;
 mod wait_graph;
 
 pub use cycle::{Cycle, Member, victim};
