@@ -5,7 +5,9 @@
 #![tactic(auto)]
 
 mod cycle;
+mod ties;
 mod wait_graph;
+mod ways;
 
 pub use cycle::{Cycle, Member, victim};
 pub use wait_graph::WaitGraph;

@@ -5,18 +5,11 @@ ghost use Rattle.mdl_book.specs.declared.lists.Lists.{Lists};
 ghost use Rattle.mdl_graph.specs.Graphs.{empty_graph, IsGraphOf, deadlock};
 ghost use Rattle.mdl_graph.specs.WaitsFor.{SessionTest, waits_at, wishes_at};
 
-use crate::{Cycle, Member};
-use mdl_book::{Book, Sessions, Ticket};
-use mdl_key::{conflicts_granted, conflicts_waiting, weight};
-use std::alloc::{AllocError, Global};
+use crate::Member;
+use crate::ties::Tie;
+use mdl_book::Sessions;
+use std::alloc::Global;
 use std::marker::Model;
-
-/// That a session waits for another one.
-#[derive(Clone, Copy)]
-struct Tie {
-    waiter: u16,
-    other: u16,
-}
 
 /// Which session waits for which at the locks whose books were added.
 ///
@@ -27,6 +20,27 @@ pub struct WaitGraph {
     settled: Sessions,
     wishes: Vec<Member>,
     ties: Vec<Tie>,
+}
+
+impl Model for WaitGraph {
+    ghost use Rattle.std.specs.Prelude.{List, map, ◌≡◌, ◌≢◌, true};
+    ghost use Rattle.std.specs.List.{All};
+    ghost use Rattle.std.specs.FinSet as set;
+    ghost use Rattle.mdl_graph.specs.Graphs.{GraphView};
+    ghost use Rattle.mdl_graph.specs.Searches.{are_tied, stands_in};
+
+    ghost Value = { GraphView };
+
+    ghost view = { λ graph. record {
+      settled = set.contains graph.settled;
+      wishes = graph.wishes.items;
+      waits = are_tied graph.ties.items;
+    } };
+
+    ghost invariant = { λ graph. record {
+      wish : All (λ tie. stands_in (map (λ wish. wish.session) graph.wishes.items) tie.waiter ≡ true) graph.ties.items;
+      apart : All (λ tie. tie.waiter ≢ tie.other) graph.ties.items;
+    } };
 }
 
 impl WaitGraph {
@@ -40,29 +54,4 @@ impl WaitGraph {
             ties: Vec::new(alloc),
         }
     }
-
-    /// Adds a lock: who waits there, and for whom. A refused growth leaves the graph as it was.
-    pub fn add(&mut self, book: &Book) -> Result<(), AllocError>
-        ensures settled { self.new.settled ≡ self.old.settled }
-        ensures wishes { OnOk result (self.new.wishes ≡ self.old.wishes ++ wishes_at self.old.settled book.now) }
-        ensures waits { OnOk result ((waiter other : ℕ) → self.new.waits waiter other
-            ≡ (self.old.waits waiter other || waits_at self.old.settled book.now waiter other)) }
-        ensures graph { OnOk result ((settled : SessionTest) (books : List Lists)
-            → IsGraphOf settled books self.old → IsGraphOf settled (books ++ book.now ∷ []) self.new) }
-        ensures unchanged { OnErr result (self.new ≡ self.old) }
-    {
-        let wishes = self.wishes.len();
-        let ties = self.ties.len();
-        let added = self.add_waiters(book);
-        if added.is_err() {
-            self.wishes.truncate(wishes);
-            self.ties.truncate(ties);
-        }
-        added
-    }
-
-    /// The shortest cycle of unsettled sessions through one of them, and of equal length the one whose list of numbers,
-    /// beginning with that session, is least. It takes time by the number of sessions and ties.
-    pub fn find_cycle(&self, from: u16) -> Result<Option<Cycle>, AllocError>
-        ensures { IfOk result (λ found. found ≡ deadlock self.now from) }
 }
