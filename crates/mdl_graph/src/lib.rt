@@ -6,8 +6,10 @@
 
 mod cycle;
 mod ties;
+mod waiters;
 mod wait_graph;
 mod ways;
+mod weights;
 
 pub use cycle::{Cycle, Member, victim};
 pub use wait_graph::WaitGraph;

@@ -23,22 +23,23 @@ pub struct WaitGraph {
 }
 
 impl Model for WaitGraph {
-    ghost use Rattle.std.specs.Prelude.{List, map, ◌≡◌, ◌≢◌, true};
+    ghost use Rattle.std.specs.Prelude.{map, ◌≡◌, ◌≢◌, true};
     ghost use Rattle.std.specs.List.{All};
-    ghost use Rattle.std.specs.FinSet as set;
-    ghost use Rattle.mdl_graph.specs.Graphs.{GraphView};
-    ghost use Rattle.mdl_graph.specs.Searches.{are_tied, stands_in};
+    ghost use Rattle.mdl_graph.specs.Graphs.{GraphView, graph_code};
+    ghost use Rattle.mdl_graph.specs.Searches.{pair_of, stands_in};
 
     ghost Value = { GraphView };
 
+    ghost coded = { graph_code };
+
     ghost view = { λ graph. record {
-      settled = set.contains graph.settled;
+      settled = graph.settled;
       wishes = graph.wishes.items;
-      waits = are_tied graph.ties.items;
+      ties = map pair_of graph.ties.items;
     } };
 
     ghost invariant = { λ graph. record {
-      wish : All (λ tie. stands_in (map (λ wish. wish.session) graph.wishes.items) tie.waiter ≡ true) graph.ties.items;
+      wished : All (λ tie. stands_in (map (λ wish. wish.session) graph.wishes.items) tie.waiter ≡ true) graph.ties.items;
       apart : All (λ tie. tie.waiter ≢ tie.other) graph.ties.items;
     } };
 }
@@ -46,7 +47,7 @@ impl Model for WaitGraph {
 impl WaitGraph {
     /// The graph of no lock, these sessions' waits being settled. It takes no memory.
     pub fn new(alloc: Global, settled: Sessions) -> WaitGraph
-        ensures { result ≡ empty_graph (set.contains settled) }
+        ensures { result ≡ empty_graph settled }
     {
         WaitGraph {
             settled,
