@@ -1,6 +1,5 @@
 //! Who waits for each session.
-ghost use Rattle.std.specs.Prelude.{◌≡◌, ℕ, ◌<◌, ◌&&◌, true, nat_lt, length, IfOk, [], List, map, slice_index_or};
-ghost use Rattle.std.specs.List.{list_all};
+ghost use Rattle.std.specs.Prelude.{◌≡◌, ℕ, ◌≤◌, ◌<◌, ◌&&◌, ◌||◌, ◌==◌, true, length, IfOk, OnOk, []};
 ghost use Rattle.mdl_graph.specs.Searches.{are_tied, have_rows, row_of, waits_by, are_within};
 
 use crate::ties::Tie;
@@ -14,14 +13,17 @@ pub(crate) struct Waiters {
 }
 
 impl Model for Waiters {
-    ghost use Rattle.std.specs.Prelude.{ℕ, List, map};
+    ghost use Rattle.std.specs.Prelude.{ℕ, List, map, length, ◌≤◌};
     ghost use Rattle.mdl_graph.specs.Searches.{AllHaveRows};
 
     ghost Value = { List (List ℕ) };
 
     ghost view = { λ waiters. map (λ row. row.items) waiters.rows.items };
 
-    ghost invariant = { λ waiters. AllHaveRows (map (λ row. row.items) waiters.rows.items) };
+    ghost invariant = { λ waiters. record {
+      few : length waiters.rows.items ≤ 65536;
+      rows : AllHaveRows (map (λ row. row.items) waiters.rows.items);
+    } };
 }
 
 impl Waiters {
@@ -29,16 +31,42 @@ impl Waiters {
     pub(crate) fn new(alloc: Global, ties: &[Tie]) -> Result<Waiters, AllocError>
         ensures { IfOk result (λ waiters. (waiter other : ℕ) → waits_by waiters waiter other ≡ are_tied ties.now waiter other) }
     {
-        let mut rows = empty_rows(alloc, row_count(ties))?;
+        let mut waiters = Waiters::of_nobody(alloc, row_count(ties))?;
         for tie in ties {
-            rows[usize::from(tie.other)].push(tie.waiter)?;
+            waiters.add(*tie)?;
+        }
+        Ok(waiters)
+    }
+
+    // Rows of nobody for so many sessions.
+    fn of_nobody(alloc: Global, count: usize) -> Result<Waiters, AllocError>
+        requires { count ≤ 65536 }
+        ensures len { IfOk result (λ waiters. length waiters ≡ count) }
+        ensures nobody { IfOk result (λ waiters. (session : ℕ) → row_of waiters session ≡ []) }
+    {
+        let mut rows = Vec::with_capacity(alloc, count)?;
+        for _row in 0..count {
+            rows.push(Vec::new(alloc))?;
         }
         Ok(Waiters { rows })
     }
 
+    // Adds a tie.
+    fn add(&mut self, tie: Tie) -> Result<(), AllocError>
+        requires waiter { tie.waiter < length self.old }
+        requires other { tie.other < length self.old }
+        ensures len { length self.new ≡ length self.old }
+        ensures waits { OnOk result ((waiter other : ℕ) → waits_by self.new waiter other
+            ≡ (waits_by self.old waiter other || (tie.waiter == waiter && tie.other == other))) }
+    {
+        self.rows[usize::from(tie.other)].push(tie.waiter)?;
+        Ok(())
+    }
+
     /// How many sessions have a row, those from 0 on.
     pub(crate) fn len(&self) -> usize
-        ensures { result ≡ length self.now }
+        ensures len { result ≡ length self.now }
+        ensures few { result ≤ 65536 }
     {
         self.rows.len()
     }
@@ -55,23 +83,12 @@ impl Waiters {
     }
 }
 
-// So many rows of nobody.
-fn empty_rows(alloc: Global, count: usize) -> Result<Vec<Vec<u16>>, AllocError>
-    ensures len { IfOk result (λ rows. length rows.items ≡ count) }
-    ensures empty { IfOk result (λ rows. (session : ℕ) → row_of (map (λ row. row.items) rows.items) session ≡ []) }
-{
-    let mut rows = Vec::with_capacity(alloc, count)?;
-    for _ in 0..count {
-        rows.push(Vec::new(alloc))?;
-    }
-    Ok(rows)
-}
-
 // One more than the greatest number of a session that these ties name.
 fn row_count(ties: &[Tie]) -> usize
-    ensures { are_within result ties.now ≡ true }
+    ensures within { are_within result ties.now ≡ true }
+    ensures few { result ≤ 65536 }
 {
-    let mut count = 0;
+    let mut count: usize = 0;
     for tie in ties {
         count = count.max(usize::from(tie.waiter.max(tie.other)) + 1);
     }

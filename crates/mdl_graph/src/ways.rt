@@ -144,7 +144,7 @@ impl Ways {
     {
         let mut members = Vec::new(alloc);
         let mut session = from;
-        for _ in 0..steps {
+        for _step in 0..steps {
             let weight = weights.of(session);
             members.push(Member { session, weight })?;
             if let Some(way) = self.of(session) {

@@ -1,7 +1,7 @@
 //! What the wishes of sessions weigh.
-ghost use Rattle.std.specs.Prelude.{◌≡◌, ℕ, true, ◌==◌, nat_lt, find, IfOk};
+ghost use Rattle.std.specs.Prelude.{◌≡◌, ℕ, true, ◌<◌, ◌==◌, nat_lt, find, IfOk, Some, length, if◌then◌else◌};
 ghost use Rattle.std.specs.List.{list_all};
-ghost use Rattle.std.specs.Option.{option_map, unwrap_or};
+ghost use Rattle.std.specs.Option.{option_map, option_or, unwrap_or};
 ghost use Rattle.mdl_graph.specs.Searches.{weight_at};
 
 use crate::Member;
@@ -28,14 +28,26 @@ impl Weights {
         ensures { IfOk result (λ weights. (session : ℕ) → weight_at weights session
             ≡ option_map (λ wish. wish.weight) (find (λ wish. wish.session == session) wishes.now)) }
     {
-        let mut weights = vec![in alloc; None; session_count(wishes)]?;
+        let mut kept = Weights {
+            weights: vec![in alloc; None; session_count(wishes)]?,
+        };
         for wish in wishes {
-            let at = usize::from(wish.session);
-            if weights[at].is_none() {
-                weights[at] = Some(wish.weight);
-            }
+            kept.keep(*wish);
         }
-        Ok(Weights { weights })
+        Ok(kept)
+    }
+
+    // Keeps the weight of a wish, unless its session had one before.
+    fn keep(&mut self, wish: Member)
+        requires { wish.session < length self.old }
+        ensures len { length self.new ≡ length self.old }
+        ensures weights { (session : ℕ) → weight_at self.new session
+            ≡ (if wish.session == session then option_or (weight_at self.old session) (Some wish.weight) else weight_at self.old session) }
+    {
+        let kept = &mut self.weights[usize::from(wish.session)];
+        if kept.is_none() {
+            *kept = Some(wish.weight);
+        }
     }
 
     /// The weight of a session's first wish, 0 where it has none.
@@ -53,7 +65,7 @@ impl Weights {
 fn session_count(wishes: &[Member]) -> usize
     ensures { list_all (λ wish. nat_lt wish.session result) wishes.now ≡ true }
 {
-    let mut count = 0;
+    let mut count: usize = 0;
     for wish in wishes {
         count = count.max(usize::from(wish.session) + 1);
     }
