@@ -1,12 +1,16 @@
 -- A waiter put at the end of a session's row.
-use Rattle.std.proofs.Common.{◌≡◌, ℕ, ◌<◌, Bool, true, false, List, [], ◌∷◌, ◌++◌, length, get_or, nat_lt, arith, refl, ap, sym, ◌∙◌, inl, inr, get_or-set_same, get_or-set_other, ◌≢◌}
+use Rattle.std.proofs.Common.{◌≡◌, ℕ, ◌<◌, Bool, true, false, List, [], ◌∷◌, ◌++◌, length, map, get_or, nat_lt, arith, refl, ap, sym, ◌∙◌, inl, inr, get_or-set_same, get_or-set_other, ◌≢◌}
 use Rattle.std.specs.Prelude.{◌&&◌, ◌||◌, ◌==◌, slice_set}
 use Rattle.std.specs.List.{list_any, list_all}
 use Rattle.std.proofs.lemmas.Bool.{cases_eq}
 use Rattle.std.proofs.lemmas.Bool.Decides.{nat_tests}
-use Rattle.std.proofs.lemmas.List.{length-set}
+use Rattle.std.proofs.lemmas.List.{length-set, get_or-map, map-set}
 use Rattle.std.proofs.lemmas.List.Folds.{list_any-append, list_all-append}
 use Rattle.mdl_graph.specs.Searches.{row_of, stands_in, have_rows, waits_by, AllHaveRows}
+
+-- a row as it is kept
+pub row_at : {V : Type 0} (items : V → List ℕ) (kept : List V) (i : ℕ) (row : V) → i < length kept → row ≡ get_or kept i row → items row ≡ row_of (map items kept) i
+row_at items kept i row inside is = sym (get_or-map items kept i row [] inside ∙ ap items (sym is))
 
 -- the rows with one more waiter for a session
 abbrev pub with_waiter : List (List ℕ) → ℕ → ℕ → List (List ℕ)
@@ -51,3 +55,9 @@ rows-push rows other waiter inside has_row all session =
         (list_all-append (λ s. nat_lt s (length rows)) (row_of rows session) (waiter ∷ []) ∙ rw (all session, last) refl)
       | inr apart ↦ rw (row-there rows other waiter session apart) (all session)
     ])
+
+-- the same as it is kept
+pub rows_kept-push : {V : Type 0} (items : V → List ℕ) (kept : List V) (i waiter : ℕ) (old new : V) → i < length kept → old ≡ get_or kept i old
+    → items new ≡ items old ++ waiter ∷ [] → map items (slice_set kept i new) ≡ with_waiter (map items kept) i waiter
+rows_kept-push items kept i waiter old new inside is pushed =
+    map-set items kept i new ∙ ap (λ (row : List ℕ). slice_set (map items kept) i row) (pushed ∙ ap (λ (row : List ℕ). row ++ waiter ∷ []) (row_at items kept i old inside is))

@@ -2,7 +2,7 @@
 ghost use Rattle.std.specs.Prelude.{◌≡◌, ℕ, ◌<◌, ◌+◌, ◌||◌, ◌&&◌, true, None, Some, length, map, slice_set, OnOk, IfOk, is_some};
 ghost use Rattle.std.specs.Option.{is_none, option_or};
 ghost use Rattle.mdl_graph.specs.declared.ways.Way.{Way};
-ghost use Rattle.mdl_graph.specs.Searches.{IsOver, first_step, waits_by, weighed, walk, way_of, goes_before, better, offered, stands_in, have_rows, unreached};
+ghost use Rattle.mdl_graph.specs.Searches.{IsOver, first_step, waits_by, weighed, walk, next_of, way_of, goes_before, better, offered, stands_in, have_rows, unreached};
 
 use crate::Member;
 use crate::waiters::Waiters;
@@ -132,6 +132,16 @@ impl Ways {
         Ok(reached)
     }
 
+    // Where the way of a session leads.
+    fn next_of(&self, session: u16) -> u16
+        ensures { result ≡ next_of (way_of self.now session) session }
+    {
+        match self.of(session) {
+            Some(way) => way.next,
+            None => session,
+        }
+    }
+
     /// The first sessions on the way of one of them, of which there are so many. Each has the weight of its wish.
     pub(crate) fn walk(
         &self,
@@ -147,9 +157,7 @@ impl Ways {
         for _step in 0..steps {
             let weight = weights.of(session);
             members.push(Member { session, weight })?;
-            if let Some(way) = self.of(session) {
-                session = way.next;
-            }
+            session = self.next_of(session);
         }
         Ok(members)
     }
