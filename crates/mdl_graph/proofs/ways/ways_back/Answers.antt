@@ -1,7 +1,10 @@
 -- Each turn goes one step further back.
 use Rattle.std.proofs.Common.{◌≡◌, ◌∙◌, ◌+◌, ◌≤◌, ◌<◌, ℕ, suc, List, length, sym, ap, subst, add-one, arith, [], true}
+use Rattle.std.specs.Vec.{vec_len}
+use Rattle.std.proofs.lemmas.Bool.{eqb-true}
+use Rattle.std.proofs.lemmas.List.{nil_from_length}
 use Rattle.std.proofs.lemmas.Grind.{common_steps}
-use Rattle.std.specs.Prelude.{Option}
+use Rattle.std.specs.Prelude.{Option, ◌==◌}
 use Rattle.std.specs.Option.{is_none, option_or}
 use Rattle.mdl_graph.specs.declared.ways.Way.{Way}
 use Rattle.mdl_graph.specs.Searches.{IsSearched, IsOver, first_step, is_at, stands_in, way_of, waits_by, unreached}
@@ -34,7 +37,7 @@ pub returns : goal.returns
 returns c =
     let waits = waits_by c.args.waiters.now in
     let ways = c.loop-ways.ways in
-    let empty : c.is_empty.result ≡ true → c.loop-ways.reached.items ≡ [] = ? in
+    let empty : c.is_empty.result ≡ true → c.loop-ways.reached.items ≡ [] = λ e. nil_from_length c.loop-ways.reached.items (let none : (vec_len c.loop-ways.reached == 0) ≡ true = sym c.is_empty.ensures ∙ e in omega (arith, eqb-true (vec_len c.loop-ways.reached) 0 none, c.loop-ways.reached.ok)) in
     elim c.loop-ways-test.branch [
       | then-loop-ways-test+else-is_none w ↦ over_found waits c.args.from ways c.loop-ways.steps c.loop-ways.invariant.searched (grind (arith, common_steps))
       | else-loop-ways-test w ↦ over_none waits c.args.from ways c.loop-ways.steps c.loop-ways.invariant.searched (λ session. sym (c.loop-ways.invariant.reached session) ∙ ap (λ (front : List ℕ). stands_in front session) (empty (grind (arith, common_steps))))
