@@ -1,108 +1,13 @@
 -- Laws of the chosen cycle: it is a cycle, no cycle comes before it, and only where there is none is none chosen.
-use Rattle.std.proofs.Common.{◌≡◌, ℕ, ◌<◌, ◌≤◌, zero, suc, Bool, true, false, List, [], ◌∷◌, ◌++◌, length, map, cond, Some, None, refl, sym, ap, subst, ◌∙◌, ◌⊎◌, inl, inr, arith}
-use Rattle.std.specs.Prelude.{not, ◌&&◌, ◌||◌, ◌==◌, nat_eq, nat_lt, filter, flat_map, Option, IsTrue}
+use Rattle.std.proofs.Common.{◌≡◌, ℕ, ◌<◌, ◌≤◌, zero, suc, Bool, true, false, List, [], ◌∷◌, length, map, cond, Some, None, refl, sym, ap, subst, ◌∙◌, inl, inr, arith}
+use Rattle.std.specs.Prelude.{not, ◌&&◌, ◌==◌, filter, IsTrue}
 use Rattle.std.specs.List.{list_any, Contains}
-use Rattle.std.proofs.lemmas.Bool.{and_parts, and_from, or_cases, cases_order, eqb-true, false≢true}
+use Rattle.std.proofs.lemmas.Bool.{and_parts, eqb-true, false≢true}
 use Rattle.std.proofs.lemmas.Bool.Decides.{nat_tests}
-use Rattle.std.proofs.lemmas.Cmp.{nat_eq_equiv}
-use Rattle.std.proofs.lemmas.Map.Views.{Contains-from_any, list_any-from_Contains}
 use Rattle.std.proofs.lemmas.List.Elements.{filter_agree}
-use Rattle.mdl_graph.specs.Cycles.{leads, are_distinct, is_cycle_through, IsCycleThrough, in_order, is_chosen_before, first_of, first_chosen, lists_of, chosen_cycle}
-
--- ---- the members of a list
-
--- a value stands in a list
-abbrev Among : {X : Type 0} → X → List X → Type 0
-Among x [] = ⊥
-Among x (y ∷ ys) = (x ≡ y) ⊎ Among x ys
-
-among_left : {X : Type 0} (x : X) (xs ys : List X) → Among x xs → Among x (xs ++ ys)
-among_left x [] ys among = absurd among
-among_left x (y ∷ xs) ys (inl same) = inl same
-among_left x (y ∷ xs) ys (inr later) = inr (among_left x xs ys later)
-
-among_right : {X : Type 0} (x : X) (xs ys : List X) → Among x ys → Among x (xs ++ ys)
-among_right x [] ys among = among
-among_right x (y ∷ xs) ys among = inr (among_right x xs ys among)
-
-among_map : {X Y : Type 0} (f : X → Y) (x : X) (xs : List X) → Among x xs → Among (f x) (map f xs)
-among_map f x [] among = absurd among
-among_map f x (y ∷ xs) (inl same) = inl (ap f same)
-among_map f x (y ∷ xs) (inr later) = inr (among_map f x xs later)
-
-among_flat_map : {X Y : Type 0} (f : X → List Y) (x : X) (y : Y) (xs : List X) → Among x xs → Among y (f x) → Among y (flat_map f xs)
-among_flat_map f x y [] among here = absurd among
-among_flat_map f x y (z ∷ xs) (inl same) here = among_left y (f z) (flat_map f xs) (rw (← same) here)
-among_flat_map f x y (z ∷ xs) (inr later) here = among_right y (f z) (flat_map f xs) (among_flat_map f x y xs later here)
-
-among_filter : {X : Type 0} (test : X → Bool) (x : X) (xs : List X) → Among x xs → test x ≡ true → Among x (filter test xs)
-among_filter test x [] among passes = absurd among
-among_filter test x (y ∷ xs) (inl same) passes = rw (sym (ap test same) ∙ passes) (inl same)
-among_filter test x (y ∷ xs) (inr later) passes =
-    elim (test y) as (λ b. Among x (cond b (y ∷ filter test xs) (filter test xs))) [
-      | true ↦ inr (among_filter test x xs later passes)
-      | false ↦ among_filter test x xs later passes
-    ]
-
-among_filtered : {X : Type 0} (test : X → Bool) (x : X) (xs : List X) → Among x (filter test xs) → Among x xs × (test x ≡ true)
-among_filtered test x [] among = absurd among
-among_filtered test x (y ∷ xs) among =
-    elim (test y) as (λ b. test y ≡ b → Among x (cond b (y ∷ filter test xs) (filter test xs)) → Among x (y ∷ xs) × (test x ≡ true)) [
-      | true ↦ λ e found. elim found [
-        | inl same ↦ (inl same, ap test same ∙ e)
-        | inr later ↦ let rest = among_filtered test x xs later in (inr rest.0, rest.1)
-      ]
-      | false ↦ λ e found. let rest = among_filtered test x xs found in (inr rest.0, rest.1)
-    ] refl among
-
--- ---- the order in which cycles are chosen
-
-in_order_total : (xs ys : List ℕ) → in_order xs ys ≡ true ⊎ in_order ys xs ≡ true
-in_order_total [] ys = inl refl
-in_order_total (x ∷ xs) [] = inr refl
-in_order_total (x ∷ xs) (y ∷ ys) = elim (cases_order x y) [
-  | inl same ↦ elim (in_order_total xs ys) [
-    | inl before ↦ inl (grind (arith, nat_tests, same, before))
-    | inr after ↦ inr (grind (arith, nat_tests, same, after))
-  ]
-  | inr apart ↦ elim apart [
-    | inl less ↦ inl (grind (arith, nat_tests, less))
-    | inr more ↦ inr (grind (arith, nat_tests, more))
-  ]
-]
-
-in_order_trans : (xs ys zs : List ℕ) → in_order xs ys ≡ true → in_order ys zs ≡ true → in_order xs zs ≡ true
-in_order_trans [] ys zs first second = refl
-in_order_trans (x ∷ xs) [] zs first second = absurd (false≢true first)
-in_order_trans (x ∷ xs) (y ∷ ys) [] first second = absurd (false≢true second)
-in_order_trans (x ∷ xs) (y ∷ ys) (z ∷ zs) first second = grind (arith, nat_tests, in_order_trans xs ys zs)
-
-in_order_same : (xs ys : List ℕ) → in_order xs ys ≡ true → in_order ys xs ≡ true → xs ≡ ys
-in_order_same [] [] first second = refl
-in_order_same [] (y ∷ ys) first second = absurd (false≢true second)
-in_order_same (x ∷ xs) [] first second = absurd (false≢true first)
-in_order_same (x ∷ xs) (y ∷ ys) first second = grind (arith, nat_tests, in_order_same xs ys)
-
-before_total : (one other : List ℕ) → is_chosen_before one other ≡ true ⊎ is_chosen_before other one ≡ true
-before_total one other = elim (cases_order (length one) (length other)) [
-  | inl same ↦ elim (in_order_total one other) [
-    | inl before ↦ inl (grind (arith, nat_tests, same, before))
-    | inr after ↦ inr (grind (arith, nat_tests, same, after))
-  ]
-  | inr apart ↦ elim apart [
-    | inl less ↦ inl (grind (arith, nat_tests, less))
-    | inr more ↦ inr (grind (arith, nat_tests, more))
-  ]
-]
-
-before_itself : (one : List ℕ) → is_chosen_before one one ≡ true
-before_itself one = elim (before_total one one) [ inl before ↦ before | inr before ↦ before ]
-
-before_trans : (one other third : List ℕ) → is_chosen_before one other ≡ true → is_chosen_before other third ≡ true → is_chosen_before one third ≡ true
-before_trans one other third first second = grind (arith, nat_tests, in_order_trans one other third)
-
-before_same : (one other : List ℕ) → is_chosen_before one other ≡ true → is_chosen_before other one ≡ true → one ≡ other
-before_same one other first second = grind (arith, nat_tests, in_order_same one other)
+use Rattle.mdl_graph.specs.CycleOrder.{before_total, before_itself, before_trans, before_same}
+use Rattle.mdl_graph.specs.Members.{Among, among_map, among_flat_map, among_filter, among_filtered, among_these}
+use Rattle.mdl_graph.specs.Cycles.{leads, are_distinct, is_cycle_through, IsCycleThrough, is_chosen_before, first_of, first_chosen, lists_of, chosen_cycle}
 
 -- ---- the chosen one of some cycles
 
@@ -142,7 +47,7 @@ first_is one [] = record {
 first_is one (other ∷ others) = first_joined one (first_of other (first_chosen others)) other others (first_is other others)
 
 -- a list that stands among these and comes before all is the chosen one
-chosen_of : (cycles : List (List ℕ)) (cycle : List ℕ) → Among cycle cycles
+pub chosen_of : (cycles : List (List ℕ)) (cycle : List ℕ) → Among cycle cycles
     → ((other : List ℕ) → Among other cycles → is_chosen_before cycle other ≡ true) → first_chosen cycles ≡ Some cycle
 chosen_of [] cycle among first = absurd among
 chosen_of (one ∷ others) cycle among first =
@@ -162,17 +67,17 @@ none_among : (cycles : List (List ℕ)) → first_chosen cycles ≡ None → (ot
 none_among [] none other among = among
 none_among (one ∷ others) none other among = absurd (grind (arith, none))
 
-none_of : (cycles : List (List ℕ)) → ((other : List ℕ) → Among other cycles → ⊥) → first_chosen cycles ≡ None
+pub none_of : (cycles : List (List ℕ)) → ((other : List ℕ) → Among other cycles → ⊥) → first_chosen cycles ≡ None
 none_of [] none = refl
 none_of (one ∷ others) none = absurd (none one (inl refl))
 
 -- ---- every cycle of these sessions is among the lists
 
 -- all members of a list are among these
-abbrev AreAmong : List ℕ → List ℕ → Type 0
+abbrev pub AreAmong : List ℕ → List ℕ → Type 0
 AreAmong cycle sessions = (session : ℕ) → Among session cycle → Among session sessions
 
-listed : (sessions cycle : List ℕ) (n : ℕ) → AreAmong cycle sessions → length cycle ≤ n → Among cycle (lists_of sessions n)
+pub listed : (sessions cycle : List ℕ) (n : ℕ) → AreAmong cycle sessions → length cycle ≤ n → Among cycle (lists_of sessions n)
 listed sessions [] zero within short = inl refl
 listed sessions [] (suc n) within short = inl refl
 listed sessions (x ∷ xs) zero within short = absurd (omega (arith, short))
@@ -200,7 +105,7 @@ differs x y [] none among = absurd among
 differs x y (z ∷ xs) none (inl same) = grind (arith, nat_tests, same, none)
 differs x y (z ∷ xs) none (inr later) = differs x y xs (grind (arith, nat_tests, none)) later
 
-at_most : (xs ys : List ℕ) → are_distinct xs ≡ true → AreAmong xs ys → length xs ≤ length ys
+pub at_most : (xs ys : List ℕ) → are_distinct xs ≡ true → AreAmong xs ys → length xs ≤ length ys
 at_most [] ys distinct within = omega arith
 at_most (x ∷ xs) ys distinct within =
     let apart = and_parts (not (list_any (λ other. x == other) xs)) (are_distinct xs) distinct in
@@ -237,26 +142,9 @@ member_waits : (waits : ℕ → ℕ → Bool) (from : ℕ) (cycle : List ℕ) �
 member_waits waits from [] is member among = absurd among
 member_waits waits from (first ∷ rest) is member among = leads_on waits from first rest (round_of waits from first rest is).leading member among
 
-cycle_distinct : (waits : ℕ → ℕ → Bool) (from : ℕ) (cycle : List ℕ) → IsCycleThrough waits from cycle → are_distinct cycle ≡ true
+pub cycle_distinct : (waits : ℕ → ℕ → Bool) (from : ℕ) (cycle : List ℕ) → IsCycleThrough waits from cycle → are_distinct cycle ≡ true
 cycle_distinct waits from [] is = refl
 cycle_distinct waits from (first ∷ rest) is = (round_of waits from first rest is).distinct
-
--- `Contains` of numbers, in both directions
-contained : (xs : List ℕ) (x : ℕ) → Among x xs → Contains xs x
-contained xs x among = Contains-from_any {eq = nat_eq} eqb-true x xs (found xs among) where
-  found : (ys : List ℕ) → Among x ys → list_any (nat_eq x) ys ≡ true
-  found [] here = absurd here
-  found (y ∷ ys) (inl same) = grind (arith, nat_tests, same)
-  found (y ∷ ys) (inr later) = grind (arith, nat_tests, found ys later)
-
-among_these : (xs : List ℕ) (x : ℕ) → Contains xs x → Among x xs
-among_these xs x contains = find_in xs (list_any-from_Contains nat_eq_equiv x xs contains) where
-  find_in : (ys : List ℕ) → list_any (nat_eq x) ys ≡ true → Among x ys
-  find_in [] e = absurd (false≢true e)
-  find_in (y ∷ ys) e = elim (or_cases (nat_eq x y) (list_any (nat_eq x) ys) e) [
-    | inl here ↦ inl (eqb-true x y here)
-    | inr later ↦ inr (find_in ys later)
-  ]
 
 -- ---- the laws
 

@@ -1,6 +1,6 @@
 -- Ways from the sessions back to one of them, as a search keeps them by session number.
-use Rattle.std.specs.Prelude.{◌≡◌, ℕ, zero, suc, ◌<◌, ◌≤◌, min, Bool, true, false, ◌&&◌, ◌||◌, ◌==◌, nat_lt, List, [], ◌∷◌, length, slice_index_or, filter, Option, Some, None, if◌then◌else◌, ◌⊎◌}
-use Rattle.std.specs.List.{list_any, list_all, count_by}
+use Rattle.std.specs.Prelude.{◌≡◌, ℕ, zero, suc, ◌<◌, ◌≤◌, min, Bool, true, false, ◌&&◌, ◌||◌, ◌==◌, nat_lt, List, [], ◌∷◌, length, map, slice_index_or, filter, Option, Some, None, if◌then◌else◌, ◌⊎◌}
+use Rattle.std.specs.List.{list_any, list_all, count_by, Contains}
 use Rattle.std.specs.Option.{is_none, option_map, unwrap_or}
 use Rattle.mdl_graph.specs.declared.cycle.Member.{Member}
 use Rattle.mdl_graph.specs.declared.ties.Tie.{Tie}
@@ -9,6 +9,11 @@ use Rattle.mdl_graph.specs.declared.ways.Way.{Way}
 -- whether one of these ties says that a session waits for another
 abbrev pub are_tied : List Tie → ℕ → ℕ → Bool
 are_tied ties waiter other = list_any (λ tie. tie.waiter == waiter && tie.other == other) ties
+
+-- each session that waits has a wish, and none waits for itself
+pub record AreWished (wishes : List Member) (ties : List Tie) : Type 0 where
+  pub wished : (waiter other : ℕ) → are_tied ties waiter other ≡ true → Contains (map (λ wish. wish.session) wishes) waiter
+  pub apart : (session : ℕ) → are_tied ties session session ≡ false
 
 -- a tie as a graph has it
 abbrev pub pair_of : Tie → ℕ × ℕ
