@@ -1,5 +1,5 @@
 //! Cycles of sessions that wait for one another.
-ghost use Rattle.std.specs.Prelude.{◌≡◌};
+ghost use Rattle.std.specs.Prelude.{◌≡◌, ◌≤◌, length};
 ghost use Rattle.mdl_graph.specs.Victims.{victim_of, falls_before};
 
 use std::marker::Model;
@@ -31,9 +31,18 @@ impl Model for Cycle {
 }
 
 impl Cycle {
+    // A cycle of these members.
+    pub(crate) fn new(members: Vec<Member>) -> Cycle
+        requires { 2 ≤ length members.items }
+        ensures { result ≡ members.items }
+    {
+        Cycle { members }
+    }
+
     /// The members, beginning with the session that was asked for.
     pub fn members(&self) -> &[Member]
-        ensures { result.now ≡ self.now }
+        ensures members { result.now ≡ self.now }
+        ensures many { 2 ≤ length result.now }
     {
         &self.members
     }
