@@ -8,6 +8,8 @@ mod cycle;
 mod laws;
 #[cfg(test)]
 mod plain;
+#[cfg(test)]
+mod tests;
 mod ties;
 mod wait_graph;
 mod waiters;
