@@ -66,12 +66,14 @@ impl WaitGraph {
     {
         let wishes = self.wishes.len();
         let ties = self.ties.len();
-        let added = add_waiters(&mut self.wishes, &mut self.ties, &self.settled, book);
-        if added.is_err() {
-            self.wishes.truncate(wishes);
-            self.ties.truncate(ties);
+        match add_waiters(&mut self.wishes, &mut self.ties, &self.settled, book) {
+            Ok(()) => Ok(()),
+            Err(refused) => {
+                self.wishes.truncate(wishes);
+                self.ties.truncate(ties);
+                Err(refused)
+            }
         }
-        added
     }
 
     /// The shortest cycle of unsettled sessions through one of them, and of equal length the one whose list of numbers,
@@ -82,11 +84,13 @@ impl WaitGraph {
         let alloc = *self.ties.allocator();
         let waiters = Waiters::new(alloc, &self.ties)?;
         let ways = ways_back(alloc, &waiters, from)?;
-        let Some(way) = ways.of(from) else {
-            return Ok(None);
-        };
-        let weights = Weights::new(alloc, &self.wishes)?;
-        let members = ways.walk(alloc, &weights, from, way.steps)?;
-        Ok(Some(Cycle::new(members)))
+        match ways.of(from) {
+            Some(way) => {
+                let weights = Weights::new(alloc, &self.wishes)?;
+                let members = ways.walk(alloc, &weights, from, way.steps)?;
+                Ok(Some(Cycle::new(members)))
+            }
+            None => Ok(None),
+        }
     }
 }
