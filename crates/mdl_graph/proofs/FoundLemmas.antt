@@ -1,5 +1,5 @@
 -- What a search finds is the chosen cycle of its graph.
-use Rattle.std.proofs.Common.{◌≡◌, ℕ, ◌≤◌, zero, suc, Bool, true, false, List, [], ◌∷◌, map, length, Some, None, refl, ap, sym, subst, ◌∙◌, inl, inr, arith}
+use Rattle.std.proofs.Common.{◌≡◌, ℕ, ◌≤◌, Bool, true, false, List, [], ◌∷◌, map, Some, None, refl, ap, sym, subst, ◌∙◌, inl, inr, arith}
 use Rattle.std.specs.Prelude.{◌==◌, find, Option}
 use Rattle.std.specs.List.{Contains}
 use Rattle.std.specs.Option.{option_map, unwrap_or}
@@ -19,8 +19,8 @@ two_steps waits from ways way over is apart =
     let back = over.searched.sound from way is in
     elim (cases_eq back.0 0) [
       | inl near ↦
-        let here : way.next ≡ from = eqb-true way.next from (subst (λ (m : ℕ). is_at ways from m way.next ≡ true) near back.3) in
-        absurd (false≢true (sym apart ∙ sym (ap (waits from) here) ∙ back.2))
+          let here : way.next ≡ from = eqb-true way.next from (subst (λ (m : ℕ). is_at ways from m way.next ≡ true) near back.3) in
+          absurd (false≢true (sym apart ∙ sym (ap (waits from) here) ∙ back.2))
       | inr far ↦ omega (arith, back.1, far)
     ]
 
@@ -47,7 +47,6 @@ members_same weights wishes weighs (session ∷ rest) =
 
 module _ (graph : GraphView) (by_rows : ℕ → ℕ → Bool) (same : (waiter other : ℕ) → by_rows waiter other ≡ waits graph waiter other)
     (from : ℕ) (ways : List (Option Way)) (over : IsOver by_rows from ways) where
-
   pub found_cycle : (weights : List (Option ℕ)) (way : Way) → ((waiter other : ℕ) → waits graph waiter other ≡ true → Contains (sessions_of graph) waiter)
       → AreWeighed weights graph.wishes → way_of ways from ≡ Some way → Some (map (weighed weights) (walk ways way.steps from)) ≡ deadlock graph from
   found_cycle weights way wished weighs is =

@@ -1,11 +1,11 @@
 -- A search that goes one step further.
-use Rattle.std.proofs.Common.{◌≡◌, ◌≢◌, ℕ, zero, suc, ◌≤◌, ◌<◌, Bool, true, false, List, [], ◌∷◌, Some, None, refl, ap, sym, subst, ◌∙◌, ◌⊎◌, inl, inr, arith, cond}
-use Rattle.std.specs.Prelude.{◌&&◌, ◌||◌, ◌==◌, filter, Option, is_some, min}
+use Rattle.std.proofs.Common.{◌≡◌, ℕ, zero, suc, ◌≤◌, ◌<◌, Bool, true, false, List, [], ◌∷◌, Some, None, refl, ap, sym, subst, ◌∙◌, ◌⊎◌, inl, inr, arith, cond}
+use Rattle.std.specs.Prelude.{◌&&◌, ◌==◌, filter, Option, is_some, min}
 use Rattle.std.specs.Option.{is_none, option_or, option_map}
 use Rattle.std.proofs.lemmas.Bool.{cases_order, false≢true, eqb-true, or_cases, or_right}
 use Rattle.std.proofs.lemmas.Bool.Decides.{nat_tests}
 use Rattle.mdl_graph.specs.declared.ways.Way.{Way}
-use Rattle.mdl_graph.specs.Searches.{lower, least, first_step, stands_in, way_of, has_steps, is_at, LeadsBack, IsNoWorse, IsSearched, IsOver}
+use Rattle.mdl_graph.specs.Searches.{lower, least, first_step, stands_in, way_of, has_steps, is_at, IsNoWorse, IsSearched, IsOver}
 
 -- ---- the least of some sessions
 

@@ -1,12 +1,12 @@
 -- One more session that is looked at in a step of a search.
-use Rattle.std.proofs.Common.{◌≡◌, ℕ, suc, ◌≤◌, ◌<◌, Bool, true, false, List, [], ◌∷◌, ◌++◌, Some, None, refl, ap, sym, ◌∙◌, inl, inr, arith, cond}
-use Rattle.std.specs.Prelude.{◌&&◌, ◌||◌, ◌==◌, filter, Option, is_some, nat_lt, min}
+use Rattle.std.proofs.Common.{◌≡◌, ℕ, ◌<◌, Bool, true, false, List, [], ◌∷◌, ◌++◌, Some, None, refl, ap, sym, ◌∙◌, arith, cond}
+use Rattle.std.specs.Prelude.{◌&&◌, ◌||◌, filter, Option, is_some, nat_lt, min}
 use Rattle.std.specs.Option.{is_none, option_or, option_map}
 use Rattle.std.proofs.lemmas.Bool.Decides.{nat_tests}
 use Rattle.std.proofs.lemmas.List.{append-nil}
 use Rattle.std.proofs.lemmas.List.Elements.{filter-append}
 use Rattle.mdl_graph.specs.declared.ways.Way.{Way}
-use Rattle.mdl_graph.specs.Searches.{lower, least, better, goes_before, offered, first_step, stands_in, IsNoWorse}
+use Rattle.mdl_graph.specs.Searches.{lower, least, better, goes_before, offered, first_step}
 
 lower_swap : (a b : ℕ) (o : Option ℕ) → lower a (Some (lower b o)) ≡ lower b (Some (lower a o))
 lower_swap a b None = omega arith

@@ -1,12 +1,12 @@
 -- The walk along the ways that a search found is the chosen cycle.
-use Rattle.std.proofs.Common.{◌≡◌, ◌≢◌, ℕ, zero, suc, ◌+◌, ◌-◌, ◌≤◌, ◌<◌, Bool, true, false, List, [], ◌∷◌, length, Some, None, refl, ap, sym, subst, ◌∙◌, ◌⊎◌, inl, inr, arith}
-use Rattle.std.specs.Prelude.{not, ◌&&◌, ◌||◌, ◌==◌, nat_lt, Option, IsTrue}
+use Rattle.std.proofs.Common.{◌≡◌, ℕ, zero, suc, ◌+◌, ◌-◌, ◌≤◌, ◌<◌, Bool, true, false, List, [], ◌∷◌, length, Some, None, refl, ap, sym, subst, ◌∙◌, inl, inr, arith}
+use Rattle.std.specs.Prelude.{◌&&◌, ◌||◌, ◌==◌, nat_lt, Option, IsTrue}
 use Rattle.std.specs.List.{list_any}
 use Rattle.std.proofs.lemmas.Bool.{cases_lt, cases_eq, false≢true, eqb-true, and_parts, and_from, or_from}
 use Rattle.std.proofs.lemmas.Bool.Decides.{nat_tests}
 use Rattle.mdl_graph.specs.declared.ways.Way.{Way}
-use Rattle.mdl_graph.specs.Cycles.{leads, are_distinct, is_cycle_through, IsCycleThrough, in_order, is_chosen_before}
-use Rattle.mdl_graph.specs.Searches.{way_of, has_steps, is_at, LeadsBack, IsNoWorse, IsSearched, IsOver, next_of, walk}
+use Rattle.mdl_graph.specs.Cycles.{leads, are_distinct, IsCycleThrough, in_order, is_chosen_before}
+use Rattle.mdl_graph.specs.Searches.{way_of, is_at, IsNoWorse, IsSearched, IsOver, next_of, walk}
 use Rattle.mdl_graph.proofs.SearchLemmas.{has_way, has_way_back}
 
 pub length_walk : (ways : List (Option Way)) (n session : ℕ) → length (walk ways n session) ≡ n

@@ -1,5 +1,5 @@
 -- The weight of a session's first wish, where one more wish is told.
-use Rattle.std.proofs.Common.{◌≡◌, ℕ, Bool, true, false, List, [], ◌∷◌, ◌++◌, Some, None, refl, cond}
+use Rattle.std.proofs.Common.{◌≡◌, ℕ, true, false, List, [], ◌∷◌, ◌++◌, Some, None, refl, cond}
 use Rattle.std.specs.Prelude.{◌==◌, find, Option}
 use Rattle.std.specs.Option.{option_map, option_or}
 use Rattle.mdl_graph.specs.declared.cycle.Member.{Member}

@@ -21,7 +21,7 @@ is_unsettled settled session = not (settled session)
 abbrev pub holds_against : Lists → Mode → ℕ → Bool
 holds_against book wish session = list_any (λ held. held.session == session && clashes (lock_kind book) wish held.mode) book.granted
 
--- whether a session waits there, unsettled, in a mode that the wish waits behind
+-- whether a session waits there, unsettled, in a mode that the wish waits behind, whichever of the two came first
 abbrev pub waits_ahead : SessionTest → Lists → Mode → ℕ → Bool
 waits_ahead settled book wish session =
     is_unsettled settled session && list_any (λ pending. pending.session == session && waits_behind (lock_kind book) wish pending.mode) book.waiting

@@ -16,7 +16,7 @@ use std::marker::Model;
 /// Which session waits for which at the locks whose books were added.
 ///
 /// A session that is settled waits no more, though its ticket may still stand among those that wait. After MySQL 5.7,
-/// `MDL_context::find_deadlock` of `sql/mdl.cc`, which looks at the locks as it goes.
+/// `MDL_lock::visit_subgraph` of `sql/mdl.cc`, which looks at the locks as it goes.
 #[derive(Drop)]
 pub struct WaitGraph {
     settled: Sessions,

@@ -1,32 +1,35 @@
 -- Laws of searches for deadlocks in the lock space of one thread.
-use Rattle.std.specs.Prelude.{◌≡◌, ℕ, ◌≤◌, Bool, false, not, ◌&&◌, ◌||◌, ◌==◌, List, length}
+use Rattle.std.specs.Prelude.{◌≡◌, ◌⊎◌, ℕ, ◌≤◌, Bool, false, not, ◌&&◌, ◌||◌, ◌==◌, List, length}
 use Rattle.mdl_key.specs.declared.mode.Mode.{Mode}
-use Rattle.mdl_space.specs.Answers.{Answer, Waits, No_cycle, Victim_is}
+use Rattle.mdl_space.specs.Answers.{Answer, finds_no_memory, Waits, No_cycle, Victim_is}
 use Rattle.mdl_space.specs.Calls.{Call, Begin_wait, Search}
 use Rattle.mdl_space.specs.CoreJoins.{Joins, SpeaksFor}
 use Rattle.mdl_space.specs.Cores.{Core}
 use Rattle.mdl_space.specs.CoreSystems.{system_of}
 use Rattle.mdl_space.specs.Deadlocks.{IsDeadlock, IsChosenDeadlock, IsVictimOf, DeadlocksGoThrough, HasNoDeadlock}
 use Rattle.mdl_space.specs.Runs.{Runs}
-use Rattle.mdl_space.specs.Searches.{Over, Cut_off, seeking}
+use Rattle.mdl_space.specs.Searches.{Over, Cut_off, most_searches, seeking}
 use Rattle.mdl_space.specs.Ties.{IsSound}
 
--- a search finds no cycle exactly where the session is part of no deadlock, and else it names the victim of the chosen one
+-- a search finds no cycle where the session is part of no deadlock, and else it names the victim of the chosen one; nothing but
+-- memory can be wanting for it. That the victim alone then loses its wait is said of all calls that are events
 abbrev pub SearchesFindDeadlocks : Type 0
 SearchesFindDeadlocks =
     (a b : Core) (who : ℕ) →
     (Joins a (Search who) No_cycle b → (cycle : List ℕ) → IsDeadlock (system_of a) who cycle → ⊥)
     × ((victim : ℕ) → Joins a (Search who) (Victim_is victim) b →
     (cycle : List ℕ) × IsChosenDeadlock (system_of a) who cycle × IsVictimOf (system_of a) cycle victim)
+    × ((answer : Answer) → Joins a (Search who) answer b → finds_no_memory answer ≡ false →
+    (answer ≡ No_cycle) ⊎ ((victim : ℕ) × (answer ≡ Victim_is victim)))
 
 -- a thousand and twenty-four searches are always enough where there are no more sessions
 abbrev pub SearchesSuffice : Type 0
-SearchesSuffice = (a b : Core) (who : ℕ) → length a.seats ≤ 1024 → SpeaksFor a who → Runs Joins a (seeking 1024 who) Cut_off b → ⊥
+SearchesSuffice = (a b : Core) (who : ℕ) → length a.seats ≤ 1024 → SpeaksFor a who → Runs Joins a (seeking most_searches who) Cut_off b → ⊥
 
--- after them, where none was refused, the session is part of no deadlock: it waits in none, or is a victim itself
+-- once they are over, the session is part of no deadlock: it waits in none, or is a victim itself
 abbrev pub SearchesLeaveNoDeadlock : Type 0
 SearchesLeaveNoDeadlock =
-    (a b : Core) (who : ℕ) → SpeaksFor a who → Runs Joins a (seeking 1024 who) Over b → (cycle : List ℕ) → IsDeadlock (system_of b) who cycle → ⊥
+    (a b : Core) (who : ℕ) → SpeaksFor a who → Runs Joins a (seeking most_searches who) Over b → (cycle : List ℕ) → IsDeadlock (system_of b) who cycle → ⊥
 
 -- whether a session begins to wait by a call with this answer
 abbrev pub begins_wait : Call → Answer → ℕ → Bool
@@ -44,7 +47,7 @@ OnlyNewWaitsMakeDeadlocks =
 -- once a session's searches are over, all deadlocks go through these sessions but itself
 abbrev pub SearchingEndsDeadlocks : Type 0
 SearchingEndsDeadlocks =
-    (a b : Core) (who : ℕ) (sessions : ℕ → Bool) → SpeaksFor a who → Runs Joins a (seeking 1024 who) Over b →
+    (a b : Core) (who : ℕ) (sessions : ℕ → Bool) → SpeaksFor a who → Runs Joins a (seeking most_searches who) Over b →
     DeadlocksGoThrough sessions (system_of a) →
     DeadlocksGoThrough (λ session. sessions session && not (session == who)) (system_of b)
 
@@ -52,5 +55,5 @@ SearchingEndsDeadlocks =
 abbrev pub WaitingLeavesNoDeadlock : Type 0
 WaitingLeavesNoDeadlock =
     (a b c : Core) (who place number : ℕ) (mode : Mode) →
-    Joins a (Begin_wait who place mode) (Waits number) b → Runs Joins b (seeking 1024 who) Over c →
+    Joins a (Begin_wait who place mode) (Waits number) b → Runs Joins b (seeking most_searches who) Over c →
     HasNoDeadlock (system_of a) → HasNoDeadlock (system_of c)

@@ -1,4 +1,4 @@
--- Deadlocks in the system of locks, after MySQL 5.7: `MDL_context::find_deadlock` of sql/mdl.cc. Which cycle is chosen, and
+-- Deadlocks in the system of locks, after MySQL 5.7: `MDL_lock::visit_subgraph` of sql/mdl.cc. Which cycle is chosen, and
 -- that of equal weights the greatest session number falls, is this project's own choice.
 use Rattle.std.specs.Prelude.{◌≡◌, ◌≢◌, ◌⊎◌, ℕ, ◌<◌, ◌≤◌, Bool, List, [], ◌∷◌, Contains, AllPairs, IsTrue}
 use Rattle.mdl_key.specs.Classes.{weight_of}
@@ -18,12 +18,12 @@ HoldsAgainst system key wish session =
     (held : Holding) × Contains system.granted held × (held.key ≡ key) × (held.session ≡ session)
     × Clashes (lock_kind key) wish.ticket.mode held.mode
 
--- a session waits there, unsettled, in a mode that the wish waits behind
+-- a session waits there, unsettled, in a mode that the wish waits behind, whichever of the two came first
 abbrev pub WaitsAhead : {D : Type 0} → System D → KeyName → Waiter → ℕ → Type 0
 WaitsAhead system key wish session =
     (pending : Waiter) × Wishes system session key pending × WaitsBehind (lock_kind key) wish.ticket.mode pending.ticket.mode
 
--- one session waits for another: it wishes for a lock that the other holds against it, or waits for ahead of it
+-- one session waits for another: it wishes for a lock that the other holds against it, or waits for in a mode that goes first
 abbrev pub WaitsFor : {D : Type 0} → System D → ℕ → ℕ → Type 0
 WaitsFor system waiter other =
     (waiter ≢ other) × ((key : KeyName) × (wish : Waiter) × Wishes system waiter key wish

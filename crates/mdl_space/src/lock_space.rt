@@ -60,10 +60,11 @@ pub trait LockSpace {
         requires { speaks_for self.old who }
         ensures { joins self.old (Begin_wait who place mode) (begun result) self.new };
 
-    /// Looks for a cycle of unsettled sessions, each of which waits for the next, through this one, and settles the wait of
-    /// one of them, the victim. One search breaks one cycle; there may be others.
+    /// Looks for a deadlock that the session is part of: sessions each of which waits, unsettled, for the next, and the last for
+    /// the first. If there is one, the wait of its victim is settled: of the shortest, the member whose wish weighs least, and
+    /// of those the one of the greatest number. There may be other deadlocks, for further searches.
     ///
-    /// After MySQL 5.7, `MDL_context::find_deadlock` of `sql/mdl.cc`.
+    /// After MySQL 5.7, a turn of `MDL_context::find_deadlock` of `sql/mdl.cc`.
     fn search(&mut self, who: u16) -> Result<Search, SpaceError>
         requires { speaks_for self.old who }
         ensures { joins self.old (Search_by who) (searched result) self.new };

@@ -94,6 +94,7 @@ pub searches-find : SearchesFindDeadlocks
 searches-find a b who = (
   (λ joins. none-found a joins.0.1.tied who (victim-none (deadlock_in (has_settled a) a.books who) (none-joined a b who joins).0)),
   λ victim joins. victim-found a who victim joins.0.1.tied (some-joined a b who victim joins).0,
+  either-joined a b who,
 )
 
 -- ---- a session that wishes has an unsettled wait
