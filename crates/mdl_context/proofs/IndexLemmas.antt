@@ -1,6 +1,6 @@
 -- The numbers by key: one taken out, and keys unlisted.
-use Rattle.std.proofs.Common.{◌≡◌, ◌≢◌, ℕ, zero, suc, ◌<◌, ◌≤◌, Bool, List, [], ◌∷◌, length, get_or, Option, Some, None, Result, Ok, Err, refl, ap, ◌∙◌, arith}
-use Rattle.std.specs.Prelude.{not, nat_eq, nat_lt, filter, IsTrue}
+use Rattle.std.proofs.Common.{◌≡◌, ◌≢◌, ℕ, zero, suc, ◌<◌, ◌≤◌, Bool, false, List, [], ◌∷◌, length, get_or, Option, Some, None, Result, Ok, Err, refl, sym, ap, ◌∙◌, arith}
+use Rattle.std.specs.Prelude.{not, nat_eq, nat_lt, filter, IsTrue, is_some}
 use Rattle.std.specs.Cmp.{IsEquivalence, nat_eq_equiv}
 use Rattle.std.specs.List.{list_all, remove}
 use Rattle.std.specs.List.Sorted.{IsBinarySearchResult}
@@ -13,7 +13,7 @@ use Rattle.std.proofs.lemmas.List.Sorted.{searched}
 use Rattle.std.proofs.lemmas.Map.Entries.{lookup-filter-values, option_filter}
 use Rattle.mdl_key.specs.Keys.{KeyName, namespace_rank, key_eq}
 use Rattle.smallvec.specs.SmallVec.{SmallVec}
-use Rattle.mdl_context.specs.Indexes.{Index, listed, numbers_of, rises, without_one}
+use Rattle.mdl_context.specs.Indexes.{Index, is_listed, listed, numbers_of, rises, without_one}
 
 pub key_eq_equiv : IsEquivalence key_eq
 key_eq_equiv = and_equiv (on_equiv (λ k. namespace_rank k.namespace) nat_eq_equiv) (and_equiv (on_equiv (λ k. k.schema) nat_list_eq_equiv) (on_equiv (λ k. k.table) nat_list_eq_equiv))
@@ -81,3 +81,17 @@ empty_unlisted (Some list) = by_items list.items refl where
 
 pub same_numbers : (index : Index) (key : KeyName) → IsDistinct key_eq (keys_of index) → numbers_of key (filter (λ e. has_numbers e.1) index) ≡ numbers_of key index
 same_numbers index key distinct = ap listed (lookup-filter-values key_eq_equiv has_numbers key index distinct) ∙ empty_unlisted (lookup (key_eq key) index)
+
+none_left : (list : Option (SmallVec ℕ)) → listed (option_filter has_numbers list) ≡ [] → is_some (option_filter has_numbers list) ≡ false
+none_left None none = refl
+none_left (Some list) none = by_items list.items refl where
+  by_items : (items : List ℕ) → list.items ≡ items → is_some (option_filter has_numbers (Some list)) ≡ false
+  by_items [] e = grind (arith, nat_tests)
+  by_items (n ∷ ns) e = grind (arith, nat_tests)
+
+-- no key is listed without numbers then
+pub none_empty : (index : Index) (key : KeyName) → IsDistinct key_eq (keys_of index) → numbers_of key (filter (λ e. has_numbers e.1) index) ≡ []
+    → is_listed key (filter (λ e. has_numbers e.1) index) ≡ false
+none_empty index key distinct none =
+    let found = lookup-filter-values key_eq_equiv has_numbers key index distinct in
+    ap is_some found ∙ none_left (lookup (key_eq key) index) (sym (ap listed found) ∙ none)

@@ -1,5 +1,5 @@
 -- A session's tickets by key: the numbers of those of each key.
-use Rattle.std.specs.Prelude.{ℕ, Bool, not, true, false, ◌&&◌, ◌==◌, nat_lt, List, [], ◌∷◌, filter, length, Option, Some, None}
+use Rattle.std.specs.Prelude.{ℕ, Bool, not, true, false, ◌&&◌, ◌==◌, nat_lt, List, [], ◌∷◌, filter, length, Option, Some, None, is_some}
 use Rattle.std.specs.List.{list_all}
 use Rattle.std.specs.Map.{lookup}
 use Rattle.mdl_key.specs.Keys.{KeyName, key_eq}
@@ -8,6 +8,10 @@ use Rattle.smallvec.specs.SmallVec.{SmallVec}
 -- the keys that are listed, each with the numbers of its tickets
 abbrev pub Index : Type 0
 Index = List (KeyName × SmallVec ℕ)
+
+-- whether a key is listed
+abbrev pub is_listed : KeyName → Index → Bool
+is_listed key index = is_some (lookup (key_eq key) index)
 
 -- the numbers in a list, if there is one
 abbrev pub listed : Option (SmallVec ℕ) → List ℕ

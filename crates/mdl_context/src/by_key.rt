@@ -1,7 +1,7 @@
 //! The numbers of a session's tickets, found by key.
-ghost use Rattle.std.specs.Prelude.{◌≡◌, true, [], ◌∷◌, ◌++◌, OnOk, IsTrue, if◌then◌else◌};
+ghost use Rattle.std.specs.Prelude.{◌≡◌, true, false, [], ◌∷◌, ◌++◌, OnOk, IsTrue, if◌then◌else◌};
 ghost use Rattle.mdl_key.specs.Keys.{KeyName, key_eq};
-ghost use Rattle.mdl_context.specs.Indexes.{numbers_of, has_room_for, rises, without_one};
+ghost use Rattle.mdl_context.specs.Indexes.{is_listed, numbers_of, has_room_for, rises, without_one};
 
 use mdl_key::Key;
 use mdl_space::TicketId;
@@ -87,14 +87,16 @@ impl ByKey {
     /// Unlists a key that has no numbers. It takes no memory.
     pub(crate) fn unlist(&mut self, key: &Key)
         requires { numbers_of key.now self.old ≡ [] }
-        ensures { (q : KeyName) → numbers_of q self.new ≡ numbers_of q self.old }
+        ensures numbers { (q : KeyName) → numbers_of q self.new ≡ numbers_of q self.old }
+        ensures gone { is_listed key.now self.new ≡ false }
     {
         self.lists.remove(key);
     }
 
     /// Unlists all keys that have no numbers. It takes no memory.
     pub(crate) fn unlist_empty(&mut self)
-        ensures { (q : KeyName) → numbers_of q self.new ≡ numbers_of q self.old }
+        ensures numbers { (q : KeyName) → numbers_of q self.new ≡ numbers_of q self.old }
+        ensures gone { (q : KeyName) → numbers_of q self.new ≡ [] → is_listed q self.new ≡ false }
     {
         self.lists.retain(|_, list| !list.is_empty());
     }

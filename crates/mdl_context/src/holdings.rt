@@ -1,5 +1,5 @@
 //! The tickets that a context keeps, and its wait.
-ghost use Rattle.std.specs.Prelude.{◌≡◌, ℕ, true, Some, None, [], ◌∷◌, ◌++◌, map, filter, find, length, is_some, OnOk, slice_get, position, not, ◌≤◌};
+ghost use Rattle.std.specs.Prelude.{◌≡◌, ℕ, true, false, Some, None, [], ◌∷◌, ◌++◌, map, filter, find, length, is_some, OnOk, slice_get, position, not, ◌≤◌};
 ghost use Rattle.std.specs.Vec.{vec_capacity};
 ghost use Rattle.mdl_context.specs.Goings.{goes};
 ghost use Rattle.std.specs.Option.{option_copied, option_map};
@@ -7,8 +7,8 @@ ghost use Rattle.mdl_key.specs.declared.mode.Duration.TheVariants.{Explicit};
 ghost use Rattle.mdl_key.specs.Keys.{KeyName};
 ghost use Rattle.mdl_space.specs.Strength.{covers};
 ghost use Rattle.mdl_context.specs.Contexts.{AreRising, lasts, held_for, has_number, held_of};
-ghost use Rattle.mdl_context.specs.Holdings.{without_number, is_of, is_ticket, IsIndexOf, has_room, earliest, kept_for, in_transaction, transactional, kept_of, wanted_of, with_wanted};
-ghost use Rattle.mdl_context.specs.Indexes.{has_room_for};
+ghost use Rattle.mdl_context.specs.Holdings.{without_number, is_of, is_ticket, numbers_among, IsIndexOf, has_room, earliest, kept_for, in_transaction, transactional, kept_of, wanted_of, with_wanted};
+ghost use Rattle.mdl_context.specs.Indexes.{is_listed, has_room_for};
 ghost use Rattle.mdl_context.specs.Requests.{suffices, is_reusable};
 
 use crate::by_key::ByKey;
@@ -90,6 +90,7 @@ impl Holdings {
     pub(crate) fn give_room_up(&mut self, key: &Key)
         ensures kept { self.new.kept ≡ self.old.kept }
         ensures wait { self.new.wait ≡ self.old.wait }
+        ensures gone { self.old.wait ≡ None → numbers_among key.now self.old.kept ≡ [] → is_listed key.now self.new.index ≡ false }
     {
         if self.wait.is_none() && self.by_key.numbers(key).is_empty() {
             self.by_key.unlist(key);
