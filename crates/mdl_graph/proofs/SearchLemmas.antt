@@ -1,11 +1,11 @@
 -- A search that goes one step further.
-use Rattle.std.proofs.Common.{◌≡◌, ◌≢◌, ℕ, zero, suc, ◌≤◌, ◌<◌, Bool, true, false, List, [], ◌∷◌, Some, None, refl, ap, sym, subst, ◌∙◌, ◌⊎◌, inl, inr, arith, cond}
-use Rattle.std.specs.Prelude.{◌&&◌, ◌||◌, ◌==◌, filter, Option, is_some, min}
+use Rattle.std.proofs.Common.{◌≡◌, ℕ, zero, suc, ◌≤◌, ◌<◌, Bool, true, false, List, [], ◌∷◌, Some, None, refl, ap, sym, subst, ◌∙◌, ◌⊎◌, inl, inr, arith, cond}
+use Rattle.std.specs.Prelude.{◌&&◌, ◌==◌, filter, Option, is_some, min}
 use Rattle.std.specs.Option.{is_none, option_or, option_map}
 use Rattle.std.proofs.lemmas.Bool.{cases_order, false≢true, eqb-true, or_cases, or_right}
 use Rattle.std.proofs.lemmas.Bool.Decides.{nat_tests}
 use Rattle.mdl_graph.specs.declared.ways.Way.{Way}
-use Rattle.mdl_graph.specs.Searches.{lower, least, first_step, stands_in, way_of, has_steps, is_at, LeadsBack, IsNoWorse, IsSearched, IsOver}
+use Rattle.mdl_graph.specs.Searches.{lower, least, first_step, stands_in, way_of, has_steps, is_at, IsNoWorse, IsSearched, IsOver}
 
 -- ---- the least of some sessions
 
@@ -41,13 +41,13 @@ least_is is_waited (one ∷ rest) next found =
     let passing = filter is_waited rest in
     elim (is_waited one) as (λ b. is_waited one ≡ b → least (cond b (one ∷ passing) passing) ≡ Some next → IsLeast is_waited (one ∷ rest) next) [
       | true ↦ λ passes e.
-        let lowest : lower one (least passing) ≡ next = cc in
-        elim (lower_cases one (least passing)) [
-          | inl first ↦
-            let same : one ≡ next = sym first ∙ lowest in
-            record { waited = rw (← same) passes; among = grind (arith, nat_tests, same) }
-          | inr later ↦ least_later is_waited one rest next (least_is is_waited rest next (later ∙ ap Some lowest))
-        ]
+          let lowest : lower one (least passing) ≡ next = cc in
+          elim (lower_cases one (least passing)) [
+            | inl first ↦
+                let same : one ≡ next = sym first ∙ lowest in
+                record { waited = rw (← same) passes; among = grind (arith, nat_tests, same) }
+            | inr later ↦ least_later is_waited one rest next (least_is is_waited rest next (later ∙ ap Some lowest))
+          ]
       | false ↦ λ _ e. least_later is_waited one rest next (least_is is_waited rest next e)
     ] refl found
 
@@ -58,14 +58,18 @@ least_below is_waited [] session among waited = absurd (false≢true among)
 least_below is_waited (one ∷ rest) session among waited =
     let passing = filter is_waited rest in
     elim (is_waited one) as (λ b. is_waited one ≡ b → (next : ℕ) × (least (cond b (one ∷ passing) passing) ≡ Some next) × (next ≤ session)) [
-      | true ↦ λ _. (lower one (least passing), refl, elim (or_cases (session == one) (stands_in rest session) among) [
-        | inl here ↦
-          let same : session ≡ one = eqb-true session one here in
-          omega (arith, same, lower_left one (least passing))
-        | inr later ↦
-          let rest_least = least_below is_waited rest session later waited in
-          omega (arith, lower_right one (least passing) rest_least.0 rest_least.1, rest_least.2)
-      ])
+      | true ↦ λ _. (
+        lower one (least passing),
+        refl,
+        elim (or_cases (session == one) (stands_in rest session) among) [
+          | inl here ↦
+              let same : session ≡ one = eqb-true session one here in
+              omega (arith, same, lower_left one (least passing))
+          | inr later ↦
+              let rest_least = least_below is_waited rest session later waited in
+              omega (arith, lower_right one (least passing) rest_least.0 rest_least.1, rest_least.2)
+        ],
+      )
       | false ↦ λ fails. elim (or_cases (session == one) (stands_in rest session) among) [
         | inl here ↦ absurd (false≢true (sym fails ∙ sym (ap is_waited (eqb-true session one here)) ∙ waited))
         | inr later ↦ least_below is_waited rest session later waited
@@ -79,8 +83,8 @@ first_is steps is_waited sessions way is =
     elim (least (filter is_waited sessions)) as (λ o. option_map (λ next. record { steps = steps; next = next }) o ≡ Some way → (way.steps ≡ steps) × (o ≡ Some way.next)) [
       | None ↦ λ e. absurd (grind (arith, e))
       | Some next ↦ λ e.
-        let same : record { steps = steps; next = next } ≡ way = cc in
-        (sym (ap (λ (w : Way). w.steps) same), ap (λ (w : Way). Some w.next) same)
+          let same : record { steps = steps; next = next } ≡ way = cc in
+          (sym (ap (λ (w : Way). w.steps) same), ap (λ (w : Way). Some w.next) same)
     ] is
 
 -- ---- ways of so many steps
@@ -96,7 +100,6 @@ has_way_back n o way is steps = rw is (grind (arith, nat_tests, steps))
 module _ (waits : ℕ → ℕ → Bool) (from n : ℕ) (old new : List (Option Way)) (front : List ℕ)
     (searched : IsSearched waits from old n) (at_front : (session : ℕ) → stands_in front session ≡ is_at old from n session)
     (ways : (session : ℕ) → way_of new session ≡ option_or (way_of old session) (first_step (suc n) (waits session) front)) where
-
   -- a way that was found stays
   kept : (session : ℕ) (way : Way) → way_of old session ≡ Some way → way_of new session ≡ Some way
   kept session way was = ways session ∙ ap (λ (o : Option Way). option_or o (first_step (suc n) (waits session) front)) was
@@ -111,9 +114,9 @@ module _ (waits : ℕ → ℕ → Bool) (from n : ℕ) (old new : List (Option W
   found session way is =
       elim (way_of old session) as (λ o. way_of old session ≡ o → (way_of old session ≡ Some way) ⊎ IsNew session way) [
         | None ↦ λ none.
-          let first = first_is (suc n) (waits session) front way
-              (sym (ap (λ (o : Option Way). option_or o (first_step (suc n) (waits session) front)) none) ∙ sym (ways session) ∙ is) in
-          inr (record { first = none; steps = first.0; least = least_is (waits session) front way.next first.1 })
+            let first = first_is (suc n) (waits session) front way
+            (sym (ap (λ (o : Option Way). option_or o (first_step (suc n) (waits session) front)) none) ∙ sym (ways session) ∙ is) in
+            inr (record { first = none; steps = first.0; least = least_is (waits session) front way.next first.1 })
         | Some known ↦ λ was. inl (was ∙ sym (kept session known was) ∙ is)
       ] refl
 
@@ -144,19 +147,19 @@ module _ (waits : ℕ → ℕ → Bool) (from n : ℕ) (old new : List (Option W
   best_here next session at waiting =
       elim (way_of old session) as (λ o. way_of old session ≡ o → IsNoWorse (way_of new session) n next) [
         | None ↦ λ none.
-          let least = least_below (waits session) front next (at_front next ∙ at) waiting in
-          let is : way_of new session ≡ Some (record { steps = suc n; next = least.0 }) =
-          ways session ∙ ap (λ (o : Option Way). option_or o (first_step (suc n) (waits session) front)) none
-          ∙ ap (option_map (λ next. record { steps = suc n; next = next })) least.1 in
-          subst (λ (o : Option Way). IsNoWorse o n next) (sym is) (inr (refl, least.2))
+            let least = least_below (waits session) front next (at_front next ∙ at) waiting in
+            let is : way_of new session ≡ Some (record { steps = suc n; next = least.0 }) =
+            ways session ∙ ap (λ (o : Option Way). option_or o (first_step (suc n) (waits session) front)) none
+            ∙ ap (option_map (λ next. record { steps = suc n; next = next })) least.1 in
+            subst (λ (o : Option Way). IsNoWorse o n next) (sym is) (inr (refl, least.2))
         | Some way ↦ λ was. subst (λ (o : Option Way). IsNoWorse o n next) (sym (kept session way was)) (inl (searched.within session way was))
       ] refl
 
   best : (m next session : ℕ) → m < suc n → is_at new from m next ≡ true → waits session next ≡ true → IsNoWorse (way_of new session) m next
   best m next session near at waiting = elim (cases_order m n) [
     | inl same ↦
-      let was : is_at old from n next ≡ true = subst (λ (k : ℕ). is_at old from k next ≡ true) same (at_old m next (omega arith) at) in
-      subst (λ (k : ℕ). IsNoWorse (way_of new session) k next) (sym same) (best_here next session was waiting)
+        let was : is_at old from n next ≡ true = subst (λ (k : ℕ). is_at old from k next ≡ true) same (at_old m next (omega arith) at) in
+        subst (λ (k : ℕ). IsNoWorse (way_of new session) k next) (sym same) (best_here next session was waiting)
     | inr apart ↦ elim apart [
       | inl less ↦ no_worse m next session (searched.best m next session less (at_old m next (omega arith) at) waiting)
       | inr more ↦ absurd (omega arith)
@@ -167,8 +170,8 @@ module _ (waits : ℕ → ℕ → Bool) (from n : ℕ) (old new : List (Option W
   further = record {
     sound = λ session way is. elim (found session way is) [
       | inl was ↦
-        let back = searched.sound session way was in
-        (back.0, back.1, back.2, at_kept back.0 way.next back.3)
+          let back = searched.sound session way was in
+          (back.0, back.1, back.2, at_kept back.0 way.next back.3)
       | inr is ↦ (n, is.steps, is.least.waited, at_kept n way.next (sym (at_front way.next) ∙ is.least.among))
     ];
     within = λ session way is. elim (found session way is) [
@@ -185,11 +188,11 @@ module _ (waits : ℕ → ℕ → Bool) (from n : ℕ) (old new : List (Option W
         | None ↦ λ _. elim (is_none (way_of old session)) as (λ b. (b && false) ≡ false) [ true ↦ refl | false ↦ refl ]
         | Some way ↦ λ is. elim (found session way is) [
           | inl was ↦
-            let longer : (way.steps == suc n) ≡ false = grind (arith, nat_tests, searched.within session way was) in
-            rw (was, longer) refl
+              let longer : (way.steps == suc n) ≡ false = grind (arith, nat_tests, searched.within session way was) in
+              rw (was, longer) refl
           | inr is ↦
-            let same : (way.steps == suc n) ≡ true = grind (arith, nat_tests, is.steps) in
-            rw (is.first, same) refl
+              let same : (way.steps == suc n) ≡ true = grind (arith, nat_tests, is.steps) in
+              rw (is.first, same) refl
         ]
       ] refl
 

@@ -1,12 +1,12 @@
 -- One more session that is looked at in a step of a search.
-use Rattle.std.proofs.Common.{◌≡◌, ℕ, suc, ◌≤◌, ◌<◌, Bool, true, false, List, [], ◌∷◌, ◌++◌, Some, None, refl, ap, sym, ◌∙◌, inl, inr, arith, cond}
-use Rattle.std.specs.Prelude.{◌&&◌, ◌||◌, ◌==◌, filter, Option, is_some, nat_lt, min}
+use Rattle.std.proofs.Common.{◌≡◌, ℕ, ◌<◌, Bool, true, false, List, [], ◌∷◌, ◌++◌, Some, None, refl, ap, sym, ◌∙◌, arith, cond}
+use Rattle.std.specs.Prelude.{◌&&◌, ◌||◌, filter, Option, is_some, nat_lt, min}
 use Rattle.std.specs.Option.{is_none, option_or, option_map}
 use Rattle.std.proofs.lemmas.Bool.Decides.{nat_tests}
 use Rattle.std.proofs.lemmas.List.{append-nil}
 use Rattle.std.proofs.lemmas.List.Elements.{filter-append}
 use Rattle.mdl_graph.specs.declared.ways.Way.{Way}
-use Rattle.mdl_graph.specs.Searches.{lower, least, better, goes_before, offered, first_step, stands_in, IsNoWorse}
+use Rattle.mdl_graph.specs.Searches.{lower, least, better, goes_before, offered, first_step}
 
 lower_swap : (a b : ℕ) (o : Option ℕ) → lower a (Some (lower b o)) ≡ lower b (Some (lower a o))
 lower_swap a b None = omega arith
@@ -38,7 +38,7 @@ first_step-push : (steps : ℕ) (is_waited : ℕ → Bool) (sessions : List ℕ)
 first_step-push steps is_waited sessions next =
     rw (filter-append is_waited sessions (next ∷ []))
     (elim (is_waited next) as (λ b. offered (way_to steps next) b (first_step steps is_waited sessions)
-        ≡ option_map (way_to steps) (least (filter is_waited sessions ++ cond b (next ∷ []) []))) [
+    ≡ option_map (way_to steps) (least (filter is_waited sessions ++ cond b (next ∷ []) []))) [
       | true ↦ ap Some (better_next steps next (least (filter is_waited sessions))) ∙ sym (ap (option_map (way_to steps)) (least-push (filter is_waited sessions) next))
       | false ↦ rw (append-nil (filter is_waited sessions)) refl
     ])
@@ -46,7 +46,7 @@ first_step-push steps is_waited sessions next =
 pub offered-more : (steps next : ℕ) (is_waited : ℕ → Bool) (known : Option Way) (sessions : List ℕ)
     → ((way : Way) → known ≡ Some way → way.steps < steps)
     → offered (record { steps = steps; next = next }) (is_waited next) (option_or known (first_step steps is_waited sessions))
-      ≡ option_or known (first_step steps is_waited (sessions ++ next ∷ []))
+    ≡ option_or known (first_step steps is_waited (sessions ++ next ∷ []))
 offered-more steps next is_waited None sessions shorter = first_step-push steps is_waited sessions next
 offered-more steps next is_waited (Some way) sessions shorter =
     elim (is_waited next) as (λ b. offered (way_to steps next) b (Some way) ≡ Some way) [
@@ -56,7 +56,7 @@ offered-more steps next is_waited (Some way) sessions shorter =
 
 pub reached-more : (known first : Option Way) (way : Way) (is_open : Bool)
     → ((is_none known && is_some (option_or known first)) || (is_none (option_or known first) && is_some (offered way is_open (option_or known first))))
-      ≡ (is_none known && is_some (offered way is_open (option_or known first)))
+    ≡ (is_none known && is_some (offered way is_open (option_or known first)))
 reached-more None None way true = refl
 reached-more None None way false = refl
 reached-more None (Some first) way true = refl

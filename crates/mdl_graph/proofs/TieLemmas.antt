@@ -1,10 +1,10 @@
 -- What a graph's sessions wait for, where a lock is added.
-use Rattle.std.proofs.Common.{◌≡◌, ℕ, Bool, true, false, List, [], ◌∷◌, ◌++◌, map, cond, refl, ap, sym, subst, ◌∙◌, inl, inr, arith}
+use Rattle.std.proofs.Common.{◌≡◌, ℕ, Bool, true, false, List, [], ◌∷◌, ◌++◌, map, cond, refl, ap, sym, ◌∙◌, inl, inr}
 use Rattle.std.specs.Prelude.{not, ◌&&◌, ◌||◌, ◌==◌, filter}
 use Rattle.std.specs.FinSet as set
-use Rattle.std.specs.List.{list_any, Contains}
+use Rattle.std.specs.List.{list_any}
 use Rattle.std.specs.Ordering.{nat_cmp}
-use Rattle.std.proofs.lemmas.Bool.{and_parts, and_right, or_cases, or_from, eqb-true, eq-eqb, false≢true}
+use Rattle.std.proofs.lemmas.Bool.{and_parts, and_right, or_cases, or_from, eqb-true, false≢true}
 use Rattle.std.proofs.lemmas.Grind.{flat_map-append}
 use Rattle.std.proofs.lemmas.List.{append-nil, map-append}
 use Rattle.std.proofs.lemmas.List.Elements.{Contains-append_left, Contains-append_right}
@@ -43,17 +43,17 @@ has_wish settled book other waiter open_still (ticket ∷ tickets) tied =
     elim (is_unsettled settled ticket.session) as (λ b. is_unsettled settled ticket.session ≡ b
     → Among waiter (sessions_of (map (wish_of book) (cond b (ticket ∷ filter (λ t. is_unsettled settled t.session) tickets) (filter (λ t. is_unsettled settled t.session) tickets))))) [
       | true ↦ λ _. elim (or_cases (ticket.session == waiter && is_tied settled book other ticket)
-            (list_any (λ wish. wish.session == waiter && is_tied settled book other wish) tickets) tied) [
-        | inl here ↦ inl (sym (eqb-true ticket.session waiter (and_parts (ticket.session == waiter) (is_tied settled book other ticket) here).0))
-        | inr later ↦ inr (has_wish settled book other waiter open_still tickets later)
-      ]
+          (list_any (λ wish. wish.session == waiter && is_tied settled book other wish) tickets) tied) [
+            | inl here ↦ inl (sym (eqb-true ticket.session waiter (and_parts (ticket.session == waiter) (is_tied settled book other ticket) here).0))
+            | inr later ↦ inr (has_wish settled book other waiter open_still tickets later)
+          ]
       | false ↦ λ e. elim (or_cases (ticket.session == waiter && is_tied settled book other ticket)
-            (list_any (λ wish. wish.session == waiter && is_tied settled book other wish) tickets) tied) [
-        | inl here ↦
-          let same : ticket.session ≡ waiter = eqb-true ticket.session waiter (and_parts (ticket.session == waiter) (is_tied settled book other ticket) here).0 in
-          absurd (false≢true (sym e ∙ ap (is_unsettled settled) same ∙ open_still))
-        | inr later ↦ has_wish settled book other waiter open_still tickets later
-      ]
+          (list_any (λ wish. wish.session == waiter && is_tied settled book other wish) tickets) tied) [
+            | inl here ↦
+                let same : ticket.session ≡ waiter = eqb-true ticket.session waiter (and_parts (ticket.session == waiter) (is_tied settled book other ticket) here).0 in
+                absurd (false≢true (sym e ∙ ap (is_unsettled settled) same ∙ open_still))
+            | inr later ↦ has_wish settled book other waiter open_still tickets later
+          ]
     ] refl
 
 same_and_not : (same blocked : Bool) → (same && (not same && blocked)) ≡ false
@@ -79,14 +79,14 @@ wished-more settled book wishes more_wishes ties more_ties were grown tied = rec
       (elim (or_cases (are_tied ties waiter other) (waits_at settled book waiter other) (sym (tied waiter other) ∙ e)) [
         | inl before ↦ Contains-append_left (sessions_of wishes) (sessions_of (wishes_at settled book)) waiter (were.wished waiter other before)
         | inr now ↦
-          let parts = and_parts (is_unsettled settled waiter) (list_any (λ wish. wish.session == waiter && is_tied settled book other wish) book.waiting) now in
-          Contains-append_right (sessions_of wishes) (sessions_of (wishes_at settled book)) waiter
-          (contained (sessions_of (wishes_at settled book)) waiter (has_wish settled book other waiter parts.0 book.waiting parts.1))
+            let parts = and_parts (is_unsettled settled waiter) (list_any (λ wish. wish.session == waiter && is_tied settled book other wish) book.waiting) now in
+            Contains-append_right (sessions_of wishes) (sessions_of (wishes_at settled book)) waiter
+            (contained (sessions_of (wishes_at settled book)) waiter (has_wish settled book other waiter parts.0 book.waiting parts.1))
       ]);
   apart = λ session.
       tied session session
       ∙ or_from (are_tied ties session session) (waits_at settled book session session) (were.apart session)
-        (and_right (is_unsettled settled session) _ (not_itself settled book session book.waiting));
+      (and_right (is_unsettled settled session) _ (not_itself settled book session book.waiting));
 }
 
 same_tests : (one two : SessionTest) → ((session : ℕ) → one session ≡ two session) → one ≡ two

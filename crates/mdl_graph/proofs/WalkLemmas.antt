@@ -1,12 +1,12 @@
 -- The walk along the ways that a search found is the chosen cycle.
-use Rattle.std.proofs.Common.{◌≡◌, ◌≢◌, ℕ, zero, suc, ◌+◌, ◌-◌, ◌≤◌, ◌<◌, Bool, true, false, List, [], ◌∷◌, length, Some, None, refl, ap, sym, subst, ◌∙◌, ◌⊎◌, inl, inr, arith}
-use Rattle.std.specs.Prelude.{not, ◌&&◌, ◌||◌, ◌==◌, nat_lt, Option, IsTrue}
+use Rattle.std.proofs.Common.{◌≡◌, ℕ, zero, suc, ◌+◌, ◌-◌, ◌≤◌, ◌<◌, Bool, true, false, List, [], ◌∷◌, length, Some, None, refl, ap, sym, subst, ◌∙◌, inl, inr, arith}
+use Rattle.std.specs.Prelude.{◌&&◌, ◌||◌, ◌==◌, nat_lt, Option, IsTrue}
 use Rattle.std.specs.List.{list_any}
 use Rattle.std.proofs.lemmas.Bool.{cases_lt, cases_eq, false≢true, eqb-true, and_parts, and_from, or_from}
 use Rattle.std.proofs.lemmas.Bool.Decides.{nat_tests}
 use Rattle.mdl_graph.specs.declared.ways.Way.{Way}
-use Rattle.mdl_graph.specs.Cycles.{leads, are_distinct, is_cycle_through, IsCycleThrough, in_order, is_chosen_before}
-use Rattle.mdl_graph.specs.Searches.{way_of, has_steps, is_at, LeadsBack, IsNoWorse, IsSearched, IsOver, next_of, walk}
+use Rattle.mdl_graph.specs.Cycles.{leads, are_distinct, IsCycleThrough, in_order, is_chosen_before}
+use Rattle.mdl_graph.specs.Searches.{way_of, is_at, IsNoWorse, IsSearched, IsOver, next_of, walk}
 use Rattle.mdl_graph.proofs.SearchLemmas.{has_way, has_way_back}
 
 pub length_walk : (ways : List (Option Way)) (n session : ℕ) → length (walk ways n session) ≡ n
@@ -23,7 +23,6 @@ pub walk_more : (ways : List (Option Way)) (steps done session : ℕ) → done <
 walk_more ways steps done session inside = let one : steps - done ≡ suc (steps - (done + 1)) = omega arith in ap (λ (n : ℕ). walk ways n session) one
 
 module _ (waits : ℕ → ℕ → Bool) (from : ℕ) (ways : List (Option Way)) (reach : ℕ) (searched : IsSearched waits from ways reach) where
-
   -- a way of so many steps goes to a session that is one step nearer
   onward : (m session : ℕ) (way : Way) → way_of ways session ≡ Some way → way.steps ≡ suc m → (waits session way.next ≡ true) × (is_at ways from m way.next ≡ true)
   onward m session way is steps =
@@ -53,9 +52,9 @@ module _ (waits : ℕ → ℕ → Bool) (from : ℕ) (ways : List (Option Way)) 
       let on = onward m session here.0 here.1 here.2 in
       let apart : (far == session) ≡ false = elim (cases_eq far session) [
         | inl same ↦
-          let both : Some way ≡ Some here.0 = sym is ∙ ap (way_of ways) same ∙ here.1 in
-          let one : way ≡ here.0 = cc in
-          absurd (omega (arith, ap (λ (w : Way). w.steps) one, here.2, farther))
+            let both : Some way ≡ Some here.0 = sym is ∙ ap (way_of ways) same ∙ here.1 in
+            let one : way ≡ here.0 = cc in
+            absurd (omega (arith, ap (λ (w : Way). w.steps) one, here.2, farther))
         | inr differ ↦ grind (arith, nat_tests, differ)
       ] in
       subst (λ (walked : List ℕ). list_any (λ other. far == other) walked ≡ false) (sym (walk_on ways m session here.0 here.1))
@@ -91,7 +90,7 @@ module _ (waits : ℕ → ℕ → Bool) (from : ℕ) (ways : List (Option Way)) 
       let back = searched.sound next on.0 on.1 in
       let at : is_at ways from (suc back.0) next ≡ true = has_way_back (suc back.0) (way_of ways next) on.0 on.1 back.1 in
       let way = no_more (suc back.0) next (way_of ways session)
-          (searched.best (suc back.0) next session (near (suc back.0) next at (omega (arith, on.2, back.1, short))) at parts.0) in
+      (searched.best (suc back.0) next session (near (suc back.0) next at (omega (arith, on.2, back.1, short))) at parts.0) in
       (way.0, way.1, omega (arith, way.2, on.2, back.1))
 
   -- up to the number of steps that were searched
@@ -119,12 +118,12 @@ module _ (waits : ℕ → ℕ → Bool) (from : ℕ) (ways : List (Option Way)) 
       subst (λ (walked : List ℕ). in_order walked (next ∷ rest) ≡ true) (sym (walk_on ways m way.next here.0 here.1))
       (elim (cases_eq way.next next) [
         | inl same ↦
-          let later = walk_first m way.next here.0 here.1 here.2 (omega arith) rest (rw same parts.1) (omega (arith, long)) in
-          let equal : (way.next == next) ≡ true = grind (arith, nat_tests, same) in
-          rw (equal, later) (elim (nat_lt way.next next) as (λ b. (b || true) ≡ true) [ true ↦ refl | false ↦ refl ])
+            let later = walk_first m way.next here.0 here.1 here.2 (omega arith) rest (rw same parts.1) (omega (arith, long)) in
+            let equal : (way.next == next) ≡ true = grind (arith, nat_tests, same) in
+            rw (equal, later) (elim (nat_lt way.next next) as (λ b. (b || true) ≡ true) [ true ↦ refl | false ↦ refl ])
         | inr apart ↦
-          let less : nat_lt way.next next ≡ true = grind (arith, nat_tests, lower, apart) in
-          rw less refl
+            let less : nat_lt way.next next ≡ true = grind (arith, nat_tests, lower, apart) in
+            rw less refl
       ])
 
   -- and none is shorter
@@ -132,10 +131,10 @@ module _ (waits : ℕ → ℕ → Bool) (from : ℕ) (ways : List (Option Way)) 
       → (other : List ℕ) → leads waits from session other ≡ true → m ≤ length other
   walk_shortest m session way is steps inside other leading = elim (cases_lt (length other) m) [
     | inl shorter ↦
-      let way' = all_reached (length other) (near_enough (length other) (omega arith)) other session leading (omega arith) in
-      let both : Some way ≡ Some way'.0 = sym is ∙ way'.1 in
-      let one : way ≡ way'.0 = cc in
-      absurd (omega (arith, ap (λ (w : Way). w.steps) one, way'.2, steps, shorter))
+        let way' = all_reached (length other) (near_enough (length other) (omega arith)) other session leading (omega arith) in
+        let both : Some way ≡ Some way'.0 = sym is ∙ way'.1 in
+        let one : way ≡ way'.0 = cc in
+        absurd (omega (arith, ap (λ (w : Way). w.steps) one, way'.2, steps, shorter))
     | inr longer ↦ longer
   ]
 
@@ -146,8 +145,8 @@ module _ (waits : ℕ → ℕ → Bool) (from : ℕ) (ways : List (Option Way)) 
       let shortest = walk_shortest m session way is steps inside other leading in
       elim (cases_eq m (length other)) [
         | inl same ↦
-          let first = walk_first m session way is steps inside other leading (sym same) in
-          grind (arith, nat_tests, long, same, first)
+            let first = walk_first m session way is steps inside other leading (sym same) in
+            grind (arith, nat_tests, long, same, first)
         | inr apart ↦ grind (arith, nat_tests, long, shortest, apart)
       ]
 

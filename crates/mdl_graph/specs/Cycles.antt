@@ -1,6 +1,6 @@
 -- Cycles of sessions each of which waits for the next, and the one of them that is chosen. That it is the shortest, and of
 -- those the first in the order of dictionaries, is this project's own choice; MySQL 5.7 takes the first that it meets.
-use Rattle.std.specs.Prelude.{ℕ, ◌+◌, zero, suc, Bool, true, false, not, ◌&&◌, ◌||◌, ◌==◌, nat_lt, List, [], ◌∷◌, filter, flat_map, map, length, Option, Some, None, IsTrue, if◌then◌else◌}
+use Rattle.std.specs.Prelude.{ℕ, zero, suc, Bool, true, false, not, ◌&&◌, ◌||◌, ◌==◌, nat_lt, List, [], ◌∷◌, filter, flat_map, map, length, Option, Some, None, IsTrue, if◌then◌else◌}
 use Rattle.std.specs.List.{list_any}
 
 -- whether each session of these waits for the next, and the last for the target

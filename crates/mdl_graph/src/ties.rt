@@ -49,7 +49,7 @@ fn tie_to_holders(ties: &mut Vec<Tie>, book: &Book, wish: Ticket) -> Result<(), 
     ensures kept { take (length ties.old.items) ties.new.items ≡ ties.old.items }
     ensures ties { OnOk result ((waiter other : ℕ) → are_tied ties.new.items waiter other
         ≡ (are_tied ties.old.items waiter other
-          || (wish.session == waiter && (not (wish.session == other) && holds_against book.now wish.mode other)))) }
+        || (wish.session == waiter && (not (wish.session == other) && holds_against book.now wish.mode other)))) }
 {
     let kind = book.key().kind();
     for held in book.granted() {
@@ -74,7 +74,7 @@ fn tie_to_waiters(
     ensures kept { take (length ties.old.items) ties.new.items ≡ ties.old.items }
     ensures ties { OnOk result ((waiter other : ℕ) → are_tied ties.new.items waiter other
         ≡ (are_tied ties.old.items waiter other
-          || (wish.session == waiter && (not (wish.session == other) && waits_ahead (set.contains settled.now) book.now wish.mode other)))) }
+        || (wish.session == waiter && (not (wish.session == other) && waits_ahead (set.contains settled.now) book.now wish.mode other)))) }
 {
     let kind = book.key().kind();
     for pending in book.waiting() {

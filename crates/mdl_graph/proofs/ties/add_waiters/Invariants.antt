@@ -1,6 +1,6 @@
 -- The wishes and ties of those that wait so far stand behind those that there were.
 use Rattle.std.proofs.Common.{◌≡◌, ◌≤◌, ℕ, ◌++◌, length, map, take}
-use Rattle.std.specs.Prelude.{not, ◌&&◌, ◌||◌, ◌==◌, filter}
+use Rattle.std.specs.Prelude.{◌&&◌, ◌||◌, ◌==◌, filter}
 use Rattle.std.specs.FinSet as set
 use Rattle.std.specs.List.{list_any}
 use Rattle.mdl_graph.specs.WaitsFor.{is_unsettled, is_tied, wish_of}
@@ -16,6 +16,6 @@ invariant-loop-ticket l = record {
   wishes : l.wishes.items ≡ l.fn.wishes.items ++ map (wish_of l.book) (filter (λ ticket. is_unsettled (set.contains l.settled) ticket.session) (take l.ticket-index l.ticket-items));
   ties : (waiter other : ℕ) → are_tied l.ties.items waiter other
       ≡ (are_tied l.fn.ties.items waiter other
-        || (is_unsettled (set.contains l.settled) waiter
-          && list_any (λ wish. wish.session == waiter && is_tied (set.contains l.settled) l.book other wish) (take l.ticket-index l.ticket-items)));
+      || (is_unsettled (set.contains l.settled) waiter
+      && list_any (λ wish. wish.session == waiter && is_tied (set.contains l.settled) l.book other wish) (take l.ticket-index l.ticket-items)));
 }

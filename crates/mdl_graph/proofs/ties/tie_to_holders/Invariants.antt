@@ -12,6 +12,6 @@ invariant-loop-held l = record {
   kept : take (length l.fn.ties.items) l.ties.items ≡ l.fn.ties.items;
   ties : (waiter other : ℕ) → are_tied l.ties.items waiter other
       ≡ (are_tied l.fn.ties.items waiter other
-        || (l.wish.session == waiter && (not (l.wish.session == other)
-          && list_any (λ held. held.session == other && clashes l.kind l.wish.mode held.mode) (take l.held-index l.held-items))));
+      || (l.wish.session == waiter && (not (l.wish.session == other)
+      && list_any (λ held. held.session == other && clashes l.kind l.wish.mode held.mode) (take l.held-index l.held-items))));
 }

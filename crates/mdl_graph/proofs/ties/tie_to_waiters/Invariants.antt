@@ -14,7 +14,7 @@ invariant-loop-pending l = record {
   kept : take (length l.fn.ties.items) l.ties.items ≡ l.fn.ties.items;
   ties : (waiter other : ℕ) → are_tied l.ties.items waiter other
       ≡ (are_tied l.fn.ties.items waiter other
-        || (l.wish.session == waiter && (not (l.wish.session == other)
-          && (is_unsettled (set.contains l.settled) other
-            && list_any (λ pending. pending.session == other && waits_behind l.kind l.wish.mode pending.mode) (take l.pending-index l.pending-items)))));
+      || (l.wish.session == waiter && (not (l.wish.session == other)
+      && (is_unsettled (set.contains l.settled) other
+      && list_any (λ pending. pending.session == other && waits_behind l.kind l.wish.mode pending.mode) (take l.pending-index l.pending-items)))));
 }

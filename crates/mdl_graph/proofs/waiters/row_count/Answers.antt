@@ -1,8 +1,7 @@
 -- What was below the count is below a greater one.
-use Rattle.std.proofs.Common.{◌≡◌, ◌≤◌, true, take, arith}
+use Rattle.std.proofs.Common.{◌≤◌, take, arith}
 use Rattle.std.proofs.lemmas.Bool.Decides.{nat_tests}
 use Rattle.std.proofs.lemmas.Grind.{common_steps}
-use Rattle.mdl_graph.specs.Searches.{are_within}
 use Rattle.mdl_graph.proofs.CountLemmas.{within-more}
 use Rattle.mdl_graph.proofs.waiters.row_count.Goals as goal
 

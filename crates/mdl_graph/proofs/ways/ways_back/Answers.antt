@@ -1,14 +1,13 @@
 -- Each turn goes one step further back.
-use Rattle.std.proofs.Common.{◌≡◌, ◌∙◌, ◌+◌, ◌≤◌, ◌<◌, ℕ, suc, List, length, sym, ap, subst, add-one, arith, [], true}
+use Rattle.std.proofs.Common.{◌≡◌, ◌∙◌, ◌<◌, ℕ, suc, List, length, sym, ap, subst, add-one, arith, [], true}
 use Rattle.std.specs.Vec.{vec_len}
 use Rattle.std.proofs.lemmas.Bool.{eqb-true}
 use Rattle.std.proofs.lemmas.List.{nil_from_length}
 use Rattle.std.proofs.lemmas.Grind.{common_steps}
-use Rattle.std.specs.Prelude.{Option, ◌==◌}
-use Rattle.std.specs.Option.{is_none, option_or}
-use Rattle.mdl_graph.specs.declared.ways.Way.{Way}
-use Rattle.mdl_graph.specs.Searches.{IsSearched, IsOver, first_step, is_at, stands_in, way_of, waits_by, unreached}
-use Rattle.mdl_graph.proofs.SearchLemmas.{further, reached_further, over_found, over_none, searched_none}
+use Rattle.std.specs.Prelude.{◌==◌}
+use Rattle.std.specs.Option.{option_or}
+use Rattle.mdl_graph.specs.Searches.{IsSearched, first_step, is_at, stands_in, way_of, waits_by}
+use Rattle.mdl_graph.proofs.SearchLemmas.{further, reached_further, over_found, over_none}
 use Rattle.mdl_graph.proofs.ways.ways_back.Goals as goal
 use Rattle.mdl_graph.proofs.ways.ways_back.Goals.{then-loop-ways-test+else-is_none, else-loop-ways-test}
 

@@ -1,10 +1,9 @@
 -- What was added is there, and each waiter has a wish still.
-use Rattle.std.proofs.Common.{◌≡◌, ◌∙◌, ℕ, Bool, ap, sym, refl}
-use Rattle.std.specs.Prelude.{◌||◌, ◌==◌, ◌&&◌, map}
+use Rattle.std.proofs.Common.{◌∙◌, Bool, ap, sym, refl}
+use Rattle.std.specs.Prelude.{◌||◌, map}
 use Rattle.std.specs.FinSet as set
-use Rattle.std.specs.List.{list_any}
-use Rattle.mdl_graph.specs.Graphs.{GraphView, waits, is_settled}
-use Rattle.mdl_graph.specs.Searches.{are_tied, pair_of}
+use Rattle.mdl_graph.specs.Graphs.{GraphView}
+use Rattle.mdl_graph.specs.Searches.{pair_of}
 use Rattle.mdl_graph.specs.WaitsFor.{waits_at}
 use Rattle.mdl_graph.proofs.TieLemmas.{pairs_tie, wished-more, graph-more}
 use Rattle.mdl_graph.proofs.wait_graph.WaitGraph.add.Goals as goal
@@ -33,6 +32,6 @@ returns-in-Ok-clause-graph c = λ settled books was.
     let after : GraphView = record { settled = c.self.inside.settled; wishes = c.add_waiters.new.wishes.items; ties = map pair_of new } in
     graph-more settled books book before after (rw (← c.self.view_is) at was) refl c.in-Ok.ensures.wishes
     (λ waiter other.
-      pairs_tie new waiter other
-      ∙ c.in-Ok.ensures.ties waiter other
-      ∙ ap (λ (b : Bool). b || waits_at (set.contains c.self.inside.settled) book waiter other) (sym (pairs_tie old waiter other)))
+    pairs_tie new waiter other
+    ∙ c.in-Ok.ensures.ties waiter other
+    ∙ ap (λ (b : Bool). b || waits_at (set.contains c.self.inside.settled) book waiter other) (sym (pairs_tie old waiter other)))

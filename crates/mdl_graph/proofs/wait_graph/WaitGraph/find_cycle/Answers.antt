@@ -1,5 +1,5 @@
 -- The search says what the chosen cycle is.
-use Rattle.std.proofs.Common.{◌≡◌, ◌∙◌, ℕ, Bool, map, ap, sym, rules, true, Some, None}
+use Rattle.std.proofs.Common.{◌≡◌, ◌∙◌, ℕ, Bool, map, ap, sym, true, Some, None}
 use Rattle.std.specs.List.{Contains}
 use Rattle.mdl_graph.specs.declared.cycle.Member.{Member}
 use Rattle.mdl_graph.specs.Graphs.{GraphView, waits}

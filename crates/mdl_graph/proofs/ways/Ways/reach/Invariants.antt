@@ -1,5 +1,5 @@
 -- What became of the sessions so far.
-use Rattle.std.proofs.Common.{◌≡◌, ◌+◌, ℕ, Bool, ◌&&◌, ◌||◌, length, take}
+use Rattle.std.proofs.Common.{◌≡◌, ◌+◌, ℕ, ◌&&◌, ◌||◌, length, take}
 use Rattle.std.specs.Prelude.{is_some}
 use Rattle.std.specs.Option.{is_none}
 use Rattle.mdl_graph.specs.Searches.{way_of, offered, stands_in, unreached}

@@ -1,5 +1,5 @@
 -- Those who wait for one more session are offered the way through it.
-use Rattle.std.proofs.Common.{◌≡◌, ◌∙◌, ℕ, arith, take, get_or}
+use Rattle.std.proofs.Common.{◌∙◌, ℕ, arith, take, get_or}
 use Rattle.std.proofs.lemmas.List.{take_more}
 use Rattle.mdl_graph.specs.Searches.{way_of, first_step, waits_by, stands_in}
 use Rattle.mdl_graph.proofs.StepLemmas.{offered-more, reached-more}

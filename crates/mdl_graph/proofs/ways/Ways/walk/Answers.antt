@@ -1,5 +1,5 @@
 -- The walk goes one session on.
-use Rattle.std.proofs.Common.{◌≡◌, ◌∙◌, ◌++◌, ◌-◌, ◌+◌, ℕ, List, [], ◌∷◌, map, sym, ap, append_assoc, arith}
+use Rattle.std.proofs.Common.{◌≡◌, ◌∙◌, ◌++◌, ◌-◌, ◌+◌, ℕ, List, [], ◌∷◌, map, sym, ap, append_assoc}
 use Rattle.mdl_graph.specs.declared.cycle.Member.{Member}
 use Rattle.mdl_graph.specs.Searches.{weighed, walk, next_of, way_of}
 use Rattle.mdl_graph.proofs.WalkLemmas.{walk_more}

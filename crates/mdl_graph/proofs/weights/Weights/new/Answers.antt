@@ -1,8 +1,8 @@
 -- One more wish is told.
-use Rattle.std.proofs.Common.{◌≡◌, ◌∙◌, arith, take, get_or, sym, ap}
+use Rattle.std.proofs.Common.{take, get_or, sym}
 use Rattle.std.proofs.lemmas.List.{take_more}
 use Rattle.mdl_graph.specs.declared.cycle.Member.{Member}
-use Rattle.mdl_graph.proofs.WeightLemmas.{first_weight, first_weight-push}
+use Rattle.mdl_graph.proofs.WeightLemmas.{first_weight-push}
 use Rattle.mdl_graph.proofs.weights.Weights.new.Goals as goal
 
 pub loop-wish-preserved : goal.loop-wish-preserved
