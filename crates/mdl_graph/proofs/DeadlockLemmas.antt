@@ -13,7 +13,7 @@ use Rattle.mdl_graph.specs.Cycles.{IsCycleThrough, chosen_cycle, is_chosen_befor
 use Rattle.mdl_graph.specs.CycleLaws.{chosen_cycles, chosen_first, chosen_none, chosen_same, member_of_cycle_waits}
 use Rattle.mdl_graph.specs.WaitsFor.{SessionTest, waits_for, is_unsettled, wish_of, wishes_at, wishes_in}
 use Rattle.mdl_graph.specs.Graphs.{GraphView, IsGraphOf, member_of, weight_found, cycle_found, deadlock, deadlock_in, waits}
-use Rattle.mdl_graph.specs.GraphLaws.{sessions_of, IsChosen, IsFree, IsWaiting}
+use Rattle.mdl_graph.specs.GraphLaws.{sessions_of, IsChosen, IsFree, HasWish, IsWaiting}
 use Rattle.mdl_graph.proofs.AnyLemmas.{any_among, all_among}
 use Rattle.mdl_graph.proofs.WaitingLemmas.{waits_by}
 
@@ -97,6 +97,14 @@ deadlock_chosen settled books from =
                 (chosen_first waiting sessions from cycle (waiter_wishes settled books) e);
           }
     ] refl
+
+pub cycle_waits : (settled : SessionTest) (books : List Lists) (from : ℕ) (cycle : List ℕ)
+    → IsCycleThrough (waits_for settled books) from cycle → All (HasWish settled books) cycle
+cycle_waits settled books from cycle is = all_among (HasWish settled books) cycle (λ session among.
+    let to = member_of_cycle_waits (waits_for settled books) from cycle session is (contained cycle session among) in
+    let told = (waits_by settled books session to.0).0 to.1 in
+    let found = told.2.4 in
+    (told.1, (told.2.0, told.2.1, told.2.2, told.2.3, (found.0, found.1, found.2, found.3, found.4.0))))
 
 pub deadlock_waits : (settled : SessionTest) (books : List Lists) (from : ℕ)
     → MatchOption (deadlock_in settled books from) (Unit {0}) (All (IsWaiting settled books))

@@ -72,12 +72,22 @@ DeadlocksAreChosenCycles =
     (settled : SessionTest) (books : List Lists) (from : ℕ) →
     MatchOption (deadlock_in settled books from) (IsFree settled books from) (IsChosen settled books from)
 
+-- a session is unsettled, and a ticket of it waits at one of the locks
+abbrev pub HasWish : SessionTest → List Lists → ℕ → Type 0
+HasWish settled books session = IsFalse (settled session) × Any (λ book. Any (λ ticket. ticket.session ≡ session) book.waiting) books
+
+-- so it is with each member of a cycle
+abbrev pub MembersOfCyclesWait : Type 0
+MembersOfCyclesWait =
+    (settled : SessionTest) (books : List Lists) (from : ℕ) (cycle : List ℕ) →
+    IsCycleThrough (waits_for settled books) from cycle → All (HasWish settled books) cycle
+
 -- a member is unsettled, and waits at one of the locks by a ticket that weighs as much
 abbrev pub IsWaiting : SessionTest → List Lists → Member → Type 0
 IsWaiting settled books member =
     IsFalse (settled member.session) × Any (λ book. Any (λ ticket. member ≡ wish_of book ticket) book.waiting) books
 
--- so does each member of a deadlock
+-- so it is with each member of a deadlock
 abbrev pub MembersOfDeadlocksWait : Type 0
 MembersOfDeadlocksWait =
     (settled : SessionTest) (books : List Lists) (from : ℕ) →
