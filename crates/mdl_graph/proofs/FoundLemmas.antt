@@ -1,28 +1,15 @@
 -- What a search finds is the chosen cycle of its graph.
-use Rattle.std.proofs.Common.{◌≡◌, ℕ, ◌≤◌, Bool, true, false, List, [], ◌∷◌, map, Some, None, refl, ap, sym, subst, ◌∙◌, inl, inr, arith}
+use Rattle.std.proofs.Common.{◌≡◌, ℕ, Bool, true, List, [], ◌∷◌, map, Some, None, refl, ap, sym, ◌∙◌}
 use Rattle.std.specs.Prelude.{◌==◌, find, Option}
 use Rattle.std.specs.List.{Contains}
 use Rattle.std.specs.Option.{option_map, unwrap_or}
-use Rattle.std.proofs.lemmas.Bool.{cases_eq, eqb-true, false≢true}
 use Rattle.mdl_graph.specs.declared.cycle.Member.{Member}
 use Rattle.mdl_graph.specs.declared.ways.Way.{Way}
 use Rattle.mdl_graph.specs.CycleLaws.{chosen_is, none_chosen, chosen_same}
 use Rattle.mdl_graph.specs.Cycles.{chosen_cycle}
 use Rattle.mdl_graph.specs.Graphs.{GraphView, waits, weight_found, member_of, deadlock}
-use Rattle.mdl_graph.specs.Searches.{IsOver, way_of, is_at, walk, weight_at, weighed}
+use Rattle.mdl_graph.specs.Searches.{IsOver, way_of, walk, weight_at, weighed}
 use Rattle.mdl_graph.proofs.WalkLemmas.{IsChosen, walk_is_chosen, no_cycle}
-
--- where nobody waits for itself, a way back to one's own has two steps at least
-pub two_steps : (waits : ℕ → ℕ → Bool) (from : ℕ) (ways : List (Option Way)) (way : Way) → IsOver waits from ways → way_of ways from ≡ Some way
-    → waits from from ≡ false → 2 ≤ way.steps
-two_steps waits from ways way over is apart =
-    let back = over.searched.sound from way is in
-    elim (cases_eq back.0 0) [
-      | inl near ↦
-          let here : way.next ≡ from = eqb-true way.next from (subst (λ (m : ℕ). is_at ways from m way.next ≡ true) near back.3) in
-          absurd (false≢true (sym apart ∙ sym (ap (waits from) here) ∙ back.2))
-      | inr far ↦ omega (arith, back.1, far)
-    ]
 
 -- the weight of a wish that is found
 found_weight : (wish : Option Member) → weight_found wish ≡ unwrap_or (option_map (λ wish. wish.weight) wish) 0

@@ -94,3 +94,6 @@ impl WaitGraph {
         }
     }
 }
+
+#[cfg(test)]
+mod tests;
