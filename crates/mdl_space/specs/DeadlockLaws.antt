@@ -1,5 +1,5 @@
 -- Laws of searches for deadlocks in the lock space of one thread.
-use Rattle.std.specs.Prelude.{◌≡◌, ℕ, ◌≤◌, Bool, false, not, ◌&&◌, ◌||◌, ◌==◌, List, length}
+use Rattle.std.specs.Prelude.{ℕ, ◌≤◌, Bool, false, not, ◌&&◌, ◌||◌, ◌==◌, List, length}
 use Rattle.mdl_key.specs.declared.mode.Mode.{Mode}
 use Rattle.mdl_space.specs.Answers.{Answer, Waits, No_cycle, Victim_is}
 use Rattle.mdl_space.specs.Calls.{Call, Begin_wait, Search}
