@@ -1,13 +1,12 @@
 -- Deadlocks come to be only through sessions that begin to wait, and searches end these.
-use Rattle.std.proofs.Common.{◌≡◌, ◌≢◌, ◌⊎◌, ℕ, zero, suc, Bool, true, false, not, ◌&&◌, ◌||◌, ◌==◌, cond, inl, inr, List, Option, Some, None, refl, sym, ap, subst, ◌∙◌}
+use Rattle.std.proofs.Common.{◌≡◌, ◌≢◌, ◌⊎◌, ℕ, zero, suc, Bool, true, false, not, ◌&&◌, ◌||◌, ◌==◌, inl, inr, List, None, refl, sym, ap, subst, ◌∙◌}
 use Rattle.std.specs.Prelude.{Contains, IsTrue}
 use Rattle.std.proofs.lemmas.Bool.{and_from, eq-eqb, false≢true}
 use Rattle.std.proofs.lemmas.Bool.Decides.{eqb_tells}
 use Rattle.mdl_key.specs.Keys.{KeyName}
-use Rattle.mdl_key.specs.declared.mode.Mode.{Mode}
 use Rattle.mdl_defs.specs.declared.definition.Definition.{Definition}
 use Rattle.mdl_space.specs.declared.answers.TimedOut.TheVariants.{ByThisCall}
-use Rattle.mdl_space.specs.Answers.{Answer, Done, Granted, Waits, No_cycle, Victim_is, Timed_out, Lost, Has_killed}
+use Rattle.mdl_space.specs.Answers.{Answer, Done, Granted, Waits, Victim_is, Timed_out, Lost, Has_killed}
 use Rattle.mdl_space.specs.BlockingLaws.{IsAbout}
 use Rattle.mdl_space.specs.Calls.{Call, Try_now, Begin_wait, Search, Settle_timeout, End_wait, Kill, Release, Clone_ticket}
 use Rattle.mdl_space.specs.CoreJoins.{Joins, SpeaksFor}
@@ -15,11 +14,11 @@ use Rattle.mdl_space.specs.CoreLaws.{is_change, IsEventOf, GrantsInOrder}
 use Rattle.mdl_space.specs.Cores.{Core}
 use Rattle.mdl_space.specs.CoreSystems.{system_of}
 use Rattle.mdl_space.specs.DeadlockLaws.{begins_wait, OnlyNewWaitsMakeDeadlocks, SearchingEndsDeadlocks, WaitingLeavesNoDeadlock}
-use Rattle.mdl_space.specs.Deadlocks.{Wishes, IsDeadlock, DeadlocksGoThrough, HasNoDeadlock}
-use Rattle.mdl_space.specs.Runs.{Runs, Give}
+use Rattle.mdl_space.specs.Deadlocks.{IsDeadlock, DeadlocksGoThrough}
+use Rattle.mdl_space.specs.Runs.{Runs}
 use Rattle.mdl_space.specs.Searches.{Over, seeking}
-use Rattle.mdl_space.specs.Steps.{Event, Grant, Clone, BeginWait, SettleLost, EndGrantedWait, EndLostWait, Release as Give_up, BeginsWait, Happens, SameSystem}
-use Rattle.mdl_space.specs.Systems.{Unsettled, Holding, Waiter, GrantedWait, System}
+use Rattle.mdl_space.specs.Steps.{Event, BeginWait, BeginsWait, Happens, SameSystem}
+use Rattle.mdl_space.specs.Systems.{Waiter, GrantedWait, System}
 use Rattle.mdl_space.specs.Ties.{IsSound}
 use Rattle.mdl_space.specs.Lemmas.CoreSound.{calls_are-events, calls_keep-sound}
 use Rattle.mdl_space.specs.Lemmas.Deciding.{key_told}

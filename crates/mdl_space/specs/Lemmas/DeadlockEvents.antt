@@ -1,27 +1,19 @@
 -- Deadlocks come to be by waits that begin, and in no other way.
-use Rattle.std.proofs.Common.{◌≡◌, ◌≢◌, ◌⊎◌, ℕ, true, false, not, inl, inr, List, [], ◌∷◌, Option, Some, None, refl, sym, ap, subst, ◌∙◌}
+use Rattle.std.proofs.Common.{◌≡◌, ◌≢◌, ◌⊎◌, ℕ, true, false, not, inl, inr, List, [], ◌∷◌, Option, refl, sym, ap, subst, ◌∙◌}
 use Rattle.std.specs.Prelude.{Contains, is_some}
 use Rattle.std.proofs.lemmas.Bool.{false≢true}
 use Rattle.mdl_key.specs.Keys.{KeyName}
-use Rattle.mdl_key.specs.declared.mode.Mode.{Mode}
-use Rattle.mdl_defs.specs.declared.definition.Definition.{Definition}
-use Rattle.mdl_space.specs.declared.answers.TimedOut.TheVariants.{ByThisCall}
-use Rattle.mdl_space.specs.Answers.{Answer, Done, Granted, Waits, Victim_is, Timed_out, Lost, Has_killed}
-use Rattle.mdl_space.specs.BlockingLaws.{IsAbout}
-use Rattle.mdl_space.specs.Calls.{Call, Try_now, Begin_wait, Search, Settle_timeout, End_wait, Kill, Release as Release_call, Clone_ticket}
-use Rattle.mdl_space.specs.CoreJoins.{Joins}
-use Rattle.mdl_space.specs.CoreLaws.{is_change, IsEventOf, GrantsInOrder}
+use Rattle.mdl_space.specs.CoreLaws.{GrantsInOrder}
 use Rattle.mdl_space.specs.Cores.{Core, seat_at}
 use Rattle.mdl_space.specs.CoreSystems.{system_of}
 use Rattle.mdl_space.specs.Deadlocks.{Wishes, WaitsFor, Leads, IsDeadlock}
 use Rattle.mdl_space.specs.Seats.{is_open}
-use Rattle.mdl_space.specs.Steps.{Event, Grant, Clone, BeginWait, GrantWaiter, SettleLost, EndGrantedWait, EndLostWait, Release, BeginsWait, GrantsWaiter, Happens, SameSystem, granted_wait}
-use Rattle.mdl_space.specs.Systems.{Unsettled, WaitState, Holding, Waiter, GrantedWait, System}
-use Rattle.mdl_space.specs.Ties.{IsTied, IsSound}
-use Rattle.mdl_space.specs.Lemmas.CoreSound.{calls_are-events, calls_keep-sound}
+use Rattle.mdl_space.specs.Steps.{Event, Grant, Clone, SettleLost, EndGrantedWait, EndLostWait, Release, GrantsWaiter, Happens, granted_wait}
+use Rattle.mdl_space.specs.Systems.{Unsettled, Holding, Waiter, GrantedWait, System}
+use Rattle.mdl_space.specs.Ties.{IsTied}
 use Rattle.mdl_space.specs.Lemmas.CoreUnended.{unended-members, granted_of}
 use Rattle.mdl_space.specs.Lemmas.Deciding.{key_told}
-use Rattle.mdl_space.specs.Lemmas.MemberLemmas.{Contains-none, push-gains}
+use Rattle.mdl_space.specs.Lemmas.MemberLemmas.{Contains-none}
 use Rattle.mdl_space.specs.Lemmas.OrderLemmas.{Contains-here, Contains-later, Contains-cons_cases, gone-before, changed-before}
 use Rattle.mdl_space.specs.Lemmas.SearchRuns.{wishes-open}
 

@@ -1,22 +1,21 @@
 -- Deadlocks in the lock space of one thread: the cycles of its books, what their members weigh, and their victims.
-use Rattle.std.proofs.Common.{◌≡◌, ◌≢◌, ◌⊎◌, ℕ, zero, suc, ◌-◌, ◌<◌, ◌≤◌, Bool, true, false, not, ◌&&◌, ◌==◌, inl, inr, List, [], ◌∷◌, length, map, get_or, Option, Some, None, refl, sym, ap, subst, ◌∙◌, arith}
-use Rattle.std.specs.Prelude.{Contains, AllPairs, All, Any, MatchOption, slice_index_or, IsTrue}
+use Rattle.std.proofs.Common.{◌≡◌, ◌≢◌, ◌⊎◌, ℕ, zero, suc, ◌-◌, ◌<◌, ◌≤◌, Bool, true, false, not, ◌&&◌, ◌==◌, inl, inr, List, [], ◌∷◌, length, get_or, Some, None, refl, sym, ap, subst, ◌∙◌, arith}
+use Rattle.std.specs.Prelude.{Contains, AllPairs, All, MatchOption, slice_index_or}
 use Rattle.std.specs.List.{list_any}
-use Rattle.std.specs.Option.{option_map}
 use Rattle.std.proofs.lemmas.Bool.{and_parts, and_from, eqb-true, eq-eqb, false≢true}
 use Rattle.std.proofs.lemmas.List.Elements.{All-contains, Contains-get_or}
 use Rattle.std.proofs.lemmas.List.Kept.{AllPairs-cons}
 use Rattle.mdl_key.specs.Classes.{weight_of}
-use Rattle.mdl_key.specs.Keys.{KeyName, global_key}
+use Rattle.mdl_key.specs.Keys.{global_key}
 use Rattle.mdl_book.specs.declared.lists.Lists.{Lists}
 use Rattle.mdl_book.specs.declared.ticket.Ticket.{Ticket}
 use Rattle.mdl_book.specs.Books.{empty_book}
 use Rattle.mdl_graph.specs.declared.cycle.Member.{Member}
-use Rattle.mdl_graph.specs.Cycles.{leads, are_distinct, IsCycleThrough, is_chosen_before}
-use Rattle.mdl_graph.specs.GraphLaws.{sessions_of, IsFree, IsChosen, IsWaiting, FallsAmong}
+use Rattle.mdl_graph.specs.Cycles.{leads, are_distinct, IsCycleThrough}
+use Rattle.mdl_graph.specs.GraphLaws.{sessions_of, IsFree, IsChosen, IsWaiting}
 use Rattle.mdl_graph.specs.Graphs.{deadlock_in}
 use Rattle.mdl_graph.specs.Victims.{victim_of}
-use Rattle.mdl_graph.specs.WaitsFor.{waits_for, wish_of}
+use Rattle.mdl_graph.specs.WaitsFor.{waits_for}
 use Rattle.mdl_graph.proofs.DeadlockLemmas.{deadlock_chosen, deadlock_waits}
 use Rattle.mdl_graph.proofs.VictimLemmas.{victim_falls}
 use Rattle.mdl_space.specs.declared.seat.Pending.{Pending}
@@ -24,7 +23,6 @@ use Rattle.mdl_space.specs.CoreCalls.{has_settled}
 use Rattle.mdl_space.specs.Cores.{Core, book_at, seat_at, key_at, has_key}
 use Rattle.mdl_space.specs.CoreSystems.{waiter_in, system_of}
 use Rattle.mdl_space.specs.Deadlocks.{Wishes, WaitsFor, Leads, IsDeadlock, IsChosenDeadlock, Weighs, IsVictimOf}
-use Rattle.mdl_space.specs.Systems.{Waiter}
 use Rattle.mdl_space.specs.Ties.{IsTied}
 use Rattle.mdl_space.specs.Lemmas.CoreReads.{of_within}
 use Rattle.mdl_space.specs.Lemmas.CoreWaiting.{wait-at}

@@ -1,18 +1,17 @@
 -- Who waits for whom in the lock space of one thread: its books tell what the system of locks that they are does.
-use Rattle.std.proofs.Common.{◌≡◌, ◌≢◌, ◌⊎◌, ℕ, suc, ◌+◌, ◌-◌, ◌<◌, ◌≤◌, Bool, true, false, not, ◌&&◌, ◌||◌, ◌==◌, cond, inl, inr, List, [], ◌∷◌, length, map, Option, Some, None, refl, sym, ap, subst, ◌∙◌, arith}
-use Rattle.std.specs.Prelude.{Contains, Decides, slice_index_or, is_some, nat_le}
+use Rattle.std.proofs.Common.{◌≡◌, ◌≢◌, ◌⊎◌, ℕ, suc, ◌-◌, ◌<◌, Bool, true, false, not, ◌&&◌, ◌||◌, ◌==◌, cond, inl, inr, List, [], ◌∷◌, length, map, Option, Some, None, refl, sym, ap, subst, ◌∙◌, arith}
+use Rattle.std.specs.Prelude.{Contains, slice_index_or, is_some}
 use Rattle.std.specs.List.{list_any}
 use Rattle.std.proofs.lemmas.Bool.{and_parts, and_from, or_cases, eqb-true, eq-eqb, false≢true}
 use Rattle.std.proofs.lemmas.Bool.Decides.{eqb_tells}
 use Rattle.std.proofs.lemmas.List.Folds.{list_any_at}
 use Rattle.mdl_key.specs.Keys.{KeyName, global_key}
-use Rattle.mdl_key.specs.Matrices.{clashes, Clashes, waits_behind, WaitsBehind}
+use Rattle.mdl_key.specs.Matrices.{clashes, Clashes, waits_behind}
 use Rattle.mdl_book.specs.declared.lists.Lists.{Lists}
 use Rattle.mdl_book.specs.declared.ticket.Ticket.{Ticket}
 use Rattle.mdl_book.specs.Books.{empty_book}
 use Rattle.mdl_graph.specs.WaitsFor.{waits_for, waits_at, is_tied, holds_against, waits_ahead}
 use Rattle.mdl_space.specs.declared.answers.Settled.{Settled}
-use Rattle.mdl_space.specs.declared.answers.Settled.TheVariants as settled_as
 use Rattle.mdl_space.specs.declared.seat.Pending.{Pending}
 use Rattle.mdl_space.specs.BookLaws.{in_book, of_lock}
 use Rattle.mdl_space.specs.CoreCalls.{has_settled}
@@ -20,7 +19,7 @@ use Rattle.mdl_space.specs.Cores.{Core, book_at, seat_at, key_at, has_key, has_s
 use Rattle.mdl_space.specs.CoreSystems.{state_of, waiter_of, waiter_in, system_of}
 use Rattle.mdl_space.specs.Deadlocks.{Wishes, HoldsAgainst, WaitsAhead, WaitsFor}
 use Rattle.mdl_space.specs.Seats.{is_open, is_closed}
-use Rattle.mdl_space.specs.Systems.{Unsettled, Holding, Waiter, lock_kind}
+use Rattle.mdl_space.specs.Systems.{Unsettled, Waiter, lock_kind}
 use Rattle.mdl_space.specs.Ties.{IsTied}
 use Rattle.mdl_space.specs.Lemmas.CoreGranted.{granted-place, granted-from_place}
 use Rattle.mdl_space.specs.Lemmas.CoreReads.{within, of_within}

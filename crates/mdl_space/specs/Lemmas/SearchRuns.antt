@@ -1,8 +1,8 @@
 -- What searches come to: each finds the deadlock that there is, and one after another they leave none.
 use Rattle.std.proofs.Common.{◌≡◌, ◌≢◌, ◌⊎◌, ℕ, zero, suc, ◌+◌, ◌-◌, ◌<◌, ◌≤◌, Bool, true, false, not, ◌&&◌, ◌==◌, cond, inl, inr, List, [], ◌∷◌, length, Option, Some, None, refl, sym, ap, subst, ◌∙◌, arith}
-use Rattle.std.specs.Prelude.{Contains, slice_index_or, slice_set, is_some, if◌then◌else◌}
+use Rattle.std.specs.Prelude.{slice_index_or, slice_set, is_some, if◌then◌else◌}
 use Rattle.std.specs.Option.{option_map}
-use Rattle.std.proofs.lemmas.Bool.{cases_order, eqb-true, eq-eqb, false≢true}
+use Rattle.std.proofs.lemmas.Bool.{cases_order, false≢true}
 use Rattle.std.proofs.lemmas.Bool.Decides.{eqb_tells}
 use Rattle.mdl_key.specs.Keys.{KeyName}
 use Rattle.mdl_graph.specs.declared.cycle.Member.{Member}
@@ -21,7 +21,7 @@ use Rattle.mdl_space.specs.CoreLaws.{CallsKeepSound}
 use Rattle.mdl_space.specs.Cores.{Core, seat_at, has_session}
 use Rattle.mdl_space.specs.CoreSystems.{system_of}
 use Rattle.mdl_space.specs.DeadlockLaws.{SearchesFindDeadlocks, SearchesSuffice, SearchesLeaveNoDeadlock}
-use Rattle.mdl_space.specs.Deadlocks.{Wishes, WaitsFor, Leads, IsDeadlock, IsChosenDeadlock, IsVictimOf}
+use Rattle.mdl_space.specs.Deadlocks.{Wishes, WaitsFor, IsDeadlock, IsChosenDeadlock, IsVictimOf}
 use Rattle.mdl_space.specs.Moves.{losing}
 use Rattle.mdl_space.specs.Runs.{Runs, Give}
 use Rattle.mdl_space.specs.Searches.{SearchEnd, Over, Cut_off, after_search, seeking}
