@@ -1,6 +1,9 @@
+pub mod AcquireLemmas
 pub mod AttendLemmas
 pub mod BeyondLemmas
 pub mod FrontLemmas
+pub mod IndexLemmas
+pub mod KeyLemmas
 pub mod OthersLemmas
 pub mod ReleaseLemmas
 pub mod SearchLemmas

@@ -29,7 +29,7 @@ rises (x ∷ xs) i zero d rising before inside = absurd (omega arith)
 rises (x ∷ xs) zero (suc j) d rising before inside = grind (arith, nat_tests, below_at x.id xs j d)
 rises (x ∷ xs) (suc i) (suc j) d rising before inside = grind (arith, nat_tests, rises xs i j d)
 
-no_ticket : Kept
+pub no_ticket : Kept
 no_ticket = record { id = 0; key = global_key; place = 0; mode = X; duration = Explicit }
 
 module _ (xs : List Kept) (rising : AreRising xs) (id : ℕ) where
@@ -67,7 +67,8 @@ placed id xs place at = ap is_some at ∙ chosen _ _ ∙ inside-any (is_ticket i
 
 -- ---- without a ticket
 
-all_others : (id : ℕ) (xs : List Kept) → Above id xs → without_number id xs ≡ xs
+-- no other ticket has a lower number
+pub all_others : (id : ℕ) (xs : List Kept) → Above id xs → without_number id xs ≡ xs
 all_others id [] above = refl
 all_others id (x ∷ xs) above = grind (arith, nat_tests, all_others id xs)
 

@@ -1,5 +1,5 @@
 -- What a context keeps of its session's tickets and wait, as its own code sees it.
-use Rattle.std.specs.Prelude.{ℕ, Bool, not, ◌==◌, List, [], ◌∷◌, ◌++◌, filter, find, Option, Some, None}
+use Rattle.std.specs.Prelude.{◌≡◌, ℕ, Bool, not, ◌&&◌, ◌==◌, List, [], ◌∷◌, ◌++◌, map, filter, find, Option, Some, None}
 use Rattle.std.specs.Option.{option_map}
 use Rattle.mdl_key.specs.declared.mode.Duration.{Duration}
 use Rattle.mdl_key.specs.declared.mode.Duration.TheVariants.{Transaction, Explicit}
@@ -9,12 +9,14 @@ use Rattle.mdl_context.specs.declared.kept.Kept.{Kept}
 use Rattle.mdl_context.specs.declared.kept.Wanted.{Wanted}
 use Rattle.mdl_context.specs.declared.request.Request.{Request}
 use Rattle.mdl_context.specs.Contexts.{ContextView, held_of}
+use Rattle.mdl_context.specs.Indexes.{Index, numbers_of, has_room_for}
 
--- the kept tickets in order of gain, the wait, and whether there is room for one more ticket
+-- the kept tickets in order of gain, their numbers by key, the wait, and whether there is a place for one more ticket
 pub record HoldingsView : Type 0 where
   pub kept : List Kept
+  pub index : Index
   pub wait : Option Wanted
-  pub has_room : Bool
+  pub has_place : Bool
 
 -- the context that keeps this for a session
 abbrev pub context_of : ℕ → HoldingsView → ContextView
@@ -31,6 +33,18 @@ without_number id kept = filter (λ ticket. not (is_ticket id ticket)) kept
 -- whether a ticket is of this key
 abbrev pub is_of : KeyName → Kept → Bool
 is_of key ticket = key_eq ticket.key key
+
+-- the numbers of a key's tickets, in order of gain
+abbrev pub numbers_among : KeyName → List Kept → List ℕ
+numbers_among key kept = map (λ ticket. ticket.id) (filter (is_of key) kept)
+
+-- an index has just the tickets' numbers, under their keys
+abbrev pub IsIndexOf : List Kept → Index → Type 0
+IsIndexOf kept index = (key : KeyName) → numbers_of key index ≡ numbers_among key kept
+
+-- whether there is room for one more ticket of a key
+abbrev pub has_room : KeyName → HoldingsView → Bool
+has_room key holdings = holdings.has_place && has_room_for key holdings.index
 
 -- the earliest ticket that passes a test, as the lock space holds it
 abbrev pub earliest : (Kept → Bool) → List Kept → Option Held

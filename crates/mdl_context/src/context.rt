@@ -114,7 +114,7 @@ impl<S: LockSpace> Context<S> {
         if let Some(ticket) = self.holdings.reusable(&request) {
             return Ok(Acquire::Acquired(ticket.id));
         }
-        if self.holdings.reserve().is_err() {
+        if self.holdings.reserve(&request.key).is_err() {
             return Err(ContextError::Space(SpaceError::OutOfMemory));
         }
         match self.holdings.sufficient(&request) {

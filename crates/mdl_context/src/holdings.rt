@@ -1,14 +1,17 @@
 //! The tickets that a context keeps, and its wait.
-ghost use Rattle.std.specs.Prelude.{◌≡◌, ℕ, true, Some, None, [], ◌∷◌, ◌++◌, map, filter, length, is_some, OnOk, slice_get, position, not, ◌≤◌};
+ghost use Rattle.std.specs.Prelude.{◌≡◌, ℕ, true, Some, None, [], ◌∷◌, ◌++◌, map, filter, find, length, is_some, OnOk, slice_get, position, not, ◌≤◌};
 ghost use Rattle.std.specs.Vec.{vec_capacity};
 ghost use Rattle.mdl_context.specs.Goings.{goes};
-ghost use Rattle.std.specs.Option.{option_map};
+ghost use Rattle.std.specs.Option.{option_copied, option_map};
 ghost use Rattle.mdl_key.specs.declared.mode.Duration.TheVariants.{Explicit};
+ghost use Rattle.mdl_key.specs.Keys.{KeyName};
 ghost use Rattle.mdl_space.specs.Strength.{covers};
 ghost use Rattle.mdl_context.specs.Contexts.{AreRising, lasts, held_for, has_number, held_of};
-ghost use Rattle.mdl_context.specs.Holdings.{without_number, is_of, is_ticket, earliest, kept_for, in_transaction, transactional, kept_of, wanted_of, with_wanted};
+ghost use Rattle.mdl_context.specs.Holdings.{without_number, is_of, is_ticket, IsIndexOf, has_room, earliest, kept_for, in_transaction, transactional, kept_of, wanted_of, with_wanted};
+ghost use Rattle.mdl_context.specs.Indexes.{has_room_for};
 ghost use Rattle.mdl_context.specs.Requests.{suffices, is_reusable};
 
+use crate::by_key::ByKey;
 use crate::{Kept, Request, Wanted};
 use mdl_key::{Duration, Key, Kind, Mode, at_least};
 use mdl_space::{Held, Place, TicketId};
@@ -17,28 +20,33 @@ use std::marker::Model;
 
 /// The tickets that a context keeps, in order of gain, and its wait.
 ///
-/// While there is a wait, there is room for the ticket that is waited for, so taking it up takes no memory.
+/// The tickets of a key are found by an index, and a ticket by its number by a search by halves, so neither walks all
+/// tickets. While there is a wait, there is room for the ticket that is waited for, so taking it up takes no memory.
 #[derive(Drop)]
 pub(crate) struct Holdings {
     tickets: Vec<Kept>,
+    by_key: ByKey,
     wait: Option<Wanted>,
 }
 
 impl Model for Holdings {
-    ghost use Rattle.std.specs.Prelude.{◌<◌, nat_lt, length};
+    ghost use Rattle.std.specs.Prelude.{◌≡◌, true, ◌<◌, nat_lt, length};
     ghost use Rattle.std.specs.Option.{IfSome};
     ghost use Rattle.std.specs.Vec.{vec_capacity};
-    ghost use Rattle.mdl_context.specs.Holdings.{HoldingsView};
+    ghost use Rattle.mdl_context.specs.Holdings.{HoldingsView, IsIndexOf};
+    ghost use Rattle.mdl_context.specs.Indexes.{has_room_for};
 
     ghost Value = { HoldingsView };
 
     ghost view = { λ holdings. record {
       kept = holdings.tickets.items;
+      index = holdings.by_key;
       wait = holdings.wait;
-      has_room = nat_lt (length holdings.tickets.items) (vec_capacity holdings.tickets);
+      has_place = nat_lt (length holdings.tickets.items) (vec_capacity holdings.tickets);
     } };
 
-    ghost invariant = { λ holdings. IfSome holdings.wait (λ _. length holdings.tickets.items < vec_capacity holdings.tickets) };
+    ghost invariant = { λ holdings. IsIndexOf holdings.tickets.items holdings.by_key
+        × IfSome holdings.wait (λ wanted. (length holdings.tickets.items < vec_capacity holdings.tickets) × (has_room_for wanted.key holdings.by_key ≡ true)) };
 }
 
 impl Holdings {
@@ -49,6 +57,7 @@ impl Holdings {
     {
         Holdings {
             tickets: Vec::new(alloc),
+            by_key: ByKey::new(alloc),
             wait: None,
         }
     }
@@ -67,28 +76,40 @@ impl Holdings {
         self.wait.is_some()
     }
 
-    /// Makes room for one more ticket.
-    pub(crate) fn reserve(&mut self) -> Result<(), AllocError>
-        ensures room { OnOk result (self.new.has_room ≡ true) }
+    /// Makes room for one more ticket of a key.
+    pub(crate) fn reserve(&mut self, key: &Key) -> Result<(), AllocError>
+        ensures room { OnOk result (has_room key.now self.new ≡ true) }
         ensures kept { self.new.kept ≡ self.old.kept }
         ensures wait { self.new.wait ≡ self.old.wait }
     {
-        self.tickets.reserve(1)
+        self.tickets.reserve(1)?;
+        self.by_key.reserve(key)
+    }
+
+    /// Gives the room for a ticket of a key up, if no ticket of the key is kept and there is no wait. It takes no memory.
+    pub(crate) fn give_room_up(&mut self, key: &Key)
+        ensures kept { self.new.kept ≡ self.old.kept }
+        ensures wait { self.new.wait ≡ self.old.wait }
+    {
+        if self.wait.is_none() && self.by_key.numbers(key).is_empty() {
+            self.by_key.unlist(key);
+        }
     }
 
     /// Puts a new ticket last. It takes no memory.
     pub(crate) fn keep(&mut self, ticket: Kept)
-        requires room { self.old.has_room ≡ true }
+        requires room { has_room ticket.key self.old ≡ true }
         requires idle { self.old.wait ≡ None }
         ensures kept { self.new.kept ≡ self.old.kept ++ ticket ∷ [] }
         ensures wait { self.new.wait ≡ None }
     {
+        self.by_key.push(&ticket.key, ticket.id);
         self.tickets.push(ticket).unwrap();
     }
 
     /// Begins a wait.
     pub(crate) fn begin_wait(&mut self, wanted: Wanted)
-        requires { self.old.has_room ≡ true }
+        requires { has_room wanted.key self.old ≡ true }
         ensures kept { self.new.kept ≡ self.old.kept }
         ensures wait { self.new.wait ≡ Some wanted }
     {
@@ -108,6 +129,7 @@ impl Holdings {
                 mode: wanted.mode,
                 duration: wanted.duration,
             };
+            self.by_key.push(&ticket.key, id);
             self.tickets.push(ticket).unwrap();
         }
     }
@@ -117,7 +139,9 @@ impl Holdings {
         ensures kept { self.new.kept ≡ self.old.kept }
         ensures wait { self.new.wait ≡ None }
     {
-        self.wait = None;
+        if let Some(wanted) = self.wait.take() {
+            self.give_room_up(&wanted.key);
+        }
     }
 
     /// Whether there is a ticket of this number.
@@ -161,16 +185,23 @@ impl Holdings {
         ensures wait { self.new.wait ≡ self.old.wait }
     {
         if let Some(at) = place_of(&self.tickets, id) {
-            self.tickets.remove(at);
+            let ticket = self.tickets.remove(at);
+            self.by_key.remove(&ticket.key, id);
+            self.give_room_up(&ticket.key);
         }
     }
 
     /// Takes out the tickets that are given up. It takes no memory.
     pub(crate) fn remove_all(&mut self, going: &Going)
+        requires { AreRising self.old.kept }
         ensures kept { self.new.kept ≡ filter (λ ticket. not (goes going.now ticket)) self.old.kept }
         ensures wait { self.new.wait ≡ self.old.wait }
     {
+        drop_numbers(&mut self.by_key, &self.tickets, going);
         keep_others(&mut self.tickets, going);
+        if self.wait.is_none() {
+            self.by_key.unlist_empty();
+        }
     }
 
     /// Keeps all tickets until they are released.
@@ -191,9 +222,11 @@ impl Holdings {
 
     /// The earliest ticket that a request can use again.
     pub(crate) fn reusable(&self, request: &Request) -> Option<Held>
+        requires { AreRising self.now.kept }
         ensures { result ≡ earliest (is_reusable request.now) self.now.kept }
     {
-        for ticket in &self.tickets {
+        for id in self.by_key.numbers(&request.key) {
+            let ticket = numbered(&self.tickets, *id)?;
             if request.can_reuse(ticket) {
                 return Some(ticket.held());
             }
@@ -203,9 +236,11 @@ impl Holdings {
 
     /// The earliest ticket that suffices for a request.
     pub(crate) fn sufficient(&self, request: &Request) -> Option<Held>
+        requires { AreRising self.now.kept }
         ensures { result ≡ earliest (suffices request.now) self.now.kept }
     {
-        for ticket in &self.tickets {
+        for id in self.by_key.numbers(&request.key) {
+            let ticket = numbered(&self.tickets, *id)?;
             if request.is_met_by(ticket) {
                 return Some(ticket.held());
             }
@@ -215,14 +250,12 @@ impl Holdings {
 
     /// The earliest ticket of a key.
     pub(crate) fn of_key(&self, key: &Key) -> Option<Held>
+        requires { AreRising self.now.kept }
         ensures { result ≡ earliest (is_of key.now) self.now.kept }
     {
-        for ticket in &self.tickets {
-            if ticket.key == *key {
-                return Some(ticket.held());
-            }
-        }
-        None
+        let id = self.by_key.numbers(key).first()?;
+        let ticket = numbered(&self.tickets, *id)?;
+        Some(ticket.held())
     }
 }
 
@@ -232,6 +265,15 @@ fn place_of(tickets: &[Kept], id: TicketId) -> Option<usize>
     ensures { result ≡ position (is_ticket id) tickets.now }
 {
     tickets.binary_search_by_key(&id, |ticket| ticket.id).ok()
+}
+
+// The ticket of a number, among tickets whose numbers rise.
+fn numbered(tickets: &[Kept], id: TicketId) -> Option<&Kept>
+    requires { AreRising tickets.now }
+    ensures { option_copied result ≡ find (is_ticket id) tickets.now }
+{
+    let at = place_of(tickets, id)?;
+    Some(&tickets[at])
 }
 
 // Keeps tickets until they are released.
@@ -269,6 +311,20 @@ fn keep_others(tickets: &mut Vec<Kept>, going: &Going)
     ensures capacity { vec_capacity tickets.new ≡ vec_capacity tickets.old }
 {
     tickets.retain(|ticket| !going.names(ticket));
+}
+
+// Takes the numbers of the tickets that are given up out of the index.
+fn drop_numbers(by_key: &mut ByKey, tickets: &[Kept], going: &Going)
+    requires rising { AreRising tickets.now }
+    requires index { IsIndexOf tickets.now by_key.old }
+    ensures index { IsIndexOf (filter (λ ticket. not (goes going.now ticket)) tickets.now) by_key.new }
+    ensures room { (key : KeyName) → has_room_for key by_key.old ≡ true → has_room_for key by_key.new ≡ true }
+{
+    for ticket in tickets {
+        if going.names(ticket) {
+            by_key.remove(&ticket.key, ticket.id);
+        }
+    }
 }
 
 /// Which tickets are given up.

@@ -1,6 +1,7 @@
 //! What a session keeps of its metadata locks: its tickets by how long they last.
 #![tactic(auto)]
 
+mod by_key;
 mod context;
 mod context_error;
 mod holdings;

@@ -4,7 +4,7 @@ ghost use Rattle.mdl_space.specs.Calls.{Clone_ticket};
 ghost use Rattle.mdl_space.specs.Own.{ticket_held};
 ghost use Rattle.mdl_space.specs.Runs.{Runs, Ask};
 ghost use Rattle.mdl_context.specs.Contexts.{Attends};
-ghost use Rattle.mdl_context.specs.Holdings.{context_of, earliest, is_of};
+ghost use Rattle.mdl_context.specs.Holdings.{context_of, has_room, earliest, is_of};
 ghost use Rattle.mdl_context.specs.Requests.{copy_answered, asking_at, asking};
 
 use crate::holdings::Holdings;
@@ -20,7 +20,7 @@ pub(crate) fn copy<S: LockSpace>(
     request: Request,
 ) -> Result<Acquire, ContextError>
     requires attends { Attends S.speaks_for S.own S.knows space.old (context_of who holdings.old) }
-    requires room { holdings.old.has_room ≡ true }
+    requires room { has_room request.key holdings.old ≡ true }
     requires idle { holdings.old.wait ≡ None }
     requires known { S.knows space.old who ticket.place request.key }
     requires held { ticket_held ticket.id (S.own space.old who) ≡ Some ticket }
@@ -46,7 +46,7 @@ pub(crate) fn ask<S: LockSpace>(
     request: Request,
 ) -> Result<Acquire, ContextError>
     requires attends { Attends S.speaks_for S.own S.knows space.old (context_of who holdings.old) }
-    requires room { holdings.old.has_room ≡ true }
+    requires room { has_room request.key holdings.old ≡ true }
     requires idle { holdings.old.wait ≡ None }
     ensures run { Runs S.joins space.old (asking (earliest (is_of request.key) holdings.old.kept) request (context_of who holdings.old)) (result, context_of who holdings.new) space.new }
     ensures attends { Attends S.speaks_for S.own S.knows space.new (context_of who holdings.new) }
@@ -58,7 +58,10 @@ pub(crate) fn ask<S: LockSpace>(
     }
     match space.resolve(who, &request.key) {
         Ok(place) => ask_at(space, who, holdings, place, request),
-        Err(refusal) => Err(ContextError::Space(refusal)),
+        Err(refusal) => {
+            holdings.give_room_up(&request.key);
+            Err(ContextError::Space(refusal))
+        }
     }
 }
 
@@ -71,7 +74,7 @@ fn ask_at<S: LockSpace>(
     request: Request,
 ) -> Result<Acquire, ContextError>
     requires attends { Attends S.speaks_for S.own S.knows space.old (context_of who holdings.old) }
-    requires room { holdings.old.has_room ≡ true }
+    requires room { has_room request.key holdings.old ≡ true }
     requires idle { holdings.old.wait ≡ None }
     requires known { S.knows space.old who place request.key }
     ensures run { Runs S.joins space.old (asking_at place request (context_of who holdings.old)) (result, context_of who holdings.new) space.new }
@@ -88,6 +91,9 @@ fn ask_at<S: LockSpace>(
             holdings.begin_wait(request.into_wanted(place));
             Ok(Acquire::MustWait(number))
         }
-        Err(refusal) => Err(ContextError::Space(refusal)),
+        Err(refusal) => {
+            holdings.give_room_up(&request.key);
+            Err(ContextError::Space(refusal))
+        }
     }
 }

@@ -1,10 +1,11 @@
 //! Keys: the names of locks.
-ghost use Rattle.std.specs.Prelude.{◌≡◌, ℕ, Some, [], ◌∷◌, IfOk, IsOkUnless, not, position};
+ghost use Rattle.std.specs.Prelude.{◌≡◌, ℕ, Some, [], ◌∷◌, ◌++◌, IfOk, IsOkUnless, not, position};
 ghost use Rattle.std.specs.String.{string_bytes};
 ghost use Rattle.std.proofs.Common.{rules};
 ghost use Rattle.std.specs.Ordering.{as_partial_cmp};
 ghost use Rattle.std.specs.Cmp.{partial_order_from_own_ties};
-ghost use Rattle.std.specs.Cmp.Rules.{comparing};
+ghost use Rattle.std.specs.Cmp.Rules.{comparing, hashing};
+ghost use Rattle.std.specs.Hash as fed;
 ghost use Rattle.mdl_key.specs.Modes.{kind_of};
 ghost use Rattle.mdl_key.specs.Keys.{global_key, commit_key, schema_key, table_key, name_fault, table_fault, is_name_byte, key_eq, key_cmp, key_text};
 ghost use Rattle.mdl_key.specs.Refusals.{Refuses, RefusesJust};
@@ -13,6 +14,7 @@ use crate::{KeyError, Kind, Namespace};
 use std::alloc::{AllocError, Global};
 use std::cmp::Ordering;
 use std::fmt;
+use std::hash::{Hash, Hasher};
 use std::marker::Model;
 
 // The longest name, in bytes.
@@ -171,6 +173,18 @@ impl Ord for Key {
             .cmp(&other.namespace)
             .then_with(|| self.schema.as_str().cmp(other.schema.as_str()))
             .then_with(|| self.table.as_str().cmp(other.table.as_str()))
+    }
+}
+
+/// A key is hashed by the bytes of its names alone: only the two keys without a name are hashed alike.
+impl Hash for Key {
+    ghost hash_input = { λ key. fed.str key.schema ++ fed.str key.table };
+
+    ghost respects_eq = { Prim.search (hashing, rules) depth 9 };
+
+    fn hash<H: Hasher>(&self, state: &mut H) {
+        self.schema.as_str().hash(state);
+        self.table.as_str().hash(state);
     }
 }
 

@@ -2,6 +2,7 @@
 use Rattle.std.proofs.Common.{refl, sym, ◌∙◌}
 use Rattle.mdl_context.proofs.AttendLemmas.{attends-still, found-known}
 use Rattle.mdl_context.specs.Holdings.{is_of}
+use Rattle.mdl_context.proofs.BeyondLemmas.{same-context}
 use Rattle.mdl_context.proofs.requests.ask.Goals as goal
 
 pub ask_at-requires-clause-known : goal.ask_at-requires-clause-known
@@ -20,4 +21,5 @@ returns-in-Err-clause-own g c = g.met.S.LockSpace.changes _ _ _ _ _ refl (rw c.i
 pub returns-in-Err-clause-attends : goal.returns-in-Err-clause-attends
 returns-in-Err-clause-attends g c =
     let laws = g.met.S.LockSpace in
-    attends-still laws.keeps laws.changes laws.remembers _ _ _ _ _ c.requires.attends refl refl refl (rw c.in-Err.is at c.resolve.ensures)
+    let still = attends-still laws.keeps laws.changes laws.remembers _ _ _ _ _ c.requires.attends refl refl refl (rw c.in-Err.is at c.resolve.ensures) in
+    rw (same-context c.args.who _ _ _ _ c.give_room_up.ensures.kept c.give_room_up.ensures.wait) still

@@ -1,6 +1,7 @@
 -- The ticket is gained, or the wait begins, or nothing has changed.
 use Rattle.std.proofs.Common.{refl, sym, ap, ◌∙◌, [], ◌∷◌, ◌++◌, Some}
 use Rattle.mdl_context.proofs.AttendLemmas.{attends-still, attends-gained, attends-waiting}
+use Rattle.mdl_context.proofs.BeyondLemmas.{same-context}
 use Rattle.mdl_context.proofs.requests.ask_at.Goals as goal
 
 pub returns-in-Ok-Granted-clause-attends : goal.returns-in-Ok-Granted-clause-attends
@@ -23,4 +24,5 @@ returns-in-Err-clause-own g c = g.met.S.LockSpace.changes _ _ _ _ _ refl (rw c.i
 pub returns-in-Err-clause-attends : goal.returns-in-Err-clause-attends
 returns-in-Err-clause-attends g c =
     let laws = g.met.S.LockSpace in
-    attends-still laws.keeps laws.changes laws.remembers _ _ _ _ _ c.requires.attends refl refl refl (rw c.in-Err.is at c.begin_wait.ensures)
+    let still = attends-still laws.keeps laws.changes laws.remembers _ _ _ _ _ c.requires.attends refl refl refl (rw c.in-Err.is at c.begin_wait.ensures) in
+    rw (same-context c.args.who _ _ _ _ c.give_room_up.ensures.kept c.give_room_up.ensures.wait) still

@@ -1,0 +1,83 @@
+-- The numbers by key: one taken out, and keys unlisted.
+use Rattle.std.proofs.Common.{◌≡◌, ◌≢◌, ℕ, zero, suc, ◌<◌, ◌≤◌, Bool, List, [], ◌∷◌, length, get_or, Option, Some, None, Result, Ok, Err, refl, ap, ◌∙◌, arith}
+use Rattle.std.specs.Prelude.{not, nat_eq, nat_lt, filter, IsTrue}
+use Rattle.std.specs.Cmp.{IsEquivalence, nat_eq_equiv}
+use Rattle.std.specs.List.{list_all, remove}
+use Rattle.std.specs.List.Sorted.{IsBinarySearchResult}
+use Rattle.std.specs.Map.{lookup, keys_of}
+use Rattle.std.specs.List.{IsDistinct}
+use Rattle.std.specs.Ordering.{nat_cmp}
+use Rattle.std.proofs.lemmas.Bool.Decides.{nat_tests}
+use Rattle.std.proofs.lemmas.Cmp.{on_equiv, and_equiv, nat_list_eq_equiv}
+use Rattle.std.proofs.lemmas.List.Sorted.{searched}
+use Rattle.std.proofs.lemmas.Map.Entries.{lookup-filter-values, option_filter}
+use Rattle.mdl_key.specs.Keys.{KeyName, namespace_rank, key_eq}
+use Rattle.smallvec.specs.SmallVec.{SmallVec}
+use Rattle.mdl_context.specs.Indexes.{Index, listed, numbers_of, rises, without_one}
+
+pub key_eq_equiv : IsEquivalence key_eq
+key_eq_equiv = and_equiv (on_equiv (λ k. namespace_rank k.namespace) nat_eq_equiv) (and_equiv (on_equiv (λ k. k.schema) nat_list_eq_equiv) (on_equiv (λ k. k.table) nat_list_eq_equiv))
+
+-- ---- a number among numbers that rise
+
+abbrev pub AllAbove : ℕ → List ℕ → Type 0
+AllAbove n ns = IsTrue (list_all (nat_lt n) ns)
+
+above_at : (n : ℕ) (ns : List ℕ) (j : ℕ) → AllAbove n ns → j < length ns → n < get_or ns j 0
+above_at n [] j above inside = absurd (omega arith)
+above_at n (x ∷ ns) zero above inside = grind (arith, nat_tests)
+above_at n (x ∷ ns) (suc j) above inside = grind (arith, nat_tests, above_at n ns j)
+
+none_falls : (ns : List ℕ) → IsTrue (rises ns) → (i j : ℕ) → i ≤ j → j < length ns → get_or ns i 0 ≤ get_or ns j 0
+none_falls [] rising i j le inside = absurd (omega arith)
+none_falls (x ∷ ns) rising zero zero le inside = omega arith
+none_falls (x ∷ ns) rising (suc i) zero le inside = absurd (omega arith)
+none_falls (x ∷ ns) rising zero (suc j) le inside = grind (arith, nat_tests, above_at x ns j)
+none_falls (x ∷ ns) rising (suc i) (suc j) le inside = grind (arith, nat_tests, none_falls ns)
+
+all_stay : (n : ℕ) (ns : List ℕ) → AllAbove n ns → without_one n ns ≡ ns
+all_stay n [] above = refl
+all_stay n (x ∷ ns) above = grind (arith, nat_tests, all_stay n ns)
+
+removed : (id : ℕ) (ns : List ℕ) (at : ℕ) → IsTrue (rises ns) → at < length ns → get_or ns at 0 ≡ id → remove ns at ≡ without_one id ns
+removed id [] at rising inside here = absurd (omega arith)
+removed id (x ∷ ns) zero rising inside here = grind (arith, nat_tests, all_stay id ns)
+removed id (x ∷ ns) (suc at) rising inside here =
+    let before : x < id = grind (arith, nat_tests, above_at x ns at) in
+    grind (arith, nat_tests, removed id ns at)
+
+not_among : (id : ℕ) (ns : List ℕ) → ((k : ℕ) → k < length ns → get_or ns k 0 ≢ id) → without_one id ns ≡ ns
+not_among id [] others = refl
+not_among id (x ∷ ns) others =
+    let later = not_among id ns (λ k below. others (suc k) (omega (arith, below))) in
+    let first = others 0 (omega arith) in
+    grind (arith, nat_tests)
+
+-- the number that a search by halves finds is taken out at its place
+pub found_taken : (ns : List ℕ) (id at : ℕ) (r : Result ℕ ℕ) → IsTrue (rises ns) → IsBinarySearchResult (λ n. nat_cmp n id) ns r → r ≡ Ok at → remove ns at ≡ without_one id ns
+found_taken ns id at r rising told e =
+    let place = rw e at (searched ns id r told (none_falls ns rising)) in
+    removed id ns at rising place.0 place.1
+
+-- and one that it doesn't find isn't there
+pub missed_stays : (ns : List ℕ) (id : ℕ) (r : Result ℕ ℕ) → IsTrue (rises ns) → IsBinarySearchResult (λ n. nat_cmp n id) ns r → ((at : ℕ) → r ≢ Ok at) → without_one id ns ≡ ns
+missed_stays ns id (Ok at) rising told none = absurd (none at refl)
+missed_stays ns id (Err gap) rising told none =
+    let parted = searched ns id (Err gap) told (none_falls ns rising) in
+    not_among id ns (λ k below same. grind (arith, nat_tests, parted.1 k, parted.2 k))
+
+-- ---- keys unlisted
+
+-- whether a list has numbers
+abbrev pub has_numbers : SmallVec ℕ → Bool
+has_numbers list = not (nat_eq (length list.items) 0)
+
+empty_unlisted : (list : Option (SmallVec ℕ)) → listed (option_filter has_numbers list) ≡ listed list
+empty_unlisted None = refl
+empty_unlisted (Some list) = by_items list.items refl where
+  by_items : (items : List ℕ) → list.items ≡ items → listed (option_filter has_numbers (Some list)) ≡ listed (Some list)
+  by_items [] e = grind (arith, nat_tests)
+  by_items (n ∷ ns) e = grind (arith, nat_tests)
+
+pub same_numbers : (index : Index) (key : KeyName) → IsDistinct key_eq (keys_of index) → numbers_of key (filter (λ e. has_numbers e.1) index) ≡ numbers_of key index
+same_numbers index key distinct = ap listed (lookup-filter-values key_eq_equiv has_numbers key index distinct) ∙ empty_unlisted (lookup (key_eq key) index)

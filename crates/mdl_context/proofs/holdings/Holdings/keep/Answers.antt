@@ -1,0 +1,9 @@
+-- The index has the new number too.
+use Rattle.std.proofs.Common.{◌≡◌, rules, [], ◌∷◌, ◌++◌}
+use Rattle.mdl_context.proofs.KeyLemmas.{index-more}
+use Rattle.mdl_context.proofs.holdings.Holdings.keep.Goals as goal
+
+pub invariant_of-self : goal.invariant_of-self
+invariant_of-self c =
+    let items : c.push-2.new.self.items ≡ c.self.inside.tickets.items ++ c.args.ticket ∷ [] = search rules in
+    (rw items (index-more c.self.inside.tickets.items c.args.ticket _ _ c.self.invariant.0 c.push.ensures), search rules)

@@ -1,0 +1,14 @@
+-- The index is that of what is left so far, and the room stays.
+use Rattle.std.proofs.Common.{◌≡◌, true}
+use Rattle.mdl_key.specs.Keys.{KeyName}
+use Rattle.mdl_context.specs.Goings.{goes}
+use Rattle.mdl_context.specs.Holdings.{IsIndexOf}
+use Rattle.mdl_context.specs.Indexes.{has_room_for}
+use Rattle.mdl_context.proofs.ReleaseLemmas.{left}
+use Rattle.mdl_context.proofs.holdings.drop_numbers.Given as goal
+
+abbrev pub invariant-loop-ticket : goal.invariant-loop-ticket
+invariant-loop-ticket l = record {
+  index : IsIndexOf (left (goes l.going) l.ticket-index l.tickets) l.by_key;
+  room : (key : KeyName) → has_room_for key l.fn.by_key ≡ true → has_room_for key l.by_key ≡ true;
+}

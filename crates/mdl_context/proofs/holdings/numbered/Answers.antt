@@ -1,0 +1,15 @@
+-- The ticket is where the search by halves ends.
+use Rattle.std.proofs.Common.{rules, sym, ap, ◌∙◌, Some}
+use Rattle.mdl_context.specs.Holdings.{is_ticket}
+use Rattle.mdl_context.proofs.KeyLemmas.{found_at, found_none}
+use Rattle.mdl_context.proofs.holdings.numbered.Goals as goal
+
+pub returns-in_err-at : goal.returns-in_err-at
+returns-in_err-at c =
+    let none = found_none (is_ticket c.args.id) c.args.tickets.now (sym c.in_err-at.was ∙ c.place_of.ensures) in
+    search (rules, none)
+
+pub returns : goal.returns
+returns c =
+    let found = found_at (is_ticket c.args.id) c.args.tickets.now c.in_ok-at.at c.index-tickets-at.result (sym c.in_ok-at.was ∙ c.place_of.ensures) in
+    ap (λ ticket. Some ticket) c.index-tickets-at.is ∙ sym found.1
