@@ -1,5 +1,6 @@
 pub mod ApartLemmas
 pub mod CauseLemmas
+pub mod DeadlockLemmas
 pub mod GrantingRuns
 pub mod HeldAfter
 pub mod HeldLemmas

@@ -8,12 +8,12 @@ use Rattle.mdl_space.specs.declared.answers.Held.{Held}
 use Rattle.mdl_space.specs.declared.space_error.SpaceError.{SpaceError}
 use Rattle.mdl_space.specs.declared.space_error.SpaceError.TheVariants.{NoPlace, NotHeld, CounterFull, Full, OutOfMemory}
 use Rattle.mdl_space.specs.Answers.{Answer, Refused, At_place, Granted, Would_wait, Waits}
-use Rattle.mdl_space.specs.Calls.{Call, Resolve, Try_now, Begin_wait, Poll_wait, Settle_timeout, End_wait, Wait_of, Kill, Release, Clone_ticket, List_held}
+use Rattle.mdl_space.specs.Calls.{Call, Resolve, Try_now, Begin_wait, Search, Poll_wait, Settle_timeout, End_wait, Wait_of, Kill, Release, Clone_ticket, List_held}
 use Rattle.mdl_space.specs.CoreCalls.{has_call, outcome, refused_or, first_cause, is_counted_out, is_full, placing, resolving, request_causes, granted_unless_full, queued_unless_full, trying, beginning, clone_causes, cloning_of, cloning, held_ticket}
 use Rattle.mdl_space.specs.Cores.{Core, book_at, seat_at, has_key, index_of, is_free}
 use Rattle.mdl_space.specs.Moves.{opening, granting_to, queueing}
 use Rattle.mdl_space.specs.SessionLaws.{IsNowhere, HasNoRoom, HasNoNumber, MeetsLimit, RefusesForCause}
-use Rattle.mdl_space.specs.CoreProofs.Cases.{poll_cases, timeout_cases, end_cases, kill_cases, release_cases}
+use Rattle.mdl_space.specs.CoreProofs.Cases.{poll_cases, timeout_cases, end_cases, kill_cases, search_cases, release_cases}
 use Rattle.mdl_space.specs.CoreProofs.Choices.{test_cases}
 use Rattle.mdl_space.specs.CoreProofs.Owned.{joined}
 use Rattle.mdl_space.specs.CoreProofs.Places.{unplaced}
@@ -117,6 +117,7 @@ follows : (a : Core) (call : Call) → has_call call ≡ true → Follows a call
 follows a (Resolve who key) is = placed a who key
 follows a (Try_now who place mode) is = tried a who place mode
 follows a (Begin_wait who place mode) is = begun a who place mode
+follows a (Search who) is = search_cases (Follows a (Search who)) who a (λ victim _ refusal e. cc) (λ refusal e. cc)
 follows a (Poll_wait who) is =
     poll_cases (Follows a (Poll_wait who)) who a (λ _. refused a (Poll_wait who) _ a tt) (λ _ _ _ refusal e. cc) (λ _ _ _ _ refusal e. cc)
 follows a (Settle_timeout who) is =

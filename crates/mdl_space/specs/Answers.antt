@@ -9,6 +9,8 @@ use Rattle.mdl_space.specs.declared.answers.Attempt.{Attempt}
 use Rattle.mdl_space.specs.declared.answers.Attempt.TheVariants as attempt_at
 use Rattle.mdl_space.specs.declared.answers.Begun.{Begun}
 use Rattle.mdl_space.specs.declared.answers.Begun.TheVariants as begun_as
+use Rattle.mdl_space.specs.declared.answers.Search.{Search as Found}
+use Rattle.mdl_space.specs.declared.answers.Search.TheVariants as search_as
 use Rattle.mdl_space.specs.declared.answers.Settled.{Settled}
 use Rattle.mdl_space.specs.declared.answers.Settled.TheVariants as settled_as
 use Rattle.mdl_space.specs.declared.answers.Poll.{Poll}
@@ -95,6 +97,11 @@ abbrev pub begun : Result Begun SpaceError → Answer
 begun (Ok (begun_as.Granted id)) = Granted id
 begun (Ok (begun_as.Waiting number)) = Waits number
 begun (Err refusal) = Refused refusal
+
+abbrev pub searched : Result Found SpaceError → Answer
+searched (Ok search_as.NoCycle) = No_cycle
+searched (Ok (search_as.Victim session)) = Victim_is session
+searched (Err refusal) = Refused refusal
 
 abbrev pub polled : Result Poll SpaceError → Answer
 polled (Ok poll_as.Pending) = Pending

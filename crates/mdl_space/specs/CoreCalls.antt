@@ -7,6 +7,7 @@ use Rattle.mdl_key.specs.Modes.{is_mode_of}
 use Rattle.mdl_book.specs.Books.{lock_kind, ticket_count}
 use Rattle.mdl_book.specs.declared.book_error.BookError.{BookError}
 use Rattle.mdl_book.specs.declared.book_error.BookError.TheVariants as book_error
+use Rattle.mdl_graph.specs.Graphs.{victim_in}
 use Rattle.mdl_space.specs.declared.new_error.NewError.{NewError}
 use Rattle.mdl_space.specs.declared.new_error.NewError.TheVariants.{BadPlaces, BadSessions}
 use Rattle.mdl_space.specs.declared.space_error.SpaceError.{SpaceError}
@@ -16,12 +17,12 @@ use Rattle.mdl_space.specs.declared.answers.Settled.{Settled}
 use Rattle.mdl_space.specs.declared.answers.Settled.TheVariants as settled_as
 use Rattle.mdl_space.specs.declared.answers.TimedOut.TheVariants.{ByThisCall, Already}
 use Rattle.mdl_space.specs.declared.seat.Pending.{Pending}
-use Rattle.mdl_space.specs.Answers.{Answer, Refused, Done, At_place, Granted, Would_wait, Waits, Pending as Is_pending, Is_settled, Timed_out, Lost, Has_wait, Has_killed, Holds}
-use Rattle.mdl_space.specs.Calls.{Call, Resolve, Try_now, Begin_wait, Poll_wait, Settle_timeout, End_wait, Wait_of, Kill, Release, Clone_ticket, List_held}
+use Rattle.mdl_space.specs.Answers.{Answer, Refused, Done, At_place, Granted, Would_wait, Waits, No_cycle, Victim_is, Pending as Is_pending, Is_settled, Timed_out, Lost, Has_wait, Has_killed, Holds}
+use Rattle.mdl_space.specs.Calls.{Call, Resolve, Try_now, Begin_wait, Search, Poll_wait, Settle_timeout, End_wait, Wait_of, Kill, Release, Clone_ticket, List_held}
 use Rattle.mdl_space.specs.Cores.{Core, book_at, seat_at, has_key, has_session, index_of, is_free}
 use Rattle.mdl_space.specs.Moves.{opening, granting_to, queueing, losing, taking_up, leaving, freeing, serving}
 use Rattle.mdl_space.specs.Own.{is_number}
-use Rattle.mdl_space.specs.Seats.{is_open}
+use Rattle.mdl_space.specs.Seats.{is_open, is_closed}
 use Rattle.mdl_space.specs.Strength.{covers}
 
 -- why there can't be such a space
@@ -192,6 +193,25 @@ abbrev pub killing : ℕ → ℕ → Core → Answer × Core
 killing target number core =
     if is_open_wait number (wait_at target core) then (Has_killed true, losing target settled_as.Killed core) else (Has_killed false, core)
 
+-- ---- deadlocks
+
+-- whether a session's wait is settled
+abbrev pub has_settled : Core → ℕ → Bool
+has_settled core who = is_closed (wait_at who core)
+
+-- a deadlock's victim loses its wait
+abbrev pub searching_of : Option ℕ → Core → Answer × Core
+searching_of None core = (No_cycle, core)
+searching_of (Some victim) core = (Victim_is victim, losing victim settled_as.Victim core)
+
+-- the victim of the deadlock that a session waits in, if it waits in one
+abbrev pub victim_at : ℕ → Core → Option ℕ
+victim_at who core = victim_in (has_settled core) core.books who
+
+-- a deadlock is looked for that the session waits in
+abbrev pub searching : ℕ → Core → Answer × Core
+searching who core = searching_of (victim_at who core) core
+
 -- ---- lists
 
 -- what a session holds
@@ -205,6 +225,7 @@ abbrev pub has_call : Call → Bool
 has_call (Resolve _ _) = true
 has_call (Try_now _ _ _) = true
 has_call (Begin_wait _ _ _) = true
+has_call (Search _) = true
 has_call (Poll_wait _) = true
 has_call (Settle_timeout _) = true
 has_call (End_wait _) = true
@@ -220,6 +241,7 @@ abbrev pub outcome : Call → Core → Answer × Core
 outcome (Resolve who key) core = resolving key core
 outcome (Try_now who place mode) core = trying who place mode core
 outcome (Begin_wait who place mode) core = beginning who place mode core
+outcome (Search who) core = searching who core
 outcome (Poll_wait who) core = polling who core
 outcome (Settle_timeout who) core = timing_out who core
 outcome (End_wait who) core = ending who core

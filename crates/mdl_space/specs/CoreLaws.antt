@@ -4,14 +4,14 @@ use Rattle.mdl_key.specs.Keys.{KeyName}
 use Rattle.mdl_key.specs.declared.mode.Mode.{Mode}
 use Rattle.mdl_defs.specs.declared.definition.Definition.{Definition}
 use Rattle.mdl_space.specs.declared.answers.TimedOut.TheVariants.{ByThisCall}
-use Rattle.mdl_space.specs.Answers.{Answer, Done, Granted, Would_wait, Waits, Timed_out, Lost, Has_killed}
+use Rattle.mdl_space.specs.Answers.{Answer, Done, Granted, Would_wait, Waits, Victim_is, Timed_out, Lost, Has_killed}
 use Rattle.mdl_space.specs.BlockingLaws.{IsAbout}
-use Rattle.mdl_space.specs.Calls.{Call, Try_now, Begin_wait, Settle_timeout, End_wait, Kill, Release, Clone_ticket}
+use Rattle.mdl_space.specs.Calls.{Call, Try_now, Begin_wait, Search, Settle_timeout, End_wait, Kill, Release, Clone_ticket}
 use Rattle.mdl_space.specs.CoreJoins.{Joins}
 use Rattle.mdl_space.specs.Cores.{Core, empty_core, key_at}
 use Rattle.mdl_space.specs.CoreSystems.{system_of, state_of}
 use Rattle.mdl_space.specs.Steps.{Event, Grant, Clone, BeginWait, GrantWaiter, SettleLost, EndGrantedWait, EndLostWait, Release as Give_up, Happens, Run, SameSystem}
-use Rattle.mdl_space.specs.Systems.{Unsettled, TimedOut, Killed, Holding, Waiter, System, empty_system, IsLawful, IsGrantable, NoneForgotten}
+use Rattle.mdl_space.specs.Systems.{Unsettled, Victim, TimedOut, Killed, Holding, Waiter, System, empty_system, IsLawful, IsGrantable, NoneForgotten}
 use Rattle.mdl_space.specs.Ties.{IsSound}
 
 -- whether a call with this answer changes who holds what, who waits for what, or how a wait is settled
@@ -19,6 +19,7 @@ abbrev pub is_change : Call → Answer → Bool
 is_change (Try_now _ _ _) (Granted _) = true
 is_change (Begin_wait _ _ _) (Granted _) = true
 is_change (Begin_wait _ _ _) (Waits _) = true
+is_change (Search _) (Victim_is _) = true
 is_change (Settle_timeout _) (Timed_out ByThisCall) = true
 is_change (End_wait _) (Granted _) = true
 is_change (End_wait _) (Lost _) = true
@@ -35,6 +36,8 @@ IsEventOf a (Begin_wait who place mode) (Granted id) event =
     event ≡ Grant (record { session = who; number = id; key = key_at place a; mode = mode })
 IsEventOf a (Begin_wait who place mode) (Waits number) event =
     (id : ℕ) × (event ≡ BeginWait (key_at place a) (record { ticket = record { session = who; number = id; mode = mode }; wait = number; state = Unsettled }))
+IsEventOf a (Search who) (Victim_is victim) event =
+    (key : KeyName) × (waiter : Waiter) × (waiter.ticket.session ≡ victim) × (event ≡ SettleLost key waiter Victim)
 IsEventOf a (Settle_timeout who) (Timed_out ByThisCall) event =
     (key : KeyName) × (waiter : Waiter) × (waiter.ticket.session ≡ who) × (event ≡ SettleLost key waiter TimedOut)
 IsEventOf a (End_wait who) (Granted id) event =

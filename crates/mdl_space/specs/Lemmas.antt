@@ -26,3 +26,4 @@ pub mod TiedMoves
 pub mod TiedSeats
 pub mod TiedWaits
 pub mod TiedWrites
+pub mod VictimLemmas

@@ -9,6 +9,8 @@ pub mod CoreLaws
 pub mod CoreProofs
 pub mod CoreSystems
 pub mod Cores
+pub mod DeadlockLaws
+pub mod Deadlocks
 pub mod Lemmas
 pub mod LoneProofs
 pub mod LoneSessions
@@ -17,6 +19,7 @@ pub mod NumberingLaws
 pub mod Own
 pub mod PermittedEvents
 pub mod Runs
+pub mod Searches
 pub mod Seats
 pub mod SessionLaws
 pub mod Steps

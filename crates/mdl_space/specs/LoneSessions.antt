@@ -5,9 +5,9 @@ use Rattle.std.specs.Option.{IfSome}
 use Rattle.mdl_key.specs.Keys.{KeyName}
 use Rattle.mdl_space.specs.declared.answers.Held.{Held}
 use Rattle.mdl_space.specs.declared.answers.Settled.{Settled}
-use Rattle.mdl_space.specs.declared.answers.Settled.TheVariants.{Killed}
-use Rattle.mdl_space.specs.Calls.{Call, Resolve, End_wait, Wait_of, Kill, caller}
-use Rattle.mdl_space.specs.Answers.{Answer, At_place, Has_wait, Has_killed, Holds, is_answer_of}
+use Rattle.mdl_space.specs.declared.answers.Settled.TheVariants.{Killed, Victim}
+use Rattle.mdl_space.specs.Calls.{Call, Resolve, Search, End_wait, Wait_of, Kill, caller}
+use Rattle.mdl_space.specs.Answers.{Answer, At_place, Victim_is, Has_wait, Has_killed, Holds, is_answer_of}
 use Rattle.mdl_space.specs.Own.{Own, Numbers, own_after, wait_number, is_waiting, IsRising, Draws}
 use Rattle.mdl_space.specs.Causes.{IsExplained}
 use Rattle.mdl_space.specs.Waits.{told, IsToldOf}
@@ -67,6 +67,7 @@ IsSettled a who how = (who ≡ a.who) × (a.settled ≡ Some how)
 -- what an answer of these calls says beside what it does
 abbrev pub IsTold : Lone → Call → Answer → Lone → Type 0
 IsTold a (Resolve who key) (At_place place) b = (place ≡ 1) × (key ≡ a.key)
+IsTold a (Search who) (Victim_is victim) b = (victim ≡ a.who) × (b.settled ≡ Some Victim)
 IsTold a (Wait_of target) (Has_wait number) b = target ≡ a.who → number ≡ wait_number a.own
 IsTold a (Kill target number) (Has_killed true) b =
     (target ≡ a.who) × (wait_number a.own ≡ Some number) × (b.settled ≡ Some Killed)

@@ -53,6 +53,11 @@ abbrev pub is_open : Option Pending → Bool
 is_open None = false
 is_open (Some wait) = not (is_some wait.settled)
 
+-- whether a wait, if there is one, is settled
+abbrev pub is_closed : Option Pending → Bool
+is_closed None = false
+is_closed (Some wait) = is_some wait.settled
+
 -- with the wait settled
 abbrev pub settling : Settled → SeatView → SeatView
 settling how seat = record seat { wait = option_map (λ (wait : Pending). record wait { settled = Some how }) seat.wait }

@@ -48,6 +48,15 @@ pub enum Settled {
     Killed,
 }
 
+/// What comes of a search for a deadlock.
+#[derive(Clone, Copy, Debug, PartialEq, Eq)]
+pub enum Search {
+    /// The session waits in no cycle.
+    NoCycle,
+    /// The session waits in a cycle, of which this session is the victim. Its wait is settled now.
+    Victim(u16),
+}
+
 /// How a wait stands.
 #[derive(Clone, Copy, Debug, PartialEq, Eq)]
 pub enum Poll {

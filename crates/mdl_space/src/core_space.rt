@@ -8,17 +8,18 @@ ghost use Rattle.mdl_book.specs.Granting.{is_compatible};
 ghost use Rattle.mdl_book.specs.Tickets.{ticket_of};
 ghost use Rattle.mdl_space.specs.Strength.{covers};
 ghost use Rattle.mdl_space.specs.Cores.{empty_core, book_at, has_key, has_session, index_of, seat_at};
-ghost use Rattle.mdl_space.specs.CoreCalls.{new_fault, first_cause, request_causes, clone_causes, listing, resolving, trying, beginning, polling, timing_out, ending, looking_after, killing, releasing, granted_unless_full, cloning, Makes};
+ghost use Rattle.mdl_space.specs.CoreCalls.{new_fault, first_cause, request_causes, clone_causes, listing, resolving, trying, beginning, searching, polling, timing_out, ending, looking_after, killing, releasing, granted_unless_full, cloning, Makes};
 ghost use Rattle.mdl_space.specs.CoreJoins.{SpeaksFor};
 ghost use Rattle.mdl_space.specs.Moves.{leaving, freeing, serving};
 ghost use Rattle.mdl_space.specs.Own.{are_rising};
-ghost use Rattle.mdl_space.specs.Answers.{Has_wait, Has_killed, placed, attempted, begun, polled, timed_out, ended, done, cloned, listed};
+ghost use Rattle.mdl_space.specs.Answers.{Has_wait, Has_killed, placed, attempted, begun, searched, polled, timed_out, ended, done, cloned, listed};
 
 use crate::granting::{give, is_free, queue};
 use crate::seat::{Pending, Seat};
 use crate::strength::covers;
 use crate::{
-    Attempt, Begun, Ended, Held, NewError, Place, Poll, Settled, SpaceError, TicketId, TimedOut,
+    Attempt, Begun, Ended, Held, NewError, Place, Poll, Search, Settled, SpaceError, TicketId,
+    TimedOut,
 };
 use mdl_book::Book;
 use mdl_key::{Key, Mode};
@@ -150,6 +151,21 @@ impl CoreSpace {
         match give(seat, book, who, place, mode) {
             Ok(id) => Ok(Begun::Granted(id)),
             Err(cause) => Err(cause),
+        }
+    }
+
+    /// Looks for a deadlock that a session waits in, and settles the wait of its victim.
+    pub(crate) fn find_victim(&mut self, who: u16) -> Result<Search, SpaceError>
+        requires { SpeaksFor self.old who }
+        ensures { Makes true (searching who) self.old (searched result) self.new }
+    {
+        match self.victim_of(who) {
+            Ok(Some(victim)) => {
+                self.seats[usize::from(victim) - 1].settle(Settled::Victim);
+                Ok(Search::Victim(victim))
+            }
+            Ok(None) => Ok(Search::NoCycle),
+            Err(_) => Err(SpaceError::OutOfMemory),
         }
     }
 
@@ -393,6 +409,7 @@ fn place_of(books: &[Book], key: &Key) -> Option<usize>
 }
 
 mod calls;
+mod deadlocks;
 mod serving;
 #[cfg(test)]
 mod tests;

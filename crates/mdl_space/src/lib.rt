@@ -22,7 +22,7 @@ mod session_laws;
 mod space_error;
 mod strength;
 
-pub use answers::{Attempt, Begun, Ended, Held, Poll, Settled, TimedOut};
+pub use answers::{Attempt, Begun, Ended, Held, Poll, Search, Settled, TimedOut};
 pub use core_laws::{
     calls_are_events, calls_keep_sound, calls_lead_by_events, covers_by_kind,
     grants_what_is_grantable,

@@ -4,13 +4,13 @@ ghost use Rattle.std.specs.Option.{IfSome};
 ghost use Rattle.mdl_key.specs.Keys.{KeyName};
 ghost use Rattle.mdl_space.specs.declared.answers.Settled.{Settled};
 ghost use Rattle.mdl_space.specs.declared.answers.Held.{Held};
-ghost use Rattle.mdl_space.specs.Calls.{Call, Resolve, Try_now, Begin_wait, Poll_wait, Settle_timeout, End_wait, Wait_of, Kill, Release, Clone_ticket, List_held, Unpin, caller};
-ghost use Rattle.mdl_space.specs.Answers.{Answer, Done, At_place, Has_wait, Has_killed, Holds, is_answer_of, placed, attempted, begun, polled, timed_out, ended, done, cloned, listed};
+ghost use Rattle.mdl_space.specs.Calls.{Call, Resolve, Try_now, Begin_wait, Search as Search_by, Poll_wait, Settle_timeout, End_wait, Wait_of, Kill, Release, Clone_ticket, List_held, Unpin, caller};
+ghost use Rattle.mdl_space.specs.Answers.{Answer, Done, At_place, Victim_is, Has_wait, Has_killed, Holds, is_answer_of, placed, attempted, begun, searched, polled, timed_out, ended, done, cloned, listed};
 ghost use Rattle.mdl_space.specs.Own.{Own, Wait, Numbers, own_after, wait_number, is_waiting, IsRising, Draws};
 ghost use Rattle.mdl_space.specs.Causes.{IsExplained};
 ghost use Rattle.mdl_space.specs.Waits.{told, IsToldOf};
 
-use crate::{Attempt, Begun, Ended, Held, Poll, SpaceError, TimedOut};
+use crate::{Attempt, Begun, Ended, Held, Poll, Search, SpaceError, TimedOut};
 use mdl_key::{Key, Mode};
 
 /// The place of a key in a lock space, from 1.
@@ -59,6 +59,14 @@ pub trait LockSpace {
     fn begin_wait(&mut self, who: u16, place: Place, mode: Mode) -> Result<Begun, SpaceError>
         requires { speaks_for self.old who }
         ensures { joins self.old (Begin_wait who place mode) (begun result) self.new };
+
+    /// Looks for a cycle of unsettled sessions, each of which waits for the next, through this one, and settles the wait of
+    /// one of them, the victim. One search breaks one cycle; there may be others.
+    ///
+    /// After MySQL 5.7, `MDL_context::find_deadlock` of `sql/mdl.cc`.
+    fn search(&mut self, who: u16) -> Result<Search, SpaceError>
+        requires { speaks_for self.old who }
+        ensures { joins self.old (Search_by who) (searched result) self.new };
 
     /// How the session's wait stands. It takes no memory.
     fn poll_wait(&mut self, who: u16) -> Result<Poll, SpaceError>
@@ -170,6 +178,10 @@ pub trait LockSpace {
     // The caller is told of a settled wait as it is settled.
     ghost agrees: { (a b : Self) (call : Call) (answer : Answer) (who : ℕ) (how : Settled) → caller call ≡ Some who
         → is_settled a who how → joins a call answer b → IsToldOf how call answer };
+
+    // The victim of a deadlock has lost its wait.
+    ghost victims: { (a b : Self) (who victim : ℕ) → speaks_for a victim → joins a (Search_by who) (Victim_is victim) b
+        → is_settled b victim Settled.Victim };
 
     // The number of a wait is told truly.
     ghost counts: { (a b : Self) (w : ℕ) (number : Option ℕ) → speaks_for a w → joins a (Wait_of w) (Has_wait number) b

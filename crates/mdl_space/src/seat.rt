@@ -2,7 +2,7 @@
 ghost use Rattle.std.specs.Prelude.{◌≡◌, ℕ, ◌+◌, ◌<◌, ◌^◌, find, position, Some, None, IsTrue, OnOk, OnErr, IsOkUnless};
 ghost use Rattle.mdl_key.specs.declared.mode.Mode.{Mode};
 ghost use Rattle.mdl_space.specs.Own.{are_rising, is_number};
-ghost use Rattle.mdl_space.specs.Seats.{SeatView, empty_seat, holding, without_ticket, beginning_wait, is_open, settling, without_wait, with_ticket_of};
+ghost use Rattle.mdl_space.specs.Seats.{SeatView, empty_seat, holding, without_ticket, beginning_wait, is_closed, is_open, settling, without_wait, with_ticket_of};
 
 use crate::{Held, Place, Settled, SpaceError, TicketId};
 use mdl_key::Mode;
@@ -85,6 +85,16 @@ impl Seat {
         ensures { result ≡ self.now.last_wait }
     {
         self.last_wait
+    }
+
+    /// Whether there is a wait that is settled.
+    pub(crate) fn is_settled(&self) -> bool
+        ensures { result ≡ is_closed self.now.wait }
+    {
+        match self.wait {
+            Some(wait) => wait.settled.is_some(),
+            None => false,
+        }
     }
 
     /// Whether there is a wait that isn't settled.

@@ -12,8 +12,8 @@ use Rattle.mdl_space.specs.declared.answers.TimedOut.TheVariants.{ByThisCall, Al
 use Rattle.mdl_space.specs.declared.seat.Pending.{Pending}
 use Rattle.mdl_space.specs.declared.space_error.SpaceError.{SpaceError}
 use Rattle.mdl_space.specs.declared.space_error.SpaceError.TheVariants.{NoPlace, NotHeld, AlreadyWaiting, BadMode, NoWait, Unsettled, CounterFull, Full}
-use Rattle.mdl_space.specs.Answers.{Answer, Refused, Done, At_place, Granted, Would_wait, Waits, Pending as Is_pending, Is_settled, Timed_out, Lost, Has_killed}
-use Rattle.mdl_space.specs.CoreCalls.{refused_or, first_cause, is_counted_out, is_full, placing, resolving, request_causes, granted_unless_full, queued_unless_full, trying, beginning, cloning_of, cloning, held_ticket, releasing_of, releasing, standing, polling_of, polling, timing_out_at, timing_out_of, timing_out, ending_at, ending_of, ending, wait_at, is_open_wait, killing}
+use Rattle.mdl_space.specs.Answers.{Answer, Refused, Done, At_place, Granted, Would_wait, Waits, Pending as Is_pending, Is_settled, Timed_out, Lost, Has_killed, No_cycle, Victim_is}
+use Rattle.mdl_space.specs.CoreCalls.{refused_or, first_cause, is_counted_out, is_full, placing, resolving, request_causes, granted_unless_full, queued_unless_full, trying, beginning, cloning_of, cloning, held_ticket, releasing_of, releasing, standing, polling_of, polling, timing_out_at, timing_out_of, timing_out, ending_at, ending_of, ending, wait_at, is_open_wait, killing, victim_at, searching_of, searching}
 use Rattle.mdl_space.specs.Cores.{Core, book_at, seat_at, has_key, has_session, index_of, is_free}
 use Rattle.mdl_space.specs.Moves.{opening, granting_to, queueing, losing, taking_up, leaving, freeing, serving}
 use Rattle.mdl_space.specs.Strength.{covers}
@@ -247,3 +247,13 @@ pub kill_cases : (P : Answer × Core → Type 0) (target number : ℕ) (a : Core
 kill_cases P target number a killed missed =
     test_cases P (is_open_wait number (wait_at target a)) (Has_killed true, losing target settled_as.Killed a) (Has_killed false, a)
     (λ e. let h = open_wait a target number e in killed h.0 h.1 h.2 h.3 h.4) (λ _. missed)
+
+pub search_cases : (P : Answer × Core → Type 0) (who : ℕ) (a : Core)
+    → ((victim : ℕ) → victim_at who a ≡ Some victim → P (Victim_is victim, losing victim settled_as.Victim a))
+    → P (No_cycle, a)
+    → P (searching who a)
+search_cases P who a lost none = go (victim_at who a) refl
+  where
+    go : (o : Option ℕ) → victim_at who a ≡ o → P (searching_of o a)
+    go None e = none
+    go (Some victim) e = lost victim e

@@ -9,7 +9,7 @@ use Rattle.mdl_space.specs.declared.seat.Pending.{Pending}
 use Rattle.mdl_space.specs.declared.space_error.SpaceError.{SpaceError}
 use Rattle.mdl_space.specs.declared.space_error.SpaceError.TheVariants.{NoPlace, AlreadyWaiting, BadMode, CounterFull, Full, OutOfMemory}
 use Rattle.mdl_space.specs.Answers.{Answer}
-use Rattle.mdl_space.specs.Calls.{Call, Resolve, Try_now, Begin_wait, Poll_wait, Settle_timeout, End_wait, Wait_of, Kill, Release, Clone_ticket, Change_definition, List_held, caller, takes_memory}
+use Rattle.mdl_space.specs.Calls.{Call, Resolve, Try_now, Begin_wait, Search, Poll_wait, Settle_timeout, End_wait, Wait_of, Kill, Release, Clone_ticket, Change_definition, List_held, caller, takes_memory}
 use Rattle.mdl_space.specs.Causes.{OfHeld, IsFit, IsUnfit, IsUnknown, MayClone, MayNotClone, IsCause, IsExplained}
 use Rattle.mdl_space.specs.CoreCalls.{has_call, outcome, held_ticket}
 use Rattle.mdl_space.specs.CoreJoins.{own_at, Knows, Joins}
@@ -17,7 +17,7 @@ use Rattle.mdl_space.specs.Cores.{Core, seat_at, has_key}
 use Rattle.mdl_space.specs.Own.{is_waiting, holds}
 use Rattle.mdl_space.specs.Seats.{SeatView, own_of}
 use Rattle.mdl_space.specs.Strength.{covers}
-use Rattle.mdl_space.specs.CoreProofs.Cases.{waits, is_fit, IsAskRefusal, IsClonable, IsCloneRefusal, resolve_cases, try_cases, begin_cases, clone_cases, release_cases, poll_cases, timeout_cases, end_cases, kill_cases}
+use Rattle.mdl_space.specs.CoreProofs.Cases.{waits, is_fit, IsAskRefusal, IsClonable, IsCloneRefusal, resolve_cases, try_cases, begin_cases, clone_cases, release_cases, poll_cases, timeout_cases, end_cases, kill_cases, search_cases}
 use Rattle.mdl_space.specs.CoreProofs.Owned.{joined, called}
 use Rattle.mdl_space.specs.CoreProofs.Places.{unplaced}
 use Rattle.mdl_space.specs.CoreProofs.Steps.{subject}
@@ -104,6 +104,7 @@ memory-explained a who (Resolve _ _) has takes = tt
 memory-explained a who (Try_now _ _ _) has takes = tt
 memory-explained a who (Begin_wait _ _ _) has takes = tt
 memory-explained a who (Clone_ticket _ _ _) has takes = tt
+memory-explained a who (Search _) has takes = tt
 memory-explained a who (List_held _) has takes = tt
 memory-explained a who (Change_definition _ _ _) has takes = cc
 memory-explained a who (Poll_wait _) has takes = cc
@@ -123,6 +124,7 @@ outcome-explained a (Try_now who place mode) has =
 outcome-explained a (Begin_wait who place mode) has =
     begin_cases (Explained a who (Begin_wait who place mode)) who place mode a (begin-cause a who place mode)
     (λ ask. (waiting a who false ask.0, fit a who place mode ask.1)) (λ ask. (waiting a who false ask.0, fit a who place mode ask.1))
+outcome-explained a (Search who) has = search_cases (Explained a who (Search who)) who a (λ victim _. tt) tt
 outcome-explained a (Poll_wait who) has =
     poll_cases (Explained a who (Poll_wait who)) who a (λ none. waits_so a who None none)
     (λ wait its _. waits_so a who (Some wait) its) (λ wait its how _. waits_so a who (Some wait) its)

@@ -121,6 +121,12 @@ pub losing-moves : (a : Core) (who : ℕ) (how : Settled) → has_session who a 
     → Moves a who (own_at a who) false (losing who how a)
 losing-moves a who how is unsettled = settles a (losing who how a) who how is unsettled refl (λ w place key knows. knows)
 
+-- all sessions have what they had
+pub losing-serves : (a : Core) (who : ℕ) (how : Settled) → has_session who a ≡ true → is_open (seat_at who a).wait ≡ true → Serves a (losing who how a)
+losing-serves a who how is unsettled =
+    serves-one a (losing who how a) who (losing-moves a who how is unsettled)
+    (ap numbers_of (seat-written a (losing who how a) who (settling how (seat_at who a)) is refl))
+
 -- ---- waiters
 
 admitting-serves : (a : Core) (place : ℕ) (ticket : Ticket) → is_ready place a ticket ≡ true → Serves a (admitting_at place ticket a)

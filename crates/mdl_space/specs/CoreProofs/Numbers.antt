@@ -7,7 +7,7 @@ use Rattle.mdl_space.specs.declared.answers.Settled.TheVariants as settled_as
 use Rattle.mdl_space.specs.declared.seat.Pending.{Pending}
 use Rattle.mdl_space.specs.declared.space_error.SpaceError.TheVariants.{OutOfMemory}
 use Rattle.mdl_space.specs.Answers.{Answer, Refused}
-use Rattle.mdl_space.specs.Calls.{Call, Resolve, Try_now, Begin_wait, Poll_wait, Settle_timeout, End_wait, Wait_of, Kill, Release, Clone_ticket, List_held, caller}
+use Rattle.mdl_space.specs.Calls.{Call, Resolve, Try_now, Begin_wait, Search, Poll_wait, Settle_timeout, End_wait, Wait_of, Kill, Release, Clone_ticket, List_held, caller}
 use Rattle.mdl_space.specs.CoreCalls.{has_call, outcome}
 use Rattle.mdl_space.specs.CoreJoins.{SpeaksFor, numbers_at, Joins}
 use Rattle.mdl_space.specs.Cores.{Core, seat_at, has_session}
@@ -15,12 +15,12 @@ use Rattle.mdl_space.specs.Moves.{granting_to, queueing, losing, taking_up, leav
 use Rattle.mdl_space.specs.Own.{Numbers, DrawsTicket, DrawsWait, Draws}
 use Rattle.mdl_space.specs.Seats.{SeatView, numbers_of, holding, without_ticket, beginning_wait, settling, without_wait, with_ticket_of}
 use Rattle.mdl_space.specs.Ties.{IsNumbered}
-use Rattle.mdl_space.specs.CoreProofs.Cases.{resolve_cases, try_cases, begin_cases, clone_cases, release_cases, poll_cases, timeout_cases, end_cases, kill_cases}
+use Rattle.mdl_space.specs.CoreProofs.Cases.{resolve_cases, try_cases, begin_cases, clone_cases, release_cases, poll_cases, timeout_cases, end_cases, kill_cases, search_cases}
 use Rattle.mdl_space.specs.CoreProofs.Choices.{nat_told}
 use Rattle.mdl_space.specs.CoreProofs.Moves.{serving-serves}
 use Rattle.mdl_space.specs.CoreProofs.Owned.{joined, called, joins-steps}
 use Rattle.mdl_space.specs.CoreProofs.Seats.{seat-written, sessions-written}
-use Rattle.mdl_space.specs.CoreProofs.Steps.{subject}
+use Rattle.mdl_space.specs.CoreProofs.Steps.{subject, victim-serves}
 
 -- ---- what each move does to the numbers
 
@@ -68,6 +68,8 @@ numbered a (Try_now who place mode) has is =
 numbered a (Begin_wait who place mode) has is =
     begin_cases (Numbered a (Begin_wait who place mode)) who place mode a (λ refusal _. refl)
     (λ _. queueing-draws a who is.0 place mode) (λ _. granting-draws a who is.0 place mode)
+numbered a (Search who) has is =
+    search_cases (Numbered a (Search who)) who a (λ victim found. (victim-serves a who victim is found).numbers who is.0) refl
 numbered a (Poll_wait who) has is =
     poll_cases (Numbered a (Poll_wait who)) who a (λ _. refl) (λ wait _ _. refl) (λ wait _ how _. refl)
 numbered a (Settle_timeout who) has is =

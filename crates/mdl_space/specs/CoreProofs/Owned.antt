@@ -1,18 +1,18 @@
 -- What a call of the space of one thread does to what the sessions have, and that its answer is one of its own.
-use Rattle.std.proofs.Common.{◌≡◌, ◌⊎◌, ℕ, true, List, Option, Some, None, IfSome, refl, sym, ap, subst, ◌∙◌, inl, inr}
+use Rattle.std.proofs.Common.{◌≡◌, ◌⊎◌, ℕ, true, List, Some, None, IfSome, refl, sym, ap, subst, ◌∙◌, inl, inr}
 use Rattle.mdl_space.specs.declared.answers.Held.{Held}
 use Rattle.mdl_space.specs.declared.answers.Settled.{Settled}
 use Rattle.mdl_space.specs.declared.answers.Settled.TheVariants as settled_as
 use Rattle.mdl_space.specs.declared.space_error.SpaceError.{SpaceError}
 use Rattle.mdl_space.specs.declared.space_error.SpaceError.TheVariants.{OutOfMemory}
 use Rattle.mdl_space.specs.Answers.{Answer, Refused, Lost, Holds, is_answer_of}
-use Rattle.mdl_space.specs.Calls.{Call, Resolve, Try_now, Begin_wait, Poll_wait, Settle_timeout, End_wait, Wait_of, Kill, Release, Clone_ticket, List_held, caller, takes_memory}
+use Rattle.mdl_space.specs.Calls.{Call, Resolve, Try_now, Begin_wait, Search, Poll_wait, Settle_timeout, End_wait, Wait_of, Kill, Release, Clone_ticket, List_held, caller, takes_memory}
 use Rattle.mdl_space.specs.CoreCalls.{has_call, outcome}
 use Rattle.mdl_space.specs.CoreJoins.{SpeaksFor, own_at, Joins}
 use Rattle.mdl_space.specs.CoreLaws.{CallsKeepSound}
 use Rattle.mdl_space.specs.Cores.{Core, seat_at, has_session}
 use Rattle.mdl_space.specs.Own.{Own, own_after, IsRising}
-use Rattle.mdl_space.specs.CoreProofs.Cases.{resolve_cases, try_cases, begin_cases, clone_cases, release_cases, poll_cases, timeout_cases, end_cases, kill_cases}
+use Rattle.mdl_space.specs.CoreProofs.Cases.{resolve_cases, try_cases, begin_cases, clone_cases, release_cases, poll_cases, timeout_cases, end_cases, kill_cases, search_cases}
 use Rattle.mdl_space.specs.CoreProofs.Seats.{Moves, stands}
 use Rattle.mdl_space.specs.CoreProofs.Steps.{Steps, subject, ends_wait, steps}
 use Rattle.mdl_space.specs.CoreProofs.Choices.{nat_told}
@@ -42,10 +42,6 @@ caller-or_same _ = inl refl
 pub called : (call : Call) (who : ℕ) → caller call ≡ Some who → subject call ≡ who
 called call who made = elim (caller-or_same call) [ inl own ↦ (let e = own in cc) | inr none ↦ (let e = none.0 in cc) ]
 
-session_of : (a : Core) (o : Option ℕ) → IfSome o (SpeaksFor a) → IfSome o (λ who. has_session who a ≡ true)
-session_of a None speaks = speaks
-session_of a (Some who) speaks = speaks.0
-
 -- whoever makes a call is spoken for
 pub caller-speaks : (a b : Core) (call : Call) (answer : Answer) (who : ℕ) → caller call ≡ Some who → Joins a call answer b → SpeaksFor a who
 caller-speaks a b call answer who made joins = subst (λ o. IfSome o (SpeaksFor a)) made joins.0
@@ -54,7 +50,7 @@ pub joins-steps : (a b : Core) (call : Call) (answer : Answer) → Joins a call 
 joins-steps a b call answer joins =
     joined (Steps a call) a b call answer joins
     (λ _. subst (λ after. Moves a (subject call) after (ends_wait call) a) (sym (refused-same call OutOfMemory (own_at a (subject call)))) (stands a (subject call) (ends_wait call)))
-    (steps a call joins.1 (session_of a (caller call) joins.0))
+    (steps a call joins.1 joins.0)
 
 -- ---- the laws
 
@@ -111,6 +107,7 @@ outcome-fits : (a : Core) (call : Call) → has_call call ≡ true → Fits call
 outcome-fits a (Resolve who key) has = resolve_cases (Fits (Resolve who key)) key a (λ index _. refl) (λ _. refl) (λ _. refl)
 outcome-fits a (Try_now who place mode) has = try_cases (Fits (Try_now who place mode)) who place mode a (λ refusal _. refl) (λ _. refl) (λ _. refl)
 outcome-fits a (Begin_wait who place mode) has = begin_cases (Fits (Begin_wait who place mode)) who place mode a (λ refusal _. refl) (λ _. refl) (λ _. refl)
+outcome-fits a (Search who) has = search_cases (Fits (Search who)) who a (λ victim _. refl) refl
 outcome-fits a (Poll_wait who) has = poll_cases (Fits (Poll_wait who)) who a (λ _. refl) (λ wait _ _. refl) (λ wait _ how _. refl)
 outcome-fits a (Settle_timeout who) has = timeout_cases (Fits (Settle_timeout who)) who a (λ _. refl) (λ wait _ _. refl) (λ wait _ how _. refl)
 outcome-fits a (End_wait who) has =

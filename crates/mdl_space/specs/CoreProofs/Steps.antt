@@ -12,15 +12,16 @@ use Rattle.mdl_space.specs.declared.answers.Settled.TheVariants as settled_as
 use Rattle.mdl_space.specs.declared.seat.Pending.{Pending}
 use Rattle.mdl_space.specs.Answers.{Answer}
 use Rattle.mdl_space.specs.Calls.{Call, Resolve, Try_now, Begin_wait, Search, Poll_wait, Settle_timeout, End_wait, Wait_of, Kill, Release, Clone_ticket, Upgrade_now, Merge, Downgrade, Read_definition, Change_definition, Tables_of, Key_of, Read_kept, List_held, Unpin, caller}
-use Rattle.mdl_space.specs.CoreCalls.{resolving, trying, beginning, cloning, held_ticket, releasing, polling, timing_out, ending, killing, has_call, outcome}
-use Rattle.mdl_space.specs.CoreJoins.{own_at, Knows}
+use Rattle.mdl_space.specs.CoreCalls.{resolving, trying, beginning, cloning, held_ticket, releasing, polling, timing_out, ending, killing, searching, victim_at, has_call, outcome}
+use Rattle.mdl_space.specs.CoreJoins.{SpeaksFor, own_at, Knows}
 use Rattle.mdl_space.specs.Cores.{Core, seat_at, has_session}
-use Rattle.mdl_space.specs.Moves.{opening, granting_to, leaving, freeing, serving}
+use Rattle.mdl_space.specs.Moves.{opening, granting_to, losing, leaving, freeing, serving}
 use Rattle.mdl_space.specs.Own.{own_after, cloning as cloning_own, ending as ending_own, giving_up, is_number}
 use Rattle.mdl_space.specs.Seats.{is_open}
-use Rattle.mdl_space.specs.CoreProofs.Cases.{resolve_cases, try_cases, begin_cases, clone_cases, release_cases, poll_cases, timeout_cases, end_cases, kill_cases}
-use Rattle.mdl_space.specs.CoreProofs.Moves.{granting-moves, queueing-moves, taking_up-moves, leaving-moves, freeing-moves, losing-moves, serving-serves}
-use Rattle.mdl_space.specs.CoreProofs.Seats.{session_bounds, Moves, stands, moves-then}
+use Rattle.mdl_space.specs.CoreProofs.Cases.{resolve_cases, try_cases, begin_cases, clone_cases, release_cases, poll_cases, timeout_cases, end_cases, kill_cases, search_cases}
+use Rattle.mdl_space.specs.CoreProofs.Moves.{granting-moves, queueing-moves, taking_up-moves, leaving-moves, freeing-moves, losing-moves, losing-serves, serving-serves}
+use Rattle.mdl_space.specs.CoreProofs.Seats.{session_bounds, Moves, Serves, stands, moves-then}
+use Rattle.mdl_space.specs.Lemmas.VictimLemmas.{victim-waits}
 
 -- the session that a call is about: who makes it, or whose wait is looked after or killed
 abbrev pub subject : Call → ℕ
@@ -135,18 +136,31 @@ kill-steps a target number =
     kill_cases (Steps a (Kill target number)) target number a
     (λ wait is its _ unsettled. losing-moves a target settled_as.Killed is (is_open_at a target is wait its unsettled)) (stands a target false)
 
+-- all sessions have what they had when a deadlock's victim loses its wait
+pub victim-serves : (a : Core) (who victim : ℕ) → SpeaksFor a who → victim_at who a ≡ Some victim → Serves a (losing victim settled_as.Victim a)
+victim-serves a who victim speaks found =
+    let h = victim-waits a who victim speaks.1.tied found in
+    losing-serves a victim settled_as.Victim h.1 (is_open_at a victim h.1 h.0 h.2 h.3)
+
+search-steps : (a : Core) (who : ℕ) → SpeaksFor a who → Steps a (Search who) (searching who a)
+search-steps a who speaks =
+    search_cases (Steps a (Search who)) who a
+    (λ victim found. moves-then a a (losing victim settled_as.Victim a) who (own_at a who) false speaks.0 (stands a who false) (victim-serves a who victim speaks found))
+    (stands a who false)
+
 -- ---- all calls
 
-pub steps : (a : Core) (call : Call) → has_call call ≡ true → IfSome (caller call) (λ who. has_session who a ≡ true) → Steps a call (outcome call a)
+pub steps : (a : Core) (call : Call) → has_call call ≡ true → IfSome (caller call) (SpeaksFor a) → Steps a call (outcome call a)
 steps a (Resolve who key) has is = resolve-steps a who key
-steps a (Try_now who place mode) has is = try-steps a who is place mode
-steps a (Begin_wait who place mode) has is = begin-steps a who is place mode
-steps a (Poll_wait who) has is = poll-steps a who is
-steps a (Settle_timeout who) has is = timeout-steps a who is
-steps a (End_wait who) has is = end-steps a who is
+steps a (Try_now who place mode) has is = try-steps a who is.0 place mode
+steps a (Begin_wait who place mode) has is = begin-steps a who is.0 place mode
+steps a (Search who) has is = search-steps a who is
+steps a (Poll_wait who) has is = poll-steps a who is.0
+steps a (Settle_timeout who) has is = timeout-steps a who is.0
+steps a (End_wait who) has is = end-steps a who is.0
 steps a (Wait_of target) has is = stands a target false
 steps a (Kill target number) has is = kill-steps a target number
-steps a (Release who id) has is = release-steps a who is id
-steps a (Clone_ticket who id mode) has is = clone-steps a who is id mode
+steps a (Release who id) has is = release-steps a who is.0 id
+steps a (Clone_ticket who id mode) has is = clone-steps a who is.0 id mode
 steps a (List_held who) has is = stands a who false
 steps a _ has is = cc

@@ -4,19 +4,20 @@ use Rattle.mdl_space.specs.declared.answers.Settled.{Settled}
 use Rattle.mdl_space.specs.declared.answers.Settled.TheVariants as settled_as
 use Rattle.mdl_space.specs.declared.answers.TimedOut.TheVariants.{Already}
 use Rattle.mdl_space.specs.declared.seat.Pending.{Pending}
-use Rattle.mdl_space.specs.Answers.{Answer, Granted, Lost, Has_wait, Has_killed, Is_settled, Timed_out}
-use Rattle.mdl_space.specs.Calls.{Call, Poll_wait, Settle_timeout, End_wait, Wait_of, Kill, caller}
-use Rattle.mdl_space.specs.CoreCalls.{wait_at, is_open_wait, killing}
+use Rattle.mdl_space.specs.Answers.{Answer, Granted, Lost, Has_wait, Has_killed, Victim_is, Is_settled, Timed_out}
+use Rattle.mdl_space.specs.Calls.{Call, Search, Poll_wait, Settle_timeout, End_wait, Wait_of, Kill, caller}
+use Rattle.mdl_space.specs.CoreCalls.{wait_at, is_open_wait, killing, victim_at}
 use Rattle.mdl_space.specs.CoreJoins.{SpeaksFor, own_at, IsSettledAs, Joins}
 use Rattle.mdl_space.specs.Cores.{Core, seat_at, has_session}
 use Rattle.mdl_space.specs.Moves.{losing}
 use Rattle.mdl_space.specs.Own.{wait_number, is_waiting}
 use Rattle.mdl_space.specs.Seats.{SeatView, own_of, settling}
 use Rattle.mdl_space.specs.Waits.{told, IsEndOf, IsToldOf}
-use Rattle.mdl_space.specs.CoreProofs.Cases.{poll_cases, timeout_cases, end_cases, kill_cases}
+use Rattle.mdl_space.specs.CoreProofs.Cases.{poll_cases, timeout_cases, end_cases, kill_cases, search_cases}
 use Rattle.mdl_space.specs.CoreProofs.Owned.{joined, called, caller-speaks, joins-steps, core-keeps_sessions}
 use Rattle.mdl_space.specs.CoreProofs.Seats.{HasSettled, settled-seat, seat-settled, seat-written, wait-of_session}
 use Rattle.mdl_space.specs.CoreProofs.Steps.{subject, ends_wait}
+use Rattle.mdl_space.specs.Lemmas.VictimLemmas.{victim-waits}
 use Rattle.mdl_space.specs.CoreProofs.Choices.{nat_told, test_cases}
 
 -- ---- seats with a settled wait
@@ -213,3 +214,20 @@ core-kills_or_settled a b w number speaks joins waits =
         (λ opened e. cc)
         (λ shut e n. shut-settled number (seat_at w a).wait (number-same (seat_at w a) ∙ n)
         (ap (is_open_wait number) (sym (wait-of_session a w speaks.0)) ∙ shut))
+
+-- ---- victims
+
+abbrev Falls : ℕ → Answer × Core → Type 0
+Falls victim result = result.0 ≡ Victim_is victim → HasSettled (seat_at victim result.1) settled_as.Victim
+
+-- the victim of a deadlock has lost its wait
+pub core-victims : (a b : Core) (who victim : ℕ) → SpeaksFor a victim → Joins a (Search who) (Victim_is victim) b → IsSettledAs b victim settled_as.Victim
+core-victims a b who victim speaks joins =
+    seat-settled b victim settled_as.Victim (core-keeps_sessions a b (Search who) (Victim_is victim) victim speaks.0 joins)
+    (joined (Falls victim) a b (Search who) (Victim_is victim) joins (λ takes e. cc) (search_cases (Falls victim) who a fallen (λ e. cc)) refl)
+  where
+    fallen : (found : ℕ) → victim_at who a ≡ Some found → Falls victim (Victim_is found, losing found settled_as.Victim a)
+    fallen found e same =
+        let is : found ≡ victim = cc in
+        let h = victim-waits a who found speaks.1.tied e in
+        subst (λ w. HasSettled (seat_at w (losing found settled_as.Victim a)) settled_as.Victim) is (lost-settled a found h.0 settled_as.Victim h.1 h.2)

@@ -25,7 +25,7 @@ use Rattle.mdl_space.specs.Ties.{IsSound}
 use Rattle.mdl_space.specs.Lemmas.CoreCallsFollow.{request_clear, follows-resolving, follows-trying, follows-beginning}
 use Rattle.mdl_space.specs.Lemmas.CoreEvents.{same_members}
 use Rattle.mdl_space.specs.Lemmas.CoreFollows.{Follows, LeadsTo, follows-same}
-use Rattle.mdl_space.specs.Lemmas.CoreWaitsFollow.{follows-polling, follows-timing_out, follows-killing, follows-ending, follows-releasing, follows-cloning}
+use Rattle.mdl_space.specs.Lemmas.CoreWaitsFollow.{follows-polling, follows-timing_out, follows-killing, follows-searching, follows-ending, follows-releasing, follows-cloning}
 use Rattle.mdl_space.specs.Lemmas.LawfulLemmas.{empty-lawful, run-lawful}
 use Rattle.mdl_space.specs.Lemmas.CoreGranted.{free-grantable}
 use Rattle.mdl_space.specs.Lemmas.TiedMoves.{tied-empty}
@@ -60,6 +60,7 @@ module _ {C : Type 0} (apply : KeyName → C → Option Definition → Option (O
   outcome-follows a (Resolve who key) sound speaks has = follows-resolving apply a sound who key
   outcome-follows a (Try_now who place mode) sound speaks has = follows-trying apply a sound who place mode speaks.0
   outcome-follows a (Begin_wait who place mode) sound speaks has = follows-beginning apply a sound who place mode speaks.0
+  outcome-follows a (Search who) sound speaks has = follows-searching apply a sound who
   outcome-follows a (Poll_wait who) sound speaks has = follows-polling apply a sound who
   outcome-follows a (Settle_timeout who) sound speaks has = follows-timing_out apply a sound who speaks.0
   outcome-follows a (End_wait who) sound speaks has = follows-ending apply a sound who speaks.0

@@ -15,9 +15,9 @@ use Rattle.mdl_space.specs.declared.answers.TimedOut.TheVariants.{ByThisCall, Al
 use Rattle.mdl_space.specs.declared.seat.Pending.{Pending}
 use Rattle.mdl_space.specs.declared.space_error.SpaceError.{SpaceError}
 use Rattle.mdl_space.specs.declared.space_error.SpaceError.TheVariants.{NotHeld, NoWait, Full, Unsettled as Not_settled}
-use Rattle.mdl_space.specs.Answers.{Answer, Refused, Done, Granted, Timed_out, Lost, Has_killed}
-use Rattle.mdl_space.specs.Calls.{Call, Poll_wait, Settle_timeout, End_wait, Kill, Release, Clone_ticket}
-use Rattle.mdl_space.specs.CoreCalls.{first_cause, refused_or, is_counted_out, is_full, granted_unless_full, clone_causes, cloning_of, cloning, held_ticket, releasing_of, releasing, standing, polling_of, polling, timing_out_at, timing_out_of, timing_out, ending_at, ending_of, ending, is_open_wait, killing}
+use Rattle.mdl_space.specs.Answers.{Answer, Refused, Done, Granted, Timed_out, Lost, Has_killed, No_cycle, Victim_is}
+use Rattle.mdl_space.specs.Calls.{Call, Search, Poll_wait, Settle_timeout, End_wait, Kill, Release, Clone_ticket}
+use Rattle.mdl_space.specs.CoreCalls.{first_cause, refused_or, is_counted_out, is_full, granted_unless_full, clone_causes, cloning_of, cloning, held_ticket, releasing_of, releasing, standing, polling_of, polling, timing_out_at, timing_out_of, timing_out, ending_at, ending_of, ending, is_open_wait, killing, victim_at, searching_of, searching}
 use Rattle.mdl_space.specs.CoreLaws.{IsEventOf}
 use Rattle.mdl_space.specs.Cores.{Core, book_at, seat_at, key_at, has_key, has_session, booking, seating}
 use Rattle.mdl_space.specs.CoreSystems.{state_of}
@@ -35,6 +35,7 @@ use Rattle.mdl_space.specs.Lemmas.CoreGranted.{holding_of}
 use Rattle.mdl_space.specs.Lemmas.CoreWaiting.{waiting_of, place_of_wait}
 use Rattle.mdl_space.specs.Lemmas.TiedMoves.{tied-granting, tied-losing, tied-taking_up, tied-leaving, tied-freeing}
 use Rattle.mdl_space.specs.Lemmas.CoreCallsFollow.{clone_clear, none_there, unsettled_wait}
+use Rattle.mdl_space.specs.Lemmas.VictimLemmas.{victim-waits}
 
 -- the key of a place whose book was written
 key-written : (core : Core) (place who : ℕ) (book : Lists) (seat : SeatView) → has_key place core ≡ true
@@ -97,6 +98,16 @@ module _ {C : Type 0} (apply : KeyName → C → Option Definition → Option (O
       by false has wait is = follows-same apply a (Kill target number) (Has_killed false) sound refl
       by true has None is = follows-same apply a (Kill target number) (Has_killed false) sound refl
       by true has (Some wait) is = at has wait is (is_open_wait number (Some wait)) refl
+
+  pub follows-searching : (who : ℕ) → F (Search who) (searching who a)
+  follows-searching who = by (victim_at who a) refl
+    where
+      by : (found : Option ℕ) → victim_at who a ≡ found → F (Search who) (searching_of found a)
+      by None e = follows-same apply a (Search who) No_cycle sound refl
+      by (Some victim) e =
+          let h = victim-waits a who victim tied e in
+          lost-follows (Search who) (Victim_is victim) victim settled_as.Victim h.0 h.1 h.2 h.3 (λ x. cc)
+          (key_at h.0.place a, waiting_of victim h.0, refl, refl)
 
   -- a lost wait is ended
   left-follows : (who : ℕ) (wait : Pending) (how : Settled) → has_session who a ≡ true → (seat_at who a).wait ≡ Some wait → wait.settled ≡ Some how

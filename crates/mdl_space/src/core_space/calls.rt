@@ -2,13 +2,15 @@
 ghost use Rattle.mdl_space.specs.CoreJoins.{SpeaksFor, own_at, numbers_at, Knows, IsSettledAs, Joins};
 ghost use Rattle.mdl_space.specs.CoreProofs.Owned.{core-allowed, core-keeps, core-changes, core-others, core-rising, core-fits, core-lists};
 ghost use Rattle.mdl_space.specs.CoreProofs.Places.{core-resolves, core-remembers, core-one_key, core-one_place, core-held_places, core-wait_place};
-ghost use Rattle.mdl_space.specs.CoreProofs.Waits.{core-waits_settled, core-settled_once, core-tells, core-stays, core-agrees, core-counts, core-kills, core-kills_or_settled};
+ghost use Rattle.mdl_space.specs.CoreProofs.Waits.{core-waits_settled, core-settled_once, core-tells, core-stays, core-agrees, core-victims, core-counts, core-kills, core-kills_or_settled};
 ghost use Rattle.mdl_space.specs.CoreProofs.Numbers.{core-draws, core-others_draw};
 ghost use Rattle.mdl_space.specs.CoreProofs.Causes.{core-explains};
 ghost use Rattle.mdl_space.specs.Lemmas.CoreSound.{calls_keep-sound};
 
 use super::CoreSpace;
-use crate::{Attempt, Begun, Ended, Held, LockSpace, Place, Poll, SpaceError, TicketId, TimedOut};
+use crate::{
+    Attempt, Begun, Ended, Held, LockSpace, Place, Poll, Search, SpaceError, TicketId, TimedOut,
+};
 use mdl_key::{Key, Mode};
 
 impl LockSpace for CoreSpace {
@@ -34,6 +36,10 @@ impl LockSpace for CoreSpace {
 
     fn begin_wait(&mut self, who: u16, place: Place, mode: Mode) -> Result<Begun, SpaceError> {
         self.begin_lock(who, place, mode)
+    }
+
+    fn search(&mut self, who: u16) -> Result<Search, SpaceError> {
+        self.find_victim(who)
     }
 
     fn poll_wait(&mut self, who: u16) -> Result<Poll, SpaceError> {
@@ -105,6 +111,8 @@ impl LockSpace for CoreSpace {
     ghost stays = { core-stays };
 
     ghost agrees = { core-agrees };
+
+    ghost victims = { core-victims };
 
     ghost counts = { core-counts };
 

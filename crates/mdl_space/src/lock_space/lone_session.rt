@@ -8,7 +8,7 @@ ghost use Rattle.mdl_space.specs.LoneProofs.{held-at_one, wait-at_one, settled-h
 ghost use Rattle.mdl_space.specs.Own.{ticket_drawn, is_waiting};
 
 use super::{LockSpace, Place, TicketId};
-use crate::{Attempt, Begun, Ended, Held, Poll, Settled, SpaceError, TimedOut};
+use crate::{Attempt, Begun, Ended, Held, Poll, Search, Settled, SpaceError, TimedOut};
 use mdl_key::{Key, Mode};
 use std::alloc::Global;
 use std::marker::Model;
@@ -166,6 +166,8 @@ impl LockSpace for LoneSession {
 
     ghost agrees = { Prim.search rules };
 
+    ghost victims = { Prim.search rules };
+
     ghost counts = { Prim.search rules };
 
     ghost kills = { Prim.search rules };
@@ -216,6 +218,17 @@ impl LockSpace for LoneSession {
         }
         self.ticket = Some(Held { id, place, mode });
         Ok(Begun::Granted(id))
+    }
+
+    fn search(&mut self, _who: u16) -> Result<Search, SpaceError> {
+        let crowded = self.meet();
+        match &mut self.wait {
+            Some(wait) if crowded && wait.settled.is_none() => {
+                wait.settled = Some(Settled::Victim);
+                Ok(Search::Victim(self.who))
+            }
+            _ => Ok(Search::NoCycle),
+        }
     }
 
     fn poll_wait(&mut self, _who: u16) -> Result<Poll, SpaceError> {

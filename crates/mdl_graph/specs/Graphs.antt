@@ -1,0 +1,71 @@
+-- Graphs of sessions that wait for one another, as they are built lock by lock.
+use Rattle.std.specs.Prelude.{◌≡◌, ℕ, Bool, ◌&&◌, ◌==◌, List, [], map, find, Option, Some, None, refl}
+use Rattle.std.specs.Coded.{Coded, code_by, coded×, coded_ℕ, codes}
+use Rattle.std.specs.FinSet as set
+use Rattle.std.specs.List.{list_any}
+use Rattle.std.specs.Option.{option_map}
+use Rattle.std.specs.Ordering.{nat_cmp}
+use Rattle.mdl_book.specs.declared.lists.Lists.{Lists}
+use Rattle.mdl_graph.specs.declared.cycle.Member.{Member}
+use Rattle.mdl_graph.specs.Cycles.{chosen_cycle}
+use Rattle.mdl_graph.specs.Victims.{victim_of}
+use Rattle.mdl_graph.specs.WaitsFor.{SessionTest, waits_for, wishes_in}
+
+-- the settled sessions, what the others wish for, and who waits for whom, in pairs
+pub record GraphView : Type 0 where
+  pub settled : set.FinSet nat_cmp
+  pub wishes : List Member
+  pub ties : List (ℕ × ℕ)
+
+-- a graph is stored as the tuple of its fields
+abbrev pub graph_code : Coded GraphView
+graph_code =
+    code_by (set.FinSet nat_cmp × (List Member × List (ℕ × ℕ)))
+    (coded× (set.code coded_ℕ) (Prim.hlevel codes))
+    (λ graph. (graph.settled, (graph.wishes, graph.ties)))
+    (λ parts. record { settled = parts.0; wishes = parts.1.0; ties = parts.1.1 })
+    (λ _. refl)
+
+-- whether a session of a graph is settled
+abbrev pub is_settled : GraphView → ℕ → Bool
+is_settled graph session = set.contains graph.settled session
+
+-- whether one session of a graph waits for another
+abbrev pub waits : GraphView → ℕ → ℕ → Bool
+waits graph waiter other = list_any (λ tie. tie.0 == waiter && tie.1 == other) graph.ties
+
+-- no lock was added yet
+abbrev pub empty_graph : set.FinSet nat_cmp → GraphView
+empty_graph settled = record { settled = settled; wishes = []; ties = [] }
+
+-- the graph of these locks, where these sessions are settled
+pub record IsGraphOf (settled : SessionTest) (books : List Lists) (graph : GraphView) : Type 0 where
+  pub same_settled : (session : ℕ) → is_settled graph session ≡ settled session
+  pub same_wishes : graph.wishes ≡ wishes_in settled books
+  pub same_waits : (waiter other : ℕ) → waits graph waiter other ≡ waits_for settled books waiter other
+
+-- the weight of a wish, which is the first of its session's
+abbrev pub weight_found : Option Member → ℕ
+weight_found None = 0
+weight_found (Some wish) = wish.weight
+
+-- a session with the weight of its wish
+abbrev pub member_of : List Member → ℕ → Member
+member_of wishes session =
+    record { session = session; weight = weight_found (find (λ wish. wish.session == session) wishes) }
+
+-- the chosen cycle through a session, with the weights of its members' wishes
+abbrev pub cycle_found : List Member → (ℕ → ℕ → Bool) → ℕ → Option (List Member)
+cycle_found wishes waits from = option_map (map (member_of wishes)) (chosen_cycle waits (map (λ wish. wish.session) wishes) from)
+
+-- the chosen cycle of a graph through a session
+abbrev pub deadlock : GraphView → ℕ → Option (List Member)
+deadlock graph from = cycle_found graph.wishes (waits graph) from
+
+-- and that of these locks
+abbrev pub deadlock_in : SessionTest → List Lists → ℕ → Option (List Member)
+deadlock_in settled books from = cycle_found (wishes_in settled books) (waits_for settled books) from
+
+-- the victim of the chosen cycle through a session
+abbrev pub victim_in : SessionTest → List Lists → ℕ → Option ℕ
+victim_in settled books from = option_map victim_of (deadlock_in settled books from)

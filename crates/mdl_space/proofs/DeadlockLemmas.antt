@@ -1,0 +1,28 @@
+-- The graph of all books of the lock space of one thread.
+use Rattle.std.proofs.Common.{◌≡◌, ℕ, ◌≤◌, List, length, map, take, subst, ap, ◌∙◌}
+use Rattle.std.specs.Option.{option_map}
+use Rattle.std.proofs.lemmas.List.{take_all}
+use Rattle.mdl_book.specs.declared.lists.Lists.{Lists}
+use Rattle.mdl_graph.specs.declared.cycle.Member.{Member}
+use Rattle.mdl_graph.specs.CycleLaws.{chosen_same}
+use Rattle.mdl_graph.specs.Graphs.{GraphView, IsGraphOf, waits, member_of, cycle_found, deadlock, deadlock_in}
+use Rattle.mdl_graph.specs.Victims.{victim_of}
+use Rattle.mdl_graph.specs.WaitsFor.{SessionTest, waits_for}
+use Rattle.mdl_space.specs.CoreCalls.{has_settled, victim_at}
+use Rattle.mdl_space.specs.Cores.{Core}
+
+-- the deadlock that it has is the one of the books
+pub deadlock-same : (settled : SessionTest) (books : List Lists) (graph : GraphView) (from : ℕ) → IsGraphOf settled books graph
+    → deadlock graph from ≡ deadlock_in settled books from
+deadlock-same settled books graph from is =
+    ap (option_map (map (member_of graph.wishes)))
+    (chosen_same (waits graph) (waits_for settled books) (map (λ (wish : Member). wish.session) graph.wishes) from is.same_waits)
+    ∙ ap (λ wishes. cycle_found wishes (waits_for settled books) from) is.same_wishes
+
+-- once all books were added, the victim of its deadlock is that of the space
+pub victim-same : (core : Core) (who added : ℕ) (graph : GraphView) → IsGraphOf (has_settled core) (take added core.books) graph
+    → length core.books ≤ added → option_map victim_of (deadlock graph who) ≡ victim_at who core
+victim-same core who added graph is all =
+    ap (option_map victim_of)
+    (deadlock-same (has_settled core) core.books graph who
+    (subst (λ books. IsGraphOf (has_settled core) books graph) (take_all added core.books all) is))
