@@ -115,7 +115,7 @@ module _ {S : Type 0} (joins : S → Call → Answer → S → Type 0) where
   pub run-both : (who : ℕ) (xs ys : List Kept) (a mid b : S) → Runs joins a (releases.releasing_all who xs) tt mid → Runs joins mid (releases.releasing_all who ys) tt b
       → Runs joins a (releases.releasing_all who (xs ++ ys)) tt b
   run-both who [] ys a mid b (same, here) rest = subst (λ s. Runs joins s (releases.releasing_all who ys) tt b) (sym here) rest
-  run-both who (x ∷ xs) ys a mid b (answer, after, step, memory, run) rest = (answer, after, step, memory, run-both who xs ys after mid b run rest)
+  run-both who (x ∷ xs) ys a mid b (answer, after, step, run) rest = (answer, after, step, run-both who xs ys after mid b run rest)
 
   -- and then the context keeps the others
   pub run-given-up : (gone : List Kept) (before after : ContextView) (a b : S) → Runs joins a (releases.releasing_all before.who gone) tt b

@@ -87,7 +87,7 @@ module _ (p : Kept → Bool) (items : List Kept) (i : ℕ) (t : Kept) (inside : 
 
   pub run-goes : {S : Type 0} (joins : S → Call → Answer → S → Type 0) (who : ℕ) (before after b : S) → p t ≡ true → joins before (Release who t.id) Done after
       → Runs joins after (releasing_all who (filter p (drop (i + 1) items))) tt b → Runs joins before (releasing_all who (filter p (drop i items))) tt b
-  run-goes joins who before after b e step run = rw (rest-goes e) (Done, after, step, refl, run)
+  run-goes joins who before after b e step run = rw (rest-goes e) (Done, after, step, run)
 
   pub run-stays : {S : Type 0} (joins : S → Call → Answer → S → Type 0) (who : ℕ) (before b : S) → p t ≡ false
       → Runs joins before (releasing_all who (filter p (drop (i + 1) items))) tt b → Runs joins before (releasing_all who (filter p (drop i items))) tt b

@@ -1,12 +1,12 @@
 -- What a context keeps and what its session holds, as a call changes both.
-use Rattle.std.proofs.Common.{◌≡◌, ℕ, ◌<◌, Bool, List, [], ◌∷◌, ◌++◌, Option, Some, None, refl, sym, ap, ◌∙◌, subst, arith}
-use Rattle.std.specs.Prelude.{map, find}
+use Rattle.std.proofs.Common.{◌≡◌, ℕ, ◌<◌, Bool, true, List, [], ◌∷◌, ◌++◌, Option, Some, None, refl, sym, ap, ◌∙◌, subst, arith}
+use Rattle.std.specs.Prelude.{map, find, is_some}
 use Rattle.std.specs.Option.{option_map}
 use Rattle.std.proofs.lemmas.Bool.Decides.{nat_tests}
 use Rattle.std.proofs.lemmas.List.{map-append}
 use Rattle.mdl_key.specs.declared.mode.Mode.{Mode}
 use Rattle.mdl_space.specs.declared.answers.Held.{Held}
-use Rattle.mdl_space.specs.Own.{Own, Wait, IsRising, is_number, ticket_held, gaining, waiting, ending, winning}
+use Rattle.mdl_space.specs.Own.{Own, Wait, IsRising, is_waiting, is_number, ticket_held, gaining, waiting, ending, winning}
 use Rattle.mdl_context.specs.declared.kept.Kept.{Kept}
 use Rattle.mdl_context.specs.declared.kept.Wanted.{Wanted}
 use Rattle.mdl_context.specs.declared.request.Request.{Request}
@@ -94,3 +94,20 @@ earliest-held p own context h rising serves found =
     let it = earliest-found (find p context.kept) h found in
     ap (find (is_number h.id)) serves.held
     ∙ subst (λ (k : Held). find (is_number k.id) (map held_of context.kept) ≡ Some k) it.2 (found-held p context.kept it.0 (rw serves.held at rising) it.1)
+
+-- whoever waits here waits there
+same-waiting : (w : Option Wait) (v : Option Wanted) → option_map wish_there w ≡ option_map wish_here v → is_some w ≡ is_some v
+same-waiting None None same = refl
+same-waiting None (Some v) same = cc
+same-waiting (Some w) None same = cc
+same-waiting (Some w) (Some v) same = refl
+
+pub waits-there : (own : Own) (context : ContextView) → Serves own context → is_some context.wait ≡ true → is_waiting own ≡ true
+waits-there own context serves waits = same-waiting own.wait context.wait serves.wait ∙ waits
+
+-- fewer tickets are left, and the same wait
+pub serves-left : (own after : Own) (before then : ContextView) → Serves own before → after.held ≡ map held_of then.kept → after.wait ≡ own.wait → then.wait ≡ before.wait → Serves after then
+serves-left own after before then serves held there here = record {
+  held = held;
+  wait = ap (option_map wish_there) there ∙ serves.wait ∙ sym (ap (option_map wish_here) here);
+}

@@ -1,11 +1,14 @@
--- The tickets of a session by how long it keeps them, after MySQL 5.7: `MDL_context` of sql/mdl.h and sql/mdl.cc.
-use Rattle.std.specs.Prelude.{◌≡◌, ◌≢◌, ℕ, Bool, not, ◌||◌, ◌==◌, nat_lt, List, ◌++◌, map, filter, drop, length, Option, IsTrue}
+-- The tickets of a session by how long it keeps them, after MySQL 5.7: `MDL_context` of sql/mdl.h and sql/mdl.cc. That a mark
+-- counts tickets, where MySQL points at the newest ones, is this project's own choice.
+use Rattle.std.specs.Prelude.{◌≡◌, ◌≢◌, ℕ, Bool, not, ◌||◌, ◌==◌, nat_lt, List, ◌++◌, map, filter, drop, length, All, Option, IsTrue}
 use Rattle.std.specs.List.{list_any}
-use Rattle.std.specs.Option.{option_map}
+use Rattle.std.specs.Option.{IfSome, option_map}
 use Rattle.mdl_key.specs.declared.mode.Mode.{Mode}
 use Rattle.mdl_key.specs.declared.mode.Duration.{Duration}
 use Rattle.mdl_key.specs.declared.mode.Duration.TheVariants.{Statement, Transaction, Explicit}
+use Rattle.mdl_key.specs.Keys.{KeyName}
 use Rattle.mdl_space.specs.declared.answers.Held.{Held}
+use Rattle.mdl_space.specs.declared.answers.Settled.{Settled}
 use Rattle.mdl_space.specs.Own.{Own, Wait, are_rising}
 use Rattle.mdl_context.specs.declared.kept.Kept.{Kept}
 use Rattle.mdl_context.specs.declared.kept.Wanted.{Wanted}
@@ -79,10 +82,17 @@ pub record Serves (own : Own) (context : ContextView) : Type 0 where
   pub held : own.held ≡ map held_of context.kept
   pub wait : option_map wish_there own.wait ≡ option_map wish_here context.wait
 
--- the lock space speaks for the context's session, and the context keeps what that has there
-pub record Attends {S : Type 0} (speaks_for : S → ℕ → Type 0) (own : S → ℕ → Own) (space : S) (context : ContextView) : Type 0 where
+-- the lock space speaks for the context's session, and the context keeps what that has there, each ticket and the wait with the
+-- key that the session knows at its place
+pub record Attends {S : Type 0} (speaks_for : S → ℕ → Type 0) (own : S → ℕ → Own) (knows : S → ℕ → ℕ → KeyName → Type 0) (space : S) (context : ContextView) : Type 0 where
   pub speaks : speaks_for space context.who
   pub serves : Serves (own space context.who) context
+  pub keys : All (λ ticket. knows space context.who ticket.place ticket.key) context.kept
+  pub wish : IfSome context.wait (λ wanted. knows space context.who wanted.place wanted.key)
+
+-- a session's wait is settled, in one way or another
+abbrev pub IsSettled : {S : Type 0} → (S → ℕ → Settled → Type 0) → S → ℕ → Type 0
+IsSettled is_settled space who = (how : Settled) × is_settled space who how
 
 -- a lock space goes on to speak for all sessions but one, and nothing changes for them
 abbrev pub LeavesOthers : {S : Type 0} → (S → ℕ → Type 0) → (S → ℕ → Own) → ℕ → S → S → Type 0

@@ -1,12 +1,13 @@
 -- How a session comes by its tickets, after MySQL 5.7: `MDL_context::try_acquire_lock_impl`, `find_ticket` and
--- `acquire_lock` of sql/mdl.cc. A wait is seen through by calls of its own.
-use Rattle.std.specs.Prelude.{ℕ, Bool, false, not, ◌&&◌, [], ◌∷◌, ◌++◌, Option, Some, None, is_some, Result, Ok, Err, if◌then◌else◌}
+-- `acquire_lock` of sql/mdl.cc. That the earliest ticket which serves is taken, that a key whose ticket is kept isn't looked up
+-- again, and that a wait is seen through by calls of its own, is this project's own choice.
+use Rattle.std.specs.Prelude.{◌≡◌, ℕ, Bool, true, not, ◌&&◌, [], ◌∷◌, ◌++◌, Option, Some, None, is_some, Result, Ok, Err, if◌then◌else◌}
 use Rattle.mdl_key.specs.declared.mode.Duration.TheVariants.{Explicit}
 use Rattle.mdl_key.specs.Modes.{kind_of, is_mode_of}
 use Rattle.mdl_space.specs.declared.answers.Held.{Held}
 use Rattle.mdl_space.specs.declared.space_error.SpaceError.{SpaceError}
-use Rattle.mdl_space.specs.declared.space_error.SpaceError.TheVariants.{NoWait, WrongKind}
-use Rattle.mdl_space.specs.Answers.{Answer, Refused, finds_no_memory, At_place, Granted, Waits, Pending, Is_settled, Lost}
+use Rattle.mdl_space.specs.declared.space_error.SpaceError.TheVariants.{NoWait, WrongKind, OutOfMemory}
+use Rattle.mdl_space.specs.Answers.{Answer, Refused, At_place, Granted, Waits, Pending, Is_settled, Lost}
 use Rattle.mdl_space.specs.Calls.{Resolve, Begin_wait, Clone_ticket, Poll_wait, Settle_timeout, End_wait}
 use Rattle.mdl_space.specs.Runs.{Program, Give, Ask}
 use Rattle.mdl_space.specs.Strength.{covers}
@@ -24,11 +25,6 @@ use Rattle.mdl_context.specs.Holdings.{is_of, earliest, kept_of, wanted_of, with
 -- what a call of a context comes to: its answer, and the context then
 abbrev pub Outcome : Type 0 → Type 0
 Outcome A = Result A ContextError × ContextView
-
--- whether a call found no memory
-abbrev pub wants_memory : {A : Type 0} → Result A ContextError → Bool
-wants_memory (Err (Space refusal)) = finds_no_memory (Refused refusal)
-wants_memory _ = false
 
 -- whether a ticket is of the wanted key, in a mode at least as strong as the wanted one, which is one of the key's kind
 abbrev pub suffices : Request → Kept → Bool
@@ -53,67 +49,84 @@ abbrev pub refusal_of : Answer → SpaceError
 refusal_of (Refused refusal) = refusal
 refusal_of _ = WrongKind
 
--- a wish is answered
-abbrev pub gaining : ℕ → Request → ContextView → Answer → Program (Outcome Acquire)
-gaining place request context (Granted id) = Give (Ok (Acquired id), keeping id place request context)
-gaining place request context (Waits number) = Give (Ok (MustWait number), awaiting place request context)
-gaining place request context answer = Give (Err (Space (refusal_of answer)), context)
+-- the copy of a ticket is answered
+abbrev pub copy_answered : ℕ → Request → ContextView → Answer → Program (Outcome Acquire)
+copy_answered place request context (Granted id) = Give (Ok (Acquired id), keeping id place request context)
+copy_answered place request context answer = Give (Err (Space (refusal_of answer)), context)
+
+-- the wish for a ticket is answered
+abbrev pub wish_answered : ℕ → Request → ContextView → Answer → Program (Outcome Acquire)
+wish_answered place request context (Granted id) = Give (Ok (Acquired id), keeping id place request context)
+wish_answered place request context (Waits number) = Give (Ok (MustWait number), awaiting place request context)
+wish_answered place request context answer = Give (Err (Space (refusal_of answer)), context)
 
 -- the ticket is asked for at a place
 abbrev pub asking_at : ℕ → Request → ContextView → Program (Outcome Acquire)
-asking_at place request context = Ask (Begin_wait context.who place request.mode) (gaining place request context)
+asking_at place request context = Ask (Begin_wait context.who place request.mode) (wish_answered place request context)
 
--- the key's place is answered
-abbrev pub asking_there : Request → ContextView → Answer → Program (Outcome Acquire)
-asking_there request context (At_place place) = asking_at place request context
-asking_there request context answer = Give (Err (Space (refusal_of answer)), context)
+-- the place of the key is answered
+abbrev pub place_answered : Request → ContextView → Answer → Program (Outcome Acquire)
+place_answered request context (At_place place) = asking_at place request context
+place_answered request context answer = Give (Err (Space (refusal_of answer)), context)
 
 -- a new ticket is asked for, at the place of a kept ticket of the key where there is one
 abbrev pub asking : Option Held → Request → ContextView → Program (Outcome Acquire)
 asking (Some ticket) request context = asking_at ticket.place request context
-asking None request context = Ask (Resolve context.who request.key) (asking_there request context)
+asking None request context = Ask (Resolve context.who request.key) (place_answered request context)
 
 -- a ticket that suffices is cloned; where there is none, a new one is asked for
 abbrev pub copying : Option Held → Request → ContextView → Program (Outcome Acquire)
-copying (Some ticket) request context = Ask (Clone_ticket context.who ticket.id request.mode) (gaining ticket.place request context)
+copying (Some ticket) request context = Ask (Clone_ticket context.who ticket.id request.mode) (copy_answered ticket.place request context)
 copying None request context = asking (earliest (is_of request.key) context.kept) request context
 
 -- a ticket that can be used again is; where there is none, one is cloned or asked for
-abbrev pub having : Option Held → Request → ContextView → Program (Outcome Acquire)
-having (Some ticket) request context = Give (Ok (Acquired ticket.id), context)
-having None request context = copying (earliest (suffices request) context.kept) request context
+abbrev pub reusing : Option Held → Request → ContextView → Program (Outcome Acquire)
+reusing (Some ticket) request context = Give (Ok (Acquired ticket.id), context)
+reusing None request context = copying (earliest (suffices request) context.kept) request context
 
 -- a lock is wished for
 abbrev pub acquiring : Request → ContextView → Program (Outcome Acquire)
 acquiring request context =
-    if is_some context.wait then Give (Err Waiting, context) else having (earliest (is_reusable request) context.kept) request context
+    if is_some context.wait then Give (Err Waiting, context) else reusing (earliest (is_reusable request) context.kept) request context
+
+-- whether a wish may need memory of the context's own: unless the context waits, or has a ticket that is used again
+abbrev pub takes_room : Request → ContextView → Bool
+takes_room request context = not (is_some context.wait) && not (is_some (earliest (is_reusable request) context.kept))
+
+-- a wish that takes room finds none for its ticket: nothing is asked of the space, and nothing changes
+abbrev pub FindsNoRoom : {S : Type 0} → Request → ContextView → S → Outcome Acquire → S → Type 0
+FindsNoRoom request before space outcome after =
+    (takes_room request before ≡ true) × (outcome ≡ (Err (Space OutOfMemory), before)) × (after ≡ space)
 
 -- with the ticket that was waited for
 abbrev pub taking_up : ℕ → ContextView → ContextView
 taking_up id context = record context { kept = with_wanted id context.wait context.kept; wait = None }
 
 -- the end of the wait is answered
-abbrev pub ending : ContextView → Answer → Program (Outcome Resume)
-ending context (Granted id) = Give (Ok (resume_as.Acquired id), taking_up id context)
-ending context (Lost how) = Give (Ok (resume_as.Lost how), record context { wait = None })
-ending context answer = Give (Err (Space (refusal_of answer)), context)
+abbrev pub end_answered : ContextView → Answer → Program (Outcome Resume)
+end_answered context (Granted id) = Give (Ok (resume_as.Acquired id), taking_up id context)
+end_answered context (Lost how) = Give (Ok (resume_as.Lost how), record context { wait = None })
+end_answered context answer = Give (Err (Space (refusal_of answer)), context)
+
+-- a wait is ended
+abbrev pub ending : ContextView → Program (Outcome Resume)
+ending context = Ask (End_wait context.who) (end_answered context)
 
 -- how the wait stands is answered: a settled one is ended
-abbrev pub going_on : ContextView → Answer → Program (Outcome Resume)
-going_on context Pending = Give (Ok resume_as.Waiting, context)
-going_on context (Is_settled how) = Ask (End_wait context.who) (ending context)
-going_on context answer = Give (Err (Space (refusal_of answer)), context)
+abbrev pub poll_answered : ContextView → Answer → Program (Outcome Resume)
+poll_answered context Pending = Give (Ok resume_as.Waiting, context)
+poll_answered context (Is_settled how) = ending context
+poll_answered context answer = Give (Err (Space (refusal_of answer)), context)
 
 -- a wait goes on
 abbrev pub resuming : ContextView → Program (Outcome Resume)
-resuming context = if is_some context.wait then Ask (Poll_wait context.who) (going_on context) else Give (Err (Space NoWait), context)
+resuming context = if is_some context.wait then Ask (Poll_wait context.who) (poll_answered context) else Give (Err (Space NoWait), context)
 
--- patience was lost
-abbrev pub after_patience : ContextView → Answer → Program (Outcome Resume)
-after_patience context (Refused refusal) = Give (Err (Space refusal), context)
-after_patience context _ = resuming context
-
--- a wait is given up, unless it was settled before
+-- a wait is given up, unless it was settled before, and ended
 abbrev pub giving_up_wait : ContextView → Program (Outcome Resume)
 giving_up_wait context =
-    if is_some context.wait then Ask (Settle_timeout context.who) (after_patience context) else Give (Err (Space NoWait), context)
+    if is_some context.wait then Ask (Settle_timeout context.who) (λ _. ending context) else Give (Err (Space NoWait), context)
+
+-- why a call about a wait is refused
+abbrev pub no_wait_fault : ContextView → Option ContextError
+no_wait_fault context = if is_some context.wait then None else Some (Space NoWait)

@@ -1,18 +1,17 @@
 //! A session's tickets by how long they last.
-ghost use Rattle.std.specs.Prelude.{◌≡◌, false, Some, None, [], map, OnOk, OnErr};
+ghost use Rattle.std.specs.Prelude.{◌≡◌, ◌⊎◌, Some, None, [], map, OnOk, OnErr};
 ghost use Rattle.mdl_key.specs.declared.mode.Duration.TheVariants.{Explicit};
 ghost use Rattle.mdl_key.specs.Refusals.{RefusesJust};
-ghost use Rattle.mdl_space.specs.Own.{Own};
 ghost use Rattle.mdl_space.specs.Runs.{Runs};
-ghost use Rattle.mdl_context.specs.Contexts.{ContextView, mark_of, beyond, gained_since, without, Serves, Attends};
+ghost use Rattle.mdl_context.specs.Contexts.{ContextView, mark_of, beyond, gained_since, without, Attends, LeavesOthers};
 ghost use Rattle.mdl_context.specs.Holdings.{kept_for, transactional};
-ghost use Rattle.mdl_context.specs.Requests.{wants_memory, acquiring, resuming, giving_up_wait};
+ghost use Rattle.mdl_context.specs.Requests.{FindsNoRoom, acquiring, resuming, giving_up_wait, no_wait_fault};
 ghost use Rattle.mdl_context.specs.Releases.{releasing_all, giving_up, waiting_fault, release_fault, rollback_fault, releasing, releasing_name, rolling_back, ending_statement, ending_transaction};
 
 use crate::holdings::{Going, Holdings};
 use crate::releases::{give_up, let_go};
 use crate::requests::{ask, copy};
-use crate::waits::{lose_patience, resume};
+use crate::waits::{give_up_wait, resume};
 use crate::{Acquire, ContextError, Mark, Request, Resume};
 use mdl_key::{Duration, Key};
 use mdl_space::{LockSpace, SpaceError, TicketId};
@@ -70,7 +69,7 @@ impl<S: LockSpace> Context<S> {
         ensures done { OnOk result (self.new ≡ record self.old { kept = map (kept_for Explicit) self.old.kept }) }
         ensures unchanged { OnErr result (self.new ≡ self.old) }
         ensures who { self.new.who ≡ self.old.who }
-        ensures serves { (own : Own) → Serves own self.old → Serves own self.new }
+        ensures attends { (space : S) → Attends S.speaks_for S.own S.knows space self.old → Attends S.speaks_for S.own S.knows space self.new }
     {
         if self.holdings.is_waiting() {
             return Err(ContextError::Waiting);
@@ -87,7 +86,7 @@ impl<S: LockSpace> Context<S> {
         ensures done { OnOk result (self.new ≡ record self.old { kept = map transactional self.old.kept }) }
         ensures unchanged { OnErr result (self.new ≡ self.old) }
         ensures who { self.new.who ≡ self.old.who }
-        ensures serves { (own : Own) → Serves own self.old → Serves own self.new }
+        ensures attends { (space : S) → Attends S.speaks_for S.own S.knows space self.old → Attends S.speaks_for S.own S.knows space self.new }
     {
         if self.holdings.is_waiting() {
             return Err(ContextError::Waiting);
@@ -101,9 +100,11 @@ impl<S: LockSpace> Context<S> {
     ///
     /// No explicit ticket is used again. After MySQL 5.7, `MDL_context::acquire_lock` of `sql/mdl.cc`.
     pub fn acquire(&mut self, space: &mut S, request: Request) -> Result<Acquire, ContextError>
-        requires { Attends S.speaks_for S.own space.old self.old }
-        ensures run { wants_memory result ≡ false → Runs S.joins space.old (acquiring request self.old) (result, self.new) space.new }
-        ensures attends { Attends S.speaks_for S.own space.new self.new }
+        requires { Attends S.speaks_for S.own S.knows space.old self.old }
+        ensures run { FindsNoRoom request self.old space.old (result, self.new) space.new ⊎ Runs S.joins space.old (acquiring request self.old) (result, self.new) space.new }
+        ensures attends { Attends S.speaks_for S.own S.knows space.new self.new }
+        ensures others { LeavesOthers S.speaks_for S.own self.old.who space.old space.new }
+        ensures who { self.new.who ≡ self.old.who }
         ensures unchanged { OnErr result (self.new ≡ self.old) }
         ensures own { OnErr result (S.own space.new self.old.who ≡ S.own space.old self.old.who) }
     {
@@ -126,30 +127,41 @@ impl<S: LockSpace> Context<S> {
     ///
     /// After MySQL 5.7, `MDL_context::acquire_lock` of `sql/mdl.cc`, from its wait on.
     pub fn resume(&mut self, space: &mut S) -> Result<Resume, ContextError>
-        requires { Attends S.speaks_for S.own space.old self.old }
+        requires { Attends S.speaks_for S.own S.knows space.old self.old }
+        ensures refused { RefusesJust (no_wait_fault self.old) result }
         ensures run { Runs S.joins space.old (resuming self.old) (result, self.new) space.new }
-        ensures attends { Attends S.speaks_for S.own space.new self.new }
+        ensures attends { Attends S.speaks_for S.own S.knows space.new self.new }
+        ensures others { LeavesOthers S.speaks_for S.own self.old.who space.old space.new }
+        ensures who { self.new.who ≡ self.old.who }
+        ensures unchanged { OnErr result (self.new ≡ self.old) }
     {
         resume(space, self.who, &mut self.holdings)
     }
 
     /// Gives the wait up, unless it is settled already, and ends it. It takes no memory.
     pub fn give_up(&mut self, space: &mut S) -> Result<Resume, ContextError>
-        requires { Attends S.speaks_for S.own space.old self.old }
+        requires { Attends S.speaks_for S.own S.knows space.old self.old }
+        ensures refused { RefusesJust (no_wait_fault self.old) result }
         ensures run { Runs S.joins space.old (giving_up_wait self.old) (result, self.new) space.new }
-        ensures attends { Attends S.speaks_for S.own space.new self.new }
+        ensures attends { Attends S.speaks_for S.own S.knows space.new self.new }
+        ensures others { LeavesOthers S.speaks_for S.own self.old.who space.old space.new }
+        ensures who { self.new.who ≡ self.old.who }
+        ensures ended { self.new.wait ≡ None }
+        ensures unchanged { OnErr result (self.new ≡ self.old) }
     {
-        lose_patience(space, self.who, &mut self.holdings)
+        give_up_wait(space, self.who, &mut self.holdings)
     }
 
     /// Releases a ticket. It takes no memory.
     ///
     /// After MySQL 5.7, `MDL_context::release_lock` of `sql/mdl.cc`.
     pub fn release(&mut self, space: &mut S, id: TicketId) -> Result<(), ContextError>
-        requires { Attends S.speaks_for S.own space.old self.old }
+        requires { Attends S.speaks_for S.own S.knows space.old self.old }
         ensures refused { RefusesJust (release_fault id self.old) result }
         ensures run { Runs S.joins space.old (releasing id self.old) (result, self.new) space.new }
-        ensures attends { Attends S.speaks_for S.own space.new self.new }
+        ensures attends { Attends S.speaks_for S.own S.knows space.new self.new }
+        ensures others { LeavesOthers S.speaks_for S.own self.old.who space.old space.new }
+        ensures who { self.new.who ≡ self.old.who }
     {
         if !self.holdings.has(id) {
             return Err(ContextError::NotHeld);
@@ -166,10 +178,12 @@ impl<S: LockSpace> Context<S> {
     ///
     /// After MySQL 5.7, `MDL_context::release_all_locks_for_name` of `sql/mdl.cc`.
     pub fn release_name(&mut self, space: &mut S, key: &Key) -> Result<(), ContextError>
-        requires { Attends S.speaks_for S.own space.old self.old }
+        requires { Attends S.speaks_for S.own S.knows space.old self.old }
         ensures refused { RefusesJust (waiting_fault self.old) result }
         ensures run { Runs S.joins space.old (releasing_name key.now self.old) (result, self.new) space.new }
-        ensures attends { Attends S.speaks_for S.own space.new self.new }
+        ensures attends { Attends S.speaks_for S.own S.knows space.new self.new }
+        ensures others { LeavesOthers S.speaks_for S.own self.old.who space.old space.new }
+        ensures who { self.new.who ≡ self.old.who }
     {
         if self.holdings.is_waiting() {
             return Err(ContextError::Waiting);
@@ -183,10 +197,12 @@ impl<S: LockSpace> Context<S> {
     ///
     /// After MySQL 5.7, `MDL_context::rollback_to_savepoint` of `sql/mdl.cc`.
     pub fn rollback_to(&mut self, space: &mut S, mark: Mark) -> Result<(), ContextError>
-        requires { Attends S.speaks_for S.own space.old self.old }
+        requires { Attends S.speaks_for S.own S.knows space.old self.old }
         ensures refused { RefusesJust (rollback_fault mark self.old) result }
         ensures run { Runs S.joins space.old (rolling_back mark self.old) (result, self.new) space.new }
-        ensures attends { Attends S.speaks_for S.own space.new self.new }
+        ensures attends { Attends S.speaks_for S.own S.knows space.new self.new }
+        ensures others { LeavesOthers S.speaks_for S.own self.old.who space.old space.new }
+        ensures who { self.new.who ≡ self.old.who }
     {
         let now = self.savepoint();
         if now.statement < mark.statement || now.transaction < mark.transaction {
@@ -203,10 +219,12 @@ impl<S: LockSpace> Context<S> {
     ///
     /// After MySQL 5.7, `MDL_context::release_statement_locks` of `sql/mdl.h`.
     pub fn end_statement(&mut self, space: &mut S) -> Result<(), ContextError>
-        requires { Attends S.speaks_for S.own space.old self.old }
+        requires { Attends S.speaks_for S.own S.knows space.old self.old }
         ensures refused { RefusesJust (waiting_fault self.old) result }
         ensures run { Runs S.joins space.old (ending_statement self.old) (result, self.new) space.new }
-        ensures attends { Attends S.speaks_for S.own space.new self.new }
+        ensures attends { Attends S.speaks_for S.own S.knows space.new self.new }
+        ensures others { LeavesOthers S.speaks_for S.own self.old.who space.old space.new }
+        ensures who { self.new.who ≡ self.old.who }
     {
         if self.holdings.is_waiting() {
             return Err(ContextError::Waiting);
@@ -219,10 +237,12 @@ impl<S: LockSpace> Context<S> {
     ///
     /// After MySQL 5.7, `MDL_context::release_transactional_locks` of `sql/mdl.cc`.
     pub fn end_transaction(&mut self, space: &mut S) -> Result<(), ContextError>
-        requires { Attends S.speaks_for S.own space.old self.old }
+        requires { Attends S.speaks_for S.own S.knows space.old self.old }
         ensures refused { RefusesJust (waiting_fault self.old) result }
         ensures run { Runs S.joins space.old (ending_transaction self.old) (result, self.new) space.new }
-        ensures attends { Attends S.speaks_for S.own space.new self.new }
+        ensures attends { Attends S.speaks_for S.own S.knows space.new self.new }
+        ensures others { LeavesOthers S.speaks_for S.own self.old.who space.old space.new }
+        ensures who { self.new.who ≡ self.old.who }
     {
         if self.holdings.is_waiting() {
             return Err(ContextError::Waiting);
@@ -237,9 +257,10 @@ impl<S: LockSpace> Context<S> {
 
     // Releases what was gained since a mark.
     fn go_back(&mut self, space: &mut S, mark: Mark)
-        requires { Attends S.speaks_for S.own space.old self.old }
+        requires { Attends S.speaks_for S.own S.knows space.old self.old }
         ensures run { Runs S.joins space.old (giving_up (gained_since mark self.old.kept) self.old) (Ok tt, self.new) space.new }
-        ensures attends { Attends S.speaks_for S.own space.new self.new }
+        ensures who { self.new.who ≡ self.old.who }
+        ensures attends { Attends S.speaks_for S.own S.knows space.new self.new }
     {
         self.give_up_beyond(space, Duration::Statement, mark.statement);
         self.give_up_beyond(space, Duration::Transaction, mark.transaction);
@@ -247,10 +268,10 @@ impl<S: LockSpace> Context<S> {
 
     // Releases the tickets of a duration behind so many.
     fn give_up_beyond(&mut self, space: &mut S, duration: Duration, most: usize)
-        requires { Attends S.speaks_for S.own space.old self.old }
+        requires { Attends S.speaks_for S.own S.knows space.old self.old }
         ensures run { Runs S.joins space.old (releasing_all self.old.who (beyond duration most self.old.kept)) tt space.new }
         ensures kept { self.new ≡ record self.old { kept = without (beyond duration most self.old.kept) self.old.kept } }
-        ensures attends { Attends S.speaks_for S.own space.new self.new }
+        ensures attends { Attends S.speaks_for S.own S.knows space.new self.new }
     {
         if let Some(first) = self.holdings.nth_for(duration, most) {
             let going = Going::From(duration, first);

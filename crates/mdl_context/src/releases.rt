@@ -1,5 +1,6 @@
 //! Tickets given up to a lock space, of any kind.
-ghost use Rattle.std.specs.Prelude.{◌≡◌, true, not, map, filter};
+ghost use Rattle.std.specs.Prelude.{◌≡◌, ℕ, true, not, map, filter};
+ghost use Rattle.mdl_key.specs.Keys.{KeyName};
 ghost use Rattle.mdl_space.specs.Answers.{Done};
 ghost use Rattle.mdl_space.specs.Calls.{Release};
 ghost use Rattle.mdl_space.specs.Own.{holds, giving_up};
@@ -17,6 +18,7 @@ pub(crate) fn let_go<S: LockSpace>(space: &mut S, who: u16, id: TicketId)
     requires held { holds id (S.own space.old who) ≡ true }
     ensures speaks { S.speaks_for space.new who }
     ensures released { S.joins space.old (Release who id) Done space.new }
+    ensures remembers { (place : ℕ) (key : KeyName) → S.knows space.old who place key → S.knows space.new who place key }
     ensures own { S.own space.new who ≡ giving_up id (S.own space.old who) }
 {
     space.release(who, id).unwrap();
@@ -27,6 +29,7 @@ pub(crate) fn give_up<S: LockSpace>(space: &mut S, who: u16, holdings: &mut Hold
     requires speaks { S.speaks_for space.old who }
     requires held { (S.own space.old who).held ≡ map held_of holdings.old.kept }
     ensures speaks { S.speaks_for space.new who }
+    ensures remembers { (place : ℕ) (key : KeyName) → S.knows space.old who place key → S.knows space.new who place key }
     ensures run { Runs S.joins space.old (releasing_all who (filter (goes going.now) holdings.old.kept)) tt space.new }
     ensures kept { holdings.new.kept ≡ filter (λ ticket. not (goes going.now ticket)) holdings.old.kept }
     ensures held { (S.own space.new who).held ≡ map held_of holdings.new.kept }

@@ -1,11 +1,11 @@
 //! Requests made to a lock space, of any kind.
-ghost use Rattle.std.specs.Prelude.{◌≡◌, true, false, Some, None, OnErr};
+ghost use Rattle.std.specs.Prelude.{◌≡◌, true, Some, None, OnErr};
 ghost use Rattle.mdl_space.specs.Calls.{Clone_ticket};
 ghost use Rattle.mdl_space.specs.Own.{ticket_held};
 ghost use Rattle.mdl_space.specs.Runs.{Runs, Ask};
 ghost use Rattle.mdl_context.specs.Contexts.{Attends};
 ghost use Rattle.mdl_context.specs.Holdings.{context_of, has_room, earliest, is_of};
-ghost use Rattle.mdl_context.specs.Requests.{wants_memory, gaining, asking_at, asking};
+ghost use Rattle.mdl_context.specs.Requests.{copy_answered, asking_at, asking};
 
 use crate::holdings::Holdings;
 use crate::{Acquire, ContextError, Request};
@@ -19,12 +19,13 @@ pub(crate) fn copy<S: LockSpace>(
     ticket: Held,
     request: Request,
 ) -> Result<Acquire, ContextError>
-    requires attends { Attends S.speaks_for S.own space.old (context_of who holdings.old) }
+    requires attends { Attends S.speaks_for S.own S.knows space.old (context_of who holdings.old) }
     requires room { has_room request.key holdings.old ≡ true }
     requires idle { holdings.old.wait ≡ None }
+    requires known { S.knows space.old who ticket.place request.key }
     requires held { ticket_held ticket.id (S.own space.old who) ≡ Some ticket }
-    ensures run { wants_memory result ≡ false → Runs S.joins space.old (Ask (Clone_ticket who ticket.id request.mode) (gaining ticket.place request (context_of who holdings.old))) (result, context_of who holdings.new) space.new }
-    ensures attends { Attends S.speaks_for S.own space.new (context_of who holdings.new) }
+    ensures run { Runs S.joins space.old (Ask (Clone_ticket who ticket.id request.mode) (copy_answered ticket.place request (context_of who holdings.old))) (result, context_of who holdings.new) space.new }
+    ensures attends { Attends S.speaks_for S.own S.knows space.new (context_of who holdings.new) }
     ensures own { OnErr result (S.own space.new who ≡ S.own space.old who) }
     ensures unchanged { OnErr result (context_of who holdings.new ≡ context_of who holdings.old) }
 {
@@ -44,11 +45,11 @@ pub(crate) fn ask<S: LockSpace>(
     holdings: &mut Holdings,
     request: Request,
 ) -> Result<Acquire, ContextError>
-    requires attends { Attends S.speaks_for S.own space.old (context_of who holdings.old) }
+    requires attends { Attends S.speaks_for S.own S.knows space.old (context_of who holdings.old) }
     requires room { has_room request.key holdings.old ≡ true }
     requires idle { holdings.old.wait ≡ None }
-    ensures run { wants_memory result ≡ false → Runs S.joins space.old (asking (earliest (is_of request.key) holdings.old.kept) request (context_of who holdings.old)) (result, context_of who holdings.new) space.new }
-    ensures attends { Attends S.speaks_for S.own space.new (context_of who holdings.new) }
+    ensures run { Runs S.joins space.old (asking (earliest (is_of request.key) holdings.old.kept) request (context_of who holdings.old)) (result, context_of who holdings.new) space.new }
+    ensures attends { Attends S.speaks_for S.own S.knows space.new (context_of who holdings.new) }
     ensures own { OnErr result (S.own space.new who ≡ S.own space.old who) }
     ensures unchanged { OnErr result (context_of who holdings.new ≡ context_of who holdings.old) }
 {
@@ -72,11 +73,12 @@ fn ask_at<S: LockSpace>(
     place: Place,
     request: Request,
 ) -> Result<Acquire, ContextError>
-    requires attends { Attends S.speaks_for S.own space.old (context_of who holdings.old) }
+    requires attends { Attends S.speaks_for S.own S.knows space.old (context_of who holdings.old) }
     requires room { has_room request.key holdings.old ≡ true }
     requires idle { holdings.old.wait ≡ None }
-    ensures run { wants_memory result ≡ false → Runs S.joins space.old (asking_at place request (context_of who holdings.old)) (result, context_of who holdings.new) space.new }
-    ensures attends { Attends S.speaks_for S.own space.new (context_of who holdings.new) }
+    requires known { S.knows space.old who place request.key }
+    ensures run { Runs S.joins space.old (asking_at place request (context_of who holdings.old)) (result, context_of who holdings.new) space.new }
+    ensures attends { Attends S.speaks_for S.own S.knows space.new (context_of who holdings.new) }
     ensures own { OnErr result (S.own space.new who ≡ S.own space.old who) }
     ensures unchanged { OnErr result (context_of who holdings.new ≡ context_of who holdings.old) }
 {

@@ -1,10 +1,10 @@
 //! Waits in a lock space, of any kind. None of this takes memory.
-ghost use Rattle.std.specs.Prelude.{◌≡◌, Ok, None};
-ghost use Rattle.mdl_space.specs.Calls.{End_wait};
-ghost use Rattle.mdl_space.specs.Runs.{Runs, Ask};
-ghost use Rattle.mdl_context.specs.Contexts.{Attends};
+ghost use Rattle.std.specs.Prelude.{◌≡◌, Ok, None, OnErr};
+ghost use Rattle.mdl_key.specs.Refusals.{RefusesJust};
+ghost use Rattle.mdl_space.specs.Runs.{Runs};
+ghost use Rattle.mdl_context.specs.Contexts.{Attends, IsSettled};
 ghost use Rattle.mdl_context.specs.Holdings.{context_of};
-ghost use Rattle.mdl_context.specs.Requests.{resuming, giving_up_wait, ending};
+ghost use Rattle.mdl_context.specs.Requests.{resuming, giving_up_wait, ending, no_wait_fault};
 
 use crate::holdings::Holdings;
 use crate::{ContextError, Resume};
@@ -16,58 +16,57 @@ pub(crate) fn resume<S: LockSpace>(
     who: u16,
     holdings: &mut Holdings,
 ) -> Result<Resume, ContextError>
-    requires { Attends S.speaks_for S.own space.old (context_of who holdings.old) }
+    requires { Attends S.speaks_for S.own S.knows space.old (context_of who holdings.old) }
+    ensures refused { RefusesJust (no_wait_fault (context_of who holdings.old)) result }
     ensures run { Runs S.joins space.old (resuming (context_of who holdings.old)) (result, context_of who holdings.new) space.new }
-    ensures attends { Attends S.speaks_for S.own space.new (context_of who holdings.new) }
+    ensures attends { Attends S.speaks_for S.own S.knows space.new (context_of who holdings.new) }
+    ensures unchanged { OnErr result (context_of who holdings.new ≡ context_of who holdings.old) }
 {
     if !holdings.is_waiting() {
         return Err(ContextError::Space(SpaceError::NoWait));
     }
-    match space.poll_wait(who) {
-        Ok(Poll::Pending) => Ok(Resume::Waiting),
-        Ok(Poll::Settled(_)) => end_wait(space, who, holdings),
-        Err(refusal) => Err(ContextError::Space(refusal)),
+    match space.poll_wait(who).unwrap() {
+        Poll::Pending => Ok(Resume::Waiting),
+        Poll::Settled(_) => Ok(end_wait(space, who, holdings)),
     }
 }
 
 /// Gives the wait up, unless it is settled already, and ends it.
-pub(crate) fn lose_patience<S: LockSpace>(
+pub(crate) fn give_up_wait<S: LockSpace>(
     space: &mut S,
     who: u16,
     holdings: &mut Holdings,
 ) -> Result<Resume, ContextError>
-    requires { Attends S.speaks_for S.own space.old (context_of who holdings.old) }
+    requires { Attends S.speaks_for S.own S.knows space.old (context_of who holdings.old) }
+    ensures refused { RefusesJust (no_wait_fault (context_of who holdings.old)) result }
     ensures run { Runs S.joins space.old (giving_up_wait (context_of who holdings.old)) (result, context_of who holdings.new) space.new }
-    ensures attends { Attends S.speaks_for S.own space.new (context_of who holdings.new) }
+    ensures attends { Attends S.speaks_for S.own S.knows space.new (context_of who holdings.new) }
+    ensures ended { holdings.new.wait ≡ None }
+    ensures unchanged { OnErr result (context_of who holdings.new ≡ context_of who holdings.old) }
 {
     if !holdings.is_waiting() {
         return Err(ContextError::Space(SpaceError::NoWait));
     }
-    match space.settle_timeout(who) {
-        Ok(_) => resume(space, who, holdings),
-        Err(refusal) => Err(ContextError::Space(refusal)),
-    }
+    space.settle_timeout(who).unwrap();
+    Ok(end_wait(space, who, holdings))
 }
 
 // Ends the wait, which is settled.
-fn end_wait<S: LockSpace>(
-    space: &mut S,
-    who: u16,
-    holdings: &mut Holdings,
-) -> Result<Resume, ContextError>
-    requires { Attends S.speaks_for S.own space.old (context_of who holdings.old) }
-    ensures run { Runs S.joins space.old (Ask (End_wait who) (ending (context_of who holdings.old))) (result, context_of who holdings.new) space.new }
-    ensures attends { Attends S.speaks_for S.own space.new (context_of who holdings.new) }
+fn end_wait<S: LockSpace>(space: &mut S, who: u16, holdings: &mut Holdings) -> Resume
+    requires attends { Attends S.speaks_for S.own S.knows space.old (context_of who holdings.old) }
+    requires settled { IsSettled S.is_settled space.old who }
+    ensures run { Runs S.joins space.old (ending (context_of who holdings.old)) (Ok result, context_of who holdings.new) space.new }
+    ensures attends { Attends S.speaks_for S.own S.knows space.new (context_of who holdings.new) }
+    ensures ended { holdings.new.wait ≡ None }
 {
-    match space.end_wait(who) {
-        Ok(Ended::Granted(id)) => {
+    match space.end_wait(who).unwrap() {
+        Ended::Granted(id) => {
             holdings.take_up(id);
-            Ok(Resume::Acquired(id))
+            Resume::Acquired(id)
         }
-        Ok(Ended::Victim) => Ok(lose(holdings, Settled::Victim)),
-        Ok(Ended::Timeout) => Ok(lose(holdings, Settled::Timeout)),
-        Ok(Ended::Killed) => Ok(lose(holdings, Settled::Killed)),
-        Err(refusal) => Err(ContextError::Space(refusal)),
+        Ended::Victim => lose(holdings, Settled::Victim),
+        Ended::Timeout => lose(holdings, Settled::Timeout),
+        Ended::Killed => lose(holdings, Settled::Killed),
     }
 }
 

@@ -1,8 +1,8 @@
 -- Programs of calls, and their runs over a lock space: each call joins the state before it to the state after it.
-use Rattle.std.specs.Prelude.{◌≡◌, false}
+use Rattle.std.specs.Prelude.{◌≡◌}
 use Rattle.std.proofs.Common.{subst, sym}
 use Rattle.mdl_space.specs.Calls.{Call}
-use Rattle.mdl_space.specs.Answers.{Answer, finds_no_memory}
+use Rattle.mdl_space.specs.Answers.{Answer}
 
 -- what is asked of a space: nothing more, with a reply; or a call, and then what its answer leads to
 pub data Program (A : Type 0) : Type 0 where
@@ -21,11 +21,10 @@ abbrev pub ◌>>◌ : {A B : Type 0} → Program A → Program B → Program B
 first >> second = first >>= (λ _. second)
 
 -- from the one state to the other a program runs and gives this reply: there are states between, each joined to the next
--- by one call and its answer, and no call was refused for want of memory
+-- by one call and its answer
 abbrev pub Runs : {S A : Type 0} → (S → Call → Answer → S → Type 0) → S → Program A → A → S → Type 0
 Runs joins a (Give x) reply b = (x ≡ reply) × (a ≡ b)
-Runs {S} joins a (Ask call next) reply b =
-    (answer : Answer) × (mid : S) × joins a call answer mid × (finds_no_memory answer ≡ false) × Runs joins mid (next answer) reply b
+Runs {S} joins a (Ask call next) reply b = (answer : Answer) × (mid : S) × joins a call answer mid × Runs joins mid (next answer) reply b
 
 -- the reply and the last state, where each call has just one answer and one state after it
 abbrev pub outcome_of : {S A : Type 0} → (Call → S → Answer × S) → Program A → S → A × S
@@ -37,21 +36,22 @@ pub runs_bind : {S A B : Type 0} (joins : S → Call → Answer → S → Type 0
     Runs joins a first x mid → Runs joins mid (next x) reply b → Runs joins a (first >>= next) reply b
 runs_bind joins (Give z) next a mid b x reply (same, here) rest =
     subst (λ w. Runs joins a (next w) reply b) (sym same) (subst (λ s. Runs joins s (next x) reply b) (sym here) rest)
-runs_bind joins (Ask call then) next a mid b x reply (answer, after, step, memory, run) rest =
-    (answer, after, step, memory, runs_bind joins (then answer) next after mid b x reply run rest)
+runs_bind joins (Ask call then) next a mid b x reply (answer, after, step, run) rest =
+    (answer, after, step, runs_bind joins (then answer) next after mid b x reply run rest)
 
 -- what each call keeps, a run keeps
 pub runs_keeps : {S A : Type 0} (joins : S → Call → Answer → S → Type 0) (P : S → Type 0) →
     ((a b : S) (call : Call) (answer : Answer) → P a → joins a call answer b → P b) →
     (program : Program A) (a b : S) (reply : A) → P a → Runs joins a program reply b → P b
 runs_keeps joins P keeps (Give x) a b reply start (same, here) = subst P here start
-runs_keeps joins P keeps (Ask call then) a b reply start (answer, mid, step, memory, run) =
+runs_keeps joins P keeps (Ask call then) a b reply start (answer, mid, step, run) =
     runs_keeps joins P keeps (then answer) mid b reply (keeps a mid call answer start step) run
 
--- where each call that finds memory makes this step, a run has the outcome of these steps
+-- where each call makes this step, a run has the outcome of these steps. Of a space in which memory may run out, these are the
+-- calls that found enough
 pub runs_exact : {S A : Type 0} (joins : S → Call → Answer → S → Type 0) (step : Call → S → Answer × S) →
-    ((a b : S) (call : Call) (answer : Answer) → joins a call answer b → finds_no_memory answer ≡ false → step call a ≡ (answer, b)) →
+    ((a b : S) (call : Call) (answer : Answer) → joins a call answer b → step call a ≡ (answer, b)) →
     (program : Program A) (a b : S) (reply : A) → Runs joins a program reply b → outcome_of step program a ≡ (reply, b)
 runs_exact joins step exact (Give x) a b reply (same, here) = cc
-runs_exact joins step exact (Ask call then) a b reply (answer, mid, joined, memory, run) =
-    rw (exact a mid call answer joined memory) (runs_exact joins step exact (then answer) mid b reply run)
+runs_exact joins step exact (Ask call then) a b reply (answer, mid, joined, run) =
+    rw (exact a mid call answer joined) (runs_exact joins step exact (then answer) mid b reply run)

@@ -25,7 +25,7 @@ use Rattle.mdl_space.specs.Lemmas.Deciding.{key_told}
 use Rattle.mdl_space.specs.Lemmas.DeadlockEvents.{AddsOnly, deadlock-before, Wishless, wishless-apart, granted-wishless, GrantsOnly, grants_only, IsCalm, IsCalmEvent, calm}
 use Rattle.mdl_space.specs.Lemmas.DeadlockRounds.{deadlock-of_member}
 use Rattle.mdl_space.specs.Lemmas.MemberLemmas.{push-gains}
-use Rattle.mdl_space.specs.Lemmas.SearchRuns.{none-joined, over-cut, searched, speaks-on, searches-leave}
+use Rattle.mdl_space.specs.Lemmas.SearchRuns.{over-whole, none-joined, over-cut, searched, speaks-on, searches-leave}
 
 -- ---- what an event and the grants after it add
 
@@ -166,7 +166,7 @@ searched-through a b who victim sessions sound joins through from cycle is =
 runs-through : (n : ℕ) (a b : Core) (who : ℕ) (sessions : ℕ → Bool) → SpeaksFor a who → Runs Joins a (seeking n who) Over b
     → DeadlocksGoThrough sessions (system_of a) → DeadlocksGoThrough sessions (system_of b)
 runs-through zero a b who sessions speaks run through = absurd (over-cut a b who run)
-runs-through (suc n) a b who sessions speaks run through = elim (searched n Over a b who run) [
+runs-through (suc n) a b who sessions speaks run through = elim (searched n Over a b who over-whole run) [
   | inl none ↦ subst (λ c. DeadlocksGoThrough sessions (system_of c)) (sym (none-joined a b who none.1).1) through
   | inr named ↦ elim named [
     | inl own ↦ searched-through a b who who sessions speaks.1 own.1 through
@@ -188,7 +188,7 @@ searching-ends a b who sessions speaks run through from cycle is =
 
 seekers-speak : (n : ℕ) (a b : Core) (who : ℕ) → Runs Joins a (seeking (suc n) who) Over b → SpeaksFor a who
 unfolding seeking
-seekers-speak n a b who (answer, mid, joins, memory, run) = joins.0
+seekers-speak n a b who (answer, mid, joins, run) = joins.0
 
 pub waiting-leaves : WaitingLeavesNoDeadlock
 waiting-leaves a b c who place number mode joins run free from cycle is =

@@ -12,6 +12,7 @@ use Rattle.mdl_graph.specs.Victims.{victim_of}
 use Rattle.mdl_space.specs.declared.answers.Settled.{Settled}
 use Rattle.mdl_space.specs.declared.answers.Settled.TheVariants as settled_as
 use Rattle.mdl_space.specs.declared.seat.Pending.{Pending}
+use Rattle.mdl_space.specs.declared.space_error.SpaceError.{SpaceError}
 use Rattle.mdl_space.specs.declared.space_error.SpaceError.TheVariants.{OutOfMemory}
 use Rattle.mdl_space.specs.Answers.{Answer, Refused, No_cycle, Victim_is, finds_no_memory}
 use Rattle.mdl_space.specs.Calls.{Search}
@@ -24,7 +25,7 @@ use Rattle.mdl_space.specs.DeadlockLaws.{SearchesFindDeadlocks, SearchesSuffice,
 use Rattle.mdl_space.specs.Deadlocks.{Wishes, WaitsFor, IsDeadlock, IsChosenDeadlock, IsVictimOf}
 use Rattle.mdl_space.specs.Moves.{losing}
 use Rattle.mdl_space.specs.Runs.{Runs, Give}
-use Rattle.mdl_space.specs.Searches.{SearchEnd, Over, Cut_off, after_search, seeking}
+use Rattle.mdl_space.specs.Searches.{SearchEnd, Over, Cut_off, Failed, after_search, seeking}
 use Rattle.mdl_space.specs.Seats.{SeatView, empty_seat, is_open, settling}
 use Rattle.mdl_space.specs.Systems.{Waiter}
 use Rattle.mdl_space.specs.Ties.{IsTied}
@@ -66,6 +67,12 @@ some-joined : (a b : Core) (who victim : ℕ) → Joins a (Search who) (Victim_i
     → (victim_at who a ≡ Some victim) × (b ≡ losing victim settled_as.Victim a)
 some-joined a b who victim (speaks, has, inl made) = absurd (not_memory victim made.1)
 some-joined a b who victim (speaks, has, inr made) = told-some (victim_at who a) a b victim made
+
+-- a search that finds no memory, or is one of these
+pub which-joined : (a b : Core) (who : ℕ) (answer : Answer) → Joins a (Search who) answer b
+    → (answer ≡ Refused OutOfMemory) ⊎ ((answer ≡ No_cycle) ⊎ ((victim : ℕ) × (answer ≡ Victim_is victim)))
+which-joined a b who answer (speaks, has, inl made) = inl made.1
+which-joined a b who answer (speaks, has, inr made) = inr (told-other (victim_at who a) a b answer made)
 
 -- a search that finds memory is one of these
 pub either-joined : (a b : Core) (who : ℕ) (answer : Answer) → Joins a (Search who) answer b → finds_no_memory answer ≡ false
@@ -196,6 +203,16 @@ one-lost core who victim has other was =
 cut-over : Over ≡ Cut_off → ⊥
 cut-over e = cc
 
+-- none of the searches was refused
+abbrev pub IsWhole : SearchEnd → Type 0
+IsWhole end = (refusal : SpaceError) → end ≡ Failed refusal → ⊥
+
+pub over-whole : IsWhole Over
+over-whole refusal e = cc
+
+pub cut-whole : IsWhole Cut_off
+cut-whole refusal e = cc
+
 pub over-cut : (a b : Core) (who : ℕ) → Runs Joins a (seeking 0 who) Over b → ⊥
 unfolding seeking
 over-cut a b who run = cut-over (sym run.0)
@@ -207,11 +224,17 @@ Searched n end a b who =
     ⊎ (((end ≡ Over) × Joins a (Search who) (Victim_is who) b)
     ⊎ ((victim : ℕ) × (mid : Core) × (victim ≢ who) × Joins a (Search who) (Victim_is victim) mid × Runs Joins mid (seeking n who) end b))
 
-pub searched : (n : ℕ) (end : SearchEnd) (a b : Core) (who : ℕ) → Runs Joins a (seeking (suc n) who) end b → Searched n end a b who
+pub searched : (n : ℕ) (end : SearchEnd) (a b : Core) (who : ℕ) → IsWhole end → Runs Joins a (seeking (suc n) who) end b → Searched n end a b who
 unfolding seeking
-searched n end a b who (answer, mid, joins, memory, run) = elim (either-joined a mid who answer joins memory) [
-  | inl e ↦ none (subst (λ r. Joins a (Search who) r mid) e joins) (subst (λ r. Runs Joins mid (after_search who (seeking n who) r) end b) e run)
-  | inr h ↦ named h.0 (eqb_tells h.0 who) (subst (λ r. Joins a (Search who) r mid) h.1 joins) (subst (λ r. Runs Joins mid (after_search who (seeking n who) r) end b) h.1 run)
+searched n end a b who whole (answer, mid, joins, run) = elim (which-joined a mid who answer joins) [
+  | inl wanting ↦
+      let failed : Runs Joins mid (Give (Failed OutOfMemory)) end b = subst (λ r. Runs Joins mid (after_search who (seeking n who) r) end b) wanting run in
+      absurd (whole OutOfMemory (sym failed.0))
+  | inr found ↦ elim found [
+    | inl e ↦ none (subst (λ r. Joins a (Search who) r mid) e joins) (subst (λ r. Runs Joins mid (after_search who (seeking n who) r) end b) e run)
+    | inr h ↦
+        named h.0 (eqb_tells h.0 who) (subst (λ r. Joins a (Search who) r mid) h.1 joins) (subst (λ r. Runs Joins mid (after_search who (seeking n who) r) end b) h.1 run)
+  ]
 ]
   where
     none : Joins a (Search who) No_cycle mid → Runs Joins mid (Give Over) end b → Searched n end a b who
@@ -236,7 +259,7 @@ speaks-on keeps a b who victim speaks joins =
 module _ (keeps : CallsKeepSound) where
   never-cut : (n : ℕ) (a b : Core) (who : ℕ) → others_open who a < n → SpeaksFor a who → Runs Joins a (seeking n who) Cut_off b → ⊥
   never-cut zero a b who few speaks run = omega (arith, few)
-  never-cut (suc n) a b who few speaks run = elim (searched n Cut_off a b who run) [
+  never-cut (suc n) a b who few speaks run = elim (searched n Cut_off a b who cut-whole run) [
     | inl none ↦ cut-over (sym none.0)
     | inr named ↦ elim named [
       | inl own ↦ cut-over (sym own.0)
@@ -272,7 +295,7 @@ module _ (keeps : CallsKeepSound) where
 
   none-left : (n : ℕ) (a b : Core) (who : ℕ) → SpeaksFor a who → Runs Joins a (seeking n who) Over b → (cycle : List ℕ) → IsDeadlock (system_of b) who cycle → ⊥
   none-left zero a b who speaks run cycle is = over-cut a b who run
-  none-left (suc n) a b who speaks run cycle is = elim (searched n Over a b who run) [
+  none-left (suc n) a b who speaks run cycle is = elim (searched n Over a b who over-whole run) [
     | inl none ↦ (searches-find a b who).0 none.1 cycle (subst (λ c. IsDeadlock (system_of c) who cycle) (none-joined a b who none.1).1 is)
     | inr named ↦ elim named [
       | inl own ↦ lost-deadlock a b who speaks own.1 cycle is

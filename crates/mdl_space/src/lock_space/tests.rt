@@ -1,5 +1,4 @@
-ghost use Rattle.std.specs.Prelude.{◌≡◌, false};
-ghost use Rattle.mdl_space.specs.Answers.{finds_no_memory};
+ghost use Rattle.std.specs.Prelude.{◌≡◌};
 ghost use Rattle.mdl_space.specs.Runs.{Runs};
 ghost use Rattle.mdl_space.specs.Visits.{visiting, visited};
 
@@ -12,7 +11,7 @@ use std::test::Fail;
 fn visit<S: LockSpace>(space: &mut S, who: u16, key: &Key, mode: Mode) -> Result<bool, SpaceError>
     requires { S.speaks_for space.old who }
     ensures speaks { S.speaks_for space.new who }
-    ensures run { finds_no_memory (visited result) ≡ false → Runs S.joins space.old (visiting who key.now mode) (visited result) space.new }
+    ensures run { Runs S.joins space.old (visiting who key.now mode) (visited result) space.new }
     ensures unchanged { S.own space.new who ≡ S.own space.old who }
 {
     let place = space.resolve(who, key)?;

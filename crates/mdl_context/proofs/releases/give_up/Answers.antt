@@ -26,6 +26,7 @@ loop-ticket-preserved g c =
           let goes_now = sym c.names.ensures ∙ w.if-names.true in
           rw w.space-is (record {
             speaks = w.let_go.ensures.speaks;
+            remembers = λ place key knew. w.let_go.ensures.remembers place key (known.remembers place key knew);
             run = λ b rest. known.run b (run-goes p items i t c.loop-ticket-test.true c.ticket-item.is g.S.LockSpace.joins c.args.who c.loop-ticket.space w.let_go.new.space b goes_now w.let_go.ensures.released rest);
             held = ap (λ (own : Own). own.held) w.let_go.ensures.own
                 ∙ held-goes p items i t c.loop-ticket-test.true c.ticket-item.is now (g.met.S.LockSpace.rising _ _ known.speaks) known.held goes_now;
@@ -35,6 +36,7 @@ loop-ticket-preserved g c =
           let stays_now = sym c.names.ensures ∙ w.if-names.false in
           rw w.space-is (record {
             speaks = known.speaks;
+            remembers = known.remembers;
             run = λ b rest. known.run b (run-stays p items i t c.loop-ticket-test.true c.ticket-item.is g.S.LockSpace.joins c.args.who c.loop-ticket.space b stays_now rest);
             held = known.held ∙ sym (ap (map held_of) (left-stays p items i t c.loop-ticket-test.true c.ticket-item.is stays_now));
             wait = known.wait;

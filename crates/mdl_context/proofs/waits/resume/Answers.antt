@@ -1,40 +1,23 @@
 -- To look after the wait changes nothing that the session has.
 use Rattle.std.proofs.Common.{refl, sym, ◌∙◌}
 use Rattle.mdl_space.specs.Causes.{Knowledge}
-use Rattle.mdl_context.proofs.WaitLemmas.{poll-memory}
+use Rattle.mdl_context.proofs.AttendLemmas.{attends-still}
+use Rattle.mdl_context.proofs.ServingLemmas.{waits-there}
+use Rattle.mdl_context.proofs.WaitLemmas.{is_ok-polled}
 use Rattle.mdl_context.proofs.waits.resume.Goals as goal
 
-pub end_wait-requires : goal.end_wait-requires
-end_wait-requires g c =
-    let laws = g.met.S.LockSpace in
-    let step = rw (c.in-Ok-Settled.is, c.in-Ok-Settled.field-0-is) at c.poll_wait.ensures in
-    record {
-      speaks = laws.keeps _ _ _ _ _ c.requires.speaks step;
-      serves = rw (laws.changes _ _ _ _ _ refl step) c.requires.serves;
-    }
-
-pub returns-in-Ok-Pending-clause-attends : goal.returns-in-Ok-Pending-clause-attends
-returns-in-Ok-Pending-clause-attends g c =
-    let laws = g.met.S.LockSpace in
-    let step = rw (c.in-Ok-Pending.is, c.in-Ok-Pending.field-0-is) at c.poll_wait.ensures in
-    record {
-      speaks = laws.keeps _ _ _ _ _ c.requires.speaks step;
-      serves = rw (laws.changes _ _ _ _ _ refl step) c.requires.serves;
-    }
-
-pub returns-in-Err-clause-attends : goal.returns-in-Err-clause-attends
-returns-in-Err-clause-attends g c =
-    let laws = g.met.S.LockSpace in
-    let step = rw c.in-Err.is at c.poll_wait.ensures in
-    record {
-      speaks = laws.keeps _ _ _ _ _ c.requires.speaks step;
-      serves = rw (laws.changes _ _ _ _ _ refl step) c.requires.serves;
-    }
-
-pub returns-in-Err-clause-run : goal.returns-in-Err-clause-run
-returns-in-Err-clause-run g c =
-    let laws = g.met.S.LockSpace in
+pub unwrap-requires : goal.unwrap-requires
+unwrap-requires g c =
     let knows : Knowledge = g.S.LockSpace.knows c.args.space.now c.args.who in
-    let step = rw c.in-Err.is at c.poll_wait.ensures in
-    rw (sym c.is_waiting.ensures ∙ c.if-not-is_waiting.false)
-    (_, _, step, poll-memory knows c.args.who c.in-Err.refusal _ (laws.explains _ _ _ _ _ refl step), (refl, refl))
+    let waits = waits-there _ _ c.requires.serves (sym c.is_waiting.ensures ∙ c.if-not-is_waiting.false) in
+    is_ok-polled knows c.args.who _ _ (g.met.S.LockSpace.explains _ _ _ _ _ refl c.poll_wait.ensures) waits
+
+pub end_wait-requires-clause-attends : goal.end_wait-requires-clause-attends
+end_wait-requires-clause-attends g c =
+    let laws = g.met.S.LockSpace in
+    attends-still laws.keeps laws.changes laws.remembers _ _ _ _ _ c.requires refl refl refl (rw (c.unwrap.ensures, c.in-Settled.is) at c.poll_wait.ensures)
+
+pub returns-in-Pending-clause-attends : goal.returns-in-Pending-clause-attends
+returns-in-Pending-clause-attends g c =
+    let laws = g.met.S.LockSpace in
+    attends-still laws.keeps laws.changes laws.remembers _ _ _ _ _ c.requires refl refl refl (rw (c.unwrap.ensures, c.in-Pending.is) at c.poll_wait.ensures)

@@ -2,6 +2,8 @@
 use Rattle.std.proofs.Common.{◌≡◌, [], refl, sym, ap, ◌∙◌}
 use Rattle.mdl_context.specs.Contexts.{AreRising, beyond, without}
 use Rattle.mdl_context.proofs.BeyondLemmas.{rising-kept, gone-beyond, kept-beyond, none-beyond, without-none, same-context, run-as, run-none}
+use Rattle.mdl_context.proofs.AttendLemmas.{attends-left}
+use Rattle.mdl_context.proofs.ServingLemmas.{serves-left}
 use Rattle.mdl_context.proofs.context.Context.give_up_beyond.Goals as goal
 
 pub returns-in-Some-clause-run : goal.returns-in-Some-clause-run
@@ -32,3 +34,9 @@ returns-in_default-clause-kept g c =
     let none : beyond c.args.duration c.args.most kept ≡ [] = none-beyond c.args.duration c.args.most kept c.nth_for.result c.nth_for.ensures c.in_default.is in
     rw (← c.self.view_is)
     (same-context c.self.inside.who _ _ _ _ (sym (ap (λ gone. without gone kept) none ∙ without-none kept)) refl)
+
+pub returns-in-Some-clause-attends : goal.returns-in-Some-clause-attends
+returns-in-Some-clause-attends g c =
+    attends-left _ _ _ _ _ (rw (← c.self.view_is) at c.requires) c.give_up.ensures.remembers c.give_up.ensures.speaks
+    (serves-left _ _ _ _ (rw (← c.self.view_is) at c.requires.serves) c.give_up.ensures.held c.give_up.ensures.wait c.give_up.ensures.waits)
+    refl c.give_up.ensures.kept c.give_up.ensures.waits

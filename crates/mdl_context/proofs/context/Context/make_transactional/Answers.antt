@@ -1,7 +1,8 @@
 use Rattle.std.proofs.Common.{refl}
 use Rattle.mdl_context.specs.Holdings.{transactional}
-use Rattle.mdl_context.proofs.ServingLemmas.{serves-changed}
+use Rattle.mdl_context.proofs.AttendLemmas.{attends-changed}
 use Rattle.mdl_context.proofs.context.Context.make_transactional.Goals as goal
 
-pub returns-clause-serves : goal.returns-clause-serves
-returns-clause-serves g c = rw (← c.self.view_is) (λ own serves. serves-changed transactional (λ t. refl) own _ _ c.make_transactional.ensures.kept c.make_transactional.ensures.wait serves)
+pub returns-clause-attends : goal.returns-clause-attends
+returns-clause-attends g c =
+    rw (← c.self.view_is) (λ space attends. attends-changed transactional (λ t. refl) (λ t. refl) space _ _ refl c.make_transactional.ensures.kept c.make_transactional.ensures.wait attends)

@@ -1,6 +1,7 @@
 -- What is kept is held.
-use Rattle.std.proofs.Common.{◌≡◌, true, sym, ◌∙◌}
+use Rattle.std.proofs.Common.{◌≡◌, true, refl, sym, ◌∙◌}
 use Rattle.mdl_context.specs.Contexts.{has_number}
+use Rattle.mdl_context.proofs.AttendLemmas.{attends-left}
 use Rattle.mdl_context.proofs.BeyondLemmas.{holds-kept, serves-without}
 use Rattle.mdl_context.proofs.context.Context.release.Goals as goal
 
@@ -10,7 +11,7 @@ let_go-requires-clause-held g c =
     holds-kept c.args.id _ _ (rw (← c.self.view_is) at c.requires.serves) has
 
 pub returns-clause-attends : goal.returns-clause-attends
-returns-clause-attends g c = record {
-  speaks = c.let_go.ensures.speaks;
-  serves = serves-without c.args.id _ _ _ _ (rw (← c.self.view_is) at c.requires.serves) c.let_go.ensures.own c.remove.ensures.kept c.remove.ensures.wait;
-}
+returns-clause-attends g c =
+    attends-left _ _ _ _ _ (rw (← c.self.view_is) at c.requires) c.let_go.ensures.remembers c.let_go.ensures.speaks
+    (serves-without c.args.id _ _ _ _ (rw (← c.self.view_is) at c.requires.serves) c.let_go.ensures.own c.remove.ensures.kept c.remove.ensures.wait)
+    refl c.remove.ensures.kept c.remove.ensures.wait

@@ -1,10 +1,13 @@
 -- What goes is what is of the key.
-use Rattle.std.proofs.Common.{sym, ◌∙◌}
+use Rattle.std.proofs.Common.{refl, sym, ◌∙◌}
 use Rattle.std.specs.Prelude.{filter}
 use Rattle.mdl_context.specs.Contexts.{ContextView, AreRising}
 use Rattle.mdl_context.specs.Holdings.{is_of}
 use Rattle.mdl_context.specs.Releases.{giving_up}
 use Rattle.mdl_context.proofs.BeyondLemmas.{rising-kept, others-without, same-context, no-wait, run-unless, run-given-up}
+use Rattle.mdl_context.proofs.AttendLemmas.{attends-left}
+use Rattle.mdl_context.proofs.ServingLemmas.{serves-left}
+use Rattle.mdl_context.proofs.OthersLemmas.{leaves, for_all}
 use Rattle.mdl_context.proofs.context.Context.release_name.Goals as goal
 
 pub returns-clause-run : goal.returns-clause-run
@@ -19,3 +22,14 @@ returns-clause-run g c =
     let run = run-given-up joins gone before after c.args.space.now c.give_up.new.space c.give_up.ensures.run left in
     rw (← c.self.view_is)
     (run-unless joins _ before (giving_up gone before) c.args.space.now c.give_up.new.space _ (no-wait before (sym c.is_waiting.ensures ∙ c.if-is_waiting.false)) run)
+
+pub returns-clause-attends : goal.returns-clause-attends
+returns-clause-attends g c =
+    attends-left _ _ _ _ _ (rw (← c.self.view_is) at c.requires) c.give_up.ensures.remembers c.give_up.ensures.speaks
+    (serves-left _ _ _ _ (rw (← c.self.view_is) at c.requires.serves) c.give_up.ensures.held c.give_up.ensures.wait c.give_up.ensures.waits)
+    refl c.give_up.ensures.kept c.give_up.ensures.waits
+
+pub returns-clause-others : goal.returns-clause-others
+returns-clause-others g c =
+    let laws = g.met.S.LockSpace in
+    rw (← c.self.view_is) (leaves laws.keeps laws.others _ _ _ _ _ (for_all _ _) c.give_up.ensures.run)
