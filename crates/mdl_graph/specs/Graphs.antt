@@ -1,6 +1,6 @@
 -- Graphs of sessions that wait for one another, as they are built lock by lock.
 use Rattle.std.specs.Prelude.{◌≡◌, ℕ, Bool, ◌&&◌, ◌==◌, List, [], map, find, Option, Some, None, refl}
-use Rattle.std.specs.Coded.{Coded, code_by, coded×, coded_ℕ, codes}
+use Rattle.std.specs.Coded.{Coded, code_by, coded×, coded_list, coded_ℕ}
 use Rattle.std.specs.FinSet as set
 use Rattle.std.specs.List.{list_any}
 use Rattle.std.specs.Option.{option_map}
@@ -17,11 +17,18 @@ pub record GraphView : Type 0 where
   pub wishes : List Member
   pub ties : List (ℕ × ℕ)
 
+-- a member is stored as the pair of its fields
+abbrev pub member_code : Coded Member
+member_code =
+    code_by (ℕ × ℕ) (coded× coded_ℕ coded_ℕ) (λ member. (member.session, member.weight))
+    (λ parts. record { session = parts.0; weight = parts.1 })
+    (λ _. refl)
+
 -- a graph is stored as the tuple of its fields
 abbrev pub graph_code : Coded GraphView
 graph_code =
     code_by (set.FinSet nat_cmp × (List Member × List (ℕ × ℕ)))
-    (coded× (set.code coded_ℕ) (Prim.hlevel codes))
+    (coded× (set.code coded_ℕ) (coded× (coded_list member_code) (coded_list (coded× coded_ℕ coded_ℕ))))
     (λ graph. (graph.settled, (graph.wishes, graph.ties)))
     (λ parts. record { settled = parts.0; wishes = parts.1.0; ties = parts.1.1 })
     (λ _. refl)
