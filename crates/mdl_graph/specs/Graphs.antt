@@ -17,12 +17,14 @@ pub record GraphView : Type 0 where
   pub wishes : List Member
   pub ties : List (ℕ × ℕ)
 
--- a member of a cycle is stored as the pair of its fields
+-- a member is stored as the pair of its fields
 abbrev pub member_code : Coded Member
 member_code =
-    code_by (ℕ × ℕ) (coded× coded_ℕ coded_ℕ) (λ member. (member.session, member.weight)) (λ pair. record { session = pair.0; weight = pair.1 }) (λ _. refl)
+    code_by (ℕ × ℕ) (coded× coded_ℕ coded_ℕ) (λ member. (member.session, member.weight))
+    (λ parts. record { session = parts.0; weight = parts.1 })
+    (λ _. refl)
 
--- and a graph as the tuple of its fields
+-- a graph is stored as the tuple of its fields
 abbrev pub graph_code : Coded GraphView
 graph_code =
     code_by (set.FinSet nat_cmp × (List Member × List (ℕ × ℕ)))
