@@ -1,6 +1,7 @@
 pub mod Contexts
 pub mod DurationLaws
 pub mod Goings
+pub mod Halls
 pub mod Holdings
 pub mod Releases
 pub mod Requests

@@ -1,108 +1,18 @@
-//! A session's tickets in the space of one thread.
+//! A session's tickets in the space of one thread: first how long they last, and how waits are seen through.
 ghost use Rattle.std.specs.Prelude.{◌≡◌, IfOk};
 ghost use Rattle.mdl_space.specs.CoreJoins.{SpeaksFor, own_at};
 ghost use Rattle.mdl_context.specs.Contexts.{Attends, LeavesOthers};
 
+mod acts;
+mod hall;
+mod plain;
+mod seeded;
+
+use self::acts::{Act, Lock, Reply, first_wrong, mark};
 use super::*;
 use mdl_key::Mode;
 use mdl_space::{Attempt, CoreSpace, NewError, Settled};
 use std::test::Fail;
-
-// What a session may do, with tables of one schema.
-#[derive(Clone, Copy)]
-enum Act {
-    Acquire(&'static str, Mode, Duration),
-    Release(TicketId),
-    ReleaseName(&'static str),
-    Mark,
-    GoBack(Mark),
-    EndStatement,
-    EndTransaction,
-    MakeExplicit,
-    MakeTransactional,
-    Resume,
-    GiveUp,
-}
-
-// What comes of it.
-#[derive(Clone, Copy, Debug, PartialEq, Eq)]
-enum Reply {
-    Acquired(TicketId),
-    MustWait(u64),
-    Resumed(Resume),
-    Stands(Mark),
-    Done,
-    Refused(ContextError),
-    NoMemory,
-}
-
-// A mark of so many tickets of the statement and of the transaction.
-const fn mark(statement: usize, transaction: usize) -> Mark {
-    Mark {
-        statement,
-        transaction,
-    }
-}
-
-// What an answer without a value says.
-fn done(answer: Result<(), ContextError>) -> Reply {
-    match answer {
-        Ok(()) => Reply::Done,
-        Err(cause) => Reply::Refused(cause),
-    }
-}
-
-// What the answer to a wish says.
-fn acquired(answer: Result<Acquire, ContextError>) -> Reply {
-    match answer {
-        Ok(Acquire::Acquired(id)) => Reply::Acquired(id),
-        Ok(Acquire::MustWait(number)) => Reply::MustWait(number),
-        Err(cause) => Reply::Refused(cause),
-    }
-}
-
-// What the answer of a wait says.
-fn resumed(answer: Result<Resume, ContextError>) -> Reply {
-    match answer {
-        Ok(how) => Reply::Resumed(how),
-        Err(cause) => Reply::Refused(cause),
-    }
-}
-
-// Does it.
-fn make(alloc: Global, space: &mut CoreSpace, context: &mut Context<CoreSpace>, act: Act) -> Reply
-    requires { Attends SpeaksFor own_at space.old context.old }
-    ensures { Attends SpeaksFor own_at space.new context.new }
-{
-    match act {
-        Act::Acquire(table, mode, duration) => {
-            let Ok(key) = Key::table(alloc, "test", table) else {
-                return Reply::NoMemory;
-            };
-            let request = Request {
-                key,
-                mode,
-                duration,
-            };
-            acquired(context.acquire(space, request))
-        }
-        Act::Release(id) => done(context.release(space, id)),
-        Act::ReleaseName(table) => {
-            let Ok(key) = Key::table(alloc, "test", table) else {
-                return Reply::NoMemory;
-            };
-            done(context.release_name(space, &key))
-        }
-        Act::Mark => Reply::Stands(context.savepoint()),
-        Act::GoBack(mark) => done(context.rollback_to(space, mark)),
-        Act::EndStatement => done(context.end_statement(space)),
-        Act::EndTransaction => done(context.end_transaction(space)),
-        Act::MakeExplicit => done(context.make_explicit()),
-        Act::MakeTransactional => done(context.make_transactional()),
-        Act::Resume => resumed(context.resume(space)),
-        Act::GiveUp => resumed(context.give_up(space)),
-    }
-}
 
 // A space of four places and two sessions, and the context of its first session.
 fn start(alloc: Global) -> Result<(CoreSpace, Context<CoreSpace>), NewError>
@@ -138,53 +48,34 @@ fn start_behind_another(alloc: Global) -> Result<(CoreSpace, Context<CoreSpace>)
     Ok((space, context))
 }
 
-// The first row whose reply isn't the wanted one.
-fn first_wrong(
-    alloc: Global,
-    space: &mut CoreSpace,
-    context: &mut Context<CoreSpace>,
-    rows: &[(Act, Reply)],
-) -> Option<(usize, Reply)>
-    requires { Attends SpeaksFor own_at space.old context.old }
-    ensures { Attends SpeaksFor own_at space.new context.new }
-{
-    for (index, (act, wanted)) in rows.iter().enumerate() {
-        let reply = make(alloc, space, context, *act);
-        if reply != *wanted {
-            return Some((index, reply));
-        }
-    }
-    None
-}
-
 #[test]
 fn tickets_last_as_long_as_they_are_wanted(rt: HostRuntime) -> Result<(), Fail> {
     let alloc = rt.alloc();
     let (mut space, mut context) = start(alloc)?;
     let gained = [
         (
-            Act::Acquire("a", Mode::SR, Duration::Transaction),
+            Act::Acquire(Lock::A, Mode::SR, Duration::Transaction),
             Reply::Acquired(1),
         ),
         (
-            Act::Acquire("a", Mode::S, Duration::Statement),
+            Act::Acquire(Lock::A, Mode::S, Duration::Statement),
             Reply::Acquired(2),
         ),
         (
-            Act::Acquire("a", Mode::SR, Duration::Transaction),
+            Act::Acquire(Lock::A, Mode::SR, Duration::Transaction),
             Reply::Acquired(1),
         ),
         (
-            Act::Acquire("a", Mode::SR, Duration::Explicit),
+            Act::Acquire(Lock::A, Mode::SR, Duration::Explicit),
             Reply::Acquired(3),
         ),
         (
-            Act::Acquire("a", Mode::SR, Duration::Explicit),
+            Act::Acquire(Lock::A, Mode::SR, Duration::Explicit),
             Reply::Acquired(4),
         ),
         (Act::Mark, Reply::Stands(mark(1, 1))),
         (
-            Act::Acquire("b", Mode::SW, Duration::Transaction),
+            Act::Acquire(Lock::B, Mode::SW, Duration::Transaction),
             Reply::Acquired(5),
         ),
         (Act::Mark, Reply::Stands(mark(1, 2))),
@@ -203,7 +94,7 @@ fn tickets_last_as_long_as_they_are_wanted(rt: HostRuntime) -> Result<(), Fail> 
         (Act::EndTransaction, Reply::Done),
         (Act::Release(1), Reply::Refused(ContextError::NotHeld)),
         (Act::Release(3), Reply::Done),
-        (Act::ReleaseName("a"), Reply::Done),
+        (Act::ReleaseName(Lock::A), Reply::Done),
         (Act::Release(4), Reply::Refused(ContextError::NotHeld)),
     ];
     assert_eq!(rt; first_wrong(alloc, &mut space, &mut context, &gone), None);
@@ -216,7 +107,7 @@ fn durations_change(rt: HostRuntime) -> Result<(), Fail> {
     let (mut space, mut context) = start(alloc)?;
     let rows = [
         (
-            Act::Acquire("a", Mode::SR, Duration::Statement),
+            Act::Acquire(Lock::A, Mode::SR, Duration::Statement),
             Reply::Acquired(1),
         ),
         (Act::MakeExplicit, Reply::Done),
@@ -245,12 +136,12 @@ fn waits_are_seen_through(rt: HostRuntime) -> Result<(), Fail> {
     let (mut space, mut context) = start_behind_another(alloc)?;
     let rows = [
         (
-            Act::Acquire("a", Mode::X, Duration::Transaction),
+            Act::Acquire(Lock::A, Mode::X, Duration::Transaction),
             Reply::MustWait(1),
         ),
         (Act::Resume, Reply::Resumed(Resume::Waiting)),
         (
-            Act::Acquire("b", Mode::SR, Duration::Statement),
+            Act::Acquire(Lock::B, Mode::SR, Duration::Statement),
             Reply::Refused(ContextError::Waiting),
         ),
         (Act::Release(1), Reply::Refused(ContextError::NotHeld)),
@@ -262,7 +153,7 @@ fn waits_are_seen_through(rt: HostRuntime) -> Result<(), Fail> {
         (Act::MakeExplicit, Reply::Refused(ContextError::Waiting)),
         (Act::GiveUp, Reply::Resumed(Resume::Lost(Settled::Timeout))),
         (
-            Act::Acquire("b", Mode::SR, Duration::Statement),
+            Act::Acquire(Lock::B, Mode::SR, Duration::Statement),
             Reply::Acquired(2),
         ),
     ];
