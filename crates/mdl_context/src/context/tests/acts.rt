@@ -1,12 +1,11 @@
 //! Acts and replies: by these all tests call a context.
 ghost use Rattle.std.specs.Prelude.{◌≡◌, false, IfSome, IsSome};
-ghost use Rattle.mdl_space.specs.CoreJoins.{SpeaksFor, own_at};
 ghost use Rattle.mdl_context.specs.Contexts.{Attends, LeavesOthers};
 ghost use Rattle.mdl_context.specs.Requests.{wants_memory};
 
 use crate::{Acquire, Context, ContextError, Mark, Request, Resume};
 use mdl_key::{Duration, Key, KeyError, Kind, Mode};
-use mdl_space::{CoreSpace, LockSpace, SpaceError, TicketId};
+use mdl_space::{LockSpace, SpaceError, TicketId};
 use std::alloc::Global;
 
 /// What may be locked.
@@ -143,23 +142,4 @@ pub(super) fn make<S: LockSpace>(
         Act::Kill(target, number) => Reply::Killed(space.kill(target, number)),
     };
     Some(reply)
-}
-
-/// The first row whose reply isn't the wanted one.
-pub(super) fn first_wrong(
-    alloc: Global,
-    space: &mut CoreSpace,
-    context: &mut Context<CoreSpace>,
-    rows: &[(Act, Reply)],
-) -> Option<(usize, Option<Reply>)>
-    requires { Attends SpeaksFor own_at space.old context.old }
-    ensures { Attends SpeaksFor own_at space.new context.new }
-{
-    for (index, (act, wanted)) in rows.iter().enumerate() {
-        let reply = make(alloc, space, context, *act);
-        if reply != Some(*wanted) {
-            return Some((index, reply));
-        }
-    }
-    None
 }
