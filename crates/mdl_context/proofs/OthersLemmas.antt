@@ -1,5 +1,5 @@
 -- A context makes its calls for its own session, so nothing changes for the others.
-use Rattle.std.proofs.Common.{◌≡◌, ℕ, Bool, true, false, List, [], ◌∷◌, Option, Some, None, Result, Ok, refl, ◌∙◌, subst}
+use Rattle.std.proofs.Common.{◌≡◌, ℕ, Bool, true, false, List, [], ◌∷◌, Option, Some, None, Result, Ok, refl, sym, ◌∙◌, subst}
 use Rattle.std.specs.Prelude.{is_some, IsSome, IfSome, if◌then◌else◌}
 use Rattle.mdl_key.specs.Keys.{KeyName}
 use Rattle.mdl_space.specs.declared.answers.Held.{Held}
@@ -11,7 +11,7 @@ use Rattle.mdl_context.specs.declared.context_error.ContextError.{ContextError}
 use Rattle.mdl_context.specs.declared.kept.Kept.{Kept}
 use Rattle.mdl_context.specs.declared.request.Mark.{Mark}
 use Rattle.mdl_context.specs.declared.request.Request.{Request}
-use Rattle.mdl_context.specs.Contexts.{ContextView, LeavesOthers}
+use Rattle.mdl_context.specs.Contexts.{ContextView, Attends, Serves, LeavesOthers}
 use Rattle.mdl_context.specs.Holdings as holdings
 use Rattle.mdl_context.specs.Releases as releases
 use Rattle.mdl_context.specs.Requests as requests
@@ -34,6 +34,14 @@ module _ {S : Type 0} (speaks_for : S → ℕ → Type 0) (own : S → ℕ → O
       let then_speaks = keeps a mid call answer w speaks step in
       let rest = leaves who (next answer) mid b reply (made.1 answer) run w other then_speaks in
       (rest.0, rest.1 ∙ others a mid call answer w speaks (λ e. other (cc)) step)
+
+  -- a context for whose session the call wasn't made
+  pub still_attends : (a b : S) (call : Call) (answer : Answer) (context : ContextView) → (caller call ≡ Some context.who → ⊥)
+      → Attends speaks_for own a context → joins a call answer b → Attends speaks_for own b context
+  still_attends a b call answer context other attends step = record {
+    speaks = keeps a b call answer context.who attends.speaks step;
+    serves = subst (λ o. Serves o context) (sym (others a b call answer context.who attends.speaks other step)) attends.serves;
+  }
 
 -- whose context it is
 pub stays : {S A : Type 0} (joins : S → Call → Answer → S → Type 0) (who : ℕ) (program : Program (A × ContextView)) (a b : S) (reply : A × ContextView) → IsFor who program

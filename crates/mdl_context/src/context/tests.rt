@@ -2,6 +2,7 @@
 mod acts;
 mod hall;
 mod marks;
+mod memory;
 mod order;
 mod plain;
 mod rows;
