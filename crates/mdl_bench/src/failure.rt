@@ -1,5 +1,6 @@
 //! What can end a measurement.
 use mdl_book::BookError;
+use mdl_context::ContextError;
 use mdl_key::KeyError;
 use mdl_space::{NewError, SpaceError};
 use std::alloc::AllocError;
@@ -21,7 +22,10 @@ pub enum Failure {
     /// A call of a space that is refused.
     #[error("{0}")]
     Space(#[from] SpaceError),
-    /// A call of a space that answers something else than it should.
+    /// A call of a context that is refused.
+    #[error("{0}")]
+    Context(#[from] ContextError),
+    /// A call of a space or a context that answers something else than it should.
     #[error("a call has an answer that it should not have")]
     Unexpected,
     /// Memory ran out.

@@ -1,4 +1,4 @@
-//! `mdl_bench` times the calls of one lock's book, and of a lock space.
+//! `mdl_bench` times the calls of one lock's book, of a lock space, and of a session's context.
 //!
 //! It prints a line for each figure. With the argument `quick` it makes each call once, which shows that all of them work,
 //! and prints nothing.
@@ -11,10 +11,12 @@ mod chain;
 mod crowd;
 mod failure;
 mod field;
+mod session;
 
 use chain::Chain;
 use crowd::Crowd;
 use failure::Failure;
+use mdl_key::Key;
 use std::process::ExitCode;
 use std::time::{Duration, Instant};
 
@@ -30,6 +32,17 @@ const CHAINS: [(u16, u32); 2] = [(64, 20_000), (640, 2_000)];
 const HELD: [u16; 4] = [1, 10, 100, 1_000];
 
 const TAKEN: u32 = 1_000_000;
+
+// The tickets of a session, and how often its context comes by a lock and gives it up.
+const KEPT: [(u16, u32); 4] = [
+    (1, 1_000_000),
+    (10, 1_000_000),
+    (100, 100_000),
+    (1_000, 10_000),
+];
+
+// How often a context locks a hundred tables and goes back.
+const GONE_BACK: u32 = 2_000;
 
 // How often a lock goes through all sessions.
 const PASSED_ON: u32 = 2_000;
@@ -70,7 +83,20 @@ fn try_space(rt: &HostRuntime) -> Result<(), Failure> {
     let mut space = field::open_space(rt.alloc())?;
     field::pass_on(&mut space)?;
     field::fill(&mut space, 1)?;
-    field::take_and_release(&mut space, 1)
+    field::take_and_release(&mut space, 1)?;
+    try_context(rt)
+}
+
+// Likewise, of a context.
+fn try_context(rt: &HostRuntime) -> Result<(), Failure> {
+    let keys = session::tables(rt.alloc())?;
+    let (mut space, mut context) = session::open(rt.alloc())?;
+    session::fill(&mut space, &mut context, &keys, 1)?;
+    session::go_back(&mut space, &mut context, &keys, 1)?;
+    let Some(key) = keys.last() else {
+        return Err(Failure::Unexpected);
+    };
+    session::take_and_release(&mut space, &mut context, key, 1)
 }
 
 // Prints all figures.
@@ -84,7 +110,12 @@ fn time_all(rt: &HostRuntime) -> Result<(), Failure> {
     for tickets in HELD {
         time_space(rt, tickets)?;
     }
-    time_passing_on(rt)
+    time_passing_on(rt)?;
+    let keys = session::tables(rt.alloc())?;
+    for (tickets, turns) in KEPT {
+        time_context(rt, &keys, tickets, turns)?;
+    }
+    time_going_back(rt, &keys)
 }
 
 // What one call costs on a book of so many tickets.
@@ -138,6 +169,30 @@ fn time_passing_on(rt: &HostRuntime) -> Result<(), Failure> {
     println!(rt;
         "    63 waiters in X, each granted by the one before: {nanos:>8} ns with begin_wait and end_wait"
     )?;
+    Ok(())
+}
+
+// What it costs to come by a lock and give it up, where the context keeps so many tickets.
+fn time_context(rt: &HostRuntime, keys: &[Key], tickets: u16, turns: u32) -> Result<(), Failure> {
+    let Some(key) = keys.last() else {
+        return Err(Failure::Unexpected);
+    };
+    let (mut space, mut context) = session::open(rt.alloc())?;
+    session::fill(&mut space, &mut context, keys, tickets)?;
+    let began = Instant::now(rt)?;
+    session::take_and_release(&mut space, &mut context, key, turns)?;
+    let nanos = nanos_each(began.elapsed(rt)?, turns);
+    println!(rt; "{tickets:>6} tickets kept: acquire and release {nanos:>6} ns")?;
+    Ok(())
+}
+
+// What it costs to lock a hundred tables and go back.
+fn time_going_back(rt: &HostRuntime, keys: &[Key]) -> Result<(), Failure> {
+    let (mut space, mut context) = session::open(rt.alloc())?;
+    let began = Instant::now(rt)?;
+    session::go_back(&mut space, &mut context, keys, GONE_BACK)?;
+    let nanos = nanos_each(began.elapsed(rt)?, GONE_BACK);
+    println!(rt; "   100 tables locked since a savepoint, and given up again: {nanos:>8} ns")?;
     Ok(())
 }
 

@@ -2,6 +2,7 @@ pub mod AcquireLemmas
 pub mod AttendLemmas
 pub mod BeyondLemmas
 pub mod FrontLemmas
+pub mod HallLemmas
 pub mod IndexLemmas
 pub mod KeyLemmas
 pub mod OthersLemmas

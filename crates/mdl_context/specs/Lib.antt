@@ -1,6 +1,7 @@
 pub mod Contexts
 pub mod DurationLaws
 pub mod Goings
+pub mod Halls
 pub mod Holdings
 pub mod Indexes
 pub mod Releases

@@ -1,0 +1,6 @@
+-- The context keeps what its session holds.
+use Rattle.mdl_context.specs.Contexts.{Attends}
+use Rattle.mdl_bench.proofs.session.take_and_release.Given as goal
+
+abbrev pub invariant-loop-turn : goal.invariant-loop-turn
+invariant-loop-turn g l = Attends g.S.LockSpace.speaks_for g.S.LockSpace.own l.space l.context

@@ -1,0 +1,289 @@
+//! Growths refused in turn: where an allocation fails once, neither the context nor the space has lost anything, and both go on.
+//! What gives up takes no memory.
+//!
+//! `rt try --test --fail-alloc N` refuses the allocation of that number.
+ghost use Rattle.std.specs.Prelude.{◌≡◌, ◌≢◌, IfOk};
+ghost use Rattle.mdl_space.specs.Cores.{empty_core};
+ghost use Rattle.mdl_space.specs.CoreJoins.{SpeaksFor, own_at};
+ghost use Rattle.mdl_context.specs.Contexts.{Attends};
+
+use super::acts::{Act, Lock, Reply, make, mark};
+use crate::{Context, Kept, Mark, Resume};
+use mdl_key::{Duration, Key, KeyError, Mode};
+use mdl_space::{Attempt, CoreSpace, Held, LockSpace, NewError, Settled, SpaceError, TicketId};
+use std::alloc::Global;
+use std::test::Fail;
+
+// The session of the context.
+const WHO: u16 = 2;
+
+// The session that stands in its way.
+const OTHER: u16 = 1;
+
+// A key, at the second try, where memory was refused to the first.
+fn key_of(alloc: Global, lock: Lock) -> Result<Key, KeyError> {
+    match lock.key(alloc) {
+        Ok(key) => Ok(key),
+        Err(_) => lock.key(alloc),
+    }
+}
+
+// Likewise, a space of four places and two sessions.
+fn new_space(alloc: Global) -> Result<CoreSpace, NewError>
+    ensures made { IfOk result (λ space. space ≡ empty_core 4 2) }
+    ensures speaks { IfOk result (λ space. SpeaksFor space 2) }
+{
+    match CoreSpace::new(alloc, 4, WHO) {
+        Err(NewError::OutOfMemory) => CoreSpace::new(alloc, 4, WHO),
+        outcome => outcome,
+    }
+}
+
+// And the context of its second session.
+fn start(alloc: Global) -> Result<(CoreSpace, Context<CoreSpace>), NewError>
+    ensures attends { IfOk result (λ pair. Attends SpeaksFor own_at pair.0 pair.1) }
+    ensures who { IfOk result (λ pair. pair.1.who ≡ 2) }
+{
+    let space = new_space(alloc)?;
+    Ok((space, Context::new(alloc, WHO)))
+}
+
+// Another session takes a lock that can be had now.
+fn take<S: LockSpace>(
+    space: &mut S,
+    context: &Context<S>,
+    other: u16,
+    key: &Key,
+) -> Result<Attempt, SpaceError>
+    requires attends { Attends S.speaks_for S.own space.old context.now }
+    requires speaks { S.speaks_for space.old other }
+    requires other { other ≢ context.now.who }
+    ensures attends { Attends S.speaks_for S.own space.new context.now }
+    ensures speaks { S.speaks_for space.new other }
+{
+    let _context = context;
+    let place = space.resolve(other, key)?;
+    space.try_now(other, place, Mode::SW)
+}
+
+// And gives it up.
+fn leave<S: LockSpace>(
+    space: &mut S,
+    context: &Context<S>,
+    other: u16,
+    id: TicketId,
+) -> Result<(), SpaceError>
+    requires attends { Attends S.speaks_for S.own space.old context.now }
+    requires speaks { S.speaks_for space.old other }
+    requires other { other ≢ context.now.who }
+    ensures { Attends S.speaks_for S.own space.new context.now }
+{
+    let _context = context;
+    space.release(other, id)
+}
+
+// The first session takes a lock, at the second try, where memory was refused to the first.
+fn stand_in_the_way(space: &mut CoreSpace, context: &Context<CoreSpace>, key: &Key) -> bool
+    requires attends { Attends SpeaksFor own_at space.old context.now }
+    requires who { context.now.who ≡ 2 }
+    ensures { Attends SpeaksFor own_at space.new context.now }
+{
+    let first = take(space, context, OTHER, key);
+    if first != Err(SpaceError::OutOfMemory) {
+        return first == Ok(Attempt::Granted(1));
+    }
+    take(space, context, OTHER, key) == Ok(Attempt::Granted(1))
+}
+
+// And gives it up, which takes no memory.
+fn get_out_of_the_way(space: &mut CoreSpace, context: &Context<CoreSpace>) -> bool
+    requires attends { Attends SpeaksFor own_at space.old context.now }
+    requires who { context.now.who ≡ 2 }
+    ensures { Attends SpeaksFor own_at space.new context.now }
+{
+    leave(space, context, OTHER, 1).is_ok()
+}
+
+// What a session holds, at the second try, where memory was refused to the first.
+fn held_by<S: LockSpace>(space: &S, who: u16) -> Result<Vec<Held>, SpaceError>
+    requires { S.speaks_for space.now who }
+{
+    match space.held(who) {
+        Err(SpaceError::OutOfMemory) => space.held(who),
+        outcome => outcome,
+    }
+}
+
+// How many tickets a context keeps, by duration and in all, and whether it waits.
+#[derive(Clone, Copy, PartialEq, Eq)]
+struct Standing {
+    mark: Mark,
+    tickets: usize,
+    is_waiting: bool,
+}
+
+fn standing_of(context: &Context<CoreSpace>) -> Standing {
+    let holdings = &context.holdings;
+    Standing {
+        mark: context.savepoint(),
+        tickets: holdings.tickets().len(),
+        is_waiting: holdings.is_waiting(),
+    }
+}
+
+// Whether these tickets are kept.
+fn are_kept(kept: &[Kept], held: &[Held]) -> bool {
+    for (ticket, other) in kept.iter().zip(held.iter()) {
+        if ticket.id != other.id || ticket.place != other.place || ticket.mode != other.mode {
+            return false;
+        }
+    }
+    kept.len() == held.len()
+}
+
+// Whether a session has no wait.
+fn has_no_wait<S: LockSpace>(space: &mut S, context: &Context<S>, who: u16) -> bool
+    requires { Attends S.speaks_for S.own space.old context.now }
+    ensures { Attends S.speaks_for S.own space.new context.now }
+{
+    let _context = context;
+    space.wait_of(who).is_none()
+}
+
+// Whether an act has this answer: at once, or at the second try, where memory was refused to the first, after which the
+// session held the same as before, both in the space and in the context, and had no wait.
+fn outlives(
+    alloc: Global,
+    space: &mut CoreSpace,
+    context: &mut Context<CoreSpace>,
+    act: Act,
+    wanted: Reply,
+) -> bool
+    requires attends { Attends SpeaksFor own_at space.old context.old }
+    requires who { context.old.who ≡ 2 }
+    ensures attends { Attends SpeaksFor own_at space.new context.new }
+    ensures who { context.new.who ≡ 2 }
+{
+    let Ok(before) = held_by(space, WHO) else {
+        return false;
+    };
+    let stood = standing_of(context);
+    let reply = make(alloc, space, context, act);
+    if reply.is_some() {
+        return reply == Some(wanted);
+    }
+    let Ok(after) = held_by(space, WHO) else {
+        return false;
+    };
+    let is_same = after.as_slice() == before.as_slice() && standing_of(context) == stood;
+    let is_kept = are_kept(context.holdings.tickets(), &after);
+    let is_idle = has_no_wait(space, context, WHO);
+    let again = make(alloc, space, context, act);
+    is_same && is_kept && is_idle && again == Some(wanted)
+}
+
+// Whether each act of a row outlives it.
+fn all_outlive(
+    alloc: Global,
+    space: &mut CoreSpace,
+    context: &mut Context<CoreSpace>,
+    rows: &[(Act, Reply)],
+) -> bool
+    requires attends { Attends SpeaksFor own_at space.old context.old }
+    requires who { context.old.who ≡ 2 }
+    ensures attends { Attends SpeaksFor own_at space.new context.new }
+    ensures who { context.new.who ≡ 2 }
+{
+    for (act, wanted) in rows {
+        if !outlives(alloc, space, context, *act, *wanted) {
+            return false;
+        }
+    }
+    true
+}
+
+// Whether tickets up to this number can be had, beside the first ones, which are of one lock.
+fn clones(alloc: Global, space: &mut CoreSpace, context: &mut Context<CoreSpace>, most: u64) -> bool
+    requires attends { Attends SpeaksFor own_at space.old context.old }
+    requires who { context.old.who ≡ 2 }
+    ensures attends { Attends SpeaksFor own_at space.new context.new }
+    ensures who { context.new.who ≡ 2 }
+{
+    let act = Act::Acquire(Lock::A, Mode::SR, Duration::Explicit);
+    for number in 5..most {
+        if !outlives(alloc, space, context, act, Reply::Acquired(number)) {
+            return false;
+        }
+    }
+    true
+}
+
+#[test]
+fn outlives_want_of_memory(rt: HostRuntime) -> Result<(), Fail> {
+    let alloc = rt.alloc();
+    let (mut space, mut context) = start(alloc)?;
+    let key = key_of(alloc, Lock::B)?;
+    let rows = [
+        (
+            Act::Acquire(Lock::A, Mode::SR, Duration::Transaction),
+            Reply::Acquired(1),
+        ),
+        (
+            Act::Acquire(Lock::Global, Mode::IX, Duration::Statement),
+            Reply::Acquired(2),
+        ),
+        (
+            Act::Acquire(Lock::A, Mode::SW, Duration::Transaction),
+            Reply::Acquired(3),
+        ),
+        (
+            Act::Acquire(Lock::A, Mode::SH, Duration::Statement),
+            Reply::Acquired(4),
+        ),
+        (
+            Act::Acquire(Lock::A, Mode::SR, Duration::Transaction),
+            Reply::Acquired(1),
+        ),
+    ];
+    assert!(rt; all_outlive(alloc, &mut space, &mut context, &rows));
+    assert!(rt; clones(alloc, &mut space, &mut context, 40));
+    // Waits that are given up, killed and granted.
+    assert!(rt; stand_in_the_way(&mut space, &context, &key));
+    let rows = [
+        (
+            Act::Acquire(Lock::B, Mode::X, Duration::Transaction),
+            Reply::MustWait(1),
+        ),
+        (Act::Resume, Reply::Resumed(Resume::Waiting)),
+        (Act::GiveUp, Reply::Resumed(Resume::Lost(Settled::Timeout))),
+        (
+            Act::Acquire(Lock::B, Mode::X, Duration::Transaction),
+            Reply::MustWait(2),
+        ),
+        (Act::Kill(WHO, 2), Reply::Killed(true)),
+        (Act::Resume, Reply::Resumed(Resume::Lost(Settled::Killed))),
+        (
+            Act::Acquire(Lock::B, Mode::X, Duration::Statement),
+            Reply::MustWait(3),
+        ),
+    ];
+    assert!(rt; all_outlive(alloc, &mut space, &mut context, &rows));
+    assert!(rt; get_out_of_the_way(&mut space, &context));
+    let rows = [
+        (Act::Resume, Reply::Resumed(Resume::Acquired(42))),
+        (Act::Mark, Reply::Stands(mark(3, 2))),
+        (Act::GoBack(mark(2, 2)), Reply::Done),
+        (Act::EndStatement, Reply::Done),
+        (Act::Release(39), Reply::Done),
+        (Act::MakeTransactional, Reply::Done),
+        (Act::Mark, Reply::Stands(mark(0, 36))),
+        (Act::GoBack(mark(0, 30)), Reply::Done),
+        (Act::MakeExplicit, Reply::Done),
+        (Act::ReleaseName(Lock::Global), Reply::Done),
+        (Act::MakeTransactional, Reply::Done),
+        (Act::EndTransaction, Reply::Done),
+        (Act::Mark, Reply::Stands(mark(0, 0))),
+    ];
+    assert!(rt; all_outlive(alloc, &mut space, &mut context, &rows));
+    Ok(())
+}
