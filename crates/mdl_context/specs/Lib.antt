@@ -5,3 +5,4 @@ pub mod Holdings
 pub mod Indexes
 pub mod Releases
 pub mod Requests
+pub mod SearchEnds
