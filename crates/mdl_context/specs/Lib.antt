@@ -3,6 +3,7 @@ pub mod DurationLaws
 pub mod Goings
 pub mod Holdings
 pub mod Indexes
+pub mod Pairs
 pub mod Releases
 pub mod Requests
 pub mod SearchEnds

@@ -1,6 +1,8 @@
 //! A session's tickets in the space of one thread.
+mod deadlocks;
+
 ghost use Rattle.std.specs.Prelude.{◌≡◌, IfOk};
-ghost use Rattle.mdl_space.specs.CoreJoins.{SpeaksFor, own_at};
+ghost use Rattle.mdl_space.specs.CoreJoins.{SpeaksFor, Knows, own_at};
 ghost use Rattle.mdl_context.specs.Contexts.{Attends, LeavesOthers};
 
 use super::*;
@@ -57,6 +59,7 @@ fn acquired(answer: Result<Acquire, ContextError>) -> Reply {
     match answer {
         Ok(Acquire::Acquired(id)) => Reply::Acquired(id),
         Ok(Acquire::MustWait(number)) => Reply::MustWait(number),
+        Err(ContextError::Space(SpaceError::OutOfMemory)) => Reply::NoMemory,
         Err(cause) => Reply::Refused(cause),
     }
 }
@@ -65,14 +68,17 @@ fn acquired(answer: Result<Acquire, ContextError>) -> Reply {
 fn resumed(answer: Result<Resume, ContextError>) -> Reply {
     match answer {
         Ok(how) => Reply::Resumed(how),
+        Err(ContextError::Space(SpaceError::OutOfMemory)) => Reply::NoMemory,
         Err(cause) => Reply::Refused(cause),
     }
 }
 
 // Does it.
 fn make(alloc: Global, space: &mut CoreSpace, context: &mut Context<CoreSpace>, act: Act) -> Reply
-    requires { Attends SpeaksFor own_at space.old context.old }
-    ensures { Attends SpeaksFor own_at space.new context.new }
+    requires { Attends SpeaksFor own_at Knows space.old context.old }
+    ensures attends { Attends SpeaksFor own_at Knows space.new context.new }
+    ensures who { context.new.who ≡ context.old.who }
+    ensures others { LeavesOthers SpeaksFor own_at Knows context.old.who space.old space.new }
 {
     match act {
         Act::Acquire(table, mode, duration) => {
@@ -106,7 +112,7 @@ fn make(alloc: Global, space: &mut CoreSpace, context: &mut Context<CoreSpace>, 
 
 // A space of four places and two sessions, and the context of its first session.
 fn start(alloc: Global) -> Result<(CoreSpace, Context<CoreSpace>), NewError>
-    ensures attends { IfOk result (λ pair. Attends SpeaksFor own_at pair.0 pair.1) }
+    ensures attends { IfOk result (λ pair. Attends SpeaksFor own_at Knows pair.0 pair.1) }
     ensures speaks { IfOk result (λ pair. SpeaksFor pair.0 2) }
     ensures who { IfOk result (λ pair. pair.1.who ≡ 1) }
 {
@@ -122,7 +128,7 @@ fn take<S: LockSpace>(
     mode: Mode,
 ) -> Result<Attempt, SpaceError>
     requires { S.speaks_for space.old other }
-    ensures { LeavesOthers S.speaks_for S.own other space.old space.new }
+    ensures { LeavesOthers S.speaks_for S.own S.knows other space.old space.new }
 {
     let place = space.resolve(other, key)?;
     space.try_now(other, place, mode)
@@ -130,7 +136,7 @@ fn take<S: LockSpace>(
 
 // The same, where the second session reads a table.
 fn start_behind_another(alloc: Global) -> Result<(CoreSpace, Context<CoreSpace>), Fail>
-    ensures { IfOk result (λ pair. Attends SpeaksFor own_at pair.0 pair.1) }
+    ensures { IfOk result (λ pair. Attends SpeaksFor own_at Knows pair.0 pair.1) }
 {
     let (mut space, context) = start(alloc)?;
     let table = Key::table(alloc, "test", "a")?;
@@ -145,8 +151,8 @@ fn first_wrong(
     context: &mut Context<CoreSpace>,
     rows: &[(Act, Reply)],
 ) -> Option<(usize, Reply)>
-    requires { Attends SpeaksFor own_at space.old context.old }
-    ensures { Attends SpeaksFor own_at space.new context.new }
+    requires { Attends SpeaksFor own_at Knows space.old context.old }
+    ensures { Attends SpeaksFor own_at Knows space.new context.new }
 {
     for (index, (act, wanted)) in rows.iter().enumerate() {
         let reply = make(alloc, space, context, *act);

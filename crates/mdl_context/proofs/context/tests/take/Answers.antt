@@ -8,4 +8,5 @@ returns g c = λ w other speaks.
     let then_speaks = laws.keeps _ _ _ _ w speaks c.in_ok-place.ensures in (
       laws.keeps _ _ _ _ w then_speaks c.try_now.ensures,
       laws.others _ _ _ _ w then_speaks (λ e. other (cc)) c.try_now.ensures ∙ laws.others _ _ _ _ w speaks (λ e. other (cc)) c.in_ok-place.ensures,
+      λ place key known. laws.remembers _ _ _ _ w place key then_speaks (λ e _. cc) c.try_now.ensures (laws.remembers _ _ _ _ w place key speaks (λ e _. cc) c.in_ok-place.ensures known),
     )
