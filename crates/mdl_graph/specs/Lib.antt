@@ -1,7 +1,10 @@
 pub mod CycleLaws
 pub mod CycleOrder
 pub mod Cycles
+pub mod GraphLaws
 pub mod Graphs
 pub mod Members
+pub mod Searches
 pub mod Victims
 pub mod WaitsFor
+pub mod Ways

@@ -5,7 +5,19 @@
 #![tactic(auto)]
 
 mod cycle;
+mod laws;
+#[cfg(test)]
+mod plain;
+mod ties;
 mod wait_graph;
+mod waiters;
+mod ways;
+mod weights;
 
 pub use cycle::{Cycle, Member, victim};
+pub use laws::{
+    cycles_are_rounds, deadlocks_are_chosen_cycles, graphs_begin_empty, graphs_find_deadlocks,
+    members_of_deadlocks_wait, shorter_cycles_come_first, victims_weigh_least,
+    waiting_is_being_blocked,
+};
 pub use wait_graph::WaitGraph;

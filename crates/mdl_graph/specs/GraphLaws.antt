@@ -1,0 +1,122 @@
+-- What the definitions of deadlocks come to, in words of their own.
+use Rattle.std.specs.Prelude.{◌≡◌, ◌≢◌, ◌↔◌, ◌⊎◌, ℕ, Bool, ◌+◌, ◌<◌, ◌≤◌, ◌%◌, List, [], map, length, take, IsTrue, IsFalse, All, Any, AllPairs, MatchOption, get_or}
+use Rattle.std.specs.FinSet as set
+use Rattle.std.specs.Ordering.{nat_cmp}
+use Rattle.mdl_key.specs.declared.mode.Mode.{Mode}
+use Rattle.mdl_key.specs.Matrices.{Clashes, WaitsBehind}
+use Rattle.mdl_book.specs.declared.lists.Lists.{Lists}
+use Rattle.mdl_book.specs.Books.{lock_kind}
+use Rattle.mdl_graph.specs.declared.cycle.Member.{Member}
+use Rattle.mdl_graph.specs.Cycles.{IsCycleThrough, is_chosen_before}
+use Rattle.mdl_graph.specs.Victims.{victim_of}
+use Rattle.mdl_graph.specs.WaitsFor.{SessionTest, WaitsFor, waits_for, wish_of}
+use Rattle.mdl_graph.specs.Graphs.{GraphView, IsGraphOf, empty_graph, deadlock, deadlock_in}
+
+-- ---- who waits for whom
+
+-- a session holds a ticket of the lock that clashes with a wish
+abbrev pub HoldsAgainst : Lists → Mode → ℕ → Type 0
+HoldsAgainst book wish session = Any (λ held. (held.session ≡ session) × Clashes (lock_kind book) wish held.mode) book.granted
+
+-- a session is unsettled and waits there in a mode that the wish waits behind
+abbrev pub WaitsAhead : SessionTest → Lists → Mode → ℕ → Type 0
+WaitsAhead settled book wish session =
+    IsFalse (settled session)
+    × Any (λ pending. (pending.session ≡ session) × WaitsBehind (lock_kind book) wish pending.mode) book.waiting
+
+-- a session waits at the lock by a ticket which another one stands against
+abbrev pub IsBlockedAt : SessionTest → ℕ → ℕ → Lists → Type 0
+IsBlockedAt settled waiter other book =
+    Any (λ wish. (wish.session ≡ waiter) × (HoldsAgainst book wish.mode other ⊎ WaitsAhead settled book wish.mode other)) book.waiting
+
+-- one session waits for another exactly where they are two, the one is unsettled, and it waits at one of the locks by a
+-- ticket with which a granted ticket of the other clashes, or that waits behind a waiting ticket of the other, which is
+-- unsettled too
+abbrev pub WaitingIsBeingBlocked : Type 0
+WaitingIsBeingBlocked =
+    (settled : SessionTest) (books : List Lists) (waiter other : ℕ) →
+    WaitsFor settled books waiter other
+    ↔ ((waiter ≢ other) × IsFalse (settled waiter) × Any (IsBlockedAt settled waiter other) books)
+
+-- ---- cycles
+
+-- a list begins with a session, none stands in it twice, and each waits for the next one, the last for the first
+pub record IsRound (waits : ℕ → ℕ → Type 0) (from : ℕ) (cycle : List ℕ) : Type 0 where
+  pub begins : (0 < length cycle) × (get_or cycle 0 0 ≡ from)
+  pub distinct : AllPairs (λ one other. one ≢ other) cycle
+  pub round : (i : ℕ) → i < length cycle → waits (get_or cycle i 0) (get_or cycle ((i + 1) % length cycle) 0)
+
+-- these are the cycles
+abbrev pub CyclesAreRounds : Type 0
+CyclesAreRounds =
+    (waits : ℕ → ℕ → Bool) (from : ℕ) (cycle : List ℕ) →
+    IsCycleThrough waits from cycle ↔ IsRound (λ one other. IsTrue (waits one other)) from cycle
+
+-- the sessions of some members
+abbrev pub sessions_of : List Member → List ℕ
+sessions_of members = map (λ member. member.session) members
+
+-- the chosen cycle of some locks: a cycle of two at least, that comes before all others
+pub record IsChosen (settled : SessionTest) (books : List Lists) (from : ℕ) (members : List Member) : Type 0 where
+  pub cycle : IsCycleThrough (waits_for settled books) from (sessions_of members)
+  pub two : 2 ≤ length members
+  pub first : (other : List ℕ) → IsCycleThrough (waits_for settled books) from other → IsTrue (is_chosen_before (sessions_of members) other)
+
+-- no list is a cycle through a session
+abbrev pub IsFree : SessionTest → List Lists → ℕ → Type 0
+IsFree settled books from = (cycle : List ℕ) → IsCycleThrough (waits_for settled books) from cycle → ⊥
+
+-- where a deadlock is found, it is the cycle that comes before all others; where none is, there is no cycle
+abbrev pub DeadlocksAreChosenCycles : Type 0
+DeadlocksAreChosenCycles =
+    (settled : SessionTest) (books : List Lists) (from : ℕ) →
+    MatchOption (deadlock_in settled books from) (IsFree settled books from) (IsChosen settled books from)
+
+-- a member is unsettled, and waits at one of the locks by a ticket that weighs as much
+abbrev pub IsWaiting : SessionTest → List Lists → Member → Type 0
+IsWaiting settled books member =
+    IsFalse (settled member.session) × Any (λ book. Any (λ ticket. member ≡ wish_of book ticket) book.waiting) books
+
+-- so does each member of a deadlock
+abbrev pub MembersOfDeadlocksWait : Type 0
+MembersOfDeadlocksWait =
+    (settled : SessionTest) (books : List Lists) (from : ℕ) →
+    MatchOption (deadlock_in settled books from) (Unit {0}) (All (IsWaiting settled books))
+
+-- at the first place where two lists differ, the one is less
+abbrev pub IsLessAtFirst : List ℕ → List ℕ → Type 0
+IsLessAtFirst one other =
+    (k : ℕ) × (k < length one) × (k < length other) × (take k one ≡ take k other) × (get_or one k 0 < get_or other k 0)
+
+-- one list comes before another exactly where it is the other one, or shorter, or as long and less at the first place where
+-- they differ
+abbrev pub ShorterCyclesComeFirst : Type 0
+ShorterCyclesComeFirst =
+    (one other : List ℕ) →
+    IsTrue (is_chosen_before one other)
+    ↔ ((one ≡ other) ⊎ (length one < length other) ⊎ ((length one ≡ length other) × IsLessAtFirst one other))
+
+-- ---- victims
+
+-- of these members this one weighs least, and of those that weigh as much its number is the greatest
+abbrev pub FallsAmong : List Member → Member → Type 0
+FallsAmong members member =
+    All (λ other. (member.weight < other.weight) ⊎ ((member.weight ≡ other.weight) × (other.session ≤ member.session))) members
+
+-- the victim is a member's session: of the one that weighs least, and of equal weights the one of the greatest number
+abbrev pub VictimsWeighLeast : Type 0
+VictimsWeighLeast =
+    (members : List Member) → 0 < length members →
+    Any (λ member. (member.session ≡ victim_of members) × FallsAmong members member) members
+
+-- ---- graphs
+
+-- the empty graph is that of no lock
+abbrev pub GraphsBeginEmpty : Type 0
+GraphsBeginEmpty = (settled : set.FinSet nat_cmp) → IsGraphOf (set.contains settled) [] (empty_graph settled)
+
+-- the graph of some locks finds their deadlocks
+abbrev pub GraphsFindDeadlocks : Type 0
+GraphsFindDeadlocks =
+    (settled : SessionTest) (books : List Lists) (graph : GraphView) (from : ℕ) →
+    IsGraphOf settled books graph → deadlock graph from ≡ deadlock_in settled books from

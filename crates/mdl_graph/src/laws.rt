@@ -1,0 +1,42 @@
+//! Laws of deadlocks. Each is proved as the contract of a function that does nothing.
+ghost use Rattle.mdl_graph.specs.GraphLaws.{WaitingIsBeingBlocked, CyclesAreRounds, DeadlocksAreChosenCycles, MembersOfDeadlocksWait, ShorterCyclesComeFirst, VictimsWeighLeast, GraphsBeginEmpty, GraphsFindDeadlocks};
+
+/// One session waits for another where it is unsettled and a ticket of the other stands against its wish, and nowhere else.
+pub fn waiting_is_being_blocked()
+    ensures { WaitingIsBeingBlocked }
+{}
+
+/// A cycle begins with a session, has no session twice, and each waits for the next one, the last for the first.
+pub fn cycles_are_rounds()
+    ensures { CyclesAreRounds }
+{}
+
+/// Of two cycles the shorter one is chosen, and of two as long the one that is less at the first place where they differ.
+pub fn shorter_cycles_come_first()
+    ensures { ShorterCyclesComeFirst }
+{}
+
+/// A deadlock that is found is the cycle chosen before all others, of two sessions at least. Where none is found, none is.
+pub fn deadlocks_are_chosen_cycles()
+    ensures { DeadlocksAreChosenCycles }
+{}
+
+/// Each member of a deadlock is unsettled and waits at one of the locks, by a ticket of its weight.
+pub fn members_of_deadlocks_wait()
+    ensures { MembersOfDeadlocksWait }
+{}
+
+/// The victim is the member that weighs least, and of equal weights the one of the greatest number.
+pub fn victims_weigh_least()
+    ensures { VictimsWeighLeast }
+{}
+
+/// The empty graph is that of no lock.
+pub fn graphs_begin_empty()
+    ensures { GraphsBeginEmpty }
+{}
+
+/// The graph of some locks finds their deadlocks.
+pub fn graphs_find_deadlocks()
+    ensures { GraphsFindDeadlocks }
+{}
