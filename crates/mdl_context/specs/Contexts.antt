@@ -46,9 +46,10 @@ is_stale mark kept = nat_lt (length (held_for Statement kept)) mark.statement ||
 abbrev pub beyond : Duration → ℕ → List Kept → List Kept
 beyond duration most kept = drop most (held_for duration kept)
 
--- the tickets that were gained since a mark: those of the statement first
-abbrev pub gained_since : Mark → List Kept → List Kept
-gained_since mark kept = beyond Statement mark.statement kept ++ beyond Transaction mark.transaction kept
+-- the tickets beyond what a mark counts: those of the statement first. Unless tickets have become transactional since, these are
+-- the ones that were gained since
+abbrev pub beyond_mark : Mark → List Kept → List Kept
+beyond_mark mark kept = beyond Statement mark.statement kept ++ beyond Transaction mark.transaction kept
 
 -- the tickets that end with a transaction: those of the statement first
 abbrev pub of_transaction : List Kept → List Kept
@@ -94,7 +95,9 @@ pub record Attends {S : Type 0} (speaks_for : S → ℕ → Type 0) (own : S →
 abbrev pub IsSettled : {S : Type 0} → (S → ℕ → Settled → Type 0) → S → ℕ → Type 0
 IsSettled is_settled space who = (how : Settled) × is_settled space who how
 
--- a lock space goes on to speak for all sessions but one, nothing changes for them, and they know the keys that they knew
+-- a lock space goes on to speak for all sessions but one, and nothing changes for them: each has what it had, and knows what it
+-- knew
 abbrev pub LeavesOthers : {S : Type 0} → (S → ℕ → Type 0) → (S → ℕ → Own) → (S → ℕ → ℕ → KeyName → Type 0) → ℕ → S → S → Type 0
-LeavesOthers speaks_for own knows who before after = (w : ℕ) → w ≢ who → speaks_for before w →
+LeavesOthers speaks_for own knows who before after =
+    (w : ℕ) → w ≢ who → speaks_for before w →
     speaks_for after w × (own after w ≡ own before w) × ((place : ℕ) (key : KeyName) → knows before w place key → knows after w place key)
