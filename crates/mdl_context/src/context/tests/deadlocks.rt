@@ -2,7 +2,7 @@
 //!
 //! `rt try --test --fail-alloc N` refuses the allocation of that number to those of two sessions. Then the act that needed it
 //! is done again.
-ghost use Rattle.std.specs.Prelude.{◌≤◌, IfOk};
+ghost use Rattle.std.specs.Prelude.{◌≤◌};
 ghost use Rattle.mdl_context.specs.Halls.{AreServed};
 
 use super::acts::{Act, Lock, Reply};
@@ -28,17 +28,7 @@ const VICTIM: Reply = Reply::Resumed(Resume::Lost(Settled::Victim));
 
 const HAS_SECOND: Reply = Reply::Resumed(Resume::Acquired(2));
 
-// Where nobody has asked for anything, at the second try where memory was refused to the first.
-fn new_hall(alloc: Global) -> Result<Hall, Fail>
-    ensures { IfOk result (λ hall. AreServed hall.space 1 hall.contexts) }
-{
-    match Hall::new(alloc) {
-        Ok(hall) => Ok(hall),
-        Err(_) => Hall::new(alloc),
-    }
-}
-
-// What an act comes to, likewise.
+// What an act comes to, at the second try where memory was refused to the first.
 fn make_at_last(hall: &mut Hall, who: u16, act: Act) -> Option<Reply>
     requires served { AreServed hall.old.space 1 hall.old.contexts }
     requires least { 1 ≤ who }
@@ -53,7 +43,7 @@ fn make_at_last(hall: &mut Hall, who: u16, act: Act) -> Option<Reply>
 
 // Two sessions do this one after another: the first row whose reply isn't the wanted one.
 fn first_lost(alloc: Global, rows: &[(u16, Act, Reply)]) -> Result<Option<usize>, Fail> {
-    let mut hall = new_hall(alloc)?;
+    let mut hall = Hall::new(alloc)?;
     for (index, (who, act, wanted)) in rows.iter().enumerate() {
         if *who == 0 || *who > 2 {
             return Ok(Some(index));

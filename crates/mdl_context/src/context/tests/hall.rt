@@ -1,12 +1,14 @@
 //! A lock space with the contexts of all its sessions, and the plain program beside them.
-ghost use Rattle.std.specs.Prelude.{◌≤◌, length, IfOk};
+ghost use Rattle.std.specs.Prelude.{◌≡◌, ℕ, ◌≤◌, length, IfOk};
+ghost use Rattle.mdl_space.specs.Cores.{empty_core};
+ghost use Rattle.mdl_space.specs.CoreJoins.{SpeaksFor};
 ghost use Rattle.mdl_context.specs.Halls.{AreServed};
 
 use super::acts::{Act, Lock, Reply, make};
 use super::plain::{Plain, Ticket};
 use crate::{Context, Kept};
 use mdl_key::{Key, KeyError};
-use mdl_space::{CoreSpace, LockSpace};
+use mdl_space::{CoreSpace, LockSpace, NewError};
 use std::alloc::Global;
 use std::test::Fail;
 
@@ -36,6 +38,14 @@ impl Keys {
         })
     }
 
+    // The same, at the second try where memory was refused to the first.
+    fn at_last(alloc: Global) -> Result<Keys, KeyError> {
+        match Keys::new(alloc) {
+            Ok(keys) => Ok(keys),
+            Err(_) => Keys::new(alloc),
+        }
+    }
+
     fn of(&self, lock: Lock) -> &Key {
         match lock {
             Lock::A => &self.a,
@@ -44,6 +54,17 @@ impl Keys {
             Lock::Global => &self.global,
             Lock::Commit => &self.commit,
         }
+    }
+}
+
+/// A space, likewise.
+pub(super) fn new_space(alloc: Global, places: u16, sessions: u16) -> Result<CoreSpace, NewError>
+    ensures made { IfOk result (λ space. space ≡ empty_core places sessions) }
+    ensures speaks { IfOk result (λ space. (who : ℕ) → 1 ≤ who → who ≤ sessions → SpeaksFor space who) }
+{
+    match CoreSpace::new(alloc, places, sessions) {
+        Err(NewError::OutOfMemory) => CoreSpace::new(alloc, places, sessions),
+        outcome => outcome,
     }
 }
 
@@ -91,12 +112,12 @@ pub(super) struct Hall {
 }
 
 impl Hall {
-    /// Nobody has asked for anything.
+    /// Nobody has asked for anything. Memory may be refused once.
     pub(super) fn new(alloc: Global) -> Result<Hall, Fail>
         ensures { IfOk result (λ hall. AreServed hall.space 1 hall.contexts) }
     {
-        let keys = Keys::new(alloc)?;
-        let space = CoreSpace::new(alloc, PLACES, SESSIONS)?;
+        let keys = Keys::at_last(alloc)?;
+        let space = new_space(alloc, PLACES, SESSIONS)?;
         Ok(Hall {
             alloc,
             keys,

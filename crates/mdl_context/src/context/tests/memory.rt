@@ -3,11 +3,11 @@
 //!
 //! `rt try --test --fail-alloc N` refuses the allocation of that number.
 ghost use Rattle.std.specs.Prelude.{◌≡◌, ◌≢◌, IfOk};
-ghost use Rattle.mdl_space.specs.Cores.{empty_core};
 ghost use Rattle.mdl_space.specs.CoreJoins.{SpeaksFor, own_at, Knows};
 ghost use Rattle.mdl_context.specs.Contexts.{Attends};
 
 use super::acts::{Act, Lock, Reply, make, mark};
+use super::hall::new_space;
 use super::rows::is_about;
 use crate::{Context, Kept, Mark, Resume};
 use mdl_key::{Duration, Key, KeyError, Mode};
@@ -29,23 +29,12 @@ fn key_of(alloc: Global, lock: Lock) -> Result<Key, KeyError> {
     }
 }
 
-// Likewise, a space of four places and two sessions.
-fn new_space(alloc: Global) -> Result<CoreSpace, NewError>
-    ensures made { IfOk result (λ space. space ≡ empty_core 4 2) }
-    ensures speaks { IfOk result (λ space. SpeaksFor space 2) }
-{
-    match CoreSpace::new(alloc, 4, WHO) {
-        Err(NewError::OutOfMemory) => CoreSpace::new(alloc, 4, WHO),
-        outcome => outcome,
-    }
-}
-
-// And the context of its second session.
+// A space of four places and two sessions, and the context of its second session.
 fn start(alloc: Global) -> Result<(CoreSpace, Context<CoreSpace>), NewError>
     ensures attends { IfOk result (λ pair. Attends SpeaksFor own_at Knows pair.0 pair.1) }
     ensures who { IfOk result (λ pair. pair.1.who ≡ 2) }
 {
-    let space = new_space(alloc)?;
+    let space = new_space(alloc, 4, WHO)?;
     Ok((space, Context::new(alloc, WHO)))
 }
 

@@ -11,6 +11,8 @@ const STILL_WAITING: Reply = Reply::Resumed(Resume::Waiting);
 
 const TIMED_OUT: Reply = Reply::Resumed(Resume::Lost(Settled::Timeout));
 
+const VICTIM: Reply = Reply::Resumed(Resume::Lost(Settled::Victim));
+
 const KILLED: Reply = Reply::Resumed(Resume::Lost(Settled::Killed));
 
 const START: Mark = Mark {
@@ -284,7 +286,8 @@ fn a_strong_ticket_serves_behind_a_waiter(rt: HostRuntime) -> Result<(), Fail> {
             Act::Acquire(Lock::A, Mode::SW, Duration::Transaction),
             Reply::MustWait(1),
         ),
-        (1, Act::GiveUp, TIMED_OUT),
+        // It waits behind the second session, which waits for it.
+        (1, Act::GiveUp, VICTIM),
         // Each ticket is one lock.
         (1, Act::EndTransaction, Reply::Done),
         (2, Act::Resume, STILL_WAITING),
