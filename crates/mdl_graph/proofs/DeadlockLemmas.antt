@@ -1,6 +1,6 @@
 -- Deadlocks are the chosen cycles of those who wait.
-use Rattle.std.proofs.Common.{◌≡◌, ℕ, cond, ◌&&◌, ◌≤◌, true, false, List, [], ◌∷◌, ◌++◌, length, map, Some, None, refl, sym, ap, subst, ◌∙◌, ◌⊎◌, inl, inr, arith}
-use Rattle.std.specs.Prelude.{filter, flat_map, find, ◌==◌, All, Any, MatchOption}
+use Rattle.std.proofs.Common.{◌≡◌, ℕ, cond, ◌&&◌, ◌≤◌, true, false, List, [], ◌∷◌, length, map, Some, None, refl, sym, ap, subst, ◌∙◌, inl, inr, arith}
+use Rattle.std.specs.Prelude.{filter, find, ◌==◌, All, Any, MatchOption}
 use Rattle.std.specs.Option.{option_map}
 use Rattle.std.specs.List.{Contains}
 use Rattle.std.proofs.lemmas.Bool.{not-true, not_from_false, and_parts, eqb-true, eq-eqb, false≢true}
@@ -8,7 +8,7 @@ use Rattle.std.proofs.lemmas.List.{length-map}
 use Rattle.mdl_book.specs.declared.lists.Lists.{Lists}
 use Rattle.mdl_book.specs.declared.ticket.Ticket.{Ticket}
 use Rattle.mdl_graph.specs.declared.cycle.Member.{Member}
-use Rattle.mdl_graph.specs.Members.{Among, among_map, among_flat_map, among_filter, among_filtered, contained, among_these}
+use Rattle.mdl_graph.specs.Members.{Among, mapped, flat_mapped, among_map, among_flat_map, among_filter, among_filtered, contained, among_these}
 use Rattle.mdl_graph.specs.Cycles.{IsCycleThrough, chosen_cycle, is_chosen_before}
 use Rattle.mdl_graph.specs.CycleLaws.{chosen_cycles, chosen_first, chosen_none, chosen_same, member_of_cycle_waits}
 use Rattle.mdl_graph.specs.WaitsFor.{SessionTest, waits_for, is_unsettled, wish_of, wishes_at, wishes_in}
@@ -38,23 +38,6 @@ waiter_wishes settled books waiter other e =
     (among_map (λ (wish : Member). wish.session) (wish_of book ticket) (wishes_in settled books) wish))
 
 -- ---- a wish is a waiting ticket's
-
-mapped : {X Y : Type 0} (f : X → Y) (y : Y) (xs : List X) → Among y (map f xs) → (x : X) × Among x xs × (y ≡ f x)
-mapped f y [] among = absurd among
-mapped f y (x ∷ xs) (inl same) = (x, inl refl, same)
-mapped f y (x ∷ xs) (inr later) = let rest = mapped f y xs later in (rest.0, inr rest.1, rest.2)
-
-appended : {X : Type 0} (x : X) (xs ys : List X) → Among x (xs ++ ys) → Among x xs ⊎ Among x ys
-appended x [] ys among = inr among
-appended x (y ∷ xs) ys (inl same) = inl (inl same)
-appended x (y ∷ xs) ys (inr later) = elim (appended x xs ys later) [ inl left ↦ inl (inr left) | inr right ↦ inr right ]
-
-flat_mapped : {X Y : Type 0} (f : X → List Y) (y : Y) (xs : List X) → Among y (flat_map f xs) → (x : X) × Among x xs × Among y (f x)
-flat_mapped f y [] among = absurd among
-flat_mapped f y (x ∷ xs) among = elim (appended y (f x) (flat_map f xs) among) [
-  | inl here ↦ (x, inl refl, here)
-  | inr later ↦ let rest = flat_mapped f y xs later in (rest.0, inr rest.1, rest.2)
-]
 
 wish_waits : (settled : SessionTest) (books : List Lists) (wish : Member) → Among wish (wishes_in settled books) → IsWaiting settled books wish
 wish_waits settled books wish among =

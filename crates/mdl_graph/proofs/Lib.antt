@@ -1,6 +1,15 @@
 pub mod AnyLemmas
+pub mod CountLemmas
 pub mod DeadlockLemmas
+pub mod FoundLemmas
 pub mod OrderLemmas
 pub mod RoundLemmas
+pub mod RowLemmas
+pub mod SearchLemmas
+pub mod StepLemmas
+pub mod TieLemmas
 pub mod VictimLemmas
 pub mod WaitingLemmas
+pub mod WalkLemmas
+pub mod WayLemmas
+pub mod WeightLemmas

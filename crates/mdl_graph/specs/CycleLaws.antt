@@ -47,7 +47,7 @@ first_is one [] = record {
 first_is one (other ∷ others) = first_joined one (first_of other (first_chosen others)) other others (first_is other others)
 
 -- a list that stands among these and comes before all is the chosen one
-chosen_of : (cycles : List (List ℕ)) (cycle : List ℕ) → Among cycle cycles
+pub chosen_of : (cycles : List (List ℕ)) (cycle : List ℕ) → Among cycle cycles
     → ((other : List ℕ) → Among other cycles → is_chosen_before cycle other ≡ true) → first_chosen cycles ≡ Some cycle
 chosen_of [] cycle among first = absurd among
 chosen_of (one ∷ others) cycle among first =
@@ -67,17 +67,17 @@ none_among : (cycles : List (List ℕ)) → first_chosen cycles ≡ None → (ot
 none_among [] none other among = among
 none_among (one ∷ others) none other among = absurd (grind (arith, none))
 
-none_of : (cycles : List (List ℕ)) → ((other : List ℕ) → Among other cycles → ⊥) → first_chosen cycles ≡ None
+pub none_of : (cycles : List (List ℕ)) → ((other : List ℕ) → Among other cycles → ⊥) → first_chosen cycles ≡ None
 none_of [] none = refl
 none_of (one ∷ others) none = absurd (none one (inl refl))
 
 -- ---- every cycle of these sessions is among the lists
 
 -- all members of a list are among these
-abbrev AreAmong : List ℕ → List ℕ → Type 0
+abbrev pub AreAmong : List ℕ → List ℕ → Type 0
 AreAmong cycle sessions = (session : ℕ) → Among session cycle → Among session sessions
 
-listed : (sessions cycle : List ℕ) (n : ℕ) → AreAmong cycle sessions → length cycle ≤ n → Among cycle (lists_of sessions n)
+pub listed : (sessions cycle : List ℕ) (n : ℕ) → AreAmong cycle sessions → length cycle ≤ n → Among cycle (lists_of sessions n)
 listed sessions [] zero within short = inl refl
 listed sessions [] (suc n) within short = inl refl
 listed sessions (x ∷ xs) zero within short = absurd (omega (arith, short))
@@ -105,7 +105,7 @@ differs x y [] none among = absurd among
 differs x y (z ∷ xs) none (inl same) = grind (arith, nat_tests, same, none)
 differs x y (z ∷ xs) none (inr later) = differs x y xs (grind (arith, nat_tests, none)) later
 
-at_most : (xs ys : List ℕ) → are_distinct xs ≡ true → AreAmong xs ys → length xs ≤ length ys
+pub at_most : (xs ys : List ℕ) → are_distinct xs ≡ true → AreAmong xs ys → length xs ≤ length ys
 at_most [] ys distinct within = omega arith
 at_most (x ∷ xs) ys distinct within =
     let apart = and_parts (not (list_any (λ other. x == other) xs)) (are_distinct xs) distinct in
@@ -142,7 +142,7 @@ member_waits : (waits : ℕ → ℕ → Bool) (from : ℕ) (cycle : List ℕ) �
 member_waits waits from [] is member among = absurd among
 member_waits waits from (first ∷ rest) is member among = leads_on waits from first rest (round_of waits from first rest is).leading member among
 
-cycle_distinct : (waits : ℕ → ℕ → Bool) (from : ℕ) (cycle : List ℕ) → IsCycleThrough waits from cycle → are_distinct cycle ≡ true
+pub cycle_distinct : (waits : ℕ → ℕ → Bool) (from : ℕ) (cycle : List ℕ) → IsCycleThrough waits from cycle → are_distinct cycle ≡ true
 cycle_distinct waits from [] is = refl
 cycle_distinct waits from (first ∷ rest) is = (round_of waits from first rest is).distinct
 

@@ -4,5 +4,7 @@ pub mod Cycles
 pub mod GraphLaws
 pub mod Graphs
 pub mod Members
+pub mod Searches
 pub mod Victims
 pub mod WaitsFor
+pub mod Ways

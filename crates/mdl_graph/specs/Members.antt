@@ -47,6 +47,23 @@ among_filtered test x (y ∷ xs) among =
       | false ↦ λ e found. let rest = among_filtered test x xs found in (inr rest.0, rest.1)
     ] refl among
 
+pub mapped : {X Y : Type 0} (f : X → Y) (y : Y) (xs : List X) → Among y (map f xs) → (x : X) × Among x xs × (y ≡ f x)
+mapped f y [] among = absurd among
+mapped f y (x ∷ xs) (inl same) = (x, inl refl, same)
+mapped f y (x ∷ xs) (inr later) = let rest = mapped f y xs later in (rest.0, inr rest.1, rest.2)
+
+pub appended : {X : Type 0} (x : X) (xs ys : List X) → Among x (xs ++ ys) → Among x xs ⊎ Among x ys
+appended x [] ys among = inr among
+appended x (y ∷ xs) ys (inl same) = inl (inl same)
+appended x (y ∷ xs) ys (inr later) = elim (appended x xs ys later) [ inl left ↦ inl (inr left) | inr right ↦ inr right ]
+
+pub flat_mapped : {X Y : Type 0} (f : X → List Y) (y : Y) (xs : List X) → Among y (flat_map f xs) → (x : X) × Among x xs × Among y (f x)
+flat_mapped f y [] among = absurd among
+flat_mapped f y (x ∷ xs) among = elim (appended y (f x) (flat_map f xs) among) [
+  | inl here ↦ (x, inl refl, here)
+  | inr later ↦ let rest = flat_mapped f y xs later in (rest.0, inr rest.1, rest.2)
+]
+
 -- the same as `Contains`
 pub contained : {X : Type 0} (xs : List X) (x : X) → Among x xs → Contains xs x
 contained [] x among = absurd among

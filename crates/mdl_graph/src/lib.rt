@@ -6,7 +6,13 @@
 
 mod cycle;
 mod laws;
+#[cfg(test)]
+mod plain;
+mod ties;
 mod wait_graph;
+mod waiters;
+mod ways;
+mod weights;
 
 pub use cycle::{Cycle, Member, victim};
 pub use laws::{

@@ -4,18 +4,14 @@ ghost use Rattle.mdl_book.specs.declared.lists.Lists.{Lists};
 ghost use Rattle.mdl_graph.specs.Graphs.{empty_graph, is_settled, waits, IsGraphOf, deadlock};
 ghost use Rattle.mdl_graph.specs.WaitsFor.{SessionTest, waits_at, wishes_at};
 
+use crate::ties::{Tie, add_waiters};
+use crate::waiters::Waiters;
+use crate::ways::ways_back;
+use crate::weights::Weights;
 use crate::{Cycle, Member};
-use mdl_book::{Book, Sessions, Ticket};
-use mdl_key::{conflicts_granted, conflicts_waiting, weight};
+use mdl_book::{Book, Sessions};
 use std::alloc::{AllocError, Global};
 use std::marker::Model;
-
-/// That a session waits for another one.
-#[derive(Clone, Copy)]
-struct Tie {
-    waiter: u16,
-    other: u16,
-}
 
 /// Which session waits for which at the locks whose books were added.
 ///
@@ -31,6 +27,7 @@ pub struct WaitGraph {
 impl Model for WaitGraph {
     ghost use Rattle.std.specs.Prelude.{map};
     ghost use Rattle.mdl_graph.specs.Graphs.{GraphView, graph_code};
+    ghost use Rattle.mdl_graph.specs.Searches.{pair_of, AreWished};
 
     ghost Value = { GraphView };
 
@@ -39,8 +36,10 @@ impl Model for WaitGraph {
     ghost view = { λ graph. record {
       settled = graph.settled;
       wishes = graph.wishes.items;
-      ties = map (λ tie. (tie.waiter, tie.other)) graph.ties.items;
+      ties = map pair_of graph.ties.items;
     } };
+
+    ghost invariant = { λ graph. AreWished graph.wishes.items graph.ties.items };
 }
 
 impl WaitGraph {
@@ -65,7 +64,16 @@ impl WaitGraph {
             → IsGraphOf settled books self.old → IsGraphOf settled (books ++ book.now ∷ []) self.new) }
         ensures unchanged { OnErr result (self.new ≡ self.old) }
     {
-        Err(AllocError)
+        let wishes = self.wishes.len();
+        let ties = self.ties.len();
+        match add_waiters(&mut self.wishes, &mut self.ties, &self.settled, book) {
+            Ok(()) => Ok(()),
+            Err(refused) => {
+                self.wishes.truncate(wishes);
+                self.ties.truncate(ties);
+                Err(refused)
+            }
+        }
     }
 
     /// The shortest cycle of unsettled sessions through one of them, and of equal length the one whose list of numbers,
@@ -73,6 +81,16 @@ impl WaitGraph {
     pub fn find_cycle(&self, from: u16) -> Result<Option<Cycle>, AllocError>
         ensures { IfOk result (λ found. found ≡ deadlock self.now from) }
     {
-        Err(AllocError)
+        let alloc = *self.ties.allocator();
+        let waiters = Waiters::new(alloc, &self.ties)?;
+        let ways = ways_back(alloc, &waiters, from)?;
+        match ways.of(from) {
+            Some(way) => {
+                let weights = Weights::new(alloc, &self.wishes)?;
+                let members = ways.walk(alloc, &weights, from, way.steps)?;
+                Ok(Some(Cycle::new(members)))
+            }
+            None => Ok(None),
+        }
     }
 }

@@ -1,5 +1,5 @@
 -- The graph of all books of the lock space of one thread.
-use Rattle.std.proofs.Common.{◌≡◌, ℕ, ◌≤◌, List, length, map, take, subst, ap, ◌∙◌}
+use Rattle.std.proofs.Common.{◌≡◌, ℕ, ◌≤◌, List, length, map, take, Option, subst, ap, ◌∙◌}
 use Rattle.std.specs.Option.{option_map}
 use Rattle.std.proofs.lemmas.List.{take_all}
 use Rattle.mdl_book.specs.declared.lists.Lists.{Lists}
@@ -20,9 +20,10 @@ deadlock-same settled books graph from is =
     ∙ ap (λ wishes. cycle_found wishes (waits_for settled books) from) is.same_wishes
 
 -- once all books were added, the victim of its deadlock is that of the space
-pub victim-same : (core : Core) (who added : ℕ) (graph : GraphView) → IsGraphOf (has_settled core) (take added core.books) graph
-    → length core.books ≤ added → option_map victim_of (deadlock graph who) ≡ victim_at who core
-victim-same core who added graph is all =
+pub victim-same : (core : Core) (who added : ℕ) (graph : GraphView) (books : List Lists) (cycle : Option (List Member))
+    → IsGraphOf (has_settled core) (take added core.books) graph → books ≡ core.books → length books ≤ added
+    → cycle ≡ deadlock graph who → option_map victim_of cycle ≡ victim_at who core
+victim-same core who added graph books cycle is same all found =
     ap (option_map victim_of)
-    (deadlock-same (has_settled core) core.books graph who
-    (subst (λ books. IsGraphOf (has_settled core) books graph) (take_all added core.books all) is))
+    (found ∙ deadlock-same (has_settled core) core.books graph who
+    (subst (λ books. IsGraphOf (has_settled core) books graph) (take_all added core.books (subst (λ books. length books ≤ added) same all)) is))

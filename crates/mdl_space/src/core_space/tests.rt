@@ -1,5 +1,6 @@
 //! Limits, places and lists of the space, and beside these its calls as rows.
 mod acts;
+mod deadlocks;
 mod fixture;
 mod full;
 mod life;

@@ -3,7 +3,7 @@ ghost use Rattle.mdl_space.specs.Ties.{IsSound};
 
 use crate::core_space::CoreSpace;
 use crate::{
-    Attempt, Begun, Ended, LockSpace, Place, Poll, Settled, SpaceError, TicketId, TimedOut,
+    Attempt, Begun, Ended, LockSpace, Place, Poll, Search, Settled, SpaceError, TicketId, TimedOut,
 };
 use mdl_key::Mode;
 
@@ -12,6 +12,7 @@ use mdl_key::Mode;
 pub(super) enum Act {
     TryNow(u16, Place, Mode),
     BeginWait(u16, Place, Mode),
+    Search(u16),
     Poll(u16),
     TimeOut(u16),
     EndWait(u16),
@@ -29,6 +30,8 @@ pub(super) enum Reply {
     Granted(TicketId),
     WouldWait,
     Waiting(u64),
+    NoCycle,
+    Victim(u16),
     Pending,
     Settled(Settled),
     TimedOut,
@@ -44,6 +47,7 @@ pub(super) fn session_of(act: Act) -> u16 {
     match act {
         Act::TryNow(who, _, _)
         | Act::BeginWait(who, _, _)
+        | Act::Search(who)
         | Act::Poll(who)
         | Act::TimeOut(who)
         | Act::EndWait(who)
@@ -71,6 +75,7 @@ pub(super) fn make(space: &mut CoreSpace, act: Act) -> Reply
     match act {
         Act::TryNow(_, place, mode) => attempted(space.try_now(who, place, mode)),
         Act::BeginWait(_, place, mode) => begun(space.begin_wait(who, place, mode)),
+        Act::Search(_) => searched(space.search(who)),
         Act::Poll(_) => polled(space.poll_wait(who)),
         Act::TimeOut(_) => timed_out(space.settle_timeout(who)),
         Act::EndWait(_) => ended(space.end_wait(who)),
@@ -105,6 +110,14 @@ fn begun(outcome: Result<Begun, SpaceError>) -> Reply {
     match outcome {
         Ok(Begun::Granted(id)) => Reply::Granted(id),
         Ok(Begun::Waiting(number)) => Reply::Waiting(number),
+        Err(error) => Reply::Refused(error),
+    }
+}
+
+fn searched(outcome: Result<Search, SpaceError>) -> Reply {
+    match outcome {
+        Ok(Search::NoCycle) => Reply::NoCycle,
+        Ok(Search::Victim(session)) => Reply::Victim(session),
         Err(error) => Reply::Refused(error),
     }
 }

@@ -64,22 +64,27 @@ fn held_count(space: &CoreSpace, who: u16) -> usize {
     }
 }
 
+// How many waits aren't settled.
+fn open_waits(space: &CoreSpace) -> usize {
+    space.seats.iter().filter(|seat| seat.is_waiting()).count()
+}
+
 // Whether a call has this answer: at once, or at the second try, where memory was refused to the first, after which the
-// session held no more and no less and had no wait.
+// session held no more and no less, and nobody's wait had begun or was settled.
 fn outlives(space: &mut CoreSpace, act: Act, want: Reply) -> bool
     requires { IsSound space.old }
     ensures { IsSound space.new }
 {
     let who = session_of(act);
-    let before = held_count(space, who);
+    let held = held_count(space, who);
+    let waits = open_waits(space);
     let reply = make(space, act);
     if reply != Reply::Refused(SpaceError::OutOfMemory) {
         return reply == want;
     }
-    let after = held_count(space, who);
-    let waits = make(space, Act::WaitOf(who));
+    let are_same = held_count(space, who) == held && open_waits(space) == waits;
     let again = make(space, act);
-    after == before && waits == Reply::HasNone && again == want
+    are_same && again == want
 }
 
 // Whether each call outlives it, as a row of them goes.
@@ -152,5 +157,26 @@ fn outlives_want_of_memory(rt: HostRuntime) -> Result<(), Fail> {
     assert!(rt; all_outlive(&mut space, &released));
     assert!(rt; all_are_granted(&mut space, 3));
     assert_eq!(rt; held_by(&space, 1)?.len(), 39);
+    Ok(())
+}
+
+#[test]
+fn searches_outlive_want_of_memory(rt: HostRuntime) -> Result<(), Fail> {
+    let alloc = rt.alloc();
+    let mut space = space_of_two(alloc)?;
+    assert_eq!(rt; place_of(&mut space, &table(alloc, "a")?), Ok(1));
+    assert_eq!(rt; place_of(&mut space, &table(alloc, "b")?), Ok(2));
+    let rows = [
+        (Act::TryNow(1, 2, Mode::X), Reply::Granted(1)),
+        (Act::TryNow(2, 1, Mode::SR), Reply::Granted(1)),
+        (Act::TryNow(3, 1, Mode::SR), Reply::Granted(1)),
+        (Act::BeginWait(2, 2, Mode::SR), Reply::Waiting(1)),
+        (Act::BeginWait(3, 2, Mode::SR), Reply::Waiting(1)),
+        (Act::BeginWait(1, 1, Mode::X), Reply::Waiting(1)),
+        (Act::Search(1), Reply::Victim(2)),
+        (Act::Search(1), Reply::Victim(3)),
+        (Act::Search(1), Reply::NoCycle),
+    ];
+    assert!(rt; all_outlive(&mut space, &rows));
     Ok(())
 }

@@ -1,6 +1,7 @@
 //! The lock space once more, as slow and as plain as can be: one list of all tickets, and one of all waits, each in the order
 //! in which they came. Whatever is asked, the lists are read from end to end.
 mod lists;
+mod paths;
 
 use super::acts::{Act, Reply, session_of};
 use crate::{Held, Place, Settled, SpaceError, TicketId};
@@ -78,6 +79,7 @@ impl Plain {
             Act::BeginWait(_, place, mode) => self.begin_wait(who, place, mode),
             Act::Clone(_, number, mode) => self.duplicate(who, number, mode),
             Act::Release(_, number) => Ok(self.release(who, number)),
+            Act::Search(_) => self.search(who),
             Act::Poll(_) => Ok(self.poll(who)),
             Act::TimeOut(_) => Ok(self.time_out(who)),
             Act::EndWait(_) => Ok(self.end_wait(who)),
@@ -167,6 +169,17 @@ impl Plain {
             }
             None => Reply::Refused(SpaceError::NotHeld),
         }
+    }
+
+    // The victim of a deadlock that the session waits in loses its wait.
+    fn search(&mut self, who: u16) -> Result<Reply, AllocError> {
+        Ok(match self.victim(who)? {
+            Some(victim) => {
+                self.settle(victim, Settled::Victim);
+                Reply::Victim(victim)
+            }
+            None => Reply::NoCycle,
+        })
     }
 
     // How the session's wait stands.

@@ -117,24 +117,26 @@ fn draw_act(chance: &mut Chance, plain: &Plain) -> Result<Act, Fail> {
     let place = draw_place(chance);
     let mode = draw_mode(chance, place);
     Ok(match chance.draw(64) {
-        0..=5 => Act::TryNow(who, place, mode),
-        6..=19 => Act::BeginWait(who, place, mode),
+        0..=2 => Act::TryNow(who, place, mode),
+        3..=19 => Act::BeginWait(who, place, mode),
         20..=39 => Act::Release(who, draw_ticket(chance, plain, who)?),
         40..=50 => Act::EndWait(who),
         51 => Act::TimeOut(who),
         52 => Act::Kill(who, draw_wait(chance, plain, who)),
         53 => Act::Poll(who),
         54 => Act::WaitOf(who),
+        55..=58 => Act::Search(who),
         _ => draw_clone(chance, plain, who)?,
     })
 }
 
-// How often waits were granted and lost, and how often a clone was made.
+// How often waits were granted and lost, a clone was made, and a victim was found.
 #[derive(Clone, Copy, Default)]
 struct Seen {
     granted: u32,
     lost: u32,
     cloned: u32,
+    victims: u32,
 }
 
 impl Seen {
@@ -143,6 +145,7 @@ impl Seen {
             (Act::EndWait(_), Reply::Granted(_)) => self.granted = self.granted.saturating_add(1),
             (Act::EndWait(_), Reply::Lost(_)) => self.lost = self.lost.saturating_add(1),
             (Act::Clone(_, _, _), Reply::Granted(_)) => self.cloned = self.cloned.saturating_add(1),
+            (Act::Search(_), Reply::Victim(_)) => self.victims = self.victims.saturating_add(1),
             _ => {}
         }
     }
@@ -197,5 +200,6 @@ fn answers_as_the_plain_one(rt: HostRuntime) -> Result<(), Fail> {
     assert!(rt; seen.granted >= 100, "{} waits granted", seen.granted);
     assert!(rt; seen.lost >= 100, "{} waits lost", seen.lost);
     assert!(rt; seen.cloned >= 100, "{} clones", seen.cloned);
+    assert!(rt; seen.victims >= 15, "{} victims", seen.victims);
     Ok(())
 }

@@ -1,5 +1,5 @@
 -- Each call keeps the space sound.
-use Rattle.mdl_space.specs.Calls.{Try_now, Begin_wait, Poll_wait, Settle_timeout, End_wait, Kill, Release, Clone_ticket}
+use Rattle.mdl_space.specs.Calls.{Try_now, Begin_wait, Search, Poll_wait, Settle_timeout, End_wait, Kill, Release, Clone_ticket}
 use Rattle.mdl_space.specs.Lemmas.CoreSound.{calls_keep-sound}
 use Rattle.mdl_space.proofs.core_space.tests.acts.make.Goals as goal
 
@@ -8,6 +8,9 @@ returns-in-TryNow c = calls_keep-sound _ _ (Try_now c.session_of-who.result c.in
 
 pub returns-in-BeginWait : goal.returns-in-BeginWait
 returns-in-BeginWait c = calls_keep-sound _ _ (Begin_wait c.session_of-who.result c.in-BeginWait.place c.in-BeginWait.mode) _ c.requires c.begin_wait.ensures
+
+pub returns-in-Search : goal.returns-in-Search
+returns-in-Search c = calls_keep-sound _ _ (Search c.session_of-who.result) _ c.requires c.search.ensures
 
 pub returns-in-Poll : goal.returns-in-Poll
 returns-in-Poll c = calls_keep-sound _ _ (Poll_wait c.session_of-who.result) _ c.requires c.poll_wait.ensures

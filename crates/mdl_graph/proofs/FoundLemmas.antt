@@ -1,0 +1,68 @@
+-- What a search finds is the chosen cycle of its graph.
+use Rattle.std.proofs.Common.{◌≡◌, ℕ, ◌≤◌, zero, suc, Bool, true, false, List, [], ◌∷◌, map, length, Some, None, refl, ap, sym, subst, ◌∙◌, inl, inr, arith}
+use Rattle.std.specs.Prelude.{◌==◌, find, Option}
+use Rattle.std.specs.List.{Contains}
+use Rattle.std.specs.Option.{option_map, unwrap_or}
+use Rattle.std.proofs.lemmas.Bool.{cases_eq, eqb-true, false≢true}
+use Rattle.mdl_graph.specs.declared.cycle.Member.{Member}
+use Rattle.mdl_graph.specs.declared.ways.Way.{Way}
+use Rattle.mdl_graph.specs.CycleLaws.{chosen_is, none_chosen, chosen_same}
+use Rattle.mdl_graph.specs.Cycles.{chosen_cycle}
+use Rattle.mdl_graph.specs.Graphs.{GraphView, waits, weight_found, member_of, deadlock}
+use Rattle.mdl_graph.specs.Searches.{IsOver, way_of, is_at, walk, weight_at, weighed}
+use Rattle.mdl_graph.proofs.WalkLemmas.{IsChosen, walk_is_chosen, no_cycle}
+
+-- where nobody waits for itself, a way back to one's own has two steps at least
+pub two_steps : (waits : ℕ → ℕ → Bool) (from : ℕ) (ways : List (Option Way)) (way : Way) → IsOver waits from ways → way_of ways from ≡ Some way
+    → waits from from ≡ false → 2 ≤ way.steps
+two_steps waits from ways way over is apart =
+    let back = over.searched.sound from way is in
+    elim (cases_eq back.0 0) [
+      | inl near ↦
+        let here : way.next ≡ from = eqb-true way.next from (subst (λ (m : ℕ). is_at ways from m way.next ≡ true) near back.3) in
+        absurd (false≢true (sym apart ∙ sym (ap (waits from) here) ∙ back.2))
+      | inr far ↦ omega (arith, back.1, far)
+    ]
+
+-- the weight of a wish that is found
+found_weight : (wish : Option Member) → weight_found wish ≡ unwrap_or (option_map (λ wish. wish.weight) wish) 0
+found_weight None = refl
+found_weight (Some wish) = refl
+
+-- the sessions of a graph's wishes
+abbrev sessions_of : GraphView → List ℕ
+sessions_of graph = map (λ wish. wish.session) graph.wishes
+
+-- each session has the weight of its first wish
+abbrev pub AreWeighed : List (Option ℕ) → List Member → Type 0
+AreWeighed weights wishes = (session : ℕ) → weight_at weights session ≡ option_map (λ wish. wish.weight) (find (λ wish. wish.session == session) wishes)
+
+members_same : (weights : List (Option ℕ)) (wishes : List Member) → AreWeighed weights wishes → (sessions : List ℕ)
+    → map (member_of wishes) sessions ≡ map (weighed weights) sessions
+members_same weights wishes weighs [] = refl
+members_same weights wishes weighs (session ∷ rest) =
+    let weight = found_weight (find (λ wish. wish.session == session) wishes) ∙ ap (λ (o : Option ℕ). unwrap_or o 0) (sym (weighs session)) in
+    ap (λ (w : ℕ). record { session = session; weight = w } ∷ map (member_of wishes) rest) weight
+    ∙ ap (λ (members : List Member). weighed weights session ∷ members) (members_same weights wishes weighs rest)
+
+module _ (graph : GraphView) (by_rows : ℕ → ℕ → Bool) (same : (waiter other : ℕ) → by_rows waiter other ≡ waits graph waiter other)
+    (from : ℕ) (ways : List (Option Way)) (over : IsOver by_rows from ways) where
+
+  pub found_cycle : (weights : List (Option ℕ)) (way : Way) → ((waiter other : ℕ) → waits graph waiter other ≡ true → Contains (sessions_of graph) waiter)
+      → AreWeighed weights graph.wishes → way_of ways from ≡ Some way → Some (map (weighed weights) (walk ways way.steps from)) ≡ deadlock graph from
+  found_cycle weights way wished weighs is =
+      let sessions = sessions_of graph in
+      let walked = walk ways way.steps from in
+      let chosen : IsChosen by_rows from walked = walk_is_chosen by_rows from ways way over is in
+      let found : chosen_cycle (waits graph) sessions from ≡ Some walked =
+      chosen_same (waits graph) by_rows sessions from (λ waiter other. sym (same waiter other))
+      ∙ chosen_is by_rows sessions from walked (λ waiter other e. wished waiter other (sym (same waiter other) ∙ e)) chosen.is chosen.first in
+      sym (ap (option_map (map (member_of graph.wishes))) found ∙ ap Some (members_same weights graph.wishes weighs walked))
+
+  pub found_none : way_of ways from ≡ None → None ≡ deadlock graph from
+  found_none none =
+      let sessions = sessions_of graph in
+      let found : chosen_cycle (waits graph) sessions from ≡ None =
+      chosen_same (waits graph) by_rows sessions from (λ waiter other. sym (same waiter other))
+      ∙ none_chosen by_rows sessions from (no_cycle by_rows from ways over none) in
+      sym (ap (option_map (map (member_of graph.wishes))) found)

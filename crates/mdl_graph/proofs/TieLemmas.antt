@@ -1,0 +1,115 @@
+-- What a graph's sessions wait for, where a lock is added.
+use Rattle.std.proofs.Common.{◌≡◌, ℕ, Bool, true, false, List, [], ◌∷◌, ◌++◌, map, cond, refl, ap, sym, subst, ◌∙◌, inl, inr, arith}
+use Rattle.std.specs.Prelude.{not, ◌&&◌, ◌||◌, ◌==◌, filter}
+use Rattle.std.specs.FinSet as set
+use Rattle.std.specs.List.{list_any, Contains}
+use Rattle.std.specs.Ordering.{nat_cmp}
+use Rattle.std.proofs.lemmas.Bool.{and_parts, and_right, or_cases, or_from, eqb-true, eq-eqb, false≢true}
+use Rattle.std.proofs.lemmas.Grind.{flat_map-append}
+use Rattle.std.proofs.lemmas.List.{append-nil, map-append}
+use Rattle.std.proofs.lemmas.List.Elements.{Contains-append_left, Contains-append_right}
+use Rattle.std.proofs.lemmas.List.Folds.{list_any-append}
+use Rattle.mdl_book.specs.declared.lists.Lists.{Lists}
+use Rattle.mdl_book.specs.declared.ticket.Ticket.{Ticket}
+use Rattle.mdl_graph.specs.declared.cycle.Member.{Member}
+use Rattle.mdl_graph.specs.declared.ties.Tie.{Tie}
+use Rattle.mdl_graph.specs.Graphs.{GraphView, IsGraphOf, is_settled, waits}
+use Rattle.mdl_graph.specs.Members.{Among, contained}
+use Rattle.mdl_graph.specs.WaitsFor.{SessionTest, is_unsettled, is_tied, waits_at, waits_for, wish_of, wishes_at, wishes_in}
+use Rattle.mdl_graph.specs.Searches.{are_tied, pair_of, AreWished}
+
+or_false : (b : Bool) → (b || false) ≡ b
+or_false true = refl
+or_false false = refl
+
+-- a graph's pairs say what its ties do
+pub pairs_tie : (ties : List Tie) (waiter other : ℕ) → list_any (λ (tie : ℕ × ℕ). tie.0 == waiter && tie.1 == other) (map pair_of ties) ≡ are_tied ties waiter other
+pairs_tie [] waiter other = refl
+pairs_tie (tie ∷ ties) waiter other = ap (λ (b : Bool). (tie.waiter == waiter && tie.other == other) || b) (pairs_tie ties waiter other)
+
+-- the sessions of some wishes
+abbrev sessions_of : List Member → List ℕ
+sessions_of wishes = map (λ wish. wish.session) wishes
+
+-- the wishes of the unsettled of these tickets
+abbrev wishes_of : SessionTest → Lists → List Ticket → List Member
+wishes_of settled book tickets = map (wish_of book) (filter (λ ticket. is_unsettled settled ticket.session) tickets)
+
+-- an unsettled session with a ticket has a wish
+has_wish : (settled : SessionTest) (book : Lists) (other waiter : ℕ) → is_unsettled settled waiter ≡ true → (tickets : List Ticket)
+    → list_any (λ wish. wish.session == waiter && is_tied settled book other wish) tickets ≡ true → Among waiter (sessions_of (wishes_of settled book tickets))
+has_wish settled book other waiter open_still [] tied = absurd (false≢true tied)
+has_wish settled book other waiter open_still (ticket ∷ tickets) tied =
+    elim (is_unsettled settled ticket.session) as (λ b. is_unsettled settled ticket.session ≡ b
+    → Among waiter (sessions_of (map (wish_of book) (cond b (ticket ∷ filter (λ t. is_unsettled settled t.session) tickets) (filter (λ t. is_unsettled settled t.session) tickets))))) [
+      | true ↦ λ _. elim (or_cases (ticket.session == waiter && is_tied settled book other ticket)
+            (list_any (λ wish. wish.session == waiter && is_tied settled book other wish) tickets) tied) [
+        | inl here ↦ inl (sym (eqb-true ticket.session waiter (and_parts (ticket.session == waiter) (is_tied settled book other ticket) here).0))
+        | inr later ↦ inr (has_wish settled book other waiter open_still tickets later)
+      ]
+      | false ↦ λ e. elim (or_cases (ticket.session == waiter && is_tied settled book other ticket)
+            (list_any (λ wish. wish.session == waiter && is_tied settled book other wish) tickets) tied) [
+        | inl here ↦
+          let same : ticket.session ≡ waiter = eqb-true ticket.session waiter (and_parts (ticket.session == waiter) (is_tied settled book other ticket) here).0 in
+          absurd (false≢true (sym e ∙ ap (is_unsettled settled) same ∙ open_still))
+        | inr later ↦ has_wish settled book other waiter open_still tickets later
+      ]
+    ] refl
+
+same_and_not : (same blocked : Bool) → (same && (not same && blocked)) ≡ false
+same_and_not true blocked = refl
+same_and_not false blocked = refl
+
+-- nobody waits for itself
+not_itself : (settled : SessionTest) (book : Lists) (session : ℕ) (tickets : List Ticket)
+    → list_any (λ wish. wish.session == session && is_tied settled book session wish) tickets ≡ false
+not_itself settled book session [] = refl
+not_itself settled book session (ticket ∷ tickets) =
+    or_from (ticket.session == session && is_tied settled book session ticket) (list_any (λ wish. wish.session == session && is_tied settled book session wish) tickets)
+    (same_and_not (ticket.session == session) _) (not_itself settled book session tickets)
+
+-- a lock more leaves each waiter with a wish
+pub wished-more : (settled : SessionTest) (book : Lists) (wishes more_wishes : List Member) (ties more_ties : List Tie) → AreWished wishes ties
+    → more_wishes ≡ wishes ++ wishes_at settled book
+    → ((waiter other : ℕ) → are_tied more_ties waiter other ≡ (are_tied ties waiter other || waits_at settled book waiter other))
+    → AreWished more_wishes more_ties
+wished-more settled book wishes more_wishes ties more_ties were grown tied = record {
+  wished = λ waiter other e.
+      rw (grown, map-append (λ (wish : Member). wish.session) wishes (wishes_at settled book))
+      (elim (or_cases (are_tied ties waiter other) (waits_at settled book waiter other) (sym (tied waiter other) ∙ e)) [
+        | inl before ↦ Contains-append_left (sessions_of wishes) (sessions_of (wishes_at settled book)) waiter (were.wished waiter other before)
+        | inr now ↦
+          let parts = and_parts (is_unsettled settled waiter) (list_any (λ wish. wish.session == waiter && is_tied settled book other wish) book.waiting) now in
+          Contains-append_right (sessions_of wishes) (sessions_of (wishes_at settled book)) waiter
+          (contained (sessions_of (wishes_at settled book)) waiter (has_wish settled book other waiter parts.0 book.waiting parts.1))
+      ]);
+  apart = λ session.
+      tied session session
+      ∙ or_from (are_tied ties session session) (waits_at settled book session session) (were.apart session)
+        (and_right (is_unsettled settled session) _ (not_itself settled book session book.waiting));
+}
+
+same_tests : (one two : SessionTest) → ((session : ℕ) → one session ≡ two session) → one ≡ two
+same_tests one two same = λ i session. same session i
+
+-- the graph of some locks is that of one more once it is added
+pub graph-more : (settled : SessionTest) (books : List Lists) (book : Lists) (old new : GraphView) → IsGraphOf settled books old
+    → new.settled ≡ old.settled
+    → new.wishes ≡ old.wishes ++ wishes_at (is_settled old) book
+    → ((waiter other : ℕ) → waits new waiter other ≡ (waits old waiter other || waits_at (is_settled old) book waiter other))
+    → IsGraphOf settled (books ++ book ∷ []) new
+graph-more settled books book old new was kept grown tied =
+    let tests : is_settled old ≡ settled = same_tests (is_settled old) settled was.same_settled in
+    record {
+      same_settled = λ session. ap (λ (s : set.FinSet nat_cmp). set.contains s session) kept ∙ was.same_settled session;
+      same_wishes =
+          grown
+          ∙ ap (λ (wishes : List Member). wishes ++ wishes_at (is_settled old) book) was.same_wishes
+          ∙ ap (λ (test : SessionTest). wishes_in settled books ++ wishes_at test book) tests
+          ∙ sym (flat_map-append (wishes_at settled) books (book ∷ []) ∙ ap (λ (wishes : List Member). wishes_in settled books ++ wishes) (append-nil (wishes_at settled book)));
+      same_waits = λ waiter other.
+          tied waiter other
+          ∙ ap (λ (b : Bool). b || waits_at (is_settled old) book waiter other) (was.same_waits waiter other)
+          ∙ ap (λ (test : SessionTest). waits_for settled books waiter other || waits_at test book waiter other) tests
+          ∙ sym (list_any-append (λ b. waits_at settled b waiter other) books (book ∷ []) ∙ ap (λ (b : Bool). waits_for settled books waiter other || b) (or_false (waits_at settled book waiter other)));
+    }
