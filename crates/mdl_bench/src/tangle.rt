@@ -5,7 +5,7 @@ use mdl_graph::{WaitGraph, victim};
 use mdl_key::{Key, Mode};
 use mdl_word::Word;
 use std::alloc::Global;
-use std::fmt::{self, Display, Formatter};
+use std::fmt;
 
 // The word of a lock without fast tickets.
 const NO_FAST_TICKETS: Word = Word(0);
@@ -21,8 +21,8 @@ pub enum Shape {
     Dense,
 }
 
-impl Display for Shape {
-    fn fmt(&self, f: &mut Formatter<'_>) -> fmt::Result {
+impl fmt::Display for Shape {
+    fn fmt<W: fmt::Write>(&self, f: &mut fmt::Formatter<W>) -> fmt::Result {
         f.write_str(match self {
             Shape::Chain => "a chain",
             Shape::Ring => "a ring",

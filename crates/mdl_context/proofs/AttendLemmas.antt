@@ -9,14 +9,14 @@ use Rattle.mdl_space.specs.declared.answers.Held.{Held}
 use Rattle.mdl_space.specs.declared.answers.Settled.{Settled}
 use Rattle.mdl_space.specs.Answers.{Answer, Done, Granted, Waits, Lost}
 use Rattle.mdl_space.specs.Calls.{Call, Begin_wait, End_wait, Unpin, caller}
-use Rattle.mdl_space.specs.Own.{Own, own_after, gaining}
+use Rattle.mdl_space.specs.Own.{Own, own_after, gaining, ending}
 use Rattle.mdl_space.specs.Lemmas.Deciding.{key-Decides}
 use Rattle.mdl_context.specs.declared.kept.Kept.{Kept}
 use Rattle.mdl_context.specs.declared.kept.Wanted.{Wanted}
 use Rattle.mdl_context.specs.declared.request.Request.{Request}
 use Rattle.mdl_context.specs.Contexts.{ContextView, Attends, Serves, held_of}
-use Rattle.mdl_context.specs.Holdings.{is_of, earliest, kept_of, wanted_of, with_wanted}
-use Rattle.mdl_context.specs.Requests.{suffices}
+use Rattle.mdl_context.specs.Holdings.{is_of, earliest, kept_of, with_wanted}
+use Rattle.mdl_context.specs.Requests.{suffices, awaiting}
 use Rattle.mdl_context.proofs.ServingLemmas.{serves-changed, serves-gaining, serves-waiting, serves-ending, serves-winning}
 
 -- whether a call gives a place up
@@ -118,12 +118,11 @@ module _ {S : Type 0} {speaks_for : S → ℕ → Type 0} {own : S → ℕ → O
       (keys-push (knows a before.who) before.kept after.kept _ kept attends.keys known) (subst (λ w. IfSome w (λ wanted. knows a before.who wanted.place wanted.key)) (sym wait) attends.wish)
 
   -- a wait begins
-  pub attends-waiting : (a b : S) (number place : ℕ) (request : Request) (before after : ContextView) → Attends speaks_for own knows a before
-      → joins a (Begin_wait before.who place request.mode) (Waits number) b → knows a before.who place request.key
-      → after.who ≡ before.who → after.kept ≡ before.kept → after.wait ≡ Some (wanted_of place request) → Attends speaks_for own knows b after
-  attends-waiting a b number place request before after attends step known same kept wait =
-      attends-after a b _ _ before after attends refl refl step same (serves-waiting _ _ before after number place request attends.serves refl kept wait)
-      (subst (All (λ ticket. knows a before.who ticket.place ticket.key)) (sym kept) attends.keys) (wish-some (knows a before.who) after.wait _ wait known)
+  pub attends-waiting : (a b : S) (number place : ℕ) (request : Request) (context : ContextView) → Attends speaks_for own knows a context
+      → joins a (Begin_wait context.who place request.mode) (Waits number) b → knows a context.who place request.key → Attends speaks_for own knows b (awaiting place request false context)
+  attends-waiting a b number place request context attends step known =
+      let after = awaiting place request false context in
+      attends-after a b _ _ context after attends refl refl step refl (serves-waiting _ _ context after number place request false attends.serves refl refl refl) attends.keys known
 
   -- a wait ends with its ticket
   pub attends-won : (a b : S) (id : ℕ) (before after : ContextView) → Attends speaks_for own knows a before → joins a (End_wait before.who) (Granted id) b
@@ -153,6 +152,33 @@ module _ {S : Type 0} {speaks_for : S → ℕ → Type 0} {own : S → ℕ → O
     wish = subst (λ who. IfSome after.wait (λ wanted. knows b who wanted.place wanted.key)) (sym same)
         (subst (λ wait. IfSome wait (λ wanted. knows b before.who wanted.place wanted.key)) (sym waits) (IfSome_then before.wait attends.wish (λ wanted. still wanted.place wanted.key)));
   }
+
+  -- nothing has changed, though there were calls
+  pub attends-same : (a b : S) (context : ContextView) → Attends speaks_for own knows a context → ((place : ℕ) (key : KeyName) → knows a context.who place key → knows b context.who place key)
+      → speaks_for b context.who → own b context.who ≡ own a context.who → Attends speaks_for own knows b context
+  attends-same a b context attends still speaks same = record {
+    speaks = speaks;
+    serves = subst (λ (o : Own). Serves o context) (sym same) attends.serves;
+    keys = λ k d inside. still _ _ (attends.keys k d inside);
+    wish = IfSome_then context.wait attends.wish (λ wanted. still wanted.place wanted.key);
+  }
+
+  -- the wait was given up
+  pub attends-abandoned : (a b : S) (before after : ContextView) → Attends speaks_for own knows a before → ((place : ℕ) (key : KeyName) → knows a before.who place key → knows b before.who place key)
+      → speaks_for b before.who → own b before.who ≡ ending (own a before.who) → after.who ≡ before.who → after.kept ≡ before.kept → after.wait ≡ None → Attends speaks_for own knows b after
+  attends-abandoned a b before after attends still speaks ended same kept wait = record {
+    speaks = subst (speaks_for b) (sym same) speaks;
+    serves = subst (λ who. Serves (own b who) after) (sym same) (serves-ending _ _ before after attends.serves ended kept wait);
+    keys = subst (λ who. All (λ ticket. knows b who ticket.place ticket.key) after.kept) (sym same)
+        (subst (All (λ ticket. knows b before.who ticket.place ticket.key)) (sym kept) (λ k d inside. still _ _ (attends.keys k d inside)));
+    wish = wish-none (knows b after.who) after.wait wait;
+  }
+
+  -- whether the searches are over changes nothing either
+  pub attends-awaiting : (space : S) (place : ℕ) (request : Request) (searched : Bool) (context after : ContextView) → Attends speaks_for own knows space (awaiting place request false context)
+      → after ≡ awaiting place request searched context → Attends speaks_for own knows space after
+  attends-awaiting space place request searched context after attends then = subst (Attends speaks_for own knows space) (sym then)
+      (record { speaks = attends.speaks; serves = record { held = attends.serves.held; wait = attends.serves.wait }; keys = attends.keys; wish = attends.wish })
 
   -- other durations
   pub attends-changed : (f : Kept → Kept) → ((t : Kept) → held_of (f t) ≡ held_of t) → ((t : Kept) → (f t).key ≡ t.key) → (space : S) (before after : ContextView) → after.who ≡ before.who

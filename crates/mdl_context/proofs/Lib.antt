@@ -8,5 +8,7 @@ pub mod KeyLemmas
 pub mod OthersLemmas
 pub mod ReleaseLemmas
 pub mod SearchLemmas
+pub mod SeekLemmas
 pub mod ServingLemmas
+pub mod SoughtLemmas
 pub mod WaitLemmas

@@ -1,11 +1,12 @@
 -- A context makes its calls for its own session, so nothing changes for the others.
-use Rattle.std.proofs.Common.{◌≡◌, ℕ, Bool, true, false, List, [], ◌∷◌, Option, Some, None, refl, ◌∙◌, subst}
-use Rattle.std.specs.Prelude.{is_some, if◌then◌else◌}
+use Rattle.std.proofs.Common.{◌≡◌, ℕ, zero, suc, Bool, true, false, List, [], ◌∷◌, Option, Some, None, refl, ◌∙◌, subst}
+use Rattle.std.specs.Prelude.{◌==◌, is_some, if◌then◌else◌}
 use Rattle.mdl_space.specs.declared.answers.Held.{Held}
-use Rattle.mdl_space.specs.Answers.{Answer, At_place, Granted, Waits, Pending, Is_settled, Lost}
+use Rattle.mdl_space.specs.Answers.{Answer, Refused, Victim_is, At_place, Granted, Waits, Pending, Is_settled, Lost}
 use Rattle.mdl_space.specs.Calls.{Call, Clone_ticket, caller}
 use Rattle.mdl_space.specs.Own.{Own}
-use Rattle.mdl_space.specs.Runs.{Program, Runs, Give, Ask, ◌>>◌}
+use Rattle.mdl_space.specs.Runs.{Program, Runs, Give, Ask, ◌>>=◌}
+use Rattle.mdl_space.specs.Searches.{SearchEnd, Over, Cut_off, Failed, after_search, seeking}
 use Rattle.mdl_context.specs.declared.kept.Kept.{Kept}
 use Rattle.mdl_context.specs.declared.request.Request.{Request}
 use Rattle.mdl_context.specs.Contexts.{ContextView, LeavesOthers}
@@ -29,15 +30,48 @@ module _ {S : Type 0} {speaks_for : S → ℕ → Type 0} {own : S → ℕ → O
       let rest = leaves who (next answer) mid b reply (made.1 answer) run w other then_speaks in
       (rest.0, rest.1 ∙ others a mid call answer w speaks (λ e. other (cc)) step)
 
+-- ---- searches
+
+either : {A : Type 0} (who : ℕ) (test : Bool) (one other : Program A) → IsFor who one → IsFor who other → IsFor who (if test then one else other)
+either who true one other first second = first
+either who false one other first second = second
+
+for_bind : {A B : Type 0} (who : ℕ) (first : Program A) (next : A → Program B) → IsFor who first → ((x : A) → IsFor who (next x)) → IsFor who (first >>= next)
+for_bind who (Give x) next made later = later x
+for_bind who (Ask call more) next made later = (made.0, λ answer. for_bind who (more answer) next (made.1 answer) later)
+
+for_search : (who : ℕ) (more : Program SearchEnd) (answer : Answer) → IsFor who more → IsFor who (after_search who more answer)
+for_search who more (Victim_is victim) made = either who (victim == who) _ _ tt made
+for_search who more (Refused refusal) made = tt
+for_search who more _ made = tt
+
+for_seeking : (n who : ℕ) → IsFor who (seeking n who)
+unfolding seeking
+for_seeking zero who = tt
+for_seeking (suc n) who = (refl, λ answer. for_search who (seeking n who) answer (for_seeking n who))
+
+for_unwanted : (who : ℕ) (answer : Answer) → IsFor who (requests.unwanted_end_answered who answer)
+for_unwanted who (Granted id) = (refl, λ _. tt)
+for_unwanted who _ = tt
+
+for_abandoning : (who : ℕ) → IsFor who (requests.abandoning who)
+for_abandoning who = (refl, λ _. (refl, for_unwanted who))
+
 -- ---- wishes
 
 for_copy : (place : ℕ) (request : Request) (context : ContextView) (answer : Answer) → IsFor context.who (requests.copy_answered place request context answer)
 for_copy place request context (Granted id) = tt
 for_copy place request context _ = tt
 
+for_wish_sought : (place number : ℕ) (request : Request) (context : ContextView) (end : SearchEnd) → IsFor context.who (requests.wish_sought place number request context end)
+for_wish_sought place number request context Over = tt
+for_wish_sought place number request context Cut_off = tt
+for_wish_sought place number request context (Failed refusal) = for_bind context.who (requests.abandoning context.who) _ (for_abandoning context.who) (λ _. tt)
+
 for_wish : (place : ℕ) (request : Request) (context : ContextView) (answer : Answer) → IsFor context.who (requests.wish_answered place request context answer)
 for_wish place request context (Granted id) = tt
-for_wish place request context (Waits number) = tt
+for_wish place request context (Waits number) =
+    for_bind context.who (seeking requests.most_searches context.who) _ (for_seeking requests.most_searches context.who) (for_wish_sought place number request context)
 for_wish place request context _ = tt
 
 for_place : (request : Request) (context : ContextView) (answer : Answer) → IsFor context.who (requests.place_answered request context answer)
@@ -52,10 +86,6 @@ pub for_copying : (ticket : Held) (request : Request) (context : ContextView)
     → IsFor context.who (Ask (Clone_ticket context.who ticket.id request.mode) (requests.copy_answered ticket.place request context))
 for_copying ticket request context = (refl, for_copy ticket.place request context)
 
-either : {A : Type 0} (who : ℕ) (test : Bool) (one other : Program A) → IsFor who one → IsFor who other → IsFor who (if test then one else other)
-either who true one other first second = first
-either who false one other first second = second
-
 -- ---- waits
 
 for_end : (context : ContextView) (answer : Answer) → IsFor context.who (requests.end_answered context answer)
@@ -68,8 +98,27 @@ for_poll context Pending = tt
 for_poll context (Is_settled how) = (refl, for_end context)
 for_poll context _ = tt
 
+for_looking : (context : ContextView) → IsFor context.who (requests.looking context)
+for_looking context = (refl, for_poll context)
+
+for_wait_sought : (context : ContextView) (end : SearchEnd) → IsFor context.who (requests.wait_sought context end)
+for_wait_sought context Over = for_looking (requests.searched context)
+for_wait_sought context Cut_off = for_looking context
+for_wait_sought context (Failed refusal) = for_bind context.who (requests.abandoning context.who) _ (for_abandoning context.who) (λ _. tt)
+
+for_cut_off : (context : ContextView) (answer : Answer) → IsFor context.who (requests.cut_off_answered context answer)
+for_cut_off context Pending =
+    for_bind context.who (seeking requests.most_searches context.who) _ (for_seeking requests.most_searches context.who) (for_wait_sought context)
+for_cut_off context (Is_settled how) = (refl, for_end context)
+for_cut_off context _ = tt
+
+for_going_on : (searched : Option Bool) (context : ContextView) → IsFor context.who (requests.going_on searched context)
+for_going_on None context = tt
+for_going_on (Some true) context = for_looking context
+for_going_on (Some false) context = (refl, for_cut_off context)
+
 pub for_resuming : (context : ContextView) → IsFor context.who (requests.resuming context)
-for_resuming context = either context.who (is_some context.wait) _ _ (refl, for_poll context) tt
+for_resuming context = for_going_on (requests.is_searched context.wait) context
 
 pub for_giving_up_wait : (context : ContextView) → IsFor context.who (requests.giving_up_wait context)
 for_giving_up_wait context = either context.who (is_some context.wait) _ _ (refl, λ _. (refl, for_end context)) tt
@@ -80,9 +129,5 @@ pub for_all : (who : ℕ) (gone : List Kept) → IsFor who (releases.releasing_a
 for_all who [] = tt
 for_all who (ticket ∷ tickets) = (refl, λ _. for_all who tickets)
 
-for_then : {A : Type 0} (who : ℕ) (gone : List Kept) (last : Program A) → IsFor who last → IsFor who (releases.releasing_all who gone >> last)
-for_then who [] last made = made
-for_then who (ticket ∷ tickets) last made = (refl, λ _. for_then who tickets last made)
-
 pub for_giving_up : (gone : List Kept) (context : ContextView) → IsFor context.who (releases.giving_up gone context)
-for_giving_up gone context = for_then context.who gone _ tt
+for_giving_up gone context = for_bind context.who (releases.releasing_all context.who gone) _ (for_all context.who gone) (λ _. tt)

@@ -12,6 +12,7 @@ use Rattle.mdl_context.specs.declared.kept.Wanted.{Wanted}
 use Rattle.mdl_context.specs.declared.request.Request.{Request}
 use Rattle.mdl_context.specs.Contexts.{ContextView, Serves, AreRising, held_of, wish_here, wish_there}
 use Rattle.mdl_context.specs.Holdings.{earliest, kept_of, wanted_of, with_wanted}
+use Rattle.mdl_context.specs.Requests.{is_searched}
 use Rattle.mdl_context.proofs.FrontLemmas.{Above}
 
 unwrap : {X : Type 0} {x y : X} → Some x ≡ Some y → x ≡ y
@@ -40,9 +41,9 @@ serves-gaining own after before then id place request serves gain kept wait = re
 }
 
 -- a wait begins
-pub serves-waiting : (own after : Own) (before then : ContextView) (number place : ℕ) (request : Request) → Serves own before → after ≡ waiting number place request.mode own
-    → then.kept ≡ before.kept → then.wait ≡ Some (wanted_of place request) → Serves after then
-serves-waiting own after before then number place request serves begin kept wait = record {
+pub serves-waiting : (own after : Own) (before then : ContextView) (number place : ℕ) (request : Request) (searched : Bool) → Serves own before → after ≡ waiting number place request.mode own
+    → then.kept ≡ before.kept → then.wait ≡ Some (wanted_of place request searched) → Serves after then
+serves-waiting own after before then number place request searched serves begin kept wait = record {
   held = ap (λ (o : Own). o.held) begin ∙ serves.held ∙ sym (ap (map held_of) kept);
   wait = ap (λ (o : Own). option_map wish_there o.wait) begin ∙ sym (ap (option_map wish_here) wait);
 }
@@ -111,3 +112,18 @@ serves-left own after before then serves held there here = record {
   held = held;
   wait = ap (option_map wish_there) there ∙ serves.wait ∙ sym (ap (option_map wish_here) here);
 }
+
+-- a session that begins to wait, and ends its wait without a ticket, has what it had
+pub own-idle : (number place : ℕ) (mode : Mode) (own : Own) (context : ContextView) → Serves own context → context.wait ≡ None → ending (waiting number place mode own) ≡ own
+own-idle number place mode own context serves idle = idle-own own.held own.wait (no-wish own.wait (serves.wait ∙ ap (option_map wish_here) idle)) where
+  no-wish : (w : Option Wait) → option_map wish_there w ≡ None → w ≡ None
+  no-wish None e = refl
+  no-wish (Some w) e = cc
+
+  idle-own : (held : List Held) (w : Option Wait) → w ≡ None → ending (waiting number place mode (record { held = held; wait = w })) ≡ record { held = held; wait = w }
+  idle-own held w none = sym (ap (λ x. let o : Own = record { held = held; wait = x } in o) none)
+
+-- a wait whose searches are over, or aren't, is one
+pub searched-waits : {searched : Bool} (wait : Option Wanted) (found : Option Bool) → found ≡ is_searched wait → found ≡ Some searched → is_some wait ≡ true
+searched-waits None found is e = cc
+searched-waits (Some wanted) found is e = refl

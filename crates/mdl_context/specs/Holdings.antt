@@ -1,5 +1,5 @@
 -- What a context keeps of its session's tickets and wait, as its own code sees it.
-use Rattle.std.specs.Prelude.{◌≡◌, ℕ, Bool, not, ◌&&◌, ◌==◌, List, [], ◌∷◌, ◌++◌, map, filter, find, Option, Some, None}
+use Rattle.std.specs.Prelude.{◌≡◌, ℕ, Bool, true, not, ◌&&◌, ◌==◌, List, [], ◌∷◌, ◌++◌, map, filter, find, Option, Some, None}
 use Rattle.std.specs.Option.{option_map}
 use Rattle.mdl_key.specs.declared.mode.Duration.{Duration}
 use Rattle.mdl_key.specs.declared.mode.Duration.TheVariants.{Transaction, Explicit}
@@ -67,9 +67,14 @@ transactional ticket = kept_for (in_transaction ticket.duration) ticket
 abbrev pub kept_of : ℕ → ℕ → Request → Kept
 kept_of id place request = record { id = id; key = request.key; place = place; mode = request.mode; duration = request.duration }
 
--- the ticket that a request waits for
-abbrev pub wanted_of : ℕ → Request → Wanted
-wanted_of place request = record { key = request.key; place = place; mode = request.mode; duration = request.duration }
+-- the ticket that a request waits for, and whether the searches for deadlocks are over
+abbrev pub wanted_of : ℕ → Request → Bool → Wanted
+wanted_of place request searched =
+    record { key = request.key; place = place; mode = request.mode; duration = request.duration; searched = searched }
+
+-- the same, for which the searches are over
+abbrev pub search_over : Wanted → Wanted
+search_over wanted = record wanted { searched = true }
 
 -- the tickets with the one that was waited for
 abbrev pub with_wanted : ℕ → Option Wanted → List Kept → List Kept

@@ -6,3 +6,4 @@ pub mod Holdings
 pub mod Indexes
 pub mod Releases
 pub mod Requests
+pub mod SearchEnds

@@ -1,26 +1,34 @@
 -- How a session comes by its tickets, after MySQL 5.7: `MDL_context::try_acquire_lock_impl`, `find_ticket` and
 -- `acquire_lock` of sql/mdl.cc. That the earliest ticket which serves is taken, that a key whose ticket is kept isn't looked up
--- again, and that a wait is seen through by calls of its own, is this project's own choice.
-use Rattle.std.specs.Prelude.{◌≡◌, ℕ, Bool, true, not, ◌&&◌, [], ◌∷◌, ◌++◌, Option, Some, None, is_some, Result, Ok, Err, if◌then◌else◌}
+-- again, that searches for deadlocks are cut off after so many, and that a wait is seen through by calls of its own, is this
+-- project's own choice.
+use Rattle.std.specs.Prelude.{◌≡◌, ℕ, Bool, true, false, not, ◌&&◌, [], ◌∷◌, ◌++◌, Option, Some, None, is_some, Result, Ok, Err, if◌then◌else◌}
+use Rattle.std.specs.Option.{option_map}
 use Rattle.mdl_key.specs.declared.mode.Duration.TheVariants.{Explicit}
 use Rattle.mdl_key.specs.Modes.{kind_of, is_mode_of}
 use Rattle.mdl_space.specs.declared.answers.Held.{Held}
 use Rattle.mdl_space.specs.declared.space_error.SpaceError.{SpaceError}
 use Rattle.mdl_space.specs.declared.space_error.SpaceError.TheVariants.{NoWait, WrongKind, OutOfMemory}
 use Rattle.mdl_space.specs.Answers.{Answer, Refused, At_place, Granted, Waits, Pending, Is_settled, Lost}
-use Rattle.mdl_space.specs.Calls.{Resolve, Begin_wait, Clone_ticket, Poll_wait, Settle_timeout, End_wait}
-use Rattle.mdl_space.specs.Runs.{Program, Give, Ask}
+use Rattle.mdl_space.specs.Calls.{Resolve, Begin_wait, Clone_ticket, Poll_wait, Settle_timeout, End_wait, Release}
+use Rattle.mdl_space.specs.Runs.{Program, Give, Ask, ◌>>=◌, ◌>>◌}
+use Rattle.mdl_space.specs.Searches.{SearchEnd, Over, Cut_off, Failed, seeking}
 use Rattle.mdl_space.specs.Strength.{covers}
 use Rattle.mdl_context.specs.declared.context_error.ContextError.{ContextError}
 use Rattle.mdl_context.specs.declared.context_error.ContextError.TheVariants.{Waiting, Space}
 use Rattle.mdl_context.specs.declared.kept.Kept.{Kept}
+use Rattle.mdl_context.specs.declared.kept.Wanted.{Wanted}
 use Rattle.mdl_context.specs.declared.request.Request.{Request}
 use Rattle.mdl_context.specs.declared.request.Acquire.{Acquire}
 use Rattle.mdl_context.specs.declared.request.Acquire.TheVariants.{Acquired, MustWait}
 use Rattle.mdl_context.specs.declared.request.Resume.{Resume}
 use Rattle.mdl_context.specs.declared.request.Resume.TheVariants as resume_as
 use Rattle.mdl_context.specs.Contexts.{ContextView, lasts}
-use Rattle.mdl_context.specs.Holdings.{is_of, earliest, kept_of, wanted_of, with_wanted}
+use Rattle.mdl_context.specs.Holdings.{is_of, earliest, kept_of, wanted_of, with_wanted, search_over}
+
+-- the most searches for deadlocks that are made at once
+abbrev pub most_searches : ℕ
+most_searches = 1024
 
 -- what a call of a context comes to: its answer, and the context then
 abbrev pub Outcome : Type 0 → Type 0
@@ -39,25 +47,48 @@ abbrev pub keeping : ℕ → ℕ → Request → ContextView → ContextView
 keeping id place request context =
     record context { kept = context.kept ++ kept_of id place request ∷ [] }
 
--- with a wait for the wanted ticket
-abbrev pub awaiting : ℕ → Request → ContextView → ContextView
-awaiting place request context =
-    record context { wait = Some (wanted_of place request) }
+-- with a wait for the wanted ticket, and whether the searches for deadlocks are over
+abbrev pub awaiting : ℕ → Request → Bool → ContextView → ContextView
+awaiting place request searched context =
+    record context { wait = Some (wanted_of place request searched) }
+
+-- without a wait
+abbrev pub without_wait : ContextView → ContextView
+without_wait context = record context { wait = None }
 
 -- the refusal that an answer is. An answer that is none doesn't come here.
 abbrev pub refusal_of : Answer → SpaceError
 refusal_of (Refused refusal) = refusal
 refusal_of _ = WrongKind
 
+-- the end of a wait that isn't wanted any more is answered: a ticket that it gained is released
+abbrev pub unwanted_end_answered : ℕ → Answer → Program (Unit {0})
+unwanted_end_answered who (Granted id) = Ask (Release who id) (λ _. Give tt)
+unwanted_end_answered who _ = Give tt
+
+-- a wait is given up, unless it was settled before, and ended without a ticket
+abbrev pub abandoning : ℕ → Program (Unit {0})
+abandoning who = Ask (Settle_timeout who) (λ _. Ask (End_wait who) (unwanted_end_answered who))
+
 -- the copy of a ticket is answered
 abbrev pub copy_answered : ℕ → Request → ContextView → Answer → Program (Outcome Acquire)
 copy_answered place request context (Granted id) = Give (Ok (Acquired id), keeping id place request context)
 copy_answered place request context answer = Give (Err (Space (refusal_of answer)), context)
 
--- the wish for a ticket is answered
+-- deadlocks were searched for after a wait began: where a search was refused, there is no wait
+abbrev pub wish_sought : ℕ → ℕ → Request → ContextView → SearchEnd → Program (Outcome Acquire)
+wish_sought place number request context Over = Give (Ok (MustWait number), awaiting place request true context)
+wish_sought place number request context Cut_off = Give (Ok (MustWait number), awaiting place request false context)
+wish_sought place number request context (Failed refusal) = abandoning context.who >> Give (Err (Space refusal), context)
+
+-- a wait has begun, and deadlocks are searched for
+abbrev pub waiting_on : ℕ → ℕ → Request → ContextView → Program (Outcome Acquire)
+waiting_on place number request context = seeking most_searches context.who >>= wish_sought place number request context
+
+-- the wish for a ticket is answered: where it begins a wait, deadlocks are searched for
 abbrev pub wish_answered : ℕ → Request → ContextView → Answer → Program (Outcome Acquire)
 wish_answered place request context (Granted id) = Give (Ok (Acquired id), keeping id place request context)
-wish_answered place request context (Waits number) = Give (Ok (MustWait number), awaiting place request context)
+wish_answered place request context (Waits number) = waiting_on place number request context
 wish_answered place request context answer = Give (Err (Space (refusal_of answer)), context)
 
 -- the ticket is asked for at a place
@@ -105,7 +136,7 @@ taking_up id context = record context { kept = with_wanted id context.wait conte
 -- the end of the wait is answered
 abbrev pub end_answered : ContextView → Answer → Program (Outcome Resume)
 end_answered context (Granted id) = Give (Ok (resume_as.Acquired id), taking_up id context)
-end_answered context (Lost how) = Give (Ok (resume_as.Lost how), record context { wait = None })
+end_answered context (Lost how) = Give (Ok (resume_as.Lost how), without_wait context)
 end_answered context answer = Give (Err (Space (refusal_of answer)), context)
 
 -- a wait is ended
@@ -118,9 +149,42 @@ poll_answered context Pending = Give (Ok resume_as.Waiting, context)
 poll_answered context (Is_settled how) = ending context
 poll_answered context answer = Give (Err (Space (refusal_of answer)), context)
 
+-- a wait is looked after
+abbrev pub looking : ContextView → Program (Outcome Resume)
+looking context = Ask (Poll_wait context.who) (poll_answered context)
+
+-- with a wait for which the searches are over
+abbrev pub searched : ContextView → ContextView
+searched context = record context { wait = option_map search_over context.wait }
+
+-- deadlocks were searched for while there was a wait: where a search was refused, there is none any more
+abbrev pub wait_sought : ContextView → SearchEnd → Program (Outcome Resume)
+wait_sought context Over = looking (searched context)
+wait_sought context Cut_off = looking context
+wait_sought context (Failed refusal) = abandoning context.who >> Give (Err (Space refusal), without_wait context)
+
+-- deadlocks are searched for again
+abbrev pub searching_on : ContextView → Program (Outcome Resume)
+searching_on context = seeking most_searches context.who >>= wait_sought context
+
+-- how the wait stands is answered, while the searches were cut off: unless it is settled, they go on
+abbrev pub cut_off_answered : ContextView → Answer → Program (Outcome Resume)
+cut_off_answered context Pending = searching_on context
+cut_off_answered context answer = poll_answered context answer
+
+-- a wait goes on, where there is one: whether its searches are over decides how
+abbrev pub going_on : Option Bool → ContextView → Program (Outcome Resume)
+going_on None context = Give (Err (Space NoWait), context)
+going_on (Some true) context = looking context
+going_on (Some false) context = Ask (Poll_wait context.who) (cut_off_answered context)
+
+-- whether the searches for the wait are over, if there is a wait
+abbrev pub is_searched : Option Wanted → Option Bool
+is_searched wait = option_map (λ wanted. wanted.searched) wait
+
 -- a wait goes on
 abbrev pub resuming : ContextView → Program (Outcome Resume)
-resuming context = if is_some context.wait then Ask (Poll_wait context.who) (poll_answered context) else Give (Err (Space NoWait), context)
+resuming context = going_on (is_searched context.wait) context
 
 -- a wait is given up, unless it was settled before, and ended
 abbrev pub giving_up_wait : ContextView → Program (Outcome Resume)

@@ -1,11 +1,11 @@
 //! A session's tickets by how long they last.
-ghost use Rattle.std.specs.Prelude.{◌≡◌, ◌⊎◌, Some, None, [], map, OnOk, OnErr};
+ghost use Rattle.std.specs.Prelude.{◌≡◌, ◌⊎◌, true, IsOk, Some, None, [], map, OnOk, OnErr};
 ghost use Rattle.mdl_key.specs.declared.mode.Duration.TheVariants.{Explicit};
-ghost use Rattle.mdl_key.specs.Refusals.{RefusesJust};
+ghost use Rattle.mdl_key.specs.Refusals.{Refuses, RefusesJust};
 ghost use Rattle.mdl_space.specs.Runs.{Runs};
 ghost use Rattle.mdl_context.specs.Contexts.{ContextView, mark_of, beyond, gained_since, without, Attends, LeavesOthers};
 ghost use Rattle.mdl_context.specs.Holdings.{kept_for, transactional};
-ghost use Rattle.mdl_context.specs.Requests.{FindsNoRoom, acquiring, resuming, giving_up_wait, no_wait_fault};
+ghost use Rattle.mdl_context.specs.Requests.{FindsNoRoom, without_wait, acquiring, is_searched, resuming, giving_up_wait, no_wait_fault};
 ghost use Rattle.mdl_context.specs.Releases.{releasing_all, giving_up, waiting_fault, release_fault, rollback_fault, releasing, releasing_name, rolling_back, ending_statement, ending_transaction};
 
 use crate::holdings::{Going, Holdings};
@@ -123,17 +123,19 @@ impl<S: LockSpace> Context<S> {
         }
     }
 
-    /// Sees how the wait stands, and ends it once it is settled. It takes no memory.
+    /// Sees how the wait stands, and ends it once it is settled.
     ///
-    /// After MySQL 5.7, `MDL_context::acquire_lock` of `sql/mdl.cc`, from its wait on.
+    /// While it isn't settled and the searches for deadlocks were cut off, this call searches on, as [`Context::acquire`]
+    /// does. Else it takes no memory. After MySQL 5.7, `MDL_context::acquire_lock` of `sql/mdl.cc`, from its wait on.
     pub fn resume(&mut self, space: &mut S) -> Result<Resume, ContextError>
         requires { Attends S.speaks_for S.own S.knows space.old self.old }
-        ensures refused { RefusesJust (no_wait_fault self.old) result }
+        ensures refused { Refuses (no_wait_fault self.old) (ContextError.Space SpaceError.OutOfMemory) result }
+        ensures searched { is_searched self.old.wait ≡ Some true → IsOk result }
         ensures run { Runs S.joins space.old (resuming self.old) (result, self.new) space.new }
         ensures attends { Attends S.speaks_for S.own S.knows space.new self.new }
         ensures others { LeavesOthers S.speaks_for S.own self.old.who space.old space.new }
         ensures who { self.new.who ≡ self.old.who }
-        ensures unchanged { OnErr result (self.new ≡ self.old) }
+        ensures lost { OnErr result (self.new ≡ without_wait self.old) }
     {
         resume(space, self.who, &mut self.holdings)
     }

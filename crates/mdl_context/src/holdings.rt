@@ -7,9 +7,9 @@ ghost use Rattle.mdl_key.specs.declared.mode.Duration.TheVariants.{Explicit};
 ghost use Rattle.mdl_key.specs.Keys.{KeyName};
 ghost use Rattle.mdl_space.specs.Strength.{covers};
 ghost use Rattle.mdl_context.specs.Contexts.{AreRising, lasts, held_for, has_number, held_of};
-ghost use Rattle.mdl_context.specs.Holdings.{without_number, is_of, is_ticket, numbers_among, IsIndexOf, has_room, earliest, kept_for, in_transaction, transactional, kept_of, wanted_of, with_wanted};
+ghost use Rattle.mdl_context.specs.Holdings.{without_number, is_of, is_ticket, numbers_among, IsIndexOf, has_room, earliest, kept_for, in_transaction, transactional, kept_of, wanted_of, with_wanted, search_over};
 ghost use Rattle.mdl_context.specs.Indexes.{is_listed, has_room_for};
-ghost use Rattle.mdl_context.specs.Requests.{suffices, is_reusable};
+ghost use Rattle.mdl_context.specs.Requests.{suffices, is_reusable, is_searched};
 
 use crate::by_key::ByKey;
 use crate::{Kept, Request, Wanted};
@@ -74,6 +74,23 @@ impl Holdings {
         ensures { result ≡ is_some self.now.wait }
     {
         self.wait.is_some()
+    }
+
+    /// Whether the searches for deadlocks are over, if there is a wait.
+    pub(crate) fn is_searched(&self) -> Option<bool>
+        ensures { result ≡ is_searched self.now.wait }
+    {
+        self.wait.as_ref().map(|wanted| wanted.searched)
+    }
+
+    /// The searches for deadlocks are over, if there is a wait.
+    pub(crate) fn end_searches(&mut self)
+        ensures kept { self.new.kept ≡ self.old.kept }
+        ensures wait { self.new.wait ≡ option_map search_over self.old.wait }
+    {
+        if let Some(wanted) = &mut self.wait {
+            wanted.searched = true;
+        }
     }
 
     /// Makes room for one more ticket of a key.
@@ -392,15 +409,16 @@ impl Request {
         }
     }
 
-    /// The ticket that the request waits for.
-    pub(crate) fn into_wanted(self, place: Place) -> Wanted
-        ensures { result ≡ wanted_of place self }
+    /// The ticket that the request waits for, and whether the searches for deadlocks are over.
+    pub(crate) fn into_wanted(self, place: Place, searched: bool) -> Wanted
+        ensures { result ≡ wanted_of place self searched }
     {
         Wanted {
             key: self.key,
             place,
             mode: self.mode,
             duration: self.duration,
+            searched,
         }
     }
 

@@ -28,4 +28,6 @@ pub struct Wanted {
     pub mode: Mode,
     /// How long the ticket is to be kept.
     pub duration: Duration,
+    /// Whether the searches for deadlocks are over. Else they were cut off, and go on with the next look at the wait.
+    pub searched: bool,
 }

@@ -10,6 +10,7 @@ mod laws;
 mod releases;
 mod request;
 mod requests;
+mod searches;
 mod waits;
 
 pub use context::Context;

@@ -1,13 +1,14 @@
 //! Requests made to a lock space, of any kind.
-ghost use Rattle.std.specs.Prelude.{◌≡◌, true, Some, None, OnErr};
+ghost use Rattle.std.specs.Prelude.{◌≡◌, true, false, Some, None, OnErr};
 ghost use Rattle.mdl_space.specs.Calls.{Clone_ticket};
-ghost use Rattle.mdl_space.specs.Own.{ticket_held};
+ghost use Rattle.mdl_space.specs.Own.{ticket_held, ending};
 ghost use Rattle.mdl_space.specs.Runs.{Runs, Ask};
 ghost use Rattle.mdl_context.specs.Contexts.{Attends};
 ghost use Rattle.mdl_context.specs.Holdings.{context_of, has_room, earliest, is_of};
-ghost use Rattle.mdl_context.specs.Requests.{copy_answered, asking_at, asking};
+ghost use Rattle.mdl_context.specs.Requests.{awaiting, copy_answered, waiting_on, asking_at, asking};
 
 use crate::holdings::Holdings;
+use crate::searches::{abandon, seek};
 use crate::{Acquire, ContextError, Request};
 use mdl_space::{Begun, Held, LockSpace, Place};
 
@@ -87,11 +88,38 @@ fn ask_at<S: LockSpace>(
             holdings.keep(request.into_kept(id, place));
             Ok(Acquire::Acquired(id))
         }
-        Ok(Begun::Waiting(number)) => {
-            holdings.begin_wait(request.into_wanted(place));
+        Ok(Begun::Waiting(number)) => wait_on(space, who, holdings, place, number, request),
+        Err(refusal) => {
+            holdings.give_room_up(&request.key);
+            Err(ContextError::Space(refusal))
+        }
+    }
+}
+
+// Searches for deadlocks once the session waits for a ticket. It waits on, unless a search is refused.
+fn wait_on<S: LockSpace>(
+    space: &mut S,
+    who: u16,
+    holdings: &mut Holdings,
+    place: Place,
+    number: u64,
+    request: Request,
+) -> Result<Acquire, ContextError>
+    requires attends { Attends S.speaks_for S.own S.knows space.old (awaiting place request false (context_of who holdings.old)) }
+    requires room { has_room request.key holdings.old ≡ true }
+    requires idle { holdings.old.wait ≡ None }
+    ensures run { Runs S.joins space.old (waiting_on place number request (context_of who holdings.old)) (result, context_of who holdings.new) space.new }
+    ensures attends { Attends S.speaks_for S.own S.knows space.new (context_of who holdings.new) }
+    ensures own { OnErr result (S.own space.new who ≡ ending (S.own space.old who)) }
+    ensures unchanged { OnErr result (context_of who holdings.new ≡ context_of who holdings.old) }
+{
+    match seek(space, who) {
+        Ok(searched) => {
+            holdings.begin_wait(request.into_wanted(place, searched));
             Ok(Acquire::MustWait(number))
         }
         Err(refusal) => {
+            abandon(space, who);
             holdings.give_room_up(&request.key);
             Err(ContextError::Space(refusal))
         }

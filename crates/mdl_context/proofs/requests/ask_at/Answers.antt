@@ -1,5 +1,5 @@
 -- The ticket is gained, or the wait begins, or nothing has changed.
-use Rattle.std.proofs.Common.{refl, sym, ap, ◌∙◌, [], ◌∷◌, ◌++◌, Some}
+use Rattle.std.proofs.Common.{refl, sym, ap, ◌∙◌, [], ◌∷◌, ◌++◌}
 use Rattle.mdl_context.proofs.AttendLemmas.{attends-still, attends-gained, attends-waiting}
 use Rattle.mdl_context.proofs.BeyondLemmas.{same-context}
 use Rattle.mdl_context.proofs.requests.ask_at.Goals as goal
@@ -11,12 +11,11 @@ returns-in-Ok-Granted-clause-attends g c =
     attends-gained laws.keeps laws.changes laws.remembers _ _ _ _ arm.id c.args.place c.args.request _ _ c.requires.attends refl refl refl (rw (arm.is, arm.field-0-is) at c.begin_wait.ensures)
     c.requires.known refl (c.keep.ensures.kept ∙ ap (λ ticket. c.args.holdings.now.kept ++ ticket ∷ []) c.into_kept.ensures) (c.keep.ensures.wait ∙ sym c.requires.idle)
 
-pub returns-in-Ok-Waiting-clause-attends : goal.returns-in-Ok-Waiting-clause-attends
-returns-in-Ok-Waiting-clause-attends g c =
+pub wait_on-requires-clause-attends : goal.wait_on-requires-clause-attends
+wait_on-requires-clause-attends g c =
     let laws = g.met.S.LockSpace in
     let arm = c.in-Ok-Waiting in
-    attends-waiting laws.keeps laws.changes laws.remembers _ _ arm.number c.args.place c.args.request _ _ c.requires.attends (rw (arm.is, arm.field-0-is) at c.begin_wait.ensures)
-    c.requires.known refl c.begin_wait-in-Ok-Waiting.ensures.kept (c.begin_wait-in-Ok-Waiting.ensures.wait ∙ ap (λ wanted. Some wanted) c.into_wanted.ensures)
+    attends-waiting laws.keeps laws.changes laws.remembers _ _ arm.number c.args.place c.args.request _ c.requires.attends (rw (arm.is, arm.field-0-is) at c.begin_wait.ensures) c.requires.known
 
 pub returns-in-Err-clause-own : goal.returns-in-Err-clause-own
 returns-in-Err-clause-own g c = g.met.S.LockSpace.changes _ _ _ _ _ refl (rw c.in-Err.is at c.begin_wait.ensures)

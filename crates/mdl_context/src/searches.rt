@@ -1,0 +1,49 @@
+//! Searches of a lock space for deadlocks, of any kind of space, and waits that are given up.
+ghost use Rattle.std.specs.Prelude.{◌≡◌, ℕ, true, IsOkUnless};
+ghost use Rattle.mdl_key.specs.Keys.{KeyName};
+ghost use Rattle.mdl_space.specs.Own.{is_waiting, ending};
+ghost use Rattle.mdl_space.specs.Runs.{Runs};
+ghost use Rattle.mdl_space.specs.Searches.{seeking};
+ghost use Rattle.mdl_context.specs.Requests.{most_searches, abandoning};
+ghost use Rattle.mdl_context.specs.SearchEnds.{sought};
+
+use crate::releases::let_go;
+use mdl_space::{Ended, LockSpace, Search, SpaceError};
+
+// The most searches that are made at once.
+const MOST_SEARCHES: u32 = 1024;
+
+/// Searches for deadlocks until there is none left for which the session waits, the session is the victim itself, or it has
+/// searched often enough. Whether the searches are over.
+pub(crate) fn seek<S: LockSpace>(space: &mut S, who: u16) -> Result<bool, SpaceError>
+    requires { S.speaks_for space.old who }
+    ensures refused { IsOkUnless result SpaceError.OutOfMemory }
+    ensures run { Runs S.joins space.old (seeking most_searches who) (sought result) space.new }
+    ensures speaks { S.speaks_for space.new who }
+    ensures remembers { (place : ℕ) (key : KeyName) → S.knows space.old who place key → S.knows space.new who place key }
+    ensures own { S.own space.new who ≡ S.own space.old who }
+{
+    for _turn in 0..MOST_SEARCHES {
+        match space.search(who)? {
+            Search::NoCycle => return Ok(true),
+            Search::Victim(victim) if victim == who => return Ok(true),
+            Search::Victim(_) => {}
+        }
+    }
+    Ok(false)
+}
+
+/// Gives the session's wait up and ends it: a grant that came first is released. It takes no memory.
+pub(crate) fn abandon<S: LockSpace>(space: &mut S, who: u16)
+    requires speaks { S.speaks_for space.old who }
+    requires waits { is_waiting (S.own space.old who) ≡ true }
+    ensures run { Runs S.joins space.old (abandoning who) tt space.new }
+    ensures speaks { S.speaks_for space.new who }
+    ensures remembers { (place : ℕ) (key : KeyName) → S.knows space.old who place key → S.knows space.new who place key }
+    ensures own { S.own space.new who ≡ ending (S.own space.old who) }
+{
+    space.settle_timeout(who).unwrap();
+    if let Ended::Granted(id) = space.end_wait(who).unwrap() {
+        let_go(space, who, id);
+    }
+}
