@@ -1,9 +1,10 @@
 -- A context makes its calls for its own session, so nothing changes for the others.
-use Rattle.std.proofs.Common.{◌≡◌, ℕ, zero, suc, Bool, true, false, List, [], ◌∷◌, Option, Some, None, refl, ◌∙◌, subst}
+use Rattle.std.proofs.Common.{◌≡◌, ◌≢◌, ℕ, zero, suc, Bool, true, false, List, [], ◌∷◌, Option, Some, None, refl, sym, ap, ◌∙◌, subst}
 use Rattle.std.specs.Prelude.{◌==◌, is_some, if◌then◌else◌}
+use Rattle.mdl_key.specs.Keys.{KeyName}
 use Rattle.mdl_space.specs.declared.answers.Held.{Held}
-use Rattle.mdl_space.specs.Answers.{Answer, Refused, Victim_is, At_place, Granted, Waits, Pending, Is_settled, Lost}
-use Rattle.mdl_space.specs.Calls.{Call, Clone_ticket, caller}
+use Rattle.mdl_space.specs.Answers.{Answer, Done, Refused, Victim_is, At_place, Granted, Waits, Pending, Is_settled, Lost}
+use Rattle.mdl_space.specs.Calls.{Call, Clone_ticket, Unpin, caller}
 use Rattle.mdl_space.specs.Own.{Own}
 use Rattle.mdl_space.specs.Runs.{Program, Runs, Give, Ask, ◌>>=◌}
 use Rattle.mdl_space.specs.Searches.{SearchEnd, Over, Cut_off, Failed, after_search, seeking}
@@ -20,15 +21,24 @@ IsFor who (Ask call next) = (caller call ≡ Some who) × ((answer : Answer) →
 
 -- ---- what runs of such a program leave
 
-module _ {S : Type 0} {speaks_for : S → ℕ → Type 0} {own : S → ℕ → Own} {joins : S → Call → Answer → S → Type 0}
+module _ {S : Type 0} {speaks_for : S → ℕ → Type 0} {own : S → ℕ → Own} {knows : S → ℕ → ℕ → KeyName → Type 0} {joins : S → Call → Answer → S → Type 0}
     (keeps : (a b : S) (call : Call) (answer : Answer) (w : ℕ) → speaks_for a w → joins a call answer b → speaks_for b w)
-    (others : (a b : S) (call : Call) (answer : Answer) (w : ℕ) → speaks_for a w → (caller call ≡ Some w → ⊥) → joins a call answer b → own b w ≡ own a w) where
-  pub leaves : {A : Type 0} (who : ℕ) (program : Program A) (a b : S) (reply : A) → IsFor who program → Runs joins a program reply b → LeavesOthers speaks_for own who a b
-  leaves who (Give x) a b reply made (same, here) w other speaks = subst (λ s. speaks_for s w × (own s w ≡ own a w)) here (speaks, refl)
+    (others : (a b : S) (call : Call) (answer : Answer) (w : ℕ) → speaks_for a w → (caller call ≡ Some w → ⊥) → joins a call answer b → own b w ≡ own a w)
+    (remembers : (a b : S) (call : Call) (answer : Answer) (w place : ℕ) (key : KeyName) → speaks_for a w → (call ≡ Unpin w place → answer ≡ Done → ⊥) → joins a call answer b
+        → knows a w place key → knows b w place key) where
+  not-theirs : (call : Call) (w who place : ℕ) → w ≢ who → caller call ≡ Some who → call ≡ Unpin w place → ⊥
+  not-theirs call w who place other made e = other (unwrap (ap caller (sym e) ∙ made)) where
+    unwrap : Some w ≡ Some who → w ≡ who
+    unwrap same = cc
+
+  pub leaves : {A : Type 0} (who : ℕ) (program : Program A) (a b : S) (reply : A) → IsFor who program → Runs joins a program reply b → LeavesOthers speaks_for own knows who a b
+  leaves who (Give x) a b reply made (same, here) w other speaks =
+      subst (λ s. speaks_for s w × (own s w ≡ own a w) × ((place : ℕ) (key : KeyName) → knows a w place key → knows s w place key)) here (speaks, refl, λ place key known. known)
   leaves who (Ask call next) a b reply made (answer, mid, step, run) w other speaks =
       let then_speaks = keeps a mid call answer w speaks step in
       let rest = leaves who (next answer) mid b reply (made.1 answer) run w other then_speaks in
-      (rest.0, rest.1 ∙ others a mid call answer w speaks (λ e. other (cc)) step)
+      let now = others a mid call answer w speaks (λ e. other (cc)) step in
+      (rest.0, rest.1 ∙ now, λ place key known. rest.2 place key (remembers a mid call answer w place key speaks (λ e _. not-theirs call w who place other made.0 e) step known))
 
 -- ---- searches
 

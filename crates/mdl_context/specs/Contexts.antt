@@ -94,6 +94,9 @@ pub record Attends {S : Type 0} (speaks_for : S → ℕ → Type 0) (own : S →
 abbrev pub IsSettled : {S : Type 0} → (S → ℕ → Settled → Type 0) → S → ℕ → Type 0
 IsSettled is_settled space who = (how : Settled) × is_settled space who how
 
--- a lock space goes on to speak for all sessions but one, and nothing changes for them
-abbrev pub LeavesOthers : {S : Type 0} → (S → ℕ → Type 0) → (S → ℕ → Own) → ℕ → S → S → Type 0
-LeavesOthers speaks_for own who before after = (w : ℕ) → w ≢ who → speaks_for before w → speaks_for after w × (own after w ≡ own before w)
+-- a lock space goes on to speak for all sessions but one, and nothing changes for them: each has what it had, and knows what it
+-- knew
+abbrev pub LeavesOthers : {S : Type 0} → (S → ℕ → Type 0) → (S → ℕ → Own) → (S → ℕ → ℕ → KeyName → Type 0) → ℕ → S → S → Type 0
+LeavesOthers speaks_for own knows who before after =
+    (w : ℕ) → w ≢ who → speaks_for before w →
+    speaks_for after w × (own after w ≡ own before w) × ((place : ℕ) (key : KeyName) → knows before w place key → knows after w place key)

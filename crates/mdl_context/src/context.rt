@@ -103,7 +103,7 @@ impl<S: LockSpace> Context<S> {
         requires { Attends S.speaks_for S.own S.knows space.old self.old }
         ensures run { FindsNoRoom request self.old space.old (result, self.new) space.new ⊎ Runs S.joins space.old (acquiring request self.old) (result, self.new) space.new }
         ensures attends { Attends S.speaks_for S.own S.knows space.new self.new }
-        ensures others { LeavesOthers S.speaks_for S.own self.old.who space.old space.new }
+        ensures others { LeavesOthers S.speaks_for S.own S.knows self.old.who space.old space.new }
         ensures who { self.new.who ≡ self.old.who }
         ensures unchanged { OnErr result (self.new ≡ self.old) }
         ensures own { OnErr result (S.own space.new self.old.who ≡ S.own space.old self.old.who) }
@@ -133,7 +133,7 @@ impl<S: LockSpace> Context<S> {
         ensures searched { is_searched self.old.wait ≡ Some true → IsOk result }
         ensures run { Runs S.joins space.old (resuming self.old) (result, self.new) space.new }
         ensures attends { Attends S.speaks_for S.own S.knows space.new self.new }
-        ensures others { LeavesOthers S.speaks_for S.own self.old.who space.old space.new }
+        ensures others { LeavesOthers S.speaks_for S.own S.knows self.old.who space.old space.new }
         ensures who { self.new.who ≡ self.old.who }
         ensures lost { OnErr result (self.new ≡ without_wait self.old) }
     {
@@ -146,7 +146,7 @@ impl<S: LockSpace> Context<S> {
         ensures refused { RefusesJust (no_wait_fault self.old) result }
         ensures run { Runs S.joins space.old (giving_up_wait self.old) (result, self.new) space.new }
         ensures attends { Attends S.speaks_for S.own S.knows space.new self.new }
-        ensures others { LeavesOthers S.speaks_for S.own self.old.who space.old space.new }
+        ensures others { LeavesOthers S.speaks_for S.own S.knows self.old.who space.old space.new }
         ensures who { self.new.who ≡ self.old.who }
         ensures ended { self.new.wait ≡ None }
         ensures unchanged { OnErr result (self.new ≡ self.old) }
@@ -162,7 +162,7 @@ impl<S: LockSpace> Context<S> {
         ensures refused { RefusesJust (release_fault id self.old) result }
         ensures run { Runs S.joins space.old (releasing id self.old) (result, self.new) space.new }
         ensures attends { Attends S.speaks_for S.own S.knows space.new self.new }
-        ensures others { LeavesOthers S.speaks_for S.own self.old.who space.old space.new }
+        ensures others { LeavesOthers S.speaks_for S.own S.knows self.old.who space.old space.new }
         ensures who { self.new.who ≡ self.old.who }
     {
         if !self.holdings.has(id) {
@@ -184,7 +184,7 @@ impl<S: LockSpace> Context<S> {
         ensures refused { RefusesJust (waiting_fault self.old) result }
         ensures run { Runs S.joins space.old (releasing_name key.now self.old) (result, self.new) space.new }
         ensures attends { Attends S.speaks_for S.own S.knows space.new self.new }
-        ensures others { LeavesOthers S.speaks_for S.own self.old.who space.old space.new }
+        ensures others { LeavesOthers S.speaks_for S.own S.knows self.old.who space.old space.new }
         ensures who { self.new.who ≡ self.old.who }
     {
         if self.holdings.is_waiting() {
@@ -203,7 +203,7 @@ impl<S: LockSpace> Context<S> {
         ensures refused { RefusesJust (rollback_fault mark self.old) result }
         ensures run { Runs S.joins space.old (rolling_back mark self.old) (result, self.new) space.new }
         ensures attends { Attends S.speaks_for S.own S.knows space.new self.new }
-        ensures others { LeavesOthers S.speaks_for S.own self.old.who space.old space.new }
+        ensures others { LeavesOthers S.speaks_for S.own S.knows self.old.who space.old space.new }
         ensures who { self.new.who ≡ self.old.who }
     {
         let now = self.savepoint();
@@ -225,7 +225,7 @@ impl<S: LockSpace> Context<S> {
         ensures refused { RefusesJust (waiting_fault self.old) result }
         ensures run { Runs S.joins space.old (ending_statement self.old) (result, self.new) space.new }
         ensures attends { Attends S.speaks_for S.own S.knows space.new self.new }
-        ensures others { LeavesOthers S.speaks_for S.own self.old.who space.old space.new }
+        ensures others { LeavesOthers S.speaks_for S.own S.knows self.old.who space.old space.new }
         ensures who { self.new.who ≡ self.old.who }
     {
         if self.holdings.is_waiting() {
@@ -243,7 +243,7 @@ impl<S: LockSpace> Context<S> {
         ensures refused { RefusesJust (waiting_fault self.old) result }
         ensures run { Runs S.joins space.old (ending_transaction self.old) (result, self.new) space.new }
         ensures attends { Attends S.speaks_for S.own S.knows space.new self.new }
-        ensures others { LeavesOthers S.speaks_for S.own self.old.who space.old space.new }
+        ensures others { LeavesOthers S.speaks_for S.own S.knows self.old.who space.old space.new }
         ensures who { self.new.who ≡ self.old.who }
     {
         if self.holdings.is_waiting() {

@@ -27,7 +27,7 @@ copy-requires-clause-known g c =
 pub returns-in-None-clause-others : goal.returns-in-None-clause-others
 returns-in-None-clause-others g c =
     let laws = g.met.S.LockSpace in
-    rw (← c.self.view_is) (leaves laws.keeps laws.others _ _ _ _ _ (for_asking _ _ _) c.ask.ensures.run)
+    rw (← c.self.view_is) (leaves laws.keeps laws.others laws.remembers _ _ _ _ _ (for_asking _ _ _) c.ask.ensures.run)
 
 pub returns-in-Some-sufficient-clause-run : goal.returns-in-Some-sufficient-clause-run
 returns-in-Some-sufficient-clause-run g c =

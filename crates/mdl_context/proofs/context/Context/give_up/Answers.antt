@@ -5,4 +5,4 @@ use Rattle.mdl_context.proofs.context.Context.give_up.Goals as goal
 pub returns-clause-others : goal.returns-clause-others
 returns-clause-others g c =
     let laws = g.met.S.LockSpace in
-    rw (← c.self.view_is) (leaves laws.keeps laws.others _ _ _ _ _ (for_giving_up_wait _) c.give_up_wait.ensures.run)
+    rw (← c.self.view_is) (leaves laws.keeps laws.others laws.remembers _ _ _ _ _ (for_giving_up_wait _) c.give_up_wait.ensures.run)

@@ -32,4 +32,4 @@ returns-clause-attends g c =
 pub returns-clause-others : goal.returns-clause-others
 returns-clause-others g c =
     let laws = g.met.S.LockSpace in
-    rw (← c.self.view_is) (leaves laws.keeps laws.others _ _ _ _ _ (for_all _ _) c.give_up.ensures.run)
+    rw (← c.self.view_is) (leaves laws.keeps laws.others laws.remembers _ _ _ _ _ (for_all _ _) c.give_up.ensures.run)

@@ -5,4 +5,4 @@ use Rattle.mdl_context.proofs.context.Context.resume.Goals as goal
 pub returns-clause-others : goal.returns-clause-others
 returns-clause-others g c =
     let laws = g.met.S.LockSpace in
-    rw (← c.self.view_is) (leaves laws.keeps laws.others _ _ _ _ _ (for_resuming _) c.resume.ensures.run)
+    rw (← c.self.view_is) (leaves laws.keeps laws.others laws.remembers _ _ _ _ _ (for_resuming _) c.resume.ensures.run)

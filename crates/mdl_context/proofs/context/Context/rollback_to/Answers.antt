@@ -5,4 +5,4 @@ use Rattle.mdl_context.proofs.context.Context.rollback_to.Goals as goal
 pub returns-clause-others : goal.returns-clause-others
 returns-clause-others g c =
     let laws = g.met.S.LockSpace in
-    leaves laws.keeps laws.others _ _ _ _ _ (for_giving_up _ c.args.self.now) c.go_back.ensures.run
+    leaves laws.keeps laws.others laws.remembers _ _ _ _ _ (for_giving_up _ c.args.self.now) c.go_back.ensures.run
