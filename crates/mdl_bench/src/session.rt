@@ -1,6 +1,6 @@
 //! A session that keeps many tickets, by its context.
 ghost use Rattle.std.specs.Prelude.{IfOk};
-ghost use Rattle.mdl_space.specs.CoreJoins.{SpeaksFor, own_at};
+ghost use Rattle.mdl_space.specs.CoreJoins.{SpeaksFor, own_at, Knows};
 ghost use Rattle.mdl_context.specs.Contexts.{Attends};
 
 use crate::failure::Failure;
@@ -29,7 +29,7 @@ pub fn tables(alloc: Global) -> Result<Vec<Key>, Failure> {
 
 /// A space, and the context of its one session, which has nothing.
 pub fn open(alloc: Global) -> Result<(CoreSpace, Context<CoreSpace>), Failure>
-    ensures { IfOk result (λ pair. Attends SpeaksFor own_at pair.0 pair.1) }
+    ensures { IfOk result (λ pair. Attends SpeaksFor own_at Knows pair.0 pair.1) }
 {
     match CoreSpace::new(alloc, PLACES, 1) {
         Ok(space) => Ok((space, Context::new(alloc, 1))),
@@ -44,8 +44,8 @@ fn acquire<S: LockSpace>(
     key: &Key,
     duration: Duration,
 ) -> Result<TicketId, Failure>
-    requires { Attends S.speaks_for S.own space.old context.old }
-    ensures { Attends S.speaks_for S.own space.new context.new }
+    requires { Attends S.speaks_for S.own S.knows space.old context.old }
+    ensures { Attends S.speaks_for S.own S.knows space.new context.new }
 {
     let request = Request {
         key: key.clone()?,
@@ -65,8 +65,8 @@ pub fn fill<S: LockSpace>(
     keys: &[Key],
     tickets: u16,
 ) -> Result<(), Failure>
-    requires { Attends S.speaks_for S.own space.old context.old }
-    ensures { Attends S.speaks_for S.own space.new context.new }
+    requires { Attends S.speaks_for S.own S.knows space.old context.old }
+    ensures { Attends S.speaks_for S.own S.knows space.new context.new }
 {
     for index in 0..tickets {
         let Some(key) = keys.get(usize::from(index % (PLACES - 1))) else {
@@ -84,8 +84,8 @@ pub fn take_and_release<S: LockSpace>(
     key: &Key,
     turns: u32,
 ) -> Result<(), Failure>
-    requires { Attends S.speaks_for S.own space.old context.old }
-    ensures { Attends S.speaks_for S.own space.new context.new }
+    requires { Attends S.speaks_for S.own S.knows space.old context.old }
+    ensures { Attends S.speaks_for S.own S.knows space.new context.new }
 {
     for _turn in 0..turns {
         let id = acquire(space, context, key, Duration::Transaction)?;
@@ -100,8 +100,8 @@ fn lock_all<S: LockSpace>(
     context: &mut Context<S>,
     keys: &[Key],
 ) -> Result<(), Failure>
-    requires { Attends S.speaks_for S.own space.old context.old }
-    ensures { Attends S.speaks_for S.own space.new context.new }
+    requires { Attends S.speaks_for S.own S.knows space.old context.old }
+    ensures { Attends S.speaks_for S.own S.knows space.new context.new }
 {
     for key in keys {
         acquire(space, context, key, Duration::Transaction)?;
@@ -116,8 +116,8 @@ pub fn go_back<S: LockSpace>(
     keys: &[Key],
     turns: u32,
 ) -> Result<(), Failure>
-    requires { Attends S.speaks_for S.own space.old context.old }
-    ensures { Attends S.speaks_for S.own space.new context.new }
+    requires { Attends S.speaks_for S.own S.knows space.old context.old }
+    ensures { Attends S.speaks_for S.own S.knows space.new context.new }
 {
     let Some(locked) = keys.get(..LOCKED) else {
         return Err(Failure::Unexpected);

@@ -1,7 +1,6 @@
 //! Acts and replies: by these all tests call a context.
-ghost use Rattle.std.specs.Prelude.{◌≡◌, false, IfSome, IsSome};
+ghost use Rattle.std.specs.Prelude.{◌≡◌};
 ghost use Rattle.mdl_context.specs.Contexts.{Attends, LeavesOthers};
-ghost use Rattle.mdl_context.specs.Requests.{wants_memory};
 
 use crate::{Acquire, Context, ContextError, Mark, Request, Resume};
 use mdl_key::{Duration, Key, KeyError, Kind, Mode};
@@ -85,9 +84,7 @@ fn done(answer: Result<(), ContextError>) -> Reply {
 }
 
 // What the answer to a wish says, unless no memory was found.
-fn acquired(answer: Result<Acquire, ContextError>) -> Option<Reply>
-    ensures { IsSome result → wants_memory answer ≡ false }
-{
+fn acquired(answer: Result<Acquire, ContextError>) -> Option<Reply> {
     match answer {
         Ok(Acquire::Acquired(id)) => Some(Reply::Acquired(id)),
         Ok(Acquire::MustWait(number)) => Some(Reply::MustWait(number)),
@@ -111,10 +108,10 @@ pub(super) fn make<S: LockSpace>(
     context: &mut Context<S>,
     act: Act,
 ) -> Option<Reply>
-    requires { Attends S.speaks_for S.own space.old context.old }
-    ensures attends { Attends S.speaks_for S.own space.new context.new }
+    requires { Attends S.speaks_for S.own S.knows space.old context.old }
+    ensures attends { Attends S.speaks_for S.own S.knows space.new context.new }
     ensures who { context.new.who ≡ context.old.who }
-    ensures others { IfSome result (λ _. LeavesOthers S.speaks_for S.own context.old.who space.old space.new) }
+    ensures others { LeavesOthers S.speaks_for S.own S.knows context.old.who space.old space.new }
 {
     let reply = match act {
         Act::Acquire(lock, mode, duration) => {

@@ -1,5 +1,5 @@
 //! A lock space with the contexts of all its sessions, and the plain program beside them.
-ghost use Rattle.std.specs.Prelude.{◌≤◌, length, IfOk, IfSome};
+ghost use Rattle.std.specs.Prelude.{◌≤◌, length, IfOk};
 ghost use Rattle.mdl_context.specs.Halls.{AreServed};
 
 use super::acts::{Act, Lock, Reply, make};
@@ -58,7 +58,7 @@ fn make_among(
     requires served { AreServed space.old 1 contexts.old }
     requires least { 1 ≤ who }
     requires most { who ≤ length contexts.old }
-    ensures served { IfSome result (λ _. AreServed space.new 1 contexts.new) }
+    ensures served { AreServed space.new 1 contexts.new }
 {
     let context = &mut contexts[usize::from(who) - 1];
     make(alloc, space, context, act)
@@ -116,7 +116,7 @@ impl Hall {
         requires served { AreServed self.old.space 1 self.old.contexts }
         requires least { 1 ≤ who }
         requires most { who ≤ 5 }
-        ensures { IfSome result (λ _. AreServed self.new.space 1 self.new.contexts) }
+        ensures { AreServed self.new.space 1 self.new.contexts }
     {
         make_among(self.alloc, &mut self.space, &mut self.contexts, who, act)
     }

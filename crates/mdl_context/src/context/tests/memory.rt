@@ -4,7 +4,7 @@
 //! `rt try --test --fail-alloc N` refuses the allocation of that number.
 ghost use Rattle.std.specs.Prelude.{◌≡◌, ◌≢◌, IfOk};
 ghost use Rattle.mdl_space.specs.Cores.{empty_core};
-ghost use Rattle.mdl_space.specs.CoreJoins.{SpeaksFor, own_at};
+ghost use Rattle.mdl_space.specs.CoreJoins.{SpeaksFor, own_at, Knows};
 ghost use Rattle.mdl_context.specs.Contexts.{Attends};
 
 use super::acts::{Act, Lock, Reply, make, mark};
@@ -41,7 +41,7 @@ fn new_space(alloc: Global) -> Result<CoreSpace, NewError>
 
 // And the context of its second session.
 fn start(alloc: Global) -> Result<(CoreSpace, Context<CoreSpace>), NewError>
-    ensures attends { IfOk result (λ pair. Attends SpeaksFor own_at pair.0 pair.1) }
+    ensures attends { IfOk result (λ pair. Attends SpeaksFor own_at Knows pair.0 pair.1) }
     ensures who { IfOk result (λ pair. pair.1.who ≡ 2) }
 {
     let space = new_space(alloc)?;
@@ -55,10 +55,10 @@ fn take<S: LockSpace>(
     other: u16,
     key: &Key,
 ) -> Result<Attempt, SpaceError>
-    requires attends { Attends S.speaks_for S.own space.old context.now }
+    requires attends { Attends S.speaks_for S.own S.knows space.old context.now }
     requires speaks { S.speaks_for space.old other }
     requires other { other ≢ context.now.who }
-    ensures attends { Attends S.speaks_for S.own space.new context.now }
+    ensures attends { Attends S.speaks_for S.own S.knows space.new context.now }
     ensures speaks { S.speaks_for space.new other }
 {
     let _context = context;
@@ -73,10 +73,10 @@ fn leave<S: LockSpace>(
     other: u16,
     id: TicketId,
 ) -> Result<(), SpaceError>
-    requires attends { Attends S.speaks_for S.own space.old context.now }
+    requires attends { Attends S.speaks_for S.own S.knows space.old context.now }
     requires speaks { S.speaks_for space.old other }
     requires other { other ≢ context.now.who }
-    ensures { Attends S.speaks_for S.own space.new context.now }
+    ensures { Attends S.speaks_for S.own S.knows space.new context.now }
 {
     let _context = context;
     space.release(other, id)
@@ -84,9 +84,9 @@ fn leave<S: LockSpace>(
 
 // The first session takes a lock, at the second try, where memory was refused to the first.
 fn stand_in_the_way(space: &mut CoreSpace, context: &Context<CoreSpace>, key: &Key) -> bool
-    requires attends { Attends SpeaksFor own_at space.old context.now }
+    requires attends { Attends SpeaksFor own_at Knows space.old context.now }
     requires who { context.now.who ≡ 2 }
-    ensures { Attends SpeaksFor own_at space.new context.now }
+    ensures { Attends SpeaksFor own_at Knows space.new context.now }
 {
     let first = take(space, context, OTHER, key);
     if first != Err(SpaceError::OutOfMemory) {
@@ -97,9 +97,9 @@ fn stand_in_the_way(space: &mut CoreSpace, context: &Context<CoreSpace>, key: &K
 
 // And gives it up, which takes no memory.
 fn get_out_of_the_way(space: &mut CoreSpace, context: &Context<CoreSpace>) -> bool
-    requires attends { Attends SpeaksFor own_at space.old context.now }
+    requires attends { Attends SpeaksFor own_at Knows space.old context.now }
     requires who { context.now.who ≡ 2 }
-    ensures { Attends SpeaksFor own_at space.new context.now }
+    ensures { Attends SpeaksFor own_at Knows space.new context.now }
 {
     leave(space, context, OTHER, 1).is_ok()
 }
@@ -143,8 +143,8 @@ fn are_kept(kept: &[Kept], held: &[Held]) -> bool {
 
 // Whether a session has no wait.
 fn has_no_wait<S: LockSpace>(space: &mut S, context: &Context<S>, who: u16) -> bool
-    requires { Attends S.speaks_for S.own space.old context.now }
-    ensures { Attends S.speaks_for S.own space.new context.now }
+    requires { Attends S.speaks_for S.own S.knows space.old context.now }
+    ensures { Attends S.speaks_for S.own S.knows space.new context.now }
 {
     let _context = context;
     space.wait_of(who).is_none()
@@ -159,9 +159,9 @@ fn outlives(
     act: Act,
     wanted: Reply,
 ) -> bool
-    requires attends { Attends SpeaksFor own_at space.old context.old }
+    requires attends { Attends SpeaksFor own_at Knows space.old context.old }
     requires who { context.old.who ≡ 2 }
-    ensures attends { Attends SpeaksFor own_at space.new context.new }
+    ensures attends { Attends SpeaksFor own_at Knows space.new context.new }
     ensures who { context.new.who ≡ 2 }
 {
     let Ok(before) = held_by(space, WHO) else {
@@ -189,9 +189,9 @@ fn all_outlive(
     context: &mut Context<CoreSpace>,
     rows: &[(Act, Reply)],
 ) -> bool
-    requires attends { Attends SpeaksFor own_at space.old context.old }
+    requires attends { Attends SpeaksFor own_at Knows space.old context.old }
     requires who { context.old.who ≡ 2 }
-    ensures attends { Attends SpeaksFor own_at space.new context.new }
+    ensures attends { Attends SpeaksFor own_at Knows space.new context.new }
     ensures who { context.new.who ≡ 2 }
 {
     for (act, wanted) in rows {
@@ -204,9 +204,9 @@ fn all_outlive(
 
 // Whether tickets up to this number can be had, beside the first ones, which are of one lock.
 fn clones(alloc: Global, space: &mut CoreSpace, context: &mut Context<CoreSpace>, most: u64) -> bool
-    requires attends { Attends SpeaksFor own_at space.old context.old }
+    requires attends { Attends SpeaksFor own_at Knows space.old context.old }
     requires who { context.old.who ≡ 2 }
-    ensures attends { Attends SpeaksFor own_at space.new context.new }
+    ensures attends { Attends SpeaksFor own_at Knows space.new context.new }
     ensures who { context.new.who ≡ 2 }
 {
     let act = Act::Acquire(Lock::A, Mode::SR, Duration::Explicit);
