@@ -4,7 +4,7 @@ use mdl_book::{Book, Sessions, Ticket};
 use mdl_graph::{WaitGraph, victim};
 use mdl_key::{Key, Mode};
 use mdl_word::Word;
-use std::alloc::Global;
+use std::alloc::{AllocError, Global};
 use std::fmt;
 
 // The word of a lock without fast tickets.
@@ -45,9 +45,9 @@ impl Tangle {
             Shape::Chain => link(alloc, &mut books, sessions)?,
             Shape::Ring => {
                 link(alloc, &mut books, sessions)?;
-                books.push(contested(alloc, 1, sessions)?)?;
+                shelve(&mut books, contested(alloc, 1, sessions)?)?;
             }
-            Shape::Dense => books.push(crowded(alloc, sessions)?)?,
+            Shape::Dense => shelve(&mut books, crowded(alloc, sessions)?)?,
         }
         Ok(Tangle { books, sessions })
     }
@@ -68,9 +68,17 @@ impl Tangle {
 // Locks of all sessions but the first, for each of which the session before waits.
 fn link(alloc: Global, books: &mut Vec<Book>, sessions: u16) -> Result<(), Failure> {
     for holder in 2..sessions.saturating_add(1) {
-        books.push(contested(alloc, holder, holder - 1)?)?;
+        shelve(books, contested(alloc, holder, holder - 1)?)?;
     }
     Ok(())
+}
+
+// Puts a book beside the others.
+fn shelve(books: &mut Vec<Book>, book: Book) -> Result<(), Failure> {
+    match books.push(book) {
+        Ok(()) => Ok(()),
+        Err(_) => Err(Failure::Memory(AllocError)),
+    }
 }
 
 // A lock that one session holds and another one waits for.
