@@ -15,7 +15,7 @@ use Rattle.mdl_context.specs.declared.kept.Wanted.{Wanted}
 use Rattle.mdl_context.specs.declared.request.Mark.{Mark}
 use Rattle.mdl_context.specs.declared.holdings.Going.TheVariants.{From}
 use Rattle.mdl_context.specs.Goings.{goes}
-use Rattle.mdl_context.specs.Contexts.{ContextView, held_of, lasts, held_for, beyond, gained_since, has_number, without, AreRising, Serves, wish_there, wish_here}
+use Rattle.mdl_context.specs.Contexts.{ContextView, held_of, lasts, held_for, beyond, beyond_mark, has_number, without, AreRising, Serves, wish_there, wish_here}
 use Rattle.mdl_context.specs.Holdings.{without_number}
 use Rattle.mdl_context.specs.Releases as releases
 use Rattle.mdl_context.specs.Requests.{Outcome}
@@ -138,7 +138,7 @@ module _ {S : Type 0} (joins : S → Call → Answer → S → Type 0) where
       → between ≡ record before { kept = without (beyond Statement mark.statement before.kept) before.kept }
       → Runs joins mid (releases.releasing_all between.who (beyond Transaction mark.transaction between.kept)) tt b
       → after ≡ record between { kept = without (beyond Transaction mark.transaction between.kept) between.kept }
-      → Runs joins a (releases.giving_up (gained_since mark before.kept) before) (Ok tt, after) b
+      → Runs joins a (releases.giving_up (beyond_mark mark before.kept) before) (Ok tt, after) b
   run-since mark before between after a mid b rising first left_first second left_second =
       let gone = beyond Statement mark.statement before.kept in
       let then_gone = beyond Transaction mark.transaction before.kept in

@@ -7,7 +7,7 @@ use Rattle.mdl_key.specs.declared.mode.Duration.{Duration}
 use Rattle.mdl_key.specs.declared.mode.Duration.TheVariants.{Statement, Transaction, Explicit}
 use Rattle.mdl_context.specs.declared.kept.Kept.{Kept}
 use Rattle.mdl_context.specs.declared.request.Mark.{Mark}
-use Rattle.mdl_context.specs.Contexts.{lasts, duration_rank, held_for, gained_since, has_number, without, held_of, AreRising}
+use Rattle.mdl_context.specs.Contexts.{lasts, duration_rank, held_for, beyond_mark, has_number, without, held_of, AreRising}
 
 -- all tickets have greater numbers
 abbrev pub Above : ℕ → List Kept → Type 0
@@ -97,7 +97,7 @@ statement-gone m kept rising = ap (held_for Transaction) (left-beyond (lasts Sta
 
 -- what stays where the session goes back
 pub left-since : (mark : Mark) (kept : List Kept) → AreRising kept
-    → without (gained_since mark kept) kept ≡ front (lasts Transaction) mark.transaction (front (lasts Statement) mark.statement kept)
+    → without (beyond_mark mark kept) kept ≡ front (lasts Transaction) mark.transaction (front (lasts Statement) mark.statement kept)
 left-since mark kept rising =
     let m = mark.statement in
     let n = mark.transaction in
@@ -108,19 +108,19 @@ left-since mark kept rising =
     ∙ ap (λ gone. without (drop n gone) (front (lasts Statement) m kept)) (sym (statement_apart Transaction (λ e. cc) m kept))
     ∙ left-beyond (lasts Transaction) n (front (lasts Statement) m kept) rising_then
 
-pub since-statement : (mark : Mark) (kept : List Kept) → AreRising kept → held_for Statement (without (gained_since mark kept) kept) ≡ take mark.statement (held_for Statement kept)
+pub since-statement : (mark : Mark) (kept : List Kept) → AreRising kept → held_for Statement (without (beyond_mark mark kept) kept) ≡ take mark.statement (held_for Statement kept)
 since-statement mark kept rising =
     ap (held_for Statement) (left-since mark kept rising)
     ∙ transaction_apart Statement (λ e. cc) mark.transaction (front (lasts Statement) mark.statement kept)
     ∙ front-same (lasts Statement) mark.statement kept
 
-pub since-transaction : (mark : Mark) (kept : List Kept) → AreRising kept → held_for Transaction (without (gained_since mark kept) kept) ≡ take mark.transaction (held_for Transaction kept)
+pub since-transaction : (mark : Mark) (kept : List Kept) → AreRising kept → held_for Transaction (without (beyond_mark mark kept) kept) ≡ take mark.transaction (held_for Transaction kept)
 since-transaction mark kept rising =
     ap (held_for Transaction) (left-since mark kept rising)
     ∙ front-same (lasts Transaction) mark.transaction (front (lasts Statement) mark.statement kept)
     ∙ ap (take mark.transaction) (statement_apart Transaction (λ e. cc) mark.statement kept)
 
-pub since-explicit : (mark : Mark) (kept : List Kept) → AreRising kept → held_for Explicit (without (gained_since mark kept) kept) ≡ held_for Explicit kept
+pub since-explicit : (mark : Mark) (kept : List Kept) → AreRising kept → held_for Explicit (without (beyond_mark mark kept) kept) ≡ held_for Explicit kept
 since-explicit mark kept rising =
     ap (held_for Explicit) (left-since mark kept rising)
     ∙ transaction_apart Explicit (λ e. cc) mark.transaction (front (lasts Statement) mark.statement kept)

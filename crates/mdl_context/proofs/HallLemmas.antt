@@ -1,7 +1,6 @@
 -- Contexts of several sessions over the lock space of one thread.
 use Rattle.std.proofs.Common.{◌≡◌, ◌≢◌, ℕ, zero, suc, ◌<◌, ◌≤◌, ◌+◌, ◌-◌, List, [], ◌∷◌, length, get_or, set, Some, None, refl, sym, ap, ◌∙◌, subst, arith}
 use Rattle.std.proofs.lemmas.List.Elements.{All-nil}
-use Rattle.std.proofs.lemmas.Option.{IfSome_then}
 use Rattle.mdl_key.specs.Keys.{KeyName}
 use Rattle.mdl_space.specs.Cores.{Core}
 use Rattle.mdl_space.specs.Answers.{Answer, Done}
@@ -10,6 +9,7 @@ use Rattle.mdl_space.specs.Own.{Own}
 use Rattle.mdl_space.specs.CoreJoins.{SpeaksFor, own_at, Knows}
 use Rattle.mdl_context.specs.Contexts.{ContextView, Attends, Serves, LeavesOthers}
 use Rattle.mdl_context.specs.Halls.{AreServed}
+use Rattle.mdl_context.proofs.AttendLemmas.{attends-same}
 
 -- each of them is of its session, and attended to
 pub served_at : (space : Core) (first i : ℕ) (xs : List ContextView) (d : ContextView) → AreServed space first xs → i < length xs
@@ -19,17 +19,6 @@ served_at space first zero (x ∷ xs) d served inside = (served.0 ∙ omega arit
 served_at space first (suc i) (x ∷ xs) d served inside =
     let rest = served_at space (first + 1) i xs d served.2 (omega arith) in (rest.0 ∙ omega arith, rest.1)
 
--- a context of a session that has and knows what it had and knew
-attended_still : {S : Type 0} (speaks_for : S → ℕ → Type 0) (own : S → ℕ → Own) (knows : S → ℕ → ℕ → KeyName → Type 0) (a b : S) (x : ContextView)
-    → speaks_for b x.who → own b x.who ≡ own a x.who → ((place : ℕ) (key : KeyName) → knows a x.who place key → knows b x.who place key)
-    → Attends speaks_for own knows a x → Attends speaks_for own knows b x
-attended_still speaks_for own knows a b x speaks same still attends = record {
-  speaks = speaks;
-  serves = subst (λ (o : Own). Serves o x) (sym same) attends.serves;
-  keys = λ k d inside. still _ _ (attends.keys k d inside);
-  wish = IfSome_then x.wait attends.wish (λ wanted. still wanted.place wanted.key);
-}
-
 -- whoever else makes a call, the context is attended to
 pub attended_over : {S : Type 0} (speaks_for : S → ℕ → Type 0) (own : S → ℕ → Own) (knows : S → ℕ → ℕ → KeyName → Type 0) (joins : S → Call → Answer → S → Type 0)
     → ((a b : S) (call : Call) (answer : Answer) (w : ℕ) → speaks_for a w → joins a call answer b → speaks_for b w)
@@ -38,14 +27,14 @@ pub attended_over : {S : Type 0} (speaks_for : S → ℕ → Type 0) (own : S �
         → knows a w place key → knows b w place key)
     → (a b : S) (call : Call) (answer : Answer) (x : ContextView) → (caller call ≡ Some x.who → ⊥) → joins a call answer b → Attends speaks_for own knows a x → Attends speaks_for own knows b x
 attended_over speaks_for own knows joins keeps others remembers a b call answer x other step attends =
-    attended_still speaks_for own knows a b x (keeps a b call answer x.who attends.speaks step) (others a b call answer x.who attends.speaks other step)
-    (λ place key there. remembers a b call answer x.who place key attends.speaks (λ e _. other (ap caller e)) step there) attends
+    attends-same a b x attends (λ place key there. remembers a b call answer x.who place key attends.speaks (λ e _. other (ap caller e)) step there)
+    (keeps a b call answer x.who attends.speaks step) (others a b call answer x.who attends.speaks other step)
 
 -- one of the others has made a call
 still_attended : (before after : Core) (x : ContextView) (who : ℕ) → LeavesOthers SpeaksFor own_at Knows who before after → x.who ≢ who
     → Attends SpeaksFor own_at Knows before x → Attends SpeaksFor own_at Knows after x
 still_attended before after x who leaves other attends =
-    let kept = leaves x.who other attends.speaks in attended_still SpeaksFor own_at Knows before after x kept.0 kept.1 kept.2 attends
+    let kept = leaves x.who other attends.speaks in attends-same before after x attends kept.2 kept.0 kept.1
 
 -- contexts of later sessions
 still_served : (before after : Core) (first who : ℕ) (xs : List ContextView) → LeavesOthers SpeaksFor own_at Knows who before after → who < first

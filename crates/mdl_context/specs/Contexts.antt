@@ -46,9 +46,10 @@ is_stale mark kept = nat_lt (length (held_for Statement kept)) mark.statement ||
 abbrev pub beyond : Duration → ℕ → List Kept → List Kept
 beyond duration most kept = drop most (held_for duration kept)
 
--- the tickets that were gained since a mark: those of the statement first
-abbrev pub gained_since : Mark → List Kept → List Kept
-gained_since mark kept = beyond Statement mark.statement kept ++ beyond Transaction mark.transaction kept
+-- the tickets beyond what a mark counts: those of the statement first. Unless tickets have become transactional since, these are
+-- the ones that were gained since
+abbrev pub beyond_mark : Mark → List Kept → List Kept
+beyond_mark mark kept = beyond Statement mark.statement kept ++ beyond Transaction mark.transaction kept
 
 -- the tickets that end with a transaction: those of the statement first
 abbrev pub of_transaction : List Kept → List Kept

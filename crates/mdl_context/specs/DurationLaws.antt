@@ -3,20 +3,20 @@ use Rattle.std.specs.Prelude.{◌≡◌, List, [], take}
 use Rattle.mdl_key.specs.declared.mode.Duration.TheVariants.{Statement, Transaction, Explicit}
 use Rattle.mdl_context.specs.declared.kept.Kept.{Kept}
 use Rattle.mdl_context.specs.declared.request.Mark.{Mark}
-use Rattle.mdl_context.specs.Contexts.{held_for, mark_of, gained_since, of_transaction, without, AreRising}
+use Rattle.mdl_context.specs.Contexts.{held_for, mark_of, beyond_mark, of_transaction, without, AreRising}
 
 -- going back keeps so many from the front of each list, and all explicit tickets
 abbrev pub GoingBackKeepsFronts : Type 0
 GoingBackKeepsFronts =
     (mark : Mark) (kept : List Kept) → AreRising kept →
-    let left = without (gained_since mark kept) kept in
+    let left = without (beyond_mark mark kept) kept in
     (held_for Statement left ≡ take mark.statement (held_for Statement kept))
     × (held_for Transaction left ≡ take mark.transaction (held_for Transaction kept))
     × (held_for Explicit left ≡ held_for Explicit kept)
 
 -- to go back to where the session stands gives up nothing
 abbrev pub GoingBackToNowKeepsAll : Type 0
-GoingBackToNowKeepsAll = (kept : List Kept) → gained_since (mark_of kept) kept ≡ []
+GoingBackToNowKeepsAll = (kept : List Kept) → beyond_mark (mark_of kept) kept ≡ []
 
 -- the end of a statement takes its own tickets, and no others
 abbrev pub StatementsEndAlone : Type 0

@@ -1,6 +1,7 @@
 -- How a session gives tickets up, after MySQL 5.7: `MDL_context::release_lock`, `release_all_locks_for_name`,
--- `rollback_to_savepoint`, `release_statement_locks` and `release_transactional_locks` of sql/mdl.cc. That the tickets of a
--- statement go first, and each duration in order of gain, is this project's own choice.
+-- `rollback_to_savepoint`, `release_statement_locks` and `release_transactional_locks` of sql/mdl.cc. That the tickets of each
+-- duration go in order of gain, where MySQL's go the other way round, that those of a key go whatever their duration, and each
+-- refusal, is this project's own choice.
 use Rattle.std.specs.Prelude.{ℕ, List, [], ◌∷◌, filter, not, Option, Some, None, is_some, Ok, Err, if◌then◌else◌}
 use Rattle.mdl_key.specs.declared.mode.Duration.TheVariants.{Statement}
 use Rattle.mdl_key.specs.Keys.{KeyName}
@@ -10,7 +11,7 @@ use Rattle.mdl_context.specs.declared.context_error.ContextError.{ContextError}
 use Rattle.mdl_context.specs.declared.context_error.ContextError.TheVariants.{StaleSavepoint, NotHeld, Waiting}
 use Rattle.mdl_context.specs.declared.kept.Kept.{Kept}
 use Rattle.mdl_context.specs.declared.request.Mark.{Mark}
-use Rattle.mdl_context.specs.Contexts.{ContextView, held_for, is_stale, gained_since, of_transaction, has_number, without}
+use Rattle.mdl_context.specs.Contexts.{ContextView, held_for, is_stale, beyond_mark, of_transaction, has_number, without}
 use Rattle.mdl_context.specs.Holdings.{is_of, without_number}
 use Rattle.mdl_context.specs.Requests.{Outcome}
 
@@ -52,7 +53,7 @@ releasing_name key context = unless (waiting_fault context) context (giving_up (
 
 -- the session goes back to a mark
 abbrev pub rolling_back : Mark → ContextView → Program (Outcome (Unit {0}))
-rolling_back mark context = unless (rollback_fault mark context) context (giving_up (gained_since mark context.kept) context)
+rolling_back mark context = unless (rollback_fault mark context) context (giving_up (beyond_mark mark context.kept) context)
 
 -- a statement ends
 abbrev pub ending_statement : ContextView → Program (Outcome (Unit {0}))

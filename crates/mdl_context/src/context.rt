@@ -3,7 +3,7 @@ ghost use Rattle.std.specs.Prelude.{◌≡◌, ◌⊎◌, true, IsOk, Some, None
 ghost use Rattle.mdl_key.specs.declared.mode.Duration.TheVariants.{Explicit};
 ghost use Rattle.mdl_key.specs.Refusals.{Refuses, RefusesJust};
 ghost use Rattle.mdl_space.specs.Runs.{Runs};
-ghost use Rattle.mdl_context.specs.Contexts.{ContextView, mark_of, beyond, gained_since, without, Attends, LeavesOthers};
+ghost use Rattle.mdl_context.specs.Contexts.{ContextView, mark_of, beyond, beyond_mark, without, Attends, LeavesOthers};
 ghost use Rattle.mdl_context.specs.Holdings.{kept_for, transactional};
 ghost use Rattle.mdl_context.specs.Requests.{FindsNoRoom, without_wait, acquiring, is_searched, resuming, giving_up_wait, no_wait_fault};
 ghost use Rattle.mdl_context.specs.Releases.{releasing_all, giving_up, waiting_fault, release_fault, rollback_fault, releasing, releasing_name, rolling_back, ending_statement, ending_transaction};
@@ -95,10 +95,18 @@ impl<S: LockSpace> Context<S> {
         Ok(())
     }
 
-    /// Comes by a lock: a ticket of the session that is at least as strong is used again, or else cloned, and where there is
-    /// none a new one is asked for.
+    /// Comes by a lock, for as long as the request says.
     ///
-    /// No explicit ticket is used again. After MySQL 5.7, `MDL_context::acquire_lock` of `sql/mdl.cc`.
+    /// Of the key's tickets that are at least as strong, the earliest that is kept just as long is used again, though never an
+    /// explicit one. Where there is none, the earliest of them all is cloned, and the clone is kept as the request says. Where
+    /// there is none of these either, a new ticket is asked for.
+    ///
+    /// Where that can't be had now, the session begins to wait. Then deadlocks are searched for, until none is left in which it
+    /// waits, it is a victim itself, or 1,024 searches were made; in the last case [`Context::resume`] searches on. Where a
+    /// search finds no memory, the wait is given up and the session has what it had before; the victims of earlier searches
+    /// stay settled.
+    ///
+    /// After MySQL 5.7, `MDL_context::acquire_lock` of `sql/mdl.cc`.
     pub fn acquire(&mut self, space: &mut S, request: Request) -> Result<Acquire, ContextError>
         requires { Attends S.speaks_for S.own S.knows space.old self.old }
         ensures run { FindsNoRoom request self.old space.old (result, self.new) space.new ⊎ Runs S.joins space.old (acquiring request self.old) (result, self.new) space.new }
@@ -194,8 +202,11 @@ impl<S: LockSpace> Context<S> {
         Ok(())
     }
 
-    /// Goes back to where the session stood at a mark: the tickets of the statement and of the transaction that were gained
-    /// since then are released. It takes no memory.
+    /// Goes back to where the session stood at a mark: of the tickets of the statement, and of those of the transaction, so many
+    /// stay as the mark counted, from the earliest on, and the others are released. It takes no memory.
+    ///
+    /// It goes by these two numbers alone. A ticket that was explicit at the mark and ends with the transaction now stands among
+    /// the others in order of gain, so where it is an early one, a later one that the mark counted is released.
     ///
     /// After MySQL 5.7, `MDL_context::rollback_to_savepoint` of `sql/mdl.cc`.
     pub fn rollback_to(&mut self, space: &mut S, mark: Mark) -> Result<(), ContextError>
@@ -219,7 +230,7 @@ impl<S: LockSpace> Context<S> {
 
     /// Ends a statement: its tickets are released, in order of gain. It takes no memory.
     ///
-    /// After MySQL 5.7, `MDL_context::release_statement_locks` of `sql/mdl.h`.
+    /// After MySQL 5.7, `MDL_context::release_statement_locks` of `sql/mdl.cc`.
     pub fn end_statement(&mut self, space: &mut S) -> Result<(), ContextError>
         requires { Attends S.speaks_for S.own S.knows space.old self.old }
         ensures refused { RefusesJust (waiting_fault self.old) result }
@@ -257,10 +268,10 @@ impl<S: LockSpace> Context<S> {
         Ok(())
     }
 
-    // Releases what was gained since a mark.
+    // Releases the tickets beyond what a mark counts.
     fn go_back(&mut self, space: &mut S, mark: Mark)
         requires { Attends S.speaks_for S.own S.knows space.old self.old }
-        ensures run { Runs S.joins space.old (giving_up (gained_since mark self.old.kept) self.old) (Ok tt, self.new) space.new }
+        ensures run { Runs S.joins space.old (giving_up (beyond_mark mark self.old.kept) self.old) (Ok tt, self.new) space.new }
         ensures who { self.new.who ≡ self.old.who }
         ensures attends { Attends S.speaks_for S.own S.knows space.new self.new }
     {

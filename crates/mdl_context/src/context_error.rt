@@ -4,7 +4,8 @@ use thiserror::Error;
 
 /// Why a call of a context is refused. Of several causes the first in this order is answered.
 ///
-/// A refused call changes nothing that the context keeps.
+/// A refused call leaves the tickets that the context keeps, and its wait, except that a wait is given up where a search for
+/// deadlocks finds no memory.
 #[derive(Clone, Copy, Debug, PartialEq, Eq, Error)]
 pub enum ContextError {
     /// The context keeps fewer tickets of a duration than the mark counted.

@@ -15,7 +15,7 @@ pub struct Request {
     pub duration: Duration,
 }
 
-/// A place in a session's work to which it can go back: how many tickets it kept there, by duration.
+/// A point in a session's work to which it can go back: how many tickets it kept then, by duration.
 ///
 /// After MySQL 5.7, `MDL_savepoint` of `sql/mdl.h`.
 #[derive(Clone, Copy, Debug, PartialEq, Eq)]

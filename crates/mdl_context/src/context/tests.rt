@@ -1,5 +1,6 @@
 //! A session's tickets in the space of one thread.
 mod acts;
+mod deadlocks;
 mod hall;
 mod marks;
 mod memory;

@@ -93,11 +93,12 @@ fn acquired(answer: Result<Acquire, ContextError>) -> Option<Reply> {
     }
 }
 
-// What the answer of a wait says.
-fn resumed(answer: Result<Resume, ContextError>) -> Reply {
+// What the answer of a wait says, unless no memory was found.
+fn resumed(answer: Result<Resume, ContextError>) -> Option<Reply> {
     match answer {
-        Ok(how) => Reply::Resumed(how),
-        Err(cause) => Reply::Refused(cause),
+        Ok(how) => Some(Reply::Resumed(how)),
+        Err(ContextError::Space(SpaceError::OutOfMemory)) => None,
+        Err(cause) => Some(Reply::Refused(cause)),
     }
 }
 
@@ -134,8 +135,8 @@ pub(super) fn make<S: LockSpace>(
         Act::EndTransaction => done(context.end_transaction(space)),
         Act::MakeExplicit => done(context.make_explicit()),
         Act::MakeTransactional => done(context.make_transactional()),
-        Act::Resume => resumed(context.resume(space)),
-        Act::GiveUp => resumed(context.give_up(space)),
+        Act::Resume => return resumed(context.resume(space)),
+        Act::GiveUp => return resumed(context.give_up(space)),
         Act::Kill(target, number) => Reply::Killed(space.kill(target, number)),
     };
     Some(reply)

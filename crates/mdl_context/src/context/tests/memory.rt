@@ -8,6 +8,7 @@ ghost use Rattle.mdl_space.specs.CoreJoins.{SpeaksFor, own_at, Knows};
 ghost use Rattle.mdl_context.specs.Contexts.{Attends};
 
 use super::acts::{Act, Lock, Reply, make, mark};
+use super::rows::is_about;
 use crate::{Context, Kept, Mark, Resume};
 use mdl_key::{Duration, Key, KeyError, Mode};
 use mdl_space::{Attempt, CoreSpace, Held, LockSpace, NewError, Settled, SpaceError, TicketId};
@@ -150,6 +151,18 @@ fn has_no_wait<S: LockSpace>(space: &mut S, context: &Context<S>, who: u16) -> b
     space.wait_of(who).is_none()
 }
 
+// Whether a session waits, and the wait is killed now.
+fn kill_the_wait<S: LockSpace>(space: &mut S, context: &Context<S>, who: u16) -> bool
+    requires { Attends S.speaks_for S.own S.knows space.old context.now }
+    ensures { Attends S.speaks_for S.own S.knows space.new context.now }
+{
+    let _context = context;
+    match space.wait_of(who) {
+        Some(number) => space.kill(who, number),
+        None => false,
+    }
+}
+
 // Whether an act has this answer: at once, or at the second try, where memory was refused to the first, after which the
 // session held the same as before, both in the space and in the context, and had no wait.
 fn outlives(
@@ -170,7 +183,7 @@ fn outlives(
     let stood = standing_of(context);
     let reply = make(alloc, space, context, act);
     if reply.is_some() {
-        return reply == Some(wanted);
+        return is_about(reply, wanted);
     }
     let Ok(after) = held_by(space, WHO) else {
         return false;
@@ -179,7 +192,7 @@ fn outlives(
     let is_kept = are_kept(context.holdings.tickets(), &after);
     let is_idle = has_no_wait(space, context, WHO);
     let again = make(alloc, space, context, act);
-    is_same && is_kept && is_idle && again == Some(wanted)
+    is_same && is_kept && is_idle && is_about(again, wanted)
 }
 
 // Whether each act of a row outlives it.
@@ -260,7 +273,10 @@ fn outlives_want_of_memory(rt: HostRuntime) -> Result<(), Fail> {
             Act::Acquire(Lock::B, Mode::X, Duration::Transaction),
             Reply::MustWait(2),
         ),
-        (Act::Kill(WHO, 2), Reply::Killed(true)),
+    ];
+    assert!(rt; all_outlive(alloc, &mut space, &mut context, &rows));
+    assert!(rt; kill_the_wait(&mut space, &context, WHO));
+    let rows = [
         (Act::Resume, Reply::Resumed(Resume::Lost(Settled::Killed))),
         (
             Act::Acquire(Lock::B, Mode::X, Duration::Statement),

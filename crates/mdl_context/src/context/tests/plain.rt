@@ -1,5 +1,6 @@
 //! Contexts and their lock space once more, as slow and as plain as can be: one list of all tickets, and one of all waits,
 //! each in the order in which they came. Whatever is asked, the lists are read from end to end.
+mod deadlocks;
 mod granting;
 mod lists;
 
@@ -198,7 +199,9 @@ impl Plain {
             return Ok(Reply::Acquired(self.add(wish, true)?));
         }
         let ticket = self.add(wish, false)?;
-        Ok(Reply::MustWait(self.begin_wait(wish.session, ticket)?))
+        let number = self.begin_wait(wish.session, ticket)?;
+        self.end_deadlocks(wish.session)?;
+        Ok(Reply::MustWait(number))
     }
 
     // The first held ticket that is strong enough for a wish, and, if it is to be used again, isn't explicit and lasts as long.

@@ -3,7 +3,7 @@ ghost use Rattle.mdl_context.specs.Halls.{AreServed};
 
 use super::acts::{Act, Reply};
 use super::hall::{Hall, SESSIONS};
-use crate::ContextError;
+use crate::{ContextError, Resume};
 use mdl_space::SpaceError;
 use std::alloc::Global;
 use std::test::Fail;
@@ -19,6 +19,24 @@ pub(super) const NO_WAIT: Reply = Reply::Refused(ContextError::Space(SpaceError:
 pub(super) const NO_PLACE: Reply = Reply::Refused(ContextError::Space(SpaceError::NoPlace));
 
 pub(super) const BAD_MODE: Reply = Reply::Refused(ContextError::Space(SpaceError::BadMode));
+
+/// Whether a reply is the wanted one. Where a search found no memory, the wait was given up and began again, and its numbers
+/// are the next ones.
+pub(super) fn is_about(reply: Option<Reply>, wanted: Reply) -> bool {
+    match (reply, wanted) {
+        (Some(Reply::MustWait(number)), Reply::MustWait(least)) => is_or_follows(number, least),
+        (
+            Some(Reply::Resumed(Resume::Acquired(id))),
+            Reply::Resumed(Resume::Acquired(least)),
+        ) => is_or_follows(id, least),
+        _ => reply == Some(wanted),
+    }
+}
+
+// Whether a number is this one or the next.
+fn is_or_follows(number: u64, least: u64) -> bool {
+    number == least || number == least.saturating_add(1)
+}
 
 /// Where nobody has asked for anything, sessions do this one after another: the first row whose reply isn't the wanted one.
 pub(super) fn first_wrong(

@@ -174,6 +174,7 @@ struct Seen {
     granted: u32,
     timed_out: u32,
     killed: u32,
+    victims: u32,
     stale: u32,
     reused: u32,
     cloned: u32,
@@ -188,6 +189,9 @@ impl Seen {
             }
             Reply::Resumed(Resume::Lost(Settled::Killed)) => {
                 self.killed = self.killed.saturating_add(1);
+            }
+            Reply::Resumed(Resume::Lost(Settled::Victim)) => {
+                self.victims = self.victims.saturating_add(1);
             }
             Reply::Refused(ContextError::StaleSavepoint) => {
                 self.stale = self.stale.saturating_add(1);
@@ -262,6 +266,7 @@ fn contexts_stand_where_the_plain_ones_do(rt: HostRuntime) -> Result<(), Fail> {
         assert!(rt; seen.granted >= 100, "{} waits granted", seen.granted);
         assert!(rt; seen.timed_out >= 100, "{} waits given up", seen.timed_out);
         assert!(rt; seen.killed >= 20, "{} waits killed", seen.killed);
+        assert!(rt; seen.victims >= 20, "{} waits of victims", seen.victims);
         assert!(rt; seen.stale >= 20, "{} marks stale", seen.stale);
         assert!(rt; seen.reused >= 100, "{} tickets used again", seen.reused);
         assert!(rt; seen.cloned >= 100, "{} tickets cloned", seen.cloned);
