@@ -5,6 +5,7 @@ pub mod FrontLemmas
 pub mod IndexLemmas
 pub mod KeyLemmas
 pub mod OthersLemmas
+pub mod PairLemmas
 pub mod ReleaseLemmas
 pub mod SearchLemmas
 pub mod SeekLemmas

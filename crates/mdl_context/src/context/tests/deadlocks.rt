@@ -67,6 +67,7 @@ fn outlives(
 }
 
 // The first row whose answer isn't the wanted one.
+#[tactic(auto, using(crate::proofs::PairLemmas::pair_turned))]
 fn first_wrong(
     alloc: Global,
     space: &mut CoreSpace,
