@@ -1,5 +1,5 @@
 -- Contexts of different sessions over one lock space.
-use Rattle.std.proofs.Common.{◌≡◌, ◌≢◌, ℕ, [], None, refl, sym, ap, ◌∙◌, subst, arith}
+use Rattle.std.proofs.Common.{◌≡◌, ◌≢◌, ℕ, [], None, sym, ap, ◌∙◌, subst, arith}
 use Rattle.std.specs.Option.{option_map}
 use Rattle.std.proofs.lemmas.List.Elements.{All-nil}
 use Rattle.mdl_key.specs.Keys.{KeyName}

@@ -116,11 +116,7 @@ fn the_later_session_is_the_victim(rt: HostRuntime) -> Result<(), Fail> {
         (Who::Two, READ_B, Reply::Acquired(1)),
         (Who::One, Act::Resume, Reply::Resumed(Resume::Waiting)),
         (Who::Two, Act::EndTransaction, Reply::Done),
-        (
-            Who::One,
-            Act::Resume,
-            Reply::Resumed(Resume::Acquired(2)),
-        ),
+        (Who::One, Act::Resume, Reply::Resumed(Resume::Acquired(2))),
         (Who::One, Act::EndTransaction, Reply::Done),
     ];
     assert_eq!(rt; first_wrong_of_two(rt.alloc(), &rows)?, None);
@@ -141,11 +137,7 @@ fn the_earlier_session_is_the_victim_where_it_weighs_less(rt: HostRuntime) -> Re
             Reply::Resumed(Resume::Lost(Settled::Victim)),
         ),
         (Who::Two, Act::EndTransaction, Reply::Done),
-        (
-            Who::One,
-            Act::Resume,
-            Reply::Resumed(Resume::Acquired(2)),
-        ),
+        (Who::One, Act::Resume, Reply::Resumed(Resume::Acquired(2))),
     ];
     assert_eq!(rt; first_wrong_of_two(rt.alloc(), &rows)?, None);
     Ok(())
