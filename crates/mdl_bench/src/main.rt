@@ -1,4 +1,4 @@
-//! `mdl_bench` times the calls of one lock's book, of a lock space, and of a session's context.
+//! `mdl_bench` times the calls of one lock's book, of a lock space, and of a session's context, and the search for deadlocks.
 //!
 //! It prints a line for each figure. With the argument `quick` it makes each call once, which shows that all of them work,
 //! and prints nothing.
@@ -12,6 +12,7 @@ mod crowd;
 mod failure;
 mod field;
 mod session;
+mod tangle;
 
 use chain::Chain;
 use crowd::Crowd;
@@ -19,6 +20,7 @@ use failure::Failure;
 use mdl_key::Key;
 use std::process::ExitCode;
 use std::time::{Duration, Instant};
+use tangle::{Shape, Tangle};
 
 // The tickets of a book, and how often it is asked.
 const CROWDS: [u16; 4] = [10, 100, 1_000, 60_000];
@@ -43,6 +45,9 @@ const KEPT: [(u16, u32); 4] = [
 
 // How often a context locks a hundred tables and goes back.
 const GONE_BACK: u32 = 2_000;
+
+// The sessions that wait for one another, and how often a deadlock is looked for.
+const TANGLED: [(u16, u32); 3] = [(2, 200_000), (8, 50_000), (64, 5_000)];
 
 // How often a lock goes through all sessions.
 const PASSED_ON: u32 = 2_000;
@@ -96,7 +101,16 @@ fn try_context(rt: &HostRuntime) -> Result<(), Failure> {
     let Some(key) = keys.last() else {
         return Err(Failure::Unexpected);
     };
-    session::take_and_release(&mut space, &mut context, key, 1)
+    session::take_and_release(&mut space, &mut context, key, 1)?;
+    try_search(rt)
+}
+
+// Likewise, of a search.
+fn try_search(rt: &HostRuntime) -> Result<(), Failure> {
+    for shape in [Shape::Chain, Shape::Ring, Shape::Dense] {
+        Tangle::new(rt.alloc(), shape, 2)?.search(rt.alloc())?;
+    }
+    Ok(())
 }
 
 // Prints all figures.
@@ -115,7 +129,13 @@ fn time_all(rt: &HostRuntime) -> Result<(), Failure> {
     for (tickets, turns) in KEPT {
         time_context(rt, &keys, tickets, turns)?;
     }
-    time_going_back(rt, &keys)
+    time_going_back(rt, &keys)?;
+    for shape in [Shape::Chain, Shape::Ring, Shape::Dense] {
+        for (sessions, turns) in TANGLED {
+            time_search(rt, shape, sessions, turns)?;
+        }
+    }
+    Ok(())
 }
 
 // What one call costs on a book of so many tickets.
@@ -193,6 +213,23 @@ fn time_going_back(rt: &HostRuntime, keys: &[Key]) -> Result<(), Failure> {
     session::go_back(&mut space, &mut context, keys, GONE_BACK)?;
     let nanos = nanos_each(began.elapsed(rt)?, GONE_BACK);
     println!(rt; "   100 tables locked since a savepoint, and given up again: {nanos:>8} ns")?;
+    Ok(())
+}
+
+// What it costs to look for a deadlock among so many sessions.
+fn time_search(
+    rt: &HostRuntime,
+    shape: Shape,
+    sessions: u16,
+    turns: u32,
+) -> Result<(), Failure> {
+    let tangle = Tangle::new(rt.alloc(), shape, sessions)?;
+    let began = Instant::now(rt)?;
+    for _ in 0..turns {
+        tangle.search(rt.alloc())?;
+    }
+    let nanos = nanos_each(began.elapsed(rt)?, turns);
+    println!(rt; "{sessions:>6} sessions in {shape}: one search {nanos:>8} ns")?;
     Ok(())
 }
 

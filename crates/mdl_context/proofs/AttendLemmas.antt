@@ -74,7 +74,7 @@ module _ {S : Type 0} {speaks_for : S → ℕ → Type 0} {own : S → ℕ → O
     (keeps : (a b : S) (call : Call) (answer : Answer) (w : ℕ) → speaks_for a w → joins a call answer b → speaks_for b w)
     (changes : (a b : S) (call : Call) (answer : Answer) (who : ℕ) → caller call ≡ Some who → joins a call answer b → own b who ≡ own_after call answer (own a who))
     (remembers : (a b : S) (call : Call) (answer : Answer) (w place : ℕ) (key : KeyName) → speaks_for a w → (call ≡ Unpin w place → answer ≡ Done → ⊥) → joins a call answer b
-        → knows a w place key → knows b w place key) where
+    → knows a w place key → knows b w place key) where
   -- what is known stays known
   pub known-still : (a b : S) (call : Call) (answer : Answer) (who : ℕ) → speaks_for a who → unpins call ≡ false → joins a call answer b
       → (place : ℕ) (key : KeyName) → knows a who place key → knows b who place key

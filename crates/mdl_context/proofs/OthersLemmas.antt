@@ -3,11 +3,11 @@ use Rattle.std.proofs.Common.{◌≡◌, ◌≢◌, ℕ, zero, suc, Bool, true, 
 use Rattle.std.specs.Prelude.{◌==◌, is_some, if◌then◌else◌}
 use Rattle.mdl_key.specs.Keys.{KeyName}
 use Rattle.mdl_space.specs.declared.answers.Held.{Held}
-use Rattle.mdl_space.specs.Answers.{Answer, Done, Refused, Victim_is, At_place, Granted, Waits, Pending, Is_settled, Lost}
+use Rattle.mdl_space.specs.Answers.{Answer, Done, Refused, Victim_is, At_place, Granted, Would_wait, Waits, Pending, Is_settled, Lost}
 use Rattle.mdl_space.specs.Calls.{Call, Clone_ticket, Unpin, caller}
 use Rattle.mdl_space.specs.Own.{Own}
 use Rattle.mdl_space.specs.Runs.{Program, Runs, Give, Ask, ◌>>=◌}
-use Rattle.mdl_space.specs.Searches.{SearchEnd, Over, Cut_off, Failed, after_search, seeking}
+use Rattle.mdl_space.specs.Searches.{SearchEnd, Over, Cut_off, Failed, after_search, seeking, most_searches}
 use Rattle.mdl_context.specs.declared.kept.Kept.{Kept}
 use Rattle.mdl_context.specs.declared.request.Request.{Request}
 use Rattle.mdl_context.specs.Contexts.{ContextView, LeavesOthers}
@@ -25,7 +25,7 @@ module _ {S : Type 0} {speaks_for : S → ℕ → Type 0} {own : S → ℕ → O
     (keeps : (a b : S) (call : Call) (answer : Answer) (w : ℕ) → speaks_for a w → joins a call answer b → speaks_for b w)
     (others : (a b : S) (call : Call) (answer : Answer) (w : ℕ) → speaks_for a w → (caller call ≡ Some w → ⊥) → joins a call answer b → own b w ≡ own a w)
     (remembers : (a b : S) (call : Call) (answer : Answer) (w place : ℕ) (key : KeyName) → speaks_for a w → (call ≡ Unpin w place → answer ≡ Done → ⊥) → joins a call answer b
-        → knows a w place key → knows b w place key) where
+    → knows a w place key → knows b w place key) where
   not-theirs : (call : Call) (w who place : ℕ) → w ≢ who → caller call ≡ Some who → call ≡ Unpin w place → ⊥
   not-theirs call w who place other made e = other (unwrap (ap caller (sym e) ∙ made)) where
     unwrap : Some w ≡ Some who → w ≡ who
@@ -81,15 +81,20 @@ for_wish_sought place number request context (Failed refusal) = for_bind context
 for_wish : (place : ℕ) (request : Request) (context : ContextView) (answer : Answer) → IsFor context.who (requests.wish_answered place request context answer)
 for_wish place request context (Granted id) = tt
 for_wish place request context (Waits number) =
-    for_bind context.who (seeking requests.most_searches context.who) _ (for_seeking requests.most_searches context.who) (for_wish_sought place number request context)
+    for_bind context.who (seeking most_searches context.who) _ (for_seeking most_searches context.who) (for_wish_sought place number request context)
 for_wish place request context _ = tt
 
+for_try : (place : ℕ) (request : Request) (context : ContextView) (answer : Answer) → IsFor context.who (requests.try_answered place request context answer)
+for_try place request context (Granted id) = tt
+for_try place request context Would_wait = (refl, for_wish place request context)
+for_try place request context _ = tt
+
 for_place : (request : Request) (context : ContextView) (answer : Answer) → IsFor context.who (requests.place_answered request context answer)
-for_place request context (At_place place) = (refl, for_wish place request context)
+for_place request context (At_place place) = (refl, for_try place request context)
 for_place request context _ = tt
 
 pub for_asking : (ticket : Option Held) (request : Request) (context : ContextView) → IsFor context.who (requests.asking ticket request context)
-for_asking (Some ticket) request context = (refl, for_wish ticket.place request context)
+for_asking (Some ticket) request context = (refl, for_try ticket.place request context)
 for_asking None request context = (refl, for_place request context)
 
 pub for_copying : (ticket : Held) (request : Request) (context : ContextView)
@@ -118,7 +123,7 @@ for_wait_sought context (Failed refusal) = for_bind context.who (requests.abando
 
 for_cut_off : (context : ContextView) (answer : Answer) → IsFor context.who (requests.cut_off_answered context answer)
 for_cut_off context Pending =
-    for_bind context.who (seeking requests.most_searches context.who) _ (for_seeking requests.most_searches context.who) (for_wait_sought context)
+    for_bind context.who (seeking most_searches context.who) _ (for_seeking most_searches context.who) (for_wait_sought context)
 for_cut_off context (Is_settled how) = (refl, for_end context)
 for_cut_off context _ = tt
 

@@ -4,13 +4,13 @@ use Rattle.mdl_space.specs.declared.space_error.SpaceError.{SpaceError}
 use Rattle.mdl_space.specs.Answers.{Answer}
 use Rattle.mdl_space.specs.Calls.{Call}
 use Rattle.mdl_space.specs.Runs.{Runs, Give, ◌>>◌, runs_bind}
-use Rattle.mdl_space.specs.Searches.{Over, Cut_off, Failed, seeking}
+use Rattle.mdl_space.specs.Searches.{Over, Cut_off, Failed, seeking, most_searches}
 use Rattle.mdl_context.specs.declared.context_error.ContextError.TheVariants.{Space}
 use Rattle.mdl_context.specs.declared.request.Acquire.TheVariants.{MustWait}
 use Rattle.mdl_context.specs.declared.request.Request.{Request}
 use Rattle.mdl_context.specs.declared.request.Resume.{Resume}
 use Rattle.mdl_context.specs.Contexts.{ContextView}
-use Rattle.mdl_context.specs.Requests.{Outcome, most_searches, abandoning, awaiting, without_wait, searched, looking, wish_sought, wait_sought, waiting_on, searching_on}
+use Rattle.mdl_context.specs.Requests.{Outcome, abandoning, awaiting, without_wait, searched, looking, wish_sought, wait_sought, waiting_on, searching_on}
 use Rattle.mdl_context.specs.SearchEnds.{sought}
 
 module _ {S : Type 0} (joins : S → Call → Answer → S → Type 0) where

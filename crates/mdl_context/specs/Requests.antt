@@ -9,10 +9,10 @@ use Rattle.mdl_key.specs.Modes.{kind_of, is_mode_of}
 use Rattle.mdl_space.specs.declared.answers.Held.{Held}
 use Rattle.mdl_space.specs.declared.space_error.SpaceError.{SpaceError}
 use Rattle.mdl_space.specs.declared.space_error.SpaceError.TheVariants.{NoWait, WrongKind, OutOfMemory}
-use Rattle.mdl_space.specs.Answers.{Answer, Refused, At_place, Granted, Waits, Pending, Is_settled, Lost}
-use Rattle.mdl_space.specs.Calls.{Resolve, Begin_wait, Clone_ticket, Poll_wait, Settle_timeout, End_wait, Release}
+use Rattle.mdl_space.specs.Answers.{Answer, Refused, At_place, Granted, Would_wait, Waits, Pending, Is_settled, Lost}
+use Rattle.mdl_space.specs.Calls.{Resolve, Try_now, Begin_wait, Clone_ticket, Poll_wait, Settle_timeout, End_wait, Release}
 use Rattle.mdl_space.specs.Runs.{Program, Give, Ask, ◌>>=◌, ◌>>◌}
-use Rattle.mdl_space.specs.Searches.{SearchEnd, Over, Cut_off, Failed, seeking}
+use Rattle.mdl_space.specs.Searches.{SearchEnd, Over, Cut_off, Failed, seeking, most_searches}
 use Rattle.mdl_space.specs.Strength.{covers}
 use Rattle.mdl_context.specs.declared.context_error.ContextError.{ContextError}
 use Rattle.mdl_context.specs.declared.context_error.ContextError.TheVariants.{Waiting, Space}
@@ -25,10 +25,6 @@ use Rattle.mdl_context.specs.declared.request.Resume.{Resume}
 use Rattle.mdl_context.specs.declared.request.Resume.TheVariants as resume_as
 use Rattle.mdl_context.specs.Contexts.{ContextView, lasts}
 use Rattle.mdl_context.specs.Holdings.{is_of, earliest, kept_of, wanted_of, with_wanted, search_over}
-
--- the most searches for deadlocks that are made at once
-abbrev pub most_searches : ℕ
-most_searches = 1024
 
 -- what a call of a context comes to: its answer, and the context then
 abbrev pub Outcome : Type 0 → Type 0
@@ -91,9 +87,19 @@ wish_answered place request context (Granted id) = Give (Ok (Acquired id), keepi
 wish_answered place request context (Waits number) = waiting_on place number request context
 wish_answered place request context answer = Give (Err (Space (refusal_of answer)), context)
 
--- the ticket is asked for at a place
+-- the ticket is asked for at a place, and waited for where it can't be had at once
+abbrev pub waiting_at : ℕ → Request → ContextView → Program (Outcome Acquire)
+waiting_at place request context = Ask (Begin_wait context.who place request.mode) (wish_answered place request context)
+
+-- whether it can be had at once is answered
+abbrev pub try_answered : ℕ → Request → ContextView → Answer → Program (Outcome Acquire)
+try_answered place request context (Granted id) = Give (Ok (Acquired id), keeping id place request context)
+try_answered place request context Would_wait = waiting_at place request context
+try_answered place request context answer = Give (Err (Space (refusal_of answer)), context)
+
+-- the ticket is asked for at a place, without waiting first: that is where a space has its fast path
 abbrev pub asking_at : ℕ → Request → ContextView → Program (Outcome Acquire)
-asking_at place request context = Ask (Begin_wait context.who place request.mode) (wish_answered place request context)
+asking_at place request context = Ask (Try_now context.who place request.mode) (try_answered place request context)
 
 -- the place of the key is answered
 abbrev pub place_answered : Request → ContextView → Answer → Program (Outcome Acquire)

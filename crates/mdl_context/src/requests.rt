@@ -5,12 +5,12 @@ ghost use Rattle.mdl_space.specs.Own.{ticket_held, ending};
 ghost use Rattle.mdl_space.specs.Runs.{Runs, Ask};
 ghost use Rattle.mdl_context.specs.Contexts.{Attends};
 ghost use Rattle.mdl_context.specs.Holdings.{context_of, has_room, earliest, is_of};
-ghost use Rattle.mdl_context.specs.Requests.{awaiting, copy_answered, waiting_on, asking_at, asking};
+ghost use Rattle.mdl_context.specs.Requests.{awaiting, copy_answered, waiting_on, waiting_at, asking_at, asking};
 
 use crate::holdings::Holdings;
 use crate::searches::{abandon, seek};
 use crate::{Acquire, ContextError, Request};
-use mdl_space::{Begun, Held, LockSpace, Place};
+use mdl_space::{Attempt, Begun, Held, LockSpace, Place};
 
 /// Clones a held ticket for a request.
 pub(crate) fn copy<S: LockSpace>(
@@ -79,6 +79,36 @@ fn ask_at<S: LockSpace>(
     requires idle { holdings.old.wait ≡ None }
     requires known { S.knows space.old who place request.key }
     ensures run { Runs S.joins space.old (asking_at place request (context_of who holdings.old)) (result, context_of who holdings.new) space.new }
+    ensures attends { Attends S.speaks_for S.own S.knows space.new (context_of who holdings.new) }
+    ensures own { OnErr result (S.own space.new who ≡ S.own space.old who) }
+    ensures unchanged { OnErr result (context_of who holdings.new ≡ context_of who holdings.old) }
+{
+    match space.try_now(who, place, request.mode) {
+        Ok(Attempt::Granted(id)) => {
+            holdings.keep(request.into_kept(id, place));
+            Ok(Acquire::Acquired(id))
+        }
+        Ok(Attempt::WouldWait) => wait_at(space, who, holdings, place, request),
+        Err(refusal) => {
+            holdings.give_room_up(&request.key);
+            Err(ContextError::Space(refusal))
+        }
+    }
+}
+
+// Begins to wait for a ticket at a place, unless it can be had now after all.
+fn wait_at<S: LockSpace>(
+    space: &mut S,
+    who: u16,
+    holdings: &mut Holdings,
+    place: Place,
+    request: Request,
+) -> Result<Acquire, ContextError>
+    requires attends { Attends S.speaks_for S.own S.knows space.old (context_of who holdings.old) }
+    requires room { has_room request.key holdings.old ≡ true }
+    requires idle { holdings.old.wait ≡ None }
+    requires known { S.knows space.old who place request.key }
+    ensures run { Runs S.joins space.old (waiting_at place request (context_of who holdings.old)) (result, context_of who holdings.new) space.new }
     ensures attends { Attends S.speaks_for S.own S.knows space.new (context_of who holdings.new) }
     ensures own { OnErr result (S.own space.new who ≡ S.own space.old who) }
     ensures unchanged { OnErr result (context_of who holdings.new ≡ context_of who holdings.old) }

@@ -3,8 +3,8 @@ ghost use Rattle.std.specs.Prelude.{◌≡◌, ℕ, true, IsOkUnless};
 ghost use Rattle.mdl_key.specs.Keys.{KeyName};
 ghost use Rattle.mdl_space.specs.Own.{is_waiting, ending};
 ghost use Rattle.mdl_space.specs.Runs.{Runs};
-ghost use Rattle.mdl_space.specs.Searches.{seeking};
-ghost use Rattle.mdl_context.specs.Requests.{most_searches, abandoning};
+ghost use Rattle.mdl_space.specs.Searches.{seeking, most_searches};
+ghost use Rattle.mdl_context.specs.Requests.{abandoning};
 ghost use Rattle.mdl_context.specs.SearchEnds.{sought};
 
 use crate::releases::let_go;

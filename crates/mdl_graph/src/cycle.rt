@@ -31,7 +31,7 @@ impl Model for Cycle {
 }
 
 impl Cycle {
-    // A cycle of these members.
+    /// A cycle of these members.
     pub(crate) fn new(members: Vec<Member>) -> Cycle
         requires { 2 ≤ length members.items }
         ensures { result ≡ members.items }

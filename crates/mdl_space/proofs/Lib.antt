@@ -4,6 +4,7 @@ pub mod DeadlockLemmas
 pub mod GrantingRuns
 pub mod HeldAfter
 pub mod HeldLemmas
+pub mod KnownKeyLemmas
 pub mod NextSystems
 pub mod NumberingLemmas
 pub mod OwnLemmas

@@ -11,6 +11,7 @@ pub mod CoreSystems
 pub mod Cores
 pub mod DeadlockLaws
 pub mod Deadlocks
+pub mod KnownKeys
 pub mod Lemmas
 pub mod LoneProofs
 pub mod LoneSessions

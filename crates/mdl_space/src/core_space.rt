@@ -24,6 +24,7 @@ use crate::{
 use mdl_book::Book;
 use mdl_key::{Key, Mode};
 use std::alloc::Global;
+use std::collections::HashMap;
 use std::marker::Model;
 
 const MOST_PLACES: u16 = 256;
@@ -38,6 +39,7 @@ const MOST_NUMBERS: u64 = (1 << 60) - 1;
 pub struct CoreSpace {
     alloc: Global,
     books: Vec<Book>,
+    known: HashMap<Key, Place>,
     seats: Vec<Seat>,
     places: usize,
 }
@@ -46,6 +48,7 @@ impl Model for CoreSpace {
     ghost use Rattle.std.specs.Prelude.{◌≤◌, length};
     ghost use Rattle.std.specs.Vec.{vec_capacity};
     ghost use Rattle.mdl_space.specs.Cores.{Core};
+    ghost use Rattle.mdl_space.specs.KnownKeys.{TellsPlaces};
 
     ghost Value = { Core };
 
@@ -55,6 +58,7 @@ impl Model for CoreSpace {
       fewest : length space.books.items ≤ space.places;
       most : space.places ≤ 256;
       room : space.places ≤ vec_capacity space.books;
+      known : TellsPlaces space.known.entries space.books.items;
       sessions : length space.seats.items ≤ 64;
     } };
 }
@@ -85,6 +89,7 @@ impl CoreSpace {
         Ok(CoreSpace {
             alloc,
             books,
+            known: HashMap::new(alloc),
             seats,
             places: usize::from(places),
         })
@@ -94,17 +99,24 @@ impl CoreSpace {
     pub(crate) fn place_key(&mut self, key: &Key) -> Result<Place, SpaceError>
         ensures { Makes true (resolving key.now) self.old (placed result) self.new }
     {
-        if let Some(index) = place_of(&self.books, key) {
-            return Ok(index as Place + 1);
+        if let Some(place) = self.known.get(key) {
+            return Ok(*place);
         }
         if self.books.len() >= self.places {
             return Err(SpaceError::NoPlace);
         }
+        let Ok(name) = key.clone() else {
+            return Err(SpaceError::OutOfMemory);
+        };
         let Ok(key) = key.clone() else {
             return Err(SpaceError::OutOfMemory);
         };
+        let place = self.books.len() as Place + 1;
+        if self.known.insert(name, place).is_err() {
+            return Err(SpaceError::OutOfMemory);
+        }
         self.books.push(Book::new(self.alloc, key)).unwrap();
-        Ok(self.books.len() as Place)
+        Ok(place)
     }
 
     /// Grants a lock, if it can be had now.
@@ -398,14 +410,6 @@ impl CoreSpace {
         }
         Ok(())
     }
-}
-
-// Where the book of a key stands.
-fn place_of(books: &[Book], key: &Key) -> Option<usize>
-    ensures found { result ≡ index_of key.now books.now }
-    ensures within { IfSome result (λ index. index < length books.now) }
-{
-    books.iter().position(|book| *book.key() == *key)
 }
 
 mod calls;

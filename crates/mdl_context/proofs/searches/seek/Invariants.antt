@@ -2,8 +2,7 @@
 use Rattle.std.proofs.Common.{◌≡◌, ℕ, ◌-◌}
 use Rattle.mdl_key.specs.Keys.{KeyName}
 use Rattle.mdl_space.specs.Runs.{Runs}
-use Rattle.mdl_space.specs.Searches.{SearchEnd, seeking}
-use Rattle.mdl_context.specs.Requests.{most_searches}
+use Rattle.mdl_space.specs.Searches.{SearchEnd, seeking, most_searches}
 use Rattle.mdl_context.proofs.searches.seek.Given as goal
 
 abbrev pub invariant-loop-turn : goal.invariant-loop-turn
