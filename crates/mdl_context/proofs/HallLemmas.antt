@@ -7,7 +7,7 @@ use Rattle.mdl_space.specs.Answers.{Answer, Done}
 use Rattle.mdl_space.specs.Calls.{Call, Unpin, caller}
 use Rattle.mdl_space.specs.Own.{Own}
 use Rattle.mdl_space.specs.CoreJoins.{SpeaksFor, own_at, Knows}
-use Rattle.mdl_context.specs.Contexts.{ContextView, Attends, Serves, LeavesOthers}
+use Rattle.mdl_context.specs.Contexts.{ContextView, Attends, LeavesOthers}
 use Rattle.mdl_context.specs.Halls.{AreServed}
 use Rattle.mdl_context.proofs.AttendLemmas.{attends-same}
 

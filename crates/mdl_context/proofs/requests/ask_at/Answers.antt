@@ -1,5 +1,5 @@
 -- The ticket is gained, or it is waited for, or nothing has changed.
-use Rattle.std.proofs.Common.{◌≡◌, refl, sym, ap, ◌∙◌, [], ◌∷◌, ◌++◌}
+use Rattle.std.proofs.Common.{refl, sym, ap, ◌∙◌, [], ◌∷◌, ◌++◌}
 use Rattle.mdl_context.proofs.AttendLemmas.{attends-still, attends-gained}
 use Rattle.mdl_context.proofs.BeyondLemmas.{same-context}
 use Rattle.mdl_context.proofs.requests.ask_at.Goals as goal
