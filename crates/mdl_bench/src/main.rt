@@ -217,12 +217,7 @@ fn time_going_back(rt: &HostRuntime, keys: &[Key]) -> Result<(), Failure> {
 }
 
 // What it costs to look for a deadlock among so many sessions.
-fn time_search(
-    rt: &HostRuntime,
-    shape: Shape,
-    sessions: u16,
-    turns: u32,
-) -> Result<(), Failure> {
+fn time_search(rt: &HostRuntime, shape: Shape, sessions: u16, turns: u32) -> Result<(), Failure> {
     let tangle = Tangle::new(rt.alloc(), shape, sessions)?;
     let began = Instant::now(rt)?;
     for _ in 0..turns {

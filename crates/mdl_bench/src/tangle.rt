@@ -128,7 +128,10 @@ mod tests {
                 Ok(tangle) => tangle.search(rt.alloc()),
                 Err(failure) => Err(failure),
             };
-            assert!(rt; found.is_ok_and(|victim| victim == want), "{sessions} sessions");
+            assert!(rt;
+                found.is_ok_and(|victim| victim == want),
+                "{sessions} sessions"
+            );
         }
     }
 }

@@ -24,7 +24,7 @@ pub attended_over : {S : Type 0} (speaks_for : S → ℕ → Type 0) (own : S �
     → ((a b : S) (call : Call) (answer : Answer) (w : ℕ) → speaks_for a w → joins a call answer b → speaks_for b w)
     → ((a b : S) (call : Call) (answer : Answer) (w : ℕ) → speaks_for a w → (caller call ≡ Some w → ⊥) → joins a call answer b → own b w ≡ own a w)
     → ((a b : S) (call : Call) (answer : Answer) (w place : ℕ) (key : KeyName) → speaks_for a w → (call ≡ Unpin w place → answer ≡ Done → ⊥) → joins a call answer b
-        → knows a w place key → knows b w place key)
+    → knows a w place key → knows b w place key)
     → (a b : S) (call : Call) (answer : Answer) (x : ContextView) → (caller call ≡ Some x.who → ⊥) → joins a call answer b → Attends speaks_for own knows a x → Attends speaks_for own knows b x
 attended_over speaks_for own knows joins keeps others remembers a b call answer x other step attends =
     attends-same a b x attends (λ place key there. remembers a b call answer x.who place key attends.speaks (λ e _. other (ap caller e)) step there)

@@ -134,7 +134,9 @@ impl<S: LockSpace> Context<S> {
     /// Sees how the wait stands, and ends it once it is settled.
     ///
     /// While it isn't settled and the searches for deadlocks were cut off, this call searches on, as [`Context::acquire`]
-    /// does. Else it takes no memory. After MySQL 5.7, `MDL_context::acquire_lock` of `sql/mdl.cc`, from its wait on.
+    /// does, and gives the wait up where a search finds no memory. Else it takes no memory.
+    ///
+    /// After MySQL 5.7, `MDL_context::acquire_lock` of `sql/mdl.cc`, from its wait on.
     pub fn resume(&mut self, space: &mut S) -> Result<Resume, ContextError>
         requires { Attends S.speaks_for S.own S.knows space.old self.old }
         ensures refused { Refuses (no_wait_fault self.old) (ContextError.Space SpaceError.OutOfMemory) result }

@@ -25,10 +25,8 @@ pub(super) const BAD_MODE: Reply = Reply::Refused(ContextError::Space(SpaceError
 pub(super) fn is_about(reply: Option<Reply>, wanted: Reply) -> bool {
     match (reply, wanted) {
         (Some(Reply::MustWait(number)), Reply::MustWait(least)) => is_or_follows(number, least),
-        (
-            Some(Reply::Resumed(Resume::Acquired(id))),
-            Reply::Resumed(Resume::Acquired(least)),
-        ) => is_or_follows(id, least),
+        (Some(Reply::Resumed(Resume::Acquired(id))), Reply::Resumed(Resume::Acquired(least))) =>
+            is_or_follows(id, least),
         _ => reply == Some(wanted),
     }
 }
