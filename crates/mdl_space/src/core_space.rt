@@ -1,13 +1,12 @@
 //! The lock space of one thread.
 ghost use Rattle.std.specs.Prelude.{◌≡◌, ℕ, ◌<◌, ◌≤◌, ◌+◌, ◌^◌, Some, None, IfOk, OnOk, MatchResult, IsSome, IsTrue, length, true, false};
-ghost use Rattle.std.specs.Option.{IfSome};
 ghost use Rattle.mdl_key.specs.Refusals.{Refuses};
 ghost use Rattle.mdl_key.specs.Modes.{is_mode_of};
 ghost use Rattle.mdl_book.specs.Books.{lock_kind};
 ghost use Rattle.mdl_book.specs.Granting.{is_compatible};
 ghost use Rattle.mdl_book.specs.Tickets.{ticket_of};
 ghost use Rattle.mdl_space.specs.Strength.{covers};
-ghost use Rattle.mdl_space.specs.Cores.{empty_core, book_at, has_key, has_session, index_of, seat_at};
+ghost use Rattle.mdl_space.specs.Cores.{empty_core, book_at, has_key, has_session, seat_at};
 ghost use Rattle.mdl_space.specs.CoreCalls.{new_fault, first_cause, request_causes, clone_causes, listing, resolving, trying, beginning, searching, polling, timing_out, ending, looking_after, killing, releasing, granted_unless_full, cloning, Makes};
 ghost use Rattle.mdl_space.specs.CoreJoins.{SpeaksFor};
 ghost use Rattle.mdl_space.specs.Moves.{leaving, freeing, serving};
