@@ -10,6 +10,7 @@ mod refusals;
 mod seeded;
 
 use super::*;
+use crate::LockSpace;
 use std::test::Fail;
 
 #[test]
@@ -42,20 +43,27 @@ fn keys_keep_their_places(rt: HostRuntime) -> Result<(), Fail> {
     Ok(())
 }
 
+// What a session holds that held nothing, once it has a lock of a key.
+fn hold_one<S: LockSpace>(space: &mut S, who: u16, key: &Key) -> Result<Vec<Held>, SpaceError>
+    requires { S.speaks_for space.old who }
+{
+    let place = space.resolve(who, key)?;
+    space.try_now(who, place, Mode::IX)?;
+    space.held(who)
+}
+
 #[test]
 fn what_is_held_is_listed(rt: HostRuntime) -> Result<(), Fail> {
-    let alloc = rt.alloc();
-    let mut space = CoreSpace::new(alloc, 1, 2)?;
-    let place = space.place_key(&Key::schema(alloc, "test")?)?;
+    let mut space = CoreSpace::new(rt.alloc(), 1, 2)?;
     assert_eq!(rt; space.list_held(2)?.len(), 0);
-    space.try_lock(2, place, Mode::IX)?;
-    let tickets = space.list_held(2)?;
+    let key = Key::schema(rt.alloc(), "test")?;
+    let tickets = hold_one(&mut space, 2, &key)?;
     assert_eq!(rt; tickets.len(), 1);
     assert_eq!(rt;
         tickets.first().copied(),
         Some(Held {
             id: 1,
-            place,
+            place: 1,
             mode: Mode::IX
         })
     );
