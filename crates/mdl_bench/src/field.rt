@@ -1,6 +1,6 @@
 //! A lock space in which many sessions hold tickets at many places.
 ghost use Rattle.std.specs.Prelude.{ℕ, ◌≤◌, IfOk};
-ghost use Rattle.mdl_space.specs.CoreJoins.{SpeaksFor};
+ghost use Rattle.mdl_core.specs.CoreJoins.{SpeaksFor};
 
 use crate::failure::Failure;
 use mdl_key::{Key, Mode};

@@ -1,6 +1,6 @@
 //! A session that keeps many tickets, by its context.
 ghost use Rattle.std.specs.Prelude.{IfOk};
-ghost use Rattle.mdl_space.specs.CoreJoins.{SpeaksFor, own_at, Knows};
+ghost use Rattle.mdl_core.specs.CoreJoins.{SpeaksFor, own_at, Knows};
 ghost use Rattle.mdl_context.specs.Contexts.{Attends};
 
 use crate::failure::Failure;

@@ -1,10 +1,10 @@
 -- A request that no ticket can be used again for.
 use Rattle.std.proofs.Common.{◌≡◌, false, Option, None, sym, ◌∙◌}
 use Rattle.std.specs.Prelude.{is_some}
-use Rattle.mdl_space.specs.declared.answers.Held.{Held}
-use Rattle.mdl_space.specs.Answers.{Answer}
-use Rattle.mdl_space.specs.Calls.{Call}
-use Rattle.mdl_space.specs.Runs.{Runs}
+use Rattle.mdl_calls.specs.declared.answers.Held.{Held}
+use Rattle.mdl_calls.specs.Answers.{Answer}
+use Rattle.mdl_calls.specs.Calls.{Call}
+use Rattle.mdl_calls.specs.Runs.{Runs}
 use Rattle.mdl_context.specs.declared.request.Request.{Request}
 use Rattle.mdl_context.specs.declared.request.Acquire.{Acquire}
 use Rattle.mdl_context.specs.Contexts.{ContextView}

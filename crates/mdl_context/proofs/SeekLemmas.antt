@@ -4,19 +4,19 @@ use Rattle.std.specs.Prelude.{◌==◌, nat_lt, not, filter, find, is_some, IsTr
 use Rattle.std.specs.List.{list_all}
 use Rattle.std.proofs.lemmas.Bool.Decides.{nat_tests}
 use Rattle.mdl_key.specs.declared.mode.Mode.{Mode}
-use Rattle.mdl_space.specs.declared.answers.Held.{Held}
-use Rattle.mdl_space.specs.declared.space_error.SpaceError.{SpaceError}
-use Rattle.mdl_space.specs.declared.answers.Ended.{Ended}
-use Rattle.mdl_space.specs.declared.answers.Ended.TheVariants as ended_as
-use Rattle.mdl_space.specs.declared.answers.Settled.{Settled}
-use Rattle.mdl_space.specs.declared.answers.Settled.TheVariants as settled_as
-use Rattle.mdl_space.specs.Answers.{Answer, Refused, No_cycle, Victim_is, Lost, ended}
-use Rattle.mdl_space.specs.declared.space_error.SpaceError.TheVariants.{OutOfMemory}
-use Rattle.mdl_space.specs.Causes.{Knowledge, IsCause}
-use Rattle.mdl_space.specs.Calls.{Call, Search, Settle_timeout, End_wait}
-use Rattle.mdl_space.specs.Own.{Own, Wait, IsRising, are_rising, is_number, is_waiting, holds, gaining, ending, winning, giving_up}
-use Rattle.mdl_space.specs.Runs.{Runs}
-use Rattle.mdl_space.specs.Searches.{SearchEnd, Over, Cut_off, Failed, seeking}
+use Rattle.mdl_calls.specs.declared.answers.Held.{Held}
+use Rattle.mdl_calls.specs.declared.space_error.SpaceError.{SpaceError}
+use Rattle.mdl_calls.specs.declared.answers.Ended.{Ended}
+use Rattle.mdl_calls.specs.declared.answers.Ended.TheVariants as ended_as
+use Rattle.mdl_calls.specs.declared.answers.Settled.{Settled}
+use Rattle.mdl_calls.specs.declared.answers.Settled.TheVariants as settled_as
+use Rattle.mdl_calls.specs.Answers.{Answer, Refused, No_cycle, Victim_is, Lost, ended}
+use Rattle.mdl_calls.specs.declared.space_error.SpaceError.TheVariants.{OutOfMemory}
+use Rattle.mdl_calls.specs.Causes.{Knowledge, IsCause}
+use Rattle.mdl_calls.specs.Calls.{Call, Search, Settle_timeout, End_wait}
+use Rattle.mdl_calls.specs.Own.{Own, Wait, IsRising, are_rising, is_number, is_waiting, holds, gaining, ending, winning, giving_up}
+use Rattle.mdl_calls.specs.Runs.{Runs}
+use Rattle.mdl_calls.specs.Searches.{SearchEnd, Over, Cut_off, Failed, seeking}
 use Rattle.mdl_context.specs.Requests.{abandoning}
 
 -- a search is refused only for memory

@@ -1,19 +1,19 @@
 -- Calls about a wait of the session are answered, and a settled wait can be ended.
 use Rattle.std.proofs.Common.{◌≡◌, ℕ, true, Some, Result, Ok, Err, refl, rules}
 use Rattle.std.specs.Prelude.{IsOk}
-use Rattle.mdl_space.specs.declared.answers.Poll.{Poll}
-use Rattle.mdl_space.specs.declared.answers.Settled.{Settled}
-use Rattle.mdl_space.specs.declared.answers.Settled.TheVariants as settled_as
-use Rattle.mdl_space.specs.declared.answers.TimedOut.{TimedOut}
-use Rattle.mdl_space.specs.declared.answers.TimedOut.TheVariants.{ByThisCall, Already}
-use Rattle.mdl_space.specs.declared.answers.Ended.{Ended}
-use Rattle.mdl_space.specs.declared.space_error.SpaceError.{SpaceError}
-use Rattle.mdl_space.specs.declared.space_error.SpaceError.TheVariants.{NoWait}
-use Rattle.mdl_space.specs.Answers.{polled, timed_out, ended}
-use Rattle.mdl_space.specs.Calls.{Poll_wait, Settle_timeout}
-use Rattle.mdl_space.specs.Causes.{Knowledge, IsCause, IsExplained}
-use Rattle.mdl_space.specs.Own.{Own, is_waiting}
-use Rattle.mdl_space.specs.Waits.{told, IsEndOf}
+use Rattle.mdl_calls.specs.declared.answers.Poll.{Poll}
+use Rattle.mdl_calls.specs.declared.answers.Settled.{Settled}
+use Rattle.mdl_calls.specs.declared.answers.Settled.TheVariants as settled_as
+use Rattle.mdl_calls.specs.declared.answers.TimedOut.{TimedOut}
+use Rattle.mdl_calls.specs.declared.answers.TimedOut.TheVariants.{ByThisCall, Already}
+use Rattle.mdl_calls.specs.declared.answers.Ended.{Ended}
+use Rattle.mdl_calls.specs.declared.space_error.SpaceError.{SpaceError}
+use Rattle.mdl_calls.specs.declared.space_error.SpaceError.TheVariants.{NoWait}
+use Rattle.mdl_calls.specs.Answers.{polled, timed_out, ended}
+use Rattle.mdl_calls.specs.Calls.{Poll_wait, Settle_timeout}
+use Rattle.mdl_calls.specs.Causes.{Knowledge, IsCause, IsExplained}
+use Rattle.mdl_calls.specs.Own.{Own, is_waiting}
+use Rattle.mdl_calls.specs.Waits.{told, IsEndOf}
 
 poll-refused : (knows : Knowledge) (who : ℕ) (refusal : SpaceError) (own : Own) → IsCause knows (Poll_wait who) refusal own → is_waiting own ≡ true → ⊥
 poll-refused knows who NoWait own cause waits = cc

@@ -7,9 +7,9 @@ use Rattle.mdl_key.specs.declared.mode.Mode.{Mode}
 use Rattle.mdl_key.specs.declared.mode.Duration.{Duration}
 use Rattle.mdl_key.specs.declared.mode.Duration.TheVariants.{Statement, Transaction, Explicit}
 use Rattle.mdl_key.specs.Keys.{KeyName}
-use Rattle.mdl_space.specs.declared.answers.Held.{Held}
-use Rattle.mdl_space.specs.declared.answers.Settled.{Settled}
-use Rattle.mdl_space.specs.Own.{Own, Wait, are_rising}
+use Rattle.mdl_calls.specs.declared.answers.Held.{Held}
+use Rattle.mdl_calls.specs.declared.answers.Settled.{Settled}
+use Rattle.mdl_calls.specs.Own.{Own, Wait, are_rising}
 use Rattle.mdl_context.specs.declared.kept.Kept.{Kept}
 use Rattle.mdl_context.specs.declared.kept.Wanted.{Wanted}
 use Rattle.mdl_context.specs.declared.request.Mark.{Mark}

@@ -4,7 +4,7 @@ use Rattle.std.specs.Option.{option_map}
 use Rattle.mdl_key.specs.declared.mode.Duration.{Duration}
 use Rattle.mdl_key.specs.declared.mode.Duration.TheVariants.{Transaction, Explicit}
 use Rattle.mdl_key.specs.Keys.{KeyName, key_eq}
-use Rattle.mdl_space.specs.declared.answers.Held.{Held}
+use Rattle.mdl_calls.specs.declared.answers.Held.{Held}
 use Rattle.mdl_context.specs.declared.kept.Kept.{Kept}
 use Rattle.mdl_context.specs.declared.kept.Wanted.{Wanted}
 use Rattle.mdl_context.specs.declared.request.Request.{Request}

@@ -6,14 +6,14 @@ use Rattle.std.specs.Prelude.{◌≡◌, ℕ, Bool, true, false, not, ◌&&◌, 
 use Rattle.std.specs.Option.{option_map}
 use Rattle.mdl_key.specs.declared.mode.Duration.TheVariants.{Explicit}
 use Rattle.mdl_key.specs.Modes.{kind_of, is_mode_of}
-use Rattle.mdl_space.specs.declared.answers.Held.{Held}
-use Rattle.mdl_space.specs.declared.space_error.SpaceError.{SpaceError}
-use Rattle.mdl_space.specs.declared.space_error.SpaceError.TheVariants.{NoWait, WrongKind, OutOfMemory}
-use Rattle.mdl_space.specs.Answers.{Answer, Refused, At_place, Granted, Would_wait, Waits, Pending, Is_settled, Lost}
-use Rattle.mdl_space.specs.Calls.{Resolve, Try_now, Begin_wait, Clone_ticket, Poll_wait, Settle_timeout, End_wait, Release}
-use Rattle.mdl_space.specs.Runs.{Program, Give, Ask, ◌>>=◌, ◌>>◌}
-use Rattle.mdl_space.specs.Searches.{SearchEnd, Over, Cut_off, Failed, seeking, most_searches}
-use Rattle.mdl_space.specs.Strength.{covers}
+use Rattle.mdl_calls.specs.declared.answers.Held.{Held}
+use Rattle.mdl_calls.specs.declared.space_error.SpaceError.{SpaceError}
+use Rattle.mdl_calls.specs.declared.space_error.SpaceError.TheVariants.{NoWait, WrongKind, OutOfMemory}
+use Rattle.mdl_calls.specs.Answers.{Answer, Refused, At_place, Granted, Would_wait, Waits, Pending, Is_settled, Lost}
+use Rattle.mdl_calls.specs.Calls.{Resolve, Try_now, Begin_wait, Clone_ticket, Poll_wait, Settle_timeout, End_wait, Release}
+use Rattle.mdl_calls.specs.Runs.{Program, Give, Ask, ◌>>=◌, ◌>>◌}
+use Rattle.mdl_calls.specs.Searches.{SearchEnd, Over, Cut_off, Failed, seeking, most_searches}
+use Rattle.mdl_system.specs.Strength.{covers}
 use Rattle.mdl_context.specs.declared.context_error.ContextError.{ContextError}
 use Rattle.mdl_context.specs.declared.context_error.ContextError.TheVariants.{Waiting, Space}
 use Rattle.mdl_context.specs.declared.kept.Kept.{Kept}

@@ -1,7 +1,7 @@
 -- How searching for deadlocks ends, as the code of a context tells it.
 use Rattle.std.specs.Prelude.{Bool, true, false, Result, Ok, Err}
-use Rattle.mdl_space.specs.declared.space_error.SpaceError.{SpaceError}
-use Rattle.mdl_space.specs.Searches.{SearchEnd, Over, Cut_off, Failed}
+use Rattle.mdl_calls.specs.declared.space_error.SpaceError.{SpaceError}
+use Rattle.mdl_calls.specs.Searches.{SearchEnd, Over, Cut_off, Failed}
 
 -- whether the searches are over, unless one was refused
 abbrev pub sought : Result Bool SpaceError → SearchEnd

@@ -2,7 +2,7 @@
 ghost use Rattle.std.specs.Prelude.{◌≡◌, ◌⊎◌, true, IsOk, Some, None, [], map, OnOk, OnErr};
 ghost use Rattle.mdl_key.specs.declared.mode.Duration.TheVariants.{Explicit};
 ghost use Rattle.mdl_key.specs.Refusals.{Refuses, RefusesJust};
-ghost use Rattle.mdl_space.specs.Runs.{Runs};
+ghost use Rattle.mdl_calls.specs.Runs.{Runs};
 ghost use Rattle.mdl_context.specs.Contexts.{ContextView, mark_of, beyond, beyond_mark, without, Attends, LeavesOthers};
 ghost use Rattle.mdl_context.specs.Holdings.{kept_for, transactional};
 ghost use Rattle.mdl_context.specs.Requests.{FindsNoRoom, without_wait, acquiring, is_searched, resuming, giving_up_wait, no_wait_fault};

@@ -5,7 +5,7 @@ ghost use Rattle.mdl_context.specs.Goings.{goes};
 ghost use Rattle.std.specs.Option.{option_copied, option_map};
 ghost use Rattle.mdl_key.specs.declared.mode.Duration.TheVariants.{Explicit};
 ghost use Rattle.mdl_key.specs.Keys.{KeyName};
-ghost use Rattle.mdl_space.specs.Strength.{covers};
+ghost use Rattle.mdl_system.specs.Strength.{covers};
 ghost use Rattle.mdl_context.specs.Contexts.{AreRising, lasts, held_for, has_number, held_of};
 ghost use Rattle.mdl_context.specs.Holdings.{without_number, is_of, is_ticket, numbers_among, IsIndexOf, has_room, earliest, kept_for, in_transaction, transactional, kept_of, wanted_of, with_wanted, search_over};
 ghost use Rattle.mdl_context.specs.Indexes.{is_listed, has_room_for};

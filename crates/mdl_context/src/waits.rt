@@ -1,7 +1,7 @@
 //! Waits in a lock space, of any kind.
 ghost use Rattle.std.specs.Prelude.{◌≡◌, true, Some, None, is_some, Ok, IsOk, IsOkUnless, OnErr};
 ghost use Rattle.mdl_key.specs.Refusals.{Refuses, RefusesJust};
-ghost use Rattle.mdl_space.specs.Runs.{Runs};
+ghost use Rattle.mdl_calls.specs.Runs.{Runs};
 ghost use Rattle.mdl_context.specs.Contexts.{Attends, IsSettled};
 ghost use Rattle.mdl_context.specs.Holdings.{context_of};
 ghost use Rattle.mdl_context.specs.Requests.{without_wait, searching_on, is_searched, resuming, giving_up_wait, looking, ending, no_wait_fault};

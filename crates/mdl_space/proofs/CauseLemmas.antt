@@ -1,12 +1,12 @@
 -- What a refusal tells, whatever it is.
 use Rattle.std.proofs.Common.{◌≡◌, ℕ, Bool, true, false, ap, ◌∙◌}
 use Rattle.mdl_key.specs.declared.mode.Mode.{Mode}
-use Rattle.mdl_space.specs.declared.space_error.SpaceError.{SpaceError}
-use Rattle.mdl_space.specs.declared.space_error.SpaceError.TheVariants.{NotHeld}
-use Rattle.mdl_space.specs.Calls.{Release}
-use Rattle.mdl_space.specs.Causes.{Knowledge, IsCause}
-use Rattle.mdl_space.specs.Own.{Own, holds, gaining}
-use Rattle.mdl_space.proofs.OwnLemmas.{holds-gaining}
+use Rattle.mdl_calls.specs.declared.space_error.SpaceError.{SpaceError}
+use Rattle.mdl_calls.specs.declared.space_error.SpaceError.TheVariants.{NotHeld}
+use Rattle.mdl_calls.specs.Calls.{Release}
+use Rattle.mdl_calls.specs.Causes.{Knowledge, IsCause}
+use Rattle.mdl_calls.specs.Own.{Own, holds, gaining}
+use Rattle.mdl_calls.proofs.OwnLemmas.{holds-gaining}
 
 -- a release is refused only where no such ticket is held
 pub release-refused : (knows : Knowledge) (who id : ℕ) (refusal : SpaceError) (own : Own) → IsCause knows (Release who id) refusal own → holds id own ≡ false

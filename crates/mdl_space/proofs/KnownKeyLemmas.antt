@@ -11,7 +11,7 @@ use Rattle.mdl_key.specs.Keys.{KeyName, key_eq}
 use Rattle.mdl_book.specs.Books.{empty_book}
 use Rattle.mdl_book.specs.declared.lists.Lists.{Lists}
 use Rattle.mdl_space.specs.KnownKeys.{TellsPlaces, place_of}
-use Rattle.mdl_space.specs.CoreProofs.Places.{key_eq-Decides}
+use Rattle.mdl_core.proofs.CallLaws.Places.{key_eq-Decides}
 
 -- in a space without books no key is known
 pub none_known : TellsPlaces [] []

@@ -9,22 +9,22 @@ use Rattle.mdl_book.specs.Books.{lock_kind}
 use Rattle.mdl_book.specs.Granting.{is_compatible}
 use Rattle.mdl_book.specs.Tickets.{is_ticket, ticket_of}
 use Rattle.mdl_book.specs.declared.lists.Lists.{Lists}
-use Rattle.mdl_space.specs.declared.answers.Held.{Held}
-use Rattle.mdl_space.specs.declared.answers.Settled.{Settled}
-use Rattle.mdl_space.specs.declared.answers.Settled.TheVariants as settled_as
-use Rattle.mdl_space.specs.declared.seat.Pending.{Pending}
-use Rattle.mdl_space.specs.Own.{are_rising, is_number}
-use Rattle.mdl_space.specs.Seats.{SeatView, ticket_of_wait}
-use Rattle.mdl_space.specs.Cores.{Core, book_at, seat_at, key_at, has_key}
-use Rattle.mdl_space.specs.BookLaws.{of_lock}
-use Rattle.mdl_space.specs.CoreSystems.{system_of}
-use Rattle.mdl_space.specs.Strength.{covers}
-use Rattle.mdl_space.specs.CoreJoins.{SpeaksFor}
-use Rattle.mdl_space.specs.Ties.{IsTied, Has, WaitsFor, in_book_of}
-use Rattle.mdl_space.specs.Lemmas.BookLemmas.{compatible-Decides}
-use Rattle.mdl_space.specs.Lemmas.CoreGranted.{granted-from_place, holding_of, granted-of_held}
-use Rattle.mdl_space.specs.Lemmas.LawfulLemmas.{compatible-from_weaker}
-use Rattle.mdl_space.specs.Lemmas.StrengthLemmas.{covers-at_least}
+use Rattle.mdl_calls.specs.declared.answers.Held.{Held}
+use Rattle.mdl_calls.specs.declared.answers.Settled.{Settled}
+use Rattle.mdl_calls.specs.declared.answers.Settled.TheVariants as settled_as
+use Rattle.mdl_core.specs.declared.pending.Pending.{Pending}
+use Rattle.mdl_calls.specs.Own.{are_rising, is_number}
+use Rattle.mdl_core.specs.Seats.{SeatView, ticket_of_wait}
+use Rattle.mdl_core.specs.Cores.{Core, book_at, seat_at, key_at, has_key}
+use Rattle.mdl_system.specs.BookLaws.{of_lock}
+use Rattle.mdl_core.specs.CoreSystems.{system_of}
+use Rattle.mdl_system.specs.Strength.{covers}
+use Rattle.mdl_core.specs.CoreJoins.{SpeaksFor}
+use Rattle.mdl_core.specs.Ties.{IsTied, Has, WaitsFor, in_book_of}
+use Rattle.mdl_system.proofs.BookLemmas.{compatible-Decides}
+use Rattle.mdl_core.proofs.CoreGranted.{granted-from_place, holding_of, granted-of_held}
+use Rattle.mdl_system.proofs.LawfulLemmas.{compatible-from_weaker}
+use Rattle.mdl_system.proofs.StrengthLemmas.{covers-at_least}
 
 -- what is found is one of them
 pub found_among : {X : Type 0} (p : X → Bool) (xs : List X) (x : X) → find p xs ≡ Some x → Contains xs x

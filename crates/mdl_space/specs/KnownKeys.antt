@@ -4,7 +4,7 @@ use Rattle.std.specs.Map.{lookup}
 use Rattle.std.specs.Option.{option_map}
 use Rattle.mdl_key.specs.Keys.{KeyName, key_eq}
 use Rattle.mdl_book.specs.declared.lists.Lists.{Lists}
-use Rattle.mdl_space.specs.Cores.{index_of}
+use Rattle.mdl_core.specs.Cores.{index_of}
 
 -- the place of a key, if it has one
 abbrev pub place_of : KeyName → List Lists → Option ℕ

@@ -5,23 +5,24 @@ ghost use Rattle.mdl_key.specs.Modes.{is_mode_of};
 ghost use Rattle.mdl_book.specs.Books.{lock_kind};
 ghost use Rattle.mdl_book.specs.Granting.{is_compatible};
 ghost use Rattle.mdl_book.specs.Tickets.{ticket_of};
-ghost use Rattle.mdl_space.specs.Strength.{covers};
-ghost use Rattle.mdl_space.specs.Cores.{empty_core, book_at, has_key, has_session, seat_at};
-ghost use Rattle.mdl_space.specs.CoreCalls.{new_fault, first_cause, request_causes, clone_causes, listing, resolving, trying, beginning, searching, polling, timing_out, ending, looking_after, killing, releasing, granted_unless_full, cloning, Makes};
-ghost use Rattle.mdl_space.specs.CoreJoins.{SpeaksFor};
-ghost use Rattle.mdl_space.specs.Moves.{leaving, freeing, serving};
-ghost use Rattle.mdl_space.specs.Own.{are_rising};
-ghost use Rattle.mdl_space.specs.Answers.{Has_wait, Has_killed, placed, attempted, begun, searched, polled, timed_out, ended, done, cloned, listed};
+ghost use Rattle.mdl_system.specs.Strength.{covers};
+ghost use Rattle.mdl_core.specs.Cores.{empty_core, book_at, has_key, has_session, seat_at};
+ghost use Rattle.mdl_core.specs.CoreCalls.{new_fault, first_cause, request_causes, clone_causes, listing, resolving, trying, beginning, searching, polling, timing_out, ending, looking_after, killing, releasing, granted_unless_full, cloning, Makes};
+ghost use Rattle.mdl_core.specs.CoreJoins.{SpeaksFor};
+ghost use Rattle.mdl_core.specs.Moves.{leaving, freeing, serving};
+ghost use Rattle.mdl_calls.specs.Own.{are_rising};
+ghost use Rattle.mdl_calls.specs.Answers.{Has_wait, Has_killed, placed, attempted, begun, searched, polled, timed_out, ended, done, cloned, listed};
 
 use crate::granting::{give, is_free, queue};
-use crate::seat::{Pending, Seat};
-use crate::strength::covers;
+use crate::seat::Seat;
 use crate::{
     Attempt, Begun, Ended, Held, NewError, Place, Poll, Search, Settled, SpaceError, TicketId,
     TimedOut,
 };
 use mdl_book::Book;
+use mdl_core::Pending;
 use mdl_key::{Key, Mode};
+use mdl_system::covers;
 use std::alloc::Global;
 use std::collections::HashMap;
 use std::marker::Model;
@@ -46,7 +47,7 @@ pub struct CoreSpace {
 impl Model for CoreSpace {
     ghost use Rattle.std.specs.Prelude.{◌≤◌, length};
     ghost use Rattle.std.specs.Vec.{vec_capacity};
-    ghost use Rattle.mdl_space.specs.Cores.{Core};
+    ghost use Rattle.mdl_core.specs.Cores.{Core};
     ghost use Rattle.mdl_space.specs.KnownKeys.{TellsPlaces};
 
     ghost Value = { Core };

@@ -10,36 +10,26 @@
 //! [`CoreSpace`] is the space of one thread, as far as it is built.
 #![tactic(auto)]
 
-mod answers;
-mod core_laws;
 mod core_space;
 mod granting;
-mod laws;
 mod lock_space;
-mod new_error;
 mod seat;
-mod session_laws;
-mod space_error;
-mod strength;
 
-pub use answers::{Attempt, Begun, Ended, Held, Poll, Search, Settled, TimedOut};
-pub use core_laws::{
-    calls_are_events, calls_keep_sound, calls_lead_by_events, covers_by_kind,
-    grants_what_is_grantable, only_new_waits_make_deadlocks, searches_find_deadlocks,
-    searches_leave_no_deadlock, searches_suffice, searching_ends_deadlocks,
-    waiting_leaves_no_deadlock,
-};
 pub use core_space::CoreSpace;
-pub use laws::{
-    changes_by_lists, definitions_change_exclusively, definitions_stand_still, events_change_held,
-    events_concern_one_key, events_happen_where_permitted, grantable_by_lists,
+pub use lock_space::LockSpace;
+pub use mdl_calls::{
+    Attempt, Begun, Ended, Held, Place, Poll, Search, Settled, SpaceError, TicketId, TimedOut,
+};
+pub use mdl_core::{
+    NewError, calls_are_events, calls_keep_sound, calls_lead_by_events, grants_what_is_grantable,
+    kills_just_that_wait, only_new_waits_make_deadlocks, refuses_for_cause, searches_find_deadlocks,
+    searches_leave_no_deadlock, searches_suffice, searching_ends_deadlocks,
+    sessions_have_what_the_system_says, waiting_leaves_no_deadlock,
+};
+pub use mdl_system::{
+    changes_by_lists, covers_by_kind, definitions_change_exclusively, definitions_stand_still,
+    events_change_held, events_concern_one_key, events_happen_where_permitted, grantable_by_lists,
     granting_comes_to_an_end, granting_there_is_enough, lawful_by_lists, more_blocks_more,
     nobody_forgotten_unless_freed, only_going_frees, others_hold_the_same, plausible_events_happen,
     steps_keep_lawful, steps_keep_well_numbered, waits_leave_held,
 };
-pub use lock_space::{LockSpace, Place, TicketId};
-pub use new_error::NewError;
-pub use session_laws::{
-    kills_just_that_wait, refuses_for_cause, sessions_have_what_the_system_says,
-};
-pub use space_error::SpaceError;

@@ -1,23 +1,14 @@
 //! What a lock space keeps of one session.
 ghost use Rattle.std.specs.Prelude.{◌≡◌, ℕ, ◌+◌, ◌<◌, ◌^◌, find, position, Some, None, IsTrue, OnOk, OnErr, IsOkUnless};
 ghost use Rattle.mdl_key.specs.declared.mode.Mode.{Mode};
-ghost use Rattle.mdl_space.specs.Own.{are_rising, is_number};
-ghost use Rattle.mdl_space.specs.Seats.{SeatView, empty_seat, holding, without_ticket, beginning_wait, is_closed, is_open, settling, without_wait, with_ticket_of};
+ghost use Rattle.mdl_calls.specs.Own.{are_rising, is_number};
+ghost use Rattle.mdl_core.specs.Seats.{SeatView, empty_seat, holding, without_ticket, beginning_wait, is_closed, is_open, settling, without_wait, with_ticket_of};
 
 use crate::{Held, Place, Settled, SpaceError, TicketId};
+use mdl_core::Pending;
 use mdl_key::Mode;
 use std::alloc::Global;
 use std::marker::Model;
-
-/// A wait that isn't ended, with the number of the ticket that waits.
-#[derive(Clone, Copy)]
-pub(crate) struct Pending {
-    pub(crate) number: u64,
-    pub(crate) id: TicketId,
-    pub(crate) place: Place,
-    pub(crate) mode: Mode,
-    pub(crate) settled: Option<Settled>,
-}
 
 /// A session's tickets and its wait.
 ///
@@ -34,7 +25,7 @@ impl Model for Seat {
     ghost use Rattle.std.specs.Prelude.{◌<◌, ◌≤◌, length};
     ghost use Rattle.std.specs.Option.{IfSome};
     ghost use Rattle.std.specs.Vec.{vec_capacity};
-    ghost use Rattle.mdl_space.specs.Seats.{SeatView};
+    ghost use Rattle.mdl_core.specs.Seats.{SeatView};
 
     ghost Value = { SeatView };
 

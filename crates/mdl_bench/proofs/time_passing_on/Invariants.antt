@@ -1,6 +1,6 @@
 -- The space goes on to speak for all sessions.
 use Rattle.std.proofs.Common.{ℕ, ◌≤◌}
-use Rattle.mdl_space.specs.CoreJoins.{SpeaksFor}
+use Rattle.mdl_core.specs.CoreJoins.{SpeaksFor}
 use Rattle.mdl_bench.proofs.time_passing_on.Given as goal
 
 abbrev pub invariant-loop : goal.invariant-loop

@@ -1,7 +1,7 @@
 //! Looking for deadlocks.
 ghost use Rattle.std.specs.Prelude.{◌≡◌, ℕ, IfOk};
 ghost use Rattle.std.specs.FinSet as set;
-ghost use Rattle.mdl_space.specs.CoreCalls.{has_settled, victim_at};
+ghost use Rattle.mdl_core.specs.CoreCalls.{has_settled, victim_at};
 
 use crate::core_space::CoreSpace;
 use mdl_book::Sessions;

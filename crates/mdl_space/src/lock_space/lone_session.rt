@@ -1,11 +1,11 @@
 //! A lock space for tests: one session, one key and one ticket at most, while another session comes and goes.
 ghost use Rattle.std.specs.Prelude.{◌≡◌, ◌+◌, false, MatchResult};
 ghost use Rattle.std.proofs.Common.{rules, refl, sym, ◌∙◌};
-ghost use Rattle.mdl_space.specs.Calls.{Begin_wait};
-ghost use Rattle.mdl_space.specs.Causes.{IsClear, IsCause};
-ghost use Rattle.mdl_space.specs.LoneSessions.{Lone, SpeaksFor, Knows, IsSettled, Joins, alone, numbering};
-ghost use Rattle.mdl_space.specs.LoneProofs.{held-at_one, wait-at_one, settled-how};
-ghost use Rattle.mdl_space.specs.Own.{ticket_drawn, is_waiting};
+ghost use Rattle.mdl_calls.specs.Calls.{Begin_wait};
+ghost use Rattle.mdl_calls.specs.Causes.{IsClear, IsCause};
+ghost use Rattle.mdl_space.specs.Tests.LoneSessions.{Lone, SpeaksFor, Knows, IsSettled, Joins, alone, numbering};
+ghost use Rattle.mdl_space.proofs.LoneProofs.{held-at_one, wait-at_one, settled-how};
+ghost use Rattle.mdl_calls.specs.Own.{ticket_drawn, is_waiting};
 
 use super::{LockSpace, Place, TicketId};
 use crate::{Attempt, Begun, Ended, Held, Poll, Search, Settled, SpaceError, TimedOut};
@@ -39,7 +39,7 @@ pub struct LoneSession {
 impl Model for LoneSession {
     ghost use Rattle.std.specs.Prelude.{◌≡◌, Option, Some, None};
     ghost use Rattle.std.specs.Option.{option_to_list, option_map, IfSome};
-    ghost use Rattle.mdl_space.specs.LoneSessions.{Lone, last_of};
+    ghost use Rattle.mdl_space.specs.Tests.LoneSessions.{Lone, last_of};
 
     ghost Value = { Lone };
 

@@ -1,6 +1,6 @@
 ghost use Rattle.std.specs.Prelude.{◌≡◌};
-ghost use Rattle.mdl_space.specs.Runs.{Runs};
-ghost use Rattle.mdl_space.specs.Visits.{visiting, visited};
+ghost use Rattle.mdl_calls.specs.Runs.{Runs};
+ghost use Rattle.mdl_space.specs.Tests.Visits.{visiting, visited};
 
 use super::lone_session::LoneSession;
 use super::*;

@@ -1,7 +1,7 @@
 -- Each ticket that goes is still held when it is its turn.
 use Rattle.std.proofs.Common.{sym, ap, ◌∙◌}
 use Rattle.std.specs.Prelude.{map}
-use Rattle.mdl_space.specs.Own.{Own}
+use Rattle.mdl_calls.specs.Own.{Own}
 use Rattle.mdl_context.specs.Contexts.{held_of}
 use Rattle.mdl_context.specs.Goings.{goes}
 use Rattle.mdl_context.proofs.ReleaseLemmas.{run-goes, run-stays, left-stays, holds-here, held-goes}

@@ -2,7 +2,7 @@
 use Rattle.std.proofs.Common.{◌≡◌, ℕ, drop}
 use Rattle.std.specs.Prelude.{map, filter}
 use Rattle.mdl_key.specs.Keys.{KeyName}
-use Rattle.mdl_space.specs.Runs.{Runs}
+use Rattle.mdl_calls.specs.Runs.{Runs}
 use Rattle.mdl_context.specs.Contexts.{held_of}
 use Rattle.mdl_context.specs.Goings.{goes}
 use Rattle.mdl_context.specs.Releases.{releasing_all}

@@ -1,6 +1,6 @@
 -- What is held can be released.
 use Rattle.std.proofs.Common.{refl}
-use Rattle.mdl_space.specs.Causes.{Knowledge}
+use Rattle.mdl_calls.specs.Causes.{Knowledge}
 use Rattle.mdl_context.proofs.AttendLemmas.{known-still}
 use Rattle.mdl_context.proofs.ReleaseLemmas.{is_ok-released, done-ok}
 use Rattle.mdl_context.proofs.releases.let_go.Goals as goal

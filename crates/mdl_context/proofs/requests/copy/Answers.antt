@@ -1,6 +1,6 @@
 -- The copy is gained, or nothing has changed.
 use Rattle.std.proofs.Common.{refl, sym, ap, ◌∙◌, [], ◌∷◌, ◌++◌}
-use Rattle.mdl_space.specs.Own.{cloning}
+use Rattle.mdl_calls.specs.Own.{cloning}
 use Rattle.mdl_context.proofs.AttendLemmas.{attends-still, attends-gained}
 use Rattle.mdl_context.proofs.requests.copy.Goals as goal
 

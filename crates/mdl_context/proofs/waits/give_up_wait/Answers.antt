@@ -1,6 +1,6 @@
 -- To lose patience changes nothing that the session has, and settles its wait.
 use Rattle.std.proofs.Common.{refl, sym, ◌∙◌}
-use Rattle.mdl_space.specs.Causes.{Knowledge}
+use Rattle.mdl_calls.specs.Causes.{Knowledge}
 use Rattle.mdl_context.proofs.AttendLemmas.{attends-still}
 use Rattle.mdl_context.proofs.ServingLemmas.{waits-there}
 use Rattle.mdl_context.proofs.WaitLemmas.{is_ok-timed_out}

@@ -1,6 +1,6 @@
 -- To look after the wait changes nothing that the session has.
 use Rattle.std.proofs.Common.{refl}
-use Rattle.mdl_space.specs.Causes.{Knowledge}
+use Rattle.mdl_calls.specs.Causes.{Knowledge}
 use Rattle.mdl_context.proofs.AttendLemmas.{attends-still}
 use Rattle.mdl_context.proofs.ServingLemmas.{waits-there}
 use Rattle.mdl_context.proofs.WaitLemmas.{is_ok-polled}

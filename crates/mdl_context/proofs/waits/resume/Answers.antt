@@ -1,7 +1,7 @@
 -- To look after the wait changes nothing that the session has.
 use Rattle.std.proofs.Common.{◌≡◌, true, refl}
 use Rattle.std.specs.Prelude.{is_some}
-use Rattle.mdl_space.specs.Causes.{Knowledge}
+use Rattle.mdl_calls.specs.Causes.{Knowledge}
 use Rattle.mdl_context.proofs.AttendLemmas.{attends-still}
 use Rattle.mdl_context.proofs.ServingLemmas.{waits-there, searched-waits}
 use Rattle.mdl_context.proofs.WaitLemmas.{is_ok-polled}

@@ -1,7 +1,7 @@
 //! A lock space with the contexts of all its sessions, and the plain program beside them.
 ghost use Rattle.std.specs.Prelude.{◌≡◌, ℕ, ◌≤◌, length, IfOk};
-ghost use Rattle.mdl_space.specs.Cores.{empty_core};
-ghost use Rattle.mdl_space.specs.CoreJoins.{SpeaksFor};
+ghost use Rattle.mdl_core.specs.Cores.{empty_core};
+ghost use Rattle.mdl_core.specs.CoreJoins.{SpeaksFor};
 ghost use Rattle.mdl_context.specs.Halls.{AreServed};
 
 use super::acts::{Act, Lock, Reply, make};

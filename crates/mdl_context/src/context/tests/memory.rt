@@ -3,7 +3,7 @@
 //!
 //! `rt try --test --fail-alloc N` refuses the allocation of that number.
 ghost use Rattle.std.specs.Prelude.{◌≡◌, ◌≢◌, IfOk};
-ghost use Rattle.mdl_space.specs.CoreJoins.{SpeaksFor, own_at, Knows};
+ghost use Rattle.mdl_core.specs.CoreJoins.{SpeaksFor, own_at, Knows};
 ghost use Rattle.mdl_context.specs.Contexts.{Attends};
 
 use super::acts::{Act, Lock, Reply, make, mark};

@@ -1,5 +1,5 @@
 //! Acts and replies: by these all tests of the space call it.
-ghost use Rattle.mdl_space.specs.Ties.{IsSound};
+ghost use Rattle.mdl_core.specs.Ties.{IsSound};
 
 use crate::core_space::CoreSpace;
 use crate::{

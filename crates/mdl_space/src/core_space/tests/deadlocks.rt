@@ -1,6 +1,6 @@
 //! Deadlocks, and the victims of searches, as rows of calls.
 ghost use Rattle.std.specs.Prelude.{IfOk};
-ghost use Rattle.mdl_space.specs.Ties.{IsSound};
+ghost use Rattle.mdl_core.specs.Ties.{IsSound};
 
 use super::acts::{Act, Reply, first_wrong, make};
 use super::fixture::{key_place, new_space};

@@ -1,6 +1,6 @@
 //! The space of the tests: three places and five sessions.
 ghost use Rattle.std.specs.Prelude.{IfOk};
-ghost use Rattle.mdl_space.specs.Ties.{IsSound};
+ghost use Rattle.mdl_core.specs.Ties.{IsSound};
 
 use crate::core_space::CoreSpace;
 use crate::{LockSpace, NewError, Place, SpaceError};

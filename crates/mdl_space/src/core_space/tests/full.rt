@@ -1,5 +1,5 @@
 //! A lock that has as many tickets as it can have.
-ghost use Rattle.mdl_space.specs.Ties.{IsSound};
+ghost use Rattle.mdl_core.specs.Ties.{IsSound};
 
 use super::acts::{Act, Reply, first_wrong, make};
 use super::fixture::{SCHEMA, TABLE, space_of_three};

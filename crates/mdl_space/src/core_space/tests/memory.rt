@@ -1,6 +1,6 @@
 //! Growths refused in turn: where each allocation fails once, the space has lost nothing, and goes on.
 ghost use Rattle.std.specs.Prelude.{IfOk};
-ghost use Rattle.mdl_space.specs.Ties.{IsSound};
+ghost use Rattle.mdl_core.specs.Ties.{IsSound};
 
 use super::acts::{Act, Reply, make, session_of};
 use super::fixture::{key_place, new_space};

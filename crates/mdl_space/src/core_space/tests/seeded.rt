@@ -1,6 +1,6 @@
 //! Ten thousand calls by chance, which the space answers as the plain one does.
 ghost use Rattle.std.specs.Prelude.{◌<◌};
-ghost use Rattle.mdl_space.specs.Ties.{IsSound};
+ghost use Rattle.mdl_core.specs.Ties.{IsSound};
 
 use super::acts::{Act, Reply, make};
 use super::fixture::{KINDS, SESSIONS, TABLE, space_of_three};

@@ -1,8 +1,8 @@
 -- The victim is a session.
 use Rattle.std.proofs.Common.{◌≡◌, Some, true, sym, ◌∙◌, arith}
-use Rattle.mdl_space.specs.Cores.{has_session}
-use Rattle.mdl_space.specs.CoreCalls.{victim_at}
-use Rattle.mdl_space.specs.Lemmas.VictimLemmas.{victim-waits}
+use Rattle.mdl_core.specs.Cores.{has_session}
+use Rattle.mdl_core.specs.CoreCalls.{victim_at}
+use Rattle.mdl_core.proofs.VictimLemmas.{victim-waits}
 use Rattle.mdl_space.proofs.ServingLemmas.{session-bounds}
 use Rattle.mdl_space.proofs.core_space.CoreSpace.find_victim.Goals as goal
 use Rattle.mdl_space.proofs.core_space.CoreSpace.find_victim.Goals.{After-from}

@@ -1,7 +1,7 @@
 -- The ticket of a lost wait waits in the book of its place.
 use Rattle.std.proofs.Common.{◌≡◌, ◌≢◌, ap}
-use Rattle.mdl_space.specs.declared.answers.Settled.TheVariants as settled_as
-use Rattle.mdl_space.specs.Cores.{Core, seat_at}
+use Rattle.mdl_calls.specs.declared.answers.Settled.TheVariants as settled_as
+use Rattle.mdl_core.specs.Cores.{Core, seat_at}
 use Rattle.mdl_space.proofs.ServingLemmas.{seat_here}
 use Rattle.mdl_space.proofs.SpeakingLemmas.{wait-stands}
 use Rattle.mdl_space.proofs.core_space.CoreSpace.finish_wait.Goals as goal

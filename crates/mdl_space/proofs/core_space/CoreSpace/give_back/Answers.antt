@@ -1,6 +1,6 @@
 -- A held ticket stands in the book of its place.
 use Rattle.std.proofs.Common.{◌≡◌, ap}
-use Rattle.mdl_space.specs.Cores.{Core, seat_at}
+use Rattle.mdl_core.specs.Cores.{Core, seat_at}
 use Rattle.mdl_space.proofs.ServingLemmas.{seat_here}
 use Rattle.mdl_space.proofs.SpeakingLemmas.{held-stands}
 use Rattle.mdl_space.proofs.core_space.CoreSpace.give_back.Goals as goal

@@ -1,6 +1,6 @@
 -- The ticket stands in the book.
 use Rattle.std.proofs.Common.{◌≡◌, ap}
-use Rattle.mdl_space.specs.Cores.{Core, book_at}
+use Rattle.mdl_core.specs.Cores.{Core, book_at}
 use Rattle.mdl_space.proofs.ServingLemmas.{book_here, is_ok_found}
 use Rattle.mdl_space.proofs.core_space.CoreSpace.leave.Goals as goal
 

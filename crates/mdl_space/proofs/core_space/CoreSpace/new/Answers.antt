@@ -2,10 +2,10 @@
 use Rattle.std.proofs.Common.{rules, ◌≡◌, ℕ, ◌≤◌, true, subst, sym, arith}
 use Rattle.std.proofs.lemmas.Bool.Decides.{nat_tests}
 use Rattle.std.proofs.lemmas.List.{length-replicate}
-use Rattle.mdl_space.specs.Seats.{empty_seat}
-use Rattle.mdl_space.specs.Cores.{Core, empty_core, has_session}
-use Rattle.mdl_space.specs.CoreJoins.{SpeaksFor}
-use Rattle.mdl_space.specs.Lemmas.CoreSound.{empty-sound}
+use Rattle.mdl_core.specs.Seats.{empty_seat}
+use Rattle.mdl_core.specs.Cores.{Core, empty_core, has_session}
+use Rattle.mdl_core.specs.CoreJoins.{SpeaksFor}
+use Rattle.mdl_core.proofs.CoreSound.{empty-sound}
 use Rattle.mdl_space.proofs.core_space.CoreSpace.new.Goals as goal
 
 session_there : (places sessions who : ℕ) → 1 ≤ who → who ≤ sessions → has_session who (empty_core places sessions) ≡ true

@@ -3,7 +3,7 @@ use Rattle.std.proofs.Common.{◌≡◌, ap, ◌∙◌}
 use Rattle.std.specs.Option.{option_map}
 use Rattle.mdl_book.specs.Books.{next_grantable}
 use Rattle.mdl_book.specs.Tickets.{ticket_id}
-use Rattle.mdl_space.specs.Cores.{Core, book_at}
+use Rattle.mdl_core.specs.Cores.{Core, book_at}
 use Rattle.mdl_space.proofs.ServingLemmas.{next_in_book, book_here}
 use Rattle.mdl_space.proofs.core_space.CoreSpace.next_waiter.Goals as goal
 

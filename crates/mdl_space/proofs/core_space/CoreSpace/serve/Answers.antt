@@ -1,7 +1,7 @@
 -- Each turn grants one waiter, as long as there is one that can be granted.
 use Rattle.std.proofs.Common.{◌≡◌, sym, ap, ◌∙◌, arith}
 use Rattle.mdl_book.specs.declared.lists.Lists.{Lists}
-use Rattle.mdl_space.specs.Cores.{Core, book_at}
+use Rattle.mdl_core.specs.Cores.{Core, book_at}
 use Rattle.mdl_space.proofs.ServingLemmas.{no_more, key-stays, book_here, turn_done, turns_end, turns_over, all_turns}
 use Rattle.mdl_space.proofs.core_space.CoreSpace.serve.Goals as goal
 

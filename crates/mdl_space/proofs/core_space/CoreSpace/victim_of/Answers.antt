@@ -1,6 +1,6 @@
 -- The graph of all books has the deadlock of the locks.
 use Rattle.std.proofs.Common.{None, Some, sym, ap, ◌∙◌}
-use Rattle.mdl_space.specs.Cores.{Core}
+use Rattle.mdl_core.specs.Cores.{Core}
 use Rattle.mdl_space.proofs.DeadlockLemmas.{victim-same}
 use Rattle.mdl_space.proofs.core_space.CoreSpace.victim_of.Goals as goal
 

@@ -1,7 +1,7 @@
 use Rattle.std.proofs.Common.{refl, ◌∙◌, ap}
-use Rattle.mdl_space.specs.Own.{giving_up}
+use Rattle.mdl_calls.specs.Own.{giving_up}
 use Rattle.mdl_space.proofs.CauseLemmas.{release-gained}
-use Rattle.mdl_space.proofs.OwnLemmas.{giving_up-gaining}
+use Rattle.mdl_calls.proofs.OwnLemmas.{giving_up-gaining}
 use Rattle.mdl_space.proofs.lock_space.tests.visit.Goals as goal
 
 pub returns-in_err-place-clause-unchanged : goal.returns-in_err-place-clause-unchanged

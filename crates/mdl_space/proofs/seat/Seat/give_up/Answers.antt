@@ -1,9 +1,9 @@
 -- To take the ticket out at its place is to keep the others.
 use Rattle.std.proofs.Common.{List, sym, ap, ◌∙◌}
 use Rattle.std.specs.Prelude.{IsTrue}
-use Rattle.mdl_space.specs.declared.answers.Held.{Held}
-use Rattle.mdl_space.specs.Own.{are_rising}
-use Rattle.mdl_space.specs.Seats.{SeatView}
+use Rattle.mdl_calls.specs.declared.answers.Held.{Held}
+use Rattle.mdl_calls.specs.Own.{are_rising}
+use Rattle.mdl_core.specs.Seats.{SeatView}
 use Rattle.mdl_space.proofs.SearchLemmas.{without_at, without_none}
 use Rattle.mdl_space.proofs.seat.Seat.give_up.Goals as goal
 

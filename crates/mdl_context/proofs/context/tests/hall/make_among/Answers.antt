@@ -1,6 +1,6 @@
 -- One context makes a call, and the others are served as before.
 use Rattle.std.proofs.Common.{◌<◌, ◌-◌, ◌∙◌, length, arith, subst}
-use Rattle.mdl_space.specs.CoreJoins.{SpeaksFor, own_at, Knows}
+use Rattle.mdl_core.specs.CoreJoins.{SpeaksFor, own_at, Knows}
 use Rattle.mdl_context.specs.Contexts.{LeavesOthers}
 use Rattle.mdl_context.proofs.HallLemmas.{served_at, served_then}
 use Rattle.mdl_context.proofs.context.tests.hall.make_among.Goals as goal

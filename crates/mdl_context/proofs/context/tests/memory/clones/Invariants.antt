@@ -1,6 +1,6 @@
 -- The context keeps what its session holds.
 use Rattle.std.proofs.Common.{◌≡◌}
-use Rattle.mdl_space.specs.CoreJoins.{SpeaksFor, own_at, Knows}
+use Rattle.mdl_core.specs.CoreJoins.{SpeaksFor, own_at, Knows}
 use Rattle.mdl_context.specs.Contexts.{Attends}
 use Rattle.mdl_context.proofs.context.tests.memory.clones.Given as goal
 

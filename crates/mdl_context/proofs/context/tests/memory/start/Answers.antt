@@ -1,6 +1,6 @@
 -- The context's session has nothing.
 use Rattle.std.proofs.Common.{ap, arith}
-use Rattle.mdl_space.specs.CoreJoins.{own_at}
+use Rattle.mdl_core.specs.CoreJoins.{own_at}
 use Rattle.mdl_context.proofs.HallLemmas.{fresh}
 use Rattle.mdl_context.proofs.context.tests.memory.start.Goals as goal
 

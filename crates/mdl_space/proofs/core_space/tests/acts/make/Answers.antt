@@ -1,6 +1,6 @@
 -- Each call keeps the space sound.
-use Rattle.mdl_space.specs.Calls.{Try_now, Begin_wait, Search, Poll_wait, Settle_timeout, End_wait, Kill, Release, Clone_ticket}
-use Rattle.mdl_space.specs.Lemmas.CoreSound.{calls_keep-sound}
+use Rattle.mdl_calls.specs.Calls.{Try_now, Begin_wait, Search, Poll_wait, Settle_timeout, End_wait, Kill, Release, Clone_ticket}
+use Rattle.mdl_core.proofs.CoreSound.{calls_keep-sound}
 use Rattle.mdl_space.proofs.core_space.tests.acts.make.Goals as goal
 
 pub returns-in-TryNow : goal.returns-in-TryNow

@@ -1,5 +1,5 @@
 -- The space stays sound.
-use Rattle.mdl_space.specs.Ties.{IsSound}
+use Rattle.mdl_core.specs.Ties.{IsSound}
 use Rattle.mdl_space.proofs.core_space.tests.seeded.first_apart.Given as goal
 
 abbrev pub invariant-loop-place : goal.invariant-loop-place

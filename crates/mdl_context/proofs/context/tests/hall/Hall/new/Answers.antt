@@ -1,6 +1,6 @@
 -- A new space serves all sessions.
 use Rattle.std.proofs.Common.{ap, arith}
-use Rattle.mdl_space.specs.CoreJoins.{own_at}
+use Rattle.mdl_core.specs.CoreJoins.{own_at}
 use Rattle.mdl_context.proofs.HallLemmas.{fresh}
 use Rattle.mdl_context.proofs.context.tests.hall.Hall.new.Goals as goal
 

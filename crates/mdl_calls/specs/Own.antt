@@ -1,0 +1,134 @@
+-- What a session has in a lock space, and what each call does to it.
+use Rattle.std.specs.Prelude.{◌≡◌, ℕ, ◌+◌, Bool, true, not, ◌&&◌, ◌==◌, nat_lt, List, [], ◌∷◌, ◌++◌, map, filter, find, Option, Some, None, is_some, if◌then◌else◌, IsTrue}
+use Rattle.std.specs.List.{list_all}
+use Rattle.std.specs.Option.{option_map}
+use Rattle.mdl_key.specs.declared.mode.Mode.{Mode}
+use Rattle.mdl_calls.specs.declared.answers.Held.{Held}
+use Rattle.mdl_calls.specs.Answers.{Answer, Done, Granted, Waits, Lost, Upgraded}
+use Rattle.mdl_calls.specs.Calls.{Call, Try_now, Begin_wait, End_wait, Release, Clone_ticket, Upgrade_now, Merge, Downgrade}
+use Rattle.mdl_system.specs.Strength.{covers}
+
+-- a wait that isn't ended: its number, and the place and the mode that are waited for
+pub record Wait : Type 0 where
+  pub number : ℕ
+  pub place : ℕ
+  pub mode : Mode
+
+-- what a session has: its held tickets in order of gain, and its wait
+pub record Own : Type 0 where
+  pub held : List Held
+  pub wait : Option Wait
+
+-- the last numbers that a session's tickets and waits were given
+pub record Numbers : Type 0 where
+  pub last_ticket : ℕ
+  pub last_wait : ℕ
+
+-- the numbers of tickets rise: each is below all later ones
+abbrev pub are_rising : List Held → Bool
+are_rising [] = true
+are_rising (ticket ∷ later) = list_all (λ other. nat_lt ticket.id other.id) later && are_rising later
+
+-- those of the held tickets do: no two are the same, and the last one gained has the greatest
+abbrev pub IsRising : Own → Type 0
+IsRising own = IsTrue (are_rising own.held)
+
+-- whether a ticket has this number
+abbrev pub is_number : ℕ → Held → Bool
+is_number id ticket = ticket.id == id
+
+-- the held ticket of a number
+abbrev pub ticket_held : ℕ → Own → Option Held
+ticket_held id own = find (is_number id) own.held
+
+-- whether a ticket of this number is held
+abbrev pub holds : ℕ → Own → Bool
+holds id own = is_some (ticket_held id own)
+
+-- the number of the wait
+abbrev pub wait_number : Own → Option ℕ
+wait_number own = option_map (λ wait. wait.number) own.wait
+
+-- whether there is a wait
+abbrev pub is_waiting : Own → Bool
+is_waiting own = is_some own.wait
+
+-- with one more ticket
+abbrev pub gaining : ℕ → ℕ → Mode → Own → Own
+gaining id place mode own = record own { held = own.held ++ record { id = id; place = place; mode = mode } ∷ [] }
+
+-- with a wait
+abbrev pub waiting : ℕ → ℕ → Mode → Own → Own
+waiting number place mode own = record own { wait = Some (record { number = number; place = place; mode = mode }) }
+
+-- without the wait
+abbrev pub ending : Own → Own
+ending own = record own { wait = None }
+
+-- without the wait, and with the ticket that was waited for
+abbrev pub winning : ℕ → Option Wait → Own → Own
+winning id None own = own
+winning id (Some wait) own = gaining id wait.place wait.mode (ending own)
+
+-- without a ticket
+abbrev pub giving_up : ℕ → Own → Own
+giving_up id own = record own { held = filter (λ ticket. not (is_number id ticket)) own.held }
+
+-- with a second ticket of a held one's place
+abbrev pub cloning : ℕ → Mode → Option Held → Own → Own
+cloning id mode None own = own
+cloning id mode (Some ticket) own = gaining id ticket.place mode own
+
+-- with a ticket in another mode
+abbrev pub changing : ℕ → (Mode → Mode) → Own → Own
+changing id change own =
+    record own { held = map (λ ticket. if is_number id ticket then record ticket { mode = change ticket.mode } else ticket) own.held }
+
+-- the mode of a ticket after it was upgraded to one: what covers that already stays
+abbrev pub upgraded : Mode → Mode → Mode
+upgraded mode held = if covers held mode then held else mode
+
+-- with a ticket in the mode of another, which is given up
+abbrev pub merging : ℕ → ℕ → Option Held → Own → Own
+merging old new None own = own
+merging old new (Some ticket) own = changing old (λ _. ticket.mode) (giving_up new own)
+
+-- what a call with this answer does to what its caller has. What isn't named here changes nothing.
+abbrev pub own_after : Call → Answer → Own → Own
+own_after (Try_now who place mode) (Granted id) own = gaining id place mode own
+own_after (Begin_wait who place mode) (Granted id) own = gaining id place mode own
+own_after (Begin_wait who place mode) (Waits number) own = waiting number place mode own
+own_after (End_wait who) (Granted id) own = winning id own.wait own
+own_after (End_wait who) (Lost how) own = ending own
+own_after (Release who id) Done own = giving_up id own
+own_after (Clone_ticket who id mode) (Granted copy) own = cloning copy mode (ticket_held id own) own
+own_after (Upgrade_now who id mode) Upgraded own = changing id (upgraded mode) own
+own_after (Merge who old new) Done own = merging old new (ticket_held new own) own
+own_after (Downgrade who id mode) Done own = changing id (λ _. mode) own
+own_after _ _ own = own
+
+-- with a number for a ticket
+abbrev pub ticket_drawn : Numbers → Numbers
+ticket_drawn numbers = record numbers { last_ticket = numbers.last_ticket + 1 }
+
+-- with a number for a wait, and one for the ticket that waits
+abbrev pub wait_drawn : Numbers → Numbers
+wait_drawn numbers = record { last_ticket = numbers.last_ticket + 1; last_wait = numbers.last_wait + 1 }
+
+-- a ticket is given the next number
+abbrev pub DrawsTicket : ℕ → Numbers → Numbers → Type 0
+DrawsTicket id before after = (id ≡ before.last_ticket + 1) × (after ≡ ticket_drawn before)
+
+-- a wait is
+abbrev pub DrawsWait : ℕ → Numbers → Numbers → Type 0
+DrawsWait number before after = (number ≡ before.last_wait + 1) × (after ≡ wait_drawn before)
+
+-- which numbers a call with this answer gives its caller. What isn't named here gives none. The ticket of a wait that is ended
+-- has the number that it was given as the wait began, which is still the last one.
+abbrev pub Draws : Call → Answer → Numbers → Numbers → Type 0
+Draws (Try_now who place mode) (Granted id) before after = DrawsTicket id before after
+Draws (Begin_wait who place mode) (Granted id) before after = DrawsTicket id before after
+Draws (Begin_wait who place mode) (Waits number) before after = DrawsWait number before after
+Draws (End_wait who) (Granted id) before after = (id ≡ before.last_ticket) × (after ≡ before)
+Draws (Clone_ticket who id mode) (Granted copy) before after = DrawsTicket copy before after
+Draws _ _ before after = after ≡ before

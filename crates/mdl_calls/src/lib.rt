@@ -1,0 +1,13 @@
+//! The words of a lock space: its calls (`specs/Calls`), what they answer (`specs/Answers`), what each does to its caller
+//! (`specs/Own`), why it is refused (`specs/Causes`), how waits are settled (`specs/Waits`), and programs of calls (`specs/Runs`).
+//!
+//! They say nothing of any one space. The trait that is said in them stands in `mdl_space`.
+#![tactic(auto)]
+
+mod answers;
+mod space_error;
+
+pub use answers::{
+    Attempt, Begun, Ended, Held, Place, Poll, Search, Settled, TicketId, TimedOut,
+};
+pub use space_error::SpaceError;

@@ -1,0 +1,10 @@
+pub mod Cases
+pub mod Causes
+pub mod Choices
+pub mod Moves
+pub mod Numbers
+pub mod Owned
+pub mod Places
+pub mod Seats
+pub mod Steps
+pub mod Waits

@@ -1,0 +1,6 @@
+-- By its lemma.
+use Rattle.mdl_core.proofs.DeadlockCauses.{searching-ends}
+use Rattle.mdl_core.proofs.core_laws.searching_ends_deadlocks.Goals as goal
+
+pub returns : goal.returns
+returns c = searching-ends

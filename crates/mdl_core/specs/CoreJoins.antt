@@ -1,0 +1,38 @@
+-- How a call joins the space of one thread before it to the space after it, and what a session has and knows there.
+use Rattle.std.specs.Prelude.{◌≡◌, ℕ, true, Some, MatchOption}
+use Rattle.std.specs.Option.{IfSome}
+use Rattle.mdl_key.specs.Keys.{KeyName}
+use Rattle.mdl_calls.specs.declared.answers.Settled.{Settled}
+use Rattle.mdl_core.specs.declared.pending.Pending.{Pending}
+use Rattle.mdl_calls.specs.Answers.{Answer}
+use Rattle.mdl_calls.specs.Calls.{Call, caller, takes_memory}
+use Rattle.mdl_core.specs.CoreCalls.{has_call, outcome, Makes, wait_at}
+use Rattle.mdl_core.specs.Cores.{Core, seat_at, has_key, has_session, key_at}
+use Rattle.mdl_calls.specs.Own.{Own, Numbers}
+use Rattle.mdl_core.specs.Seats.{own_of, numbers_of}
+use Rattle.mdl_core.specs.Ties.{IsSound}
+
+-- the space speaks for each of its sessions
+abbrev pub SpeaksFor : Core → ℕ → Type 0
+SpeaksFor core who = (has_session who core ≡ true) × IsSound core
+
+-- what a session has
+abbrev pub own_at : Core → ℕ → Own
+own_at core who = own_of (seat_at who core)
+
+-- the last numbers that its tickets and waits were given
+abbrev pub numbers_at : Core → ℕ → Numbers
+numbers_at core who = numbers_of (seat_at who core)
+
+-- every session knows the keys of all places
+abbrev pub Knows : Core → ℕ → ℕ → KeyName → Type 0
+Knows core who place key = (has_key place core ≡ true) × (key_at place core ≡ key)
+
+-- a session's wait is settled so
+abbrev pub IsSettledAs : Core → ℕ → Settled → Type 0
+IsSettledAs core who how = MatchOption (wait_at who core) ⊥ (λ (wait : Pending). wait.settled ≡ Some how)
+
+-- the call has just its outcome, but that memory may run out
+abbrev pub Joins : Core → Call → Answer → Core → Type 0
+Joins a call answer b =
+    IfSome (caller call) (SpeaksFor a) × (has_call call ≡ true) × Makes (takes_memory call) (outcome call) a answer b

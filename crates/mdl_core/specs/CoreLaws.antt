@@ -1,0 +1,109 @@
+-- Laws of the lock space of one thread: its calls are events of the system of locks.
+use Rattle.std.specs.Prelude.{◌≡◌, ◌⊎◌, ℕ, Bool, true, false, List, [], ◌∷◌, ◌++◌, Option, Some, Contains}
+use Rattle.mdl_key.specs.Keys.{KeyName}
+use Rattle.mdl_key.specs.declared.mode.Mode.{Mode}
+use Rattle.mdl_defs.specs.declared.definition.Definition.{Definition}
+use Rattle.mdl_calls.specs.declared.answers.TimedOut.TheVariants.{ByThisCall}
+use Rattle.mdl_calls.specs.Answers.{Answer, Done, Granted, Would_wait, Waits, Victim_is, Timed_out, Lost, Has_killed}
+use Rattle.mdl_system.specs.BlockingLaws.{IsAbout}
+use Rattle.mdl_calls.specs.Calls.{Call, Try_now, Begin_wait, Search, Settle_timeout, End_wait, Kill, Release, Clone_ticket}
+use Rattle.mdl_core.specs.CoreJoins.{Joins}
+use Rattle.mdl_core.specs.Cores.{Core, empty_core, key_at}
+use Rattle.mdl_core.specs.CoreSystems.{system_of, state_of}
+use Rattle.mdl_system.specs.Events.{Event, Grant, Clone, BeginWait, GrantWaiter, SettleLost, EndGrantedWait, EndLostWait, Release as Give_up, Happens, Run, SameSystem}
+use Rattle.mdl_system.specs.Systems.{Unsettled, Victim, TimedOut, Killed, Holding, Waiter, System, empty_system, IsLawful, IsGrantable, NoneForgotten}
+use Rattle.mdl_core.specs.Ties.{IsSound}
+
+-- whether a call with this answer changes who holds what, who waits for what, or how a wait is settled
+abbrev pub is_change : Call → Answer → Bool
+is_change (Try_now _ _ _) (Granted _) = true
+is_change (Begin_wait _ _ _) (Granted _) = true
+is_change (Begin_wait _ _ _) (Waits _) = true
+is_change (Search _) (Victim_is _) = true
+is_change (Settle_timeout _) (Timed_out ByThisCall) = true
+is_change (End_wait _) (Granted _) = true
+is_change (End_wait _) (Lost _) = true
+is_change (Kill _ _) (Has_killed true) = true
+is_change (Release _ _) Done = true
+is_change (Clone_ticket _ _ _) (Granted _) = true
+is_change _ _ = false
+
+-- the event that such a call is
+abbrev pub IsEventOf : {C : Type 0} → Core → Call → Answer → Event C → Type 0
+IsEventOf a (Try_now who place mode) (Granted id) event =
+    event ≡ Grant (record { session = who; number = id; key = key_at place a; mode = mode })
+IsEventOf a (Begin_wait who place mode) (Granted id) event =
+    event ≡ Grant (record { session = who; number = id; key = key_at place a; mode = mode })
+IsEventOf a (Begin_wait who place mode) (Waits number) event =
+    (id : ℕ) × (event ≡ BeginWait (key_at place a) (record { ticket = record { session = who; number = id; mode = mode }; wait = number; state = Unsettled }))
+IsEventOf a (Search who) (Victim_is victim) event =
+    (key : KeyName) × (waiter : Waiter) × (waiter.ticket.session ≡ victim) × (event ≡ SettleLost key waiter Victim)
+IsEventOf a (Settle_timeout who) (Timed_out ByThisCall) event =
+    (key : KeyName) × (waiter : Waiter) × (waiter.ticket.session ≡ who) × (event ≡ SettleLost key waiter TimedOut)
+IsEventOf a (End_wait who) (Granted id) event =
+    (number : ℕ) × (event ≡ EndGrantedWait (record { session = who; wait = number; ticket = id }))
+IsEventOf a (End_wait who) (Lost how) event =
+    (key : KeyName) × (waiter : Waiter) × (waiter.ticket.session ≡ who) × (waiter.state ≡ state_of (Some how)) × (event ≡ EndLostWait key waiter)
+IsEventOf a (Kill target number) (Has_killed true) event =
+    (key : KeyName) × (waiter : Waiter) × (waiter.ticket.session ≡ target) × (waiter.wait ≡ number) × (event ≡ SettleLost key waiter Killed)
+IsEventOf a (Release who id) Done event =
+    (ticket : Holding) × (ticket.session ≡ who) × (ticket.number ≡ id) × (event ≡ Give_up ticket)
+IsEventOf a (Clone_ticket who id mode) (Granted copy) event =
+    (ticket : Holding) × (ticket.session ≡ who) × (ticket.number ≡ id)
+    × (event ≡ Clone ticket (record { session = who; number = copy; key = ticket.key; mode = mode }))
+IsEventOf a _ _ event = ⊥
+
+-- a waiter of a key before whom none waits there whose wait is unsettled and whose wish is grantable
+abbrev pub IsFirst : {D : Type 0} → System D → KeyName → Waiter → Type 0
+IsFirst a key waiter =
+    (before : List Waiter) × (after : List Waiter) × (a.waiting key ≡ before ++ waiter ∷ after)
+    × ((earlier : Waiter) → Contains before earlier → earlier.state ≡ Unsettled → IsGrantable a earlier.ticket.session key earlier.ticket.mode → ⊥)
+
+-- waiters of a key are granted, each time the first that can be
+abbrev pub GrantsInOrder : {C D : Type 0} → (KeyName → C → Option D → Option (Option D)) → KeyName → List (Event C) → System D → System D → Type 0
+GrantsInOrder apply key [] a b = SameSystem a b
+GrantsInOrder {C} {D} apply key (event ∷ events) a b =
+    (waiter : Waiter) × (between : System D) × (event ≡ GrantWaiter key waiter) × IsFirst a key waiter
+    × Happens apply event a between × GrantsInOrder apply key events between b
+
+-- a call changes nothing in the system, or it is an event there, after which waiters of that event's key are granted
+abbrev pub CallsAreEvents : Type 0 → Type 0
+CallsAreEvents C =
+    (apply : KeyName → C → Option Definition → Option (Option Definition)) (a b : Core) (call : Call) (answer : Answer) →
+    IsSound a → Joins a call answer b →
+    ((is_change call answer ≡ false) × SameSystem (system_of a) (system_of b))
+    ⊎ ((event : Event C) × (grants : List (Event C)) × (between : System Definition) × (key : KeyName)
+    × IsEventOf a call answer event × ((other : KeyName) → IsAbout event other → other ≡ key)
+    × Happens apply event (system_of a) between × GrantsInOrder apply key grants between (system_of b))
+
+-- after each call books and sessions tell the same, the system is lawful, and nobody is forgotten
+abbrev pub CallsKeepSound : Type 0
+CallsKeepSound = (a b : Core) (call : Call) (answer : Answer) → IsSound a → Joins a call answer b → IsSound b
+
+-- a lock is had at once exactly where the wish for it is grantable
+abbrev pub GrantsWhatIsGrantable : Type 0
+GrantsWhatIsGrantable =
+    (a b : Core) (who place : ℕ) (mode : Mode) →
+    ((id : ℕ) → Joins a (Try_now who place mode) (Granted id) b → IsGrantable (system_of a) who (key_at place a) mode)
+    × (Joins a (Try_now who place mode) Would_wait b → IsGrantable (system_of a) who (key_at place a) mode → ⊥)
+    × ((id : ℕ) → Joins a (Begin_wait who place mode) (Granted id) b → IsGrantable (system_of a) who (key_at place a) mode)
+    × ((number : ℕ) → Joins a (Begin_wait who place mode) (Waits number) b → IsGrantable (system_of a) who (key_at place a) mode → ⊥)
+
+-- calls, each with its answer, lead from one space to another
+abbrev pub Joined : List (Call × Answer) → Core → Core → Type 0
+Joined [] a b = a ≡ b
+Joined ((call, answer) ∷ calls) a b = (between : Core) × Joins a call answer between × Joined calls between b
+
+-- events lead from one system to another, in pieces, of which the last comes first
+abbrev pub Reaches : {C D : Type 0} → (KeyName → C → Option D → Option (Option D)) → List (List (Event C)) → System D → System D → Type 0
+Reaches apply [] a b = SameSystem a b
+Reaches {C} {D} apply (events ∷ before) a b = (between : System D) × Reaches apply before a between × Run apply events between b
+
+-- so whatever is asked of an empty space, events have led from the empty system to what it is in the end; that is lawful, and
+-- nobody is forgotten in it
+abbrev pub CallsLeadByEvents : Type 0 → Type 0
+CallsLeadByEvents C =
+    (apply : KeyName → C → Option Definition → Option (Option Definition)) (places sessions : ℕ)
+    (calls : List (Call × Answer)) (b : Core) → Joined calls (empty_core places sessions) b →
+    ((events : List (List (Event C))) × Reaches apply events empty_system (system_of b))
+    × IsLawful (system_of b) × NoneForgotten (system_of b)

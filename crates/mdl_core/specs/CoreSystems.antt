@@ -1,0 +1,65 @@
+-- The system of locks that a lock space of one thread is.
+use Rattle.std.specs.Prelude.{ℕ, ◌+◌, List, [], ◌∷◌, ◌++◌, map, flat_map, Option, Some, None}
+use Rattle.std.specs.Option.{option_to_list}
+use Rattle.mdl_key.specs.Keys.{KeyName}
+use Rattle.mdl_book.specs.declared.lists.Lists.{Lists}
+use Rattle.mdl_book.specs.declared.ticket.Ticket.{Ticket}
+use Rattle.mdl_book.specs.Books.{empty_book}
+use Rattle.mdl_defs.specs.declared.definition.Definition.{Definition}
+use Rattle.mdl_calls.specs.declared.answers.Settled.{Settled}
+use Rattle.mdl_calls.specs.declared.answers.Settled.TheVariants as settled_as
+use Rattle.mdl_core.specs.declared.pending.Pending.{Pending}
+use Rattle.mdl_system.specs.BookLaws.{of_lock}
+use Rattle.mdl_core.specs.Cores.{Core, index_of, seat_at, book_at}
+use Rattle.mdl_core.specs.Seats.{SeatView}
+use Rattle.mdl_system.specs.Systems.{WaitState, Unsettled, Victim, TimedOut, Killed, Holding, Waiter, GrantedWait, System}
+
+-- the granted tickets of a lock
+abbrev pub granted_in : Lists → List Holding
+granted_in book = map (of_lock book.key) book.granted
+
+-- the book of a key
+abbrev pub book_found : KeyName → Option ℕ → Core → Lists
+book_found key None core = empty_book key
+book_found key (Some index) core = book_at (index + 1) core
+
+abbrev pub book_of : KeyName → Core → Lists
+book_of key core = book_found key (index_of key core.books) core
+
+-- how a wait stands of which a ticket still waits
+abbrev pub state_of : Option Settled → WaitState
+state_of (Some settled_as.Victim) = Victim
+state_of (Some settled_as.Timeout) = TimedOut
+state_of (Some settled_as.Killed) = Killed
+state_of _ = Unsettled
+
+-- a waiting ticket with the wait of its session
+abbrev pub waiter_of : Ticket → Option Pending → Waiter
+waiter_of ticket None = record { ticket = ticket; wait = 0; state = Unsettled }
+waiter_of ticket (Some wait) = record { ticket = ticket; wait = wait.number; state = state_of wait.settled }
+
+abbrev pub waiter_in : Core → Ticket → Waiter
+waiter_in core ticket = waiter_of ticket (seat_at ticket.session core).wait
+
+-- a wait that is granted and not ended, of the session of this number
+abbrev pub unended_at : ℕ → Pending → Option Settled → Option GrantedWait
+unended_at who wait (Some settled_as.Granted) = Some (record { session = who; wait = wait.number; ticket = wait.id })
+unended_at who wait _ = None
+
+abbrev pub unended_of : ℕ → Option Pending → Option GrantedWait
+unended_of who None = None
+unended_of who (Some wait) = unended_at who wait wait.settled
+
+-- such waits of the sessions from this number on
+abbrev pub unended_from : ℕ → List SeatView → List GrantedWait
+unended_from who [] = []
+unended_from who (seat ∷ seats) = option_to_list (unended_of who seat.wait) ++ unended_from (who + 1) seats
+
+-- the system. Nothing is defined in it as yet
+abbrev pub system_of : Core → System Definition
+system_of core = record {
+  granted = flat_map granted_in core.books;
+  waiting = λ key. map (waiter_in core) (book_of key core).waiting;
+  unended = unended_from 1 core.seats;
+  definitions = λ _. record { version = 0; definition = None };
+}

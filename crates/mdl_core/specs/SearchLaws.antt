@@ -1,0 +1,59 @@
+-- Laws of searches for deadlocks in the lock space of one thread.
+use Rattle.std.specs.Prelude.{◌≡◌, ◌⊎◌, ℕ, ◌≤◌, Bool, false, not, ◌&&◌, ◌||◌, ◌==◌, List, length}
+use Rattle.mdl_key.specs.declared.mode.Mode.{Mode}
+use Rattle.mdl_calls.specs.Answers.{Answer, finds_no_memory, Waits, No_cycle, Victim_is}
+use Rattle.mdl_calls.specs.Calls.{Call, Begin_wait, Search}
+use Rattle.mdl_core.specs.CoreJoins.{Joins, SpeaksFor}
+use Rattle.mdl_core.specs.Cores.{Core}
+use Rattle.mdl_core.specs.CoreSystems.{system_of}
+use Rattle.mdl_system.specs.Deadlocks.{IsDeadlock, IsChosenDeadlock, IsVictimOf, DeadlocksGoThrough, HasNoDeadlock}
+use Rattle.mdl_calls.specs.Runs.{Runs}
+use Rattle.mdl_calls.specs.Searches.{Over, Cut_off, most_searches, seeking}
+use Rattle.mdl_core.specs.Ties.{IsSound}
+
+-- a search finds no cycle where the session is part of no deadlock, and else it names the victim of the chosen one; nothing but
+-- memory can be wanting for it. That the victim alone then loses its wait is said of all calls that are events
+abbrev pub SearchesFindDeadlocks : Type 0
+SearchesFindDeadlocks =
+    (a b : Core) (who : ℕ) →
+    (Joins a (Search who) No_cycle b → (cycle : List ℕ) → IsDeadlock (system_of a) who cycle → ⊥)
+    × ((victim : ℕ) → Joins a (Search who) (Victim_is victim) b →
+    (cycle : List ℕ) × IsChosenDeadlock (system_of a) who cycle × IsVictimOf (system_of a) cycle victim)
+    × ((answer : Answer) → Joins a (Search who) answer b → finds_no_memory answer ≡ false →
+    (answer ≡ No_cycle) ⊎ ((victim : ℕ) × (answer ≡ Victim_is victim)))
+
+-- a thousand and twenty-four searches are always enough where there are no more sessions
+abbrev pub SearchesSuffice : Type 0
+SearchesSuffice = (a b : Core) (who : ℕ) → length a.seats ≤ 1024 → SpeaksFor a who → Runs Joins a (seeking most_searches who) Cut_off b → ⊥
+
+-- once they are over, the session is part of no deadlock: it waits in none, or is a victim itself
+abbrev pub SearchesLeaveNoDeadlock : Type 0
+SearchesLeaveNoDeadlock =
+    (a b : Core) (who : ℕ) → SpeaksFor a who → Runs Joins a (seeking most_searches who) Over b → (cycle : List ℕ) → IsDeadlock (system_of b) who cycle → ⊥
+
+-- whether a session begins to wait by a call with this answer
+abbrev pub begins_wait : Call → Answer → ℕ → Bool
+begins_wait (Begin_wait who place mode) (Waits number) session = session == who
+begins_wait _ _ session = false
+
+-- no call makes a deadlock but by a wait that it begins: where all deadlocks go through some sessions, after it they go through
+-- these or through the one that began to wait by it
+abbrev pub OnlyNewWaitsMakeDeadlocks : Type 0
+OnlyNewWaitsMakeDeadlocks =
+    (a b : Core) (call : Call) (answer : Answer) (sessions : ℕ → Bool) → IsSound a → Joins a call answer b →
+    DeadlocksGoThrough sessions (system_of a) →
+    DeadlocksGoThrough (λ session. sessions session || begins_wait call answer session) (system_of b)
+
+-- once a session's searches are over, all deadlocks go through these sessions but itself
+abbrev pub SearchingEndsDeadlocks : Type 0
+SearchingEndsDeadlocks =
+    (a b : Core) (who : ℕ) (sessions : ℕ → Bool) → SpeaksFor a who → Runs Joins a (seeking most_searches who) Over b →
+    DeadlocksGoThrough sessions (system_of a) →
+    DeadlocksGoThrough (λ session. sessions session && not (session == who)) (system_of b)
+
+-- so where there is no deadlock, and a session begins to wait and searches until that is over, there is none
+abbrev pub WaitingLeavesNoDeadlock : Type 0
+WaitingLeavesNoDeadlock =
+    (a b c : Core) (who place number : ℕ) (mode : Mode) →
+    Joins a (Begin_wait who place mode) (Waits number) b → Runs Joins b (seeking most_searches who) Over c →
+    HasNoDeadlock (system_of a) → HasNoDeadlock (system_of c)

@@ -1,0 +1,75 @@
+-- What a lock space keeps of one session.
+use Rattle.std.specs.Prelude.{ℕ, ◌+◌, Bool, false, not, List, [], ◌∷◌, ◌++◌, filter, Option, None, Some, is_some}
+use Rattle.std.specs.Option.{option_map}
+use Rattle.mdl_key.specs.declared.mode.Mode.{Mode}
+use Rattle.mdl_calls.specs.declared.answers.Held.{Held}
+use Rattle.mdl_calls.specs.declared.answers.Settled.{Settled}
+use Rattle.mdl_core.specs.declared.pending.Pending.{Pending}
+use Rattle.mdl_calls.specs.Own.{Own, Numbers, is_number}
+
+-- the held tickets in order of gain, the wait that isn't ended, and the last numbers that tickets and waits were given
+pub record SeatView : Type 0 where
+  pub held : List Held
+  pub wait : Option Pending
+  pub last_ticket : ℕ
+  pub last_wait : ℕ
+
+-- of a session that never asked for anything
+abbrev pub empty_seat : SeatView
+empty_seat = record { held = []; wait = None; last_ticket = 0; last_wait = 0 }
+
+-- what the session has
+abbrev pub own_of : SeatView → Own
+own_of seat = record {
+  held = seat.held;
+  wait = option_map (λ wait. record { number = wait.number; place = wait.place; mode = wait.mode }) seat.wait;
+}
+
+-- the last numbers that the session was given
+abbrev pub numbers_of : SeatView → Numbers
+numbers_of seat = record { last_ticket = seat.last_ticket; last_wait = seat.last_wait }
+
+-- with a new ticket
+abbrev pub holding : ℕ → Mode → SeatView → SeatView
+holding place mode seat = record seat {
+  held = seat.held ++ record { id = seat.last_ticket + 1; place = place; mode = mode } ∷ [];
+  last_ticket = seat.last_ticket + 1;
+}
+
+-- without the ticket of a number
+abbrev pub without_ticket : ℕ → SeatView → SeatView
+without_ticket id seat = record seat { held = filter (λ ticket. not (is_number id ticket)) seat.held }
+
+-- with a wait for a new ticket
+abbrev pub beginning_wait : ℕ → Mode → SeatView → SeatView
+beginning_wait place mode seat = record seat {
+  wait = Some (record { number = seat.last_wait + 1; id = seat.last_ticket + 1; place = place; mode = mode; settled = None });
+  last_ticket = seat.last_ticket + 1;
+  last_wait = seat.last_wait + 1;
+}
+
+-- whether a wait, if there is one, is unsettled
+abbrev pub is_open : Option Pending → Bool
+is_open None = false
+is_open (Some wait) = not (is_some wait.settled)
+
+-- whether a wait, if there is one, is settled
+abbrev pub is_closed : Option Pending → Bool
+is_closed None = false
+is_closed (Some wait) = is_some wait.settled
+
+-- with the wait settled
+abbrev pub settling : Settled → SeatView → SeatView
+settling how seat = record seat { wait = option_map (λ (wait : Pending). record wait { settled = Some how }) seat.wait }
+
+-- without the wait
+abbrev pub without_wait : SeatView → SeatView
+without_wait seat = record seat { wait = None }
+
+-- the ticket that is waited for
+abbrev pub ticket_of_wait : Pending → Held
+ticket_of_wait wait = record { id = wait.id; place = wait.place; mode = wait.mode }
+
+-- without the wait, and with the ticket that was waited for
+abbrev pub with_ticket_of : Pending → SeatView → SeatView
+with_ticket_of wait seat = record seat { held = seat.held ++ ticket_of_wait wait ∷ []; wait = None }

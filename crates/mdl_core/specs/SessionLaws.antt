@@ -1,0 +1,141 @@
+-- What a session has in the lock space of one thread is what the system of locks says of it, and what the calls say of a
+-- session's wait and of the space's limits is so.
+use Rattle.std.specs.Prelude.{◌≡◌, ◌≢◌, ◌↔◌, ℕ, ◌+◌, ◌-◌, ◌≤◌, ◌^◌, Bool, true, false, List, length, map, Option, Some, None, Contains}
+use Rattle.mdl_key.specs.Keys.{KeyName}
+use Rattle.mdl_calls.specs.declared.answers.Held.{Held}
+use Rattle.mdl_calls.specs.declared.answers.Settled.TheVariants as settled_as
+use Rattle.mdl_core.specs.declared.pending.Pending.{Pending}
+use Rattle.mdl_calls.specs.declared.space_error.SpaceError.{SpaceError}
+use Rattle.mdl_calls.specs.declared.space_error.SpaceError.TheVariants.{NoPlace, CounterFull, Full}
+use Rattle.mdl_calls.specs.Answers.{Refused, Has_wait, Has_killed}
+use Rattle.mdl_calls.specs.Calls.{Call, Resolve, Try_now, Begin_wait, Wait_of, Kill, Clone_ticket}
+use Rattle.mdl_core.specs.CoreCalls.{held_ticket}
+use Rattle.mdl_core.specs.CoreJoins.{Joins, own_at}
+use Rattle.mdl_core.specs.Cores.{Core, book_at, seat_at, key_at, has_key, has_session}
+use Rattle.mdl_core.specs.CoreSystems.{system_of, state_of}
+use Rattle.mdl_calls.specs.Own.{wait_number}
+use Rattle.mdl_system.specs.Systems.{Unsettled, Holding, Waiter, System, ListsHeld, HasNoWait}
+use Rattle.mdl_core.specs.Ties.{IsSound}
+
+-- ---- what a session has
+
+-- the tickets that a session holds, in order of gain, each with the key of its place
+abbrev pub holdings_of : ℕ → Core → List Holding
+holdings_of who core =
+    map (λ (ticket : Held). record { session = who; number = ticket.id; key = key_at ticket.place core; mode = ticket.mode }) (seat_at who core).held
+
+-- a session's wait is this one
+abbrev pub HasWait : Core → ℕ → Pending → Type 0
+HasWait core who wait = (seat_at who core).wait ≡ Some wait
+
+-- a session's wait, as those that wait stand in the system
+abbrev pub waiter_for : ℕ → Pending → Waiter
+waiter_for who wait = record {
+  ticket = record { session = who; number = wait.id; mode = wait.mode };
+  wait = wait.number;
+  state = state_of wait.settled;
+}
+
+-- a session's wait is of this number, it is granted, and for the ticket of this number
+abbrev pub HasWon : Core → ℕ → ℕ → ℕ → Type 0
+HasWon core who number id =
+    (wait : Pending) × HasWait core who wait × (wait.settled ≡ Some settled_as.Granted) × (wait.number ≡ number) × (wait.id ≡ id)
+
+-- a session's wait isn't granted, it is at a place of this key, and this is how it stands there
+abbrev pub WaitsAt : Core → ℕ → KeyName → Waiter → Type 0
+WaitsAt core who key waiter =
+    (wait : Pending) × HasWait core who wait × (wait.settled ≢ Some settled_as.Granted) × (key_at wait.place core ≡ key) × (waiter ≡ waiter_for who wait)
+
+-- the seat of a session says what the system says of it
+pub record HasWhatTheSystemSays (core : Core) (who : ℕ) : Type 0 where
+  -- what it lists as held is what the session holds in the system, in rising number
+  pub held : ListsHeld (system_of core) who (holdings_of who core)
+  -- it has no wait exactly where the session has none in the system
+  pub free : ((seat_at who core).wait ≡ None) ↔ HasNoWait (system_of core) who
+  -- its wait is settled as granted exactly where the system has a granted wait of the session that isn't ended, of that number
+  -- and for that ticket
+  pub won : (number id : ℕ) → HasWon core who number id ↔ Contains (system_of core).unended (record { session = who; wait = number; ticket = id })
+  -- its wait isn't granted exactly where in the system a ticket of the session waits, at the key of its place, with that
+  -- number and as it stands
+  pub waits : (key : KeyName) (waiter : Waiter)
+      → WaitsAt core who key waiter ↔ (Contains ((system_of core).waiting key) waiter × (waiter.ticket.session ≡ who))
+
+-- what is no session has nothing in the system
+abbrev pub HasNothing : {D : Type 0} → System D → ℕ → Type 0
+HasNothing system who = ((held : Holding) → Contains system.granted held → held.session ≢ who) × HasNoWait system who
+
+-- each session's seat says what the system says of it, and nothing there is of what is no session
+abbrev pub SessionsHaveWhatTheSystemSays : Type 0
+SessionsHaveWhatTheSystemSays =
+    (core : Core) (who : ℕ) → IsSound core →
+    (has_session who core ≡ true → HasWhatTheSystemSays core who) × (has_session who core ≡ false → HasNothing (system_of core) who)
+
+-- ---- waits of others
+
+-- there is such a session, and its wait has this number and is unsettled
+abbrev pub WaitsUnsettled : Core → ℕ → ℕ → Type 0
+WaitsUnsettled core target number =
+    (has_session target core ≡ true) × (wait : Pending) × HasWait core target wait × (wait.number ≡ number) × (wait.settled ≡ None)
+
+-- in the system a ticket of the session waits somewhere, with this number of its wait and unsettled
+abbrev pub WaitsSomewhere : {D : Type 0} → System D → ℕ → ℕ → Type 0
+WaitsSomewhere system target number =
+    (key : KeyName) × (waiter : Waiter) × Contains (system.waiting key) waiter
+    × (waiter.ticket.session ≡ target) × (waiter.wait ≡ number) × (waiter.state ≡ Unsettled)
+
+-- a kill says that it killed exactly where the wait of this number was there and unsettled, which is where it waits in the
+-- system, and else it changes nothing. The number that is told of a wait is that of the session's wait, and of what is no
+-- session none is told
+abbrev pub KillsJustThatWait : Type 0
+KillsJustThatWait =
+    ((a b : Core) (target number : ℕ) (killed : Bool) → Joins a (Kill target number) (Has_killed killed) b
+    → ((killed ≡ true) ↔ WaitsUnsettled a target number) × (killed ≡ false → b ≡ a))
+    × ((a : Core) (target number : ℕ) → IsSound a → WaitsUnsettled a target number ↔ WaitsSomewhere (system_of a) target number)
+    × ((a b : Core) (target : ℕ) (number : Option ℕ) → Joins a (Wait_of target) (Has_wait number) b
+    → (has_session target a ≡ true → number ≡ wait_number (own_at a target)) × (has_session target a ≡ false → number ≡ None))
+
+-- ---- limits
+
+-- no place has the key
+abbrev pub IsNowhere : Core → KeyName → Type 0
+IsNowhere core key = (place : ℕ) → has_key place core ≡ true → key_at place core ≢ key
+
+-- the book of a place has no room: it has as many tickets as it can, granted and waiting
+abbrev pub HasNoRoom : Core → ℕ → Type 0
+HasNoRoom core place = 65535 ≤ length (book_at place core).granted + length (book_at place core).waiting
+
+-- a session has used up its numbers of tickets
+abbrev pub HasNoNumber : Core → ℕ → Type 0
+HasNoNumber core who = 2 ^ 60 - 1 ≤ (seat_at who core).last_ticket
+
+-- why there is no place: as many places as there can be have keys, all of them others, or this place has none
+abbrev pub LacksPlace : Core → Call → Type 0
+LacksPlace core (Resolve who key) = (core.places ≤ length core.books) × IsNowhere core key
+LacksPlace core (Try_now who place mode) = has_key place core ≡ false
+LacksPlace core (Begin_wait who place mode) = has_key place core ≡ false
+LacksPlace core _ = ⊥
+
+-- why the lock is full
+abbrev pub LacksRoom : Core → Call → Type 0
+LacksRoom core (Try_now who place mode) = HasNoRoom core place
+LacksRoom core (Begin_wait who place mode) = HasNoRoom core place
+LacksRoom core (Clone_ticket who id mode) = (ticket : Held) × (held_ticket who id core ≡ Some ticket) × HasNoRoom core ticket.place
+LacksRoom core _ = ⊥
+
+-- why the session can have no more tickets
+abbrev pub LacksNumber : Core → Call → Type 0
+LacksNumber core (Try_now who place mode) = HasNoNumber core who
+LacksNumber core (Begin_wait who place mode) = HasNoNumber core who
+LacksNumber core (Clone_ticket who id mode) = HasNoNumber core who
+LacksNumber core _ = ⊥
+
+-- the limit that a refusal names is met
+abbrev pub MeetsLimit : Core → Call → SpaceError → Type 0
+MeetsLimit core call NoPlace = LacksPlace core call
+MeetsLimit core call Full = LacksRoom core call
+MeetsLimit core call CounterFull = LacksNumber core call
+MeetsLimit core call _ = Unit {0}
+
+-- no call is refused by a limit that isn't met
+abbrev pub RefusesForCause : Type 0
+RefusesForCause = (a b : Core) (call : Call) (refusal : SpaceError) → Joins a call (Refused refusal) b → MeetsLimit a call refusal

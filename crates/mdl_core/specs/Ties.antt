@@ -1,0 +1,67 @@
+-- What is always so in the lock space of one thread: books and sessions tell the same tickets and waits, the system that they
+-- are is lawful, and nobody is forgotten in it.
+use Rattle.std.specs.Prelude.{◌≡◌, ◌≢◌, ◌⊎◌, ◌↔◌, ℕ, ◌<◌, ◌≤◌, true, Some, MatchOption, Contains, AllPairs, IsTrue}
+use Rattle.mdl_key.specs.Modes.{is_mode_of}
+use Rattle.mdl_book.specs.declared.ticket.Ticket.{Ticket}
+use Rattle.mdl_book.specs.Books.{lock_kind}
+use Rattle.mdl_book.specs.Tickets.{ticket_id}
+use Rattle.mdl_calls.specs.declared.answers.Held.{Held}
+use Rattle.mdl_calls.specs.declared.answers.Settled.TheVariants as settled_as
+use Rattle.mdl_core.specs.declared.pending.Pending.{Pending}
+use Rattle.mdl_core.specs.Cores.{Core, book_at, seat_at, key_at, has_key, has_session}
+use Rattle.mdl_core.specs.CoreSystems.{system_of}
+use Rattle.mdl_calls.specs.Own.{IsRising}
+use Rattle.mdl_core.specs.Seats.{SeatView, own_of, ticket_of_wait}
+use Rattle.mdl_system.specs.Systems.{IsLawful, NoneForgotten}
+
+-- a session has a granted ticket: it holds it, or its wait for it is granted and not ended
+abbrev pub Has : SeatView → Held → Type 0
+Has seat ticket =
+    Contains seat.held ticket
+    ⊎ MatchOption seat.wait ⊥ (λ (wait : Pending). (wait.settled ≡ Some settled_as.Granted) × (ticket ≡ ticket_of_wait wait))
+
+-- a session has a waiting ticket: its wait isn't granted
+abbrev pub WaitsFor : SeatView → Held → Type 0
+WaitsFor seat ticket = MatchOption seat.wait ⊥ (λ (wait : Pending). (wait.settled ≢ Some settled_as.Granted) × (ticket ≡ ticket_of_wait wait))
+
+-- the ticket of a session as it stands in a book
+abbrev pub in_book_of : ℕ → Held → Ticket
+in_book_of who ticket = record { session = who; number = ticket.id; mode = ticket.mode }
+
+-- the numbers of a session's tickets and waits: those of held tickets rise, none is above the last one given, and that of a
+-- ticket waited for is the last one and above theirs
+pub record IsNumbered (seat : SeatView) : Type 0 where
+  pub rising : IsRising (own_of seat)
+  pub held : (ticket : Held) → Contains seat.held ticket → ticket.id ≤ seat.last_ticket
+  pub wait : MatchOption seat.wait (Unit {0}) (λ (wait : Pending).
+      (wait.id ≡ seat.last_ticket) × (wait.number ≤ seat.last_wait) × ((ticket : Held) → Contains seat.held ticket → ticket.id < wait.id))
+
+-- books and sessions tell the same
+pub record IsTied (core : Core) : Type 0 where
+  -- two places have two keys
+  pub keys : (one other : ℕ) → has_key one core ≡ true → has_key other core ≡ true → key_at one core ≡ key_at other core → one ≡ other
+  -- what stands in a book is of a session, and in a mode of the lock's kind
+  pub granted_by : (place : ℕ) → has_key place core ≡ true → (ticket : Ticket) → Contains (book_at place core).granted ticket
+      → (has_session ticket.session core ≡ true) × IsTrue (is_mode_of (lock_kind (book_at place core)) ticket.mode)
+  pub waiting_by : (place : ℕ) → has_key place core ≡ true → (ticket : Ticket) → Contains (book_at place core).waiting ticket
+      → (has_session ticket.session core ≡ true) × IsTrue (is_mode_of (lock_kind (book_at place core)) ticket.mode)
+  -- granted tickets are what sessions have, and waiting ones what they wait for
+  pub granted : (who : ℕ) (ticket : Held) → has_session who core ≡ true → has_key ticket.place core ≡ true
+      → Contains (book_at ticket.place core).granted (in_book_of who ticket) ↔ Has (seat_at who core) ticket
+  pub waiting : (who : ℕ) (ticket : Held) → has_session who core ≡ true → has_key ticket.place core ≡ true
+      → Contains (book_at ticket.place core).waiting (in_book_of who ticket) ↔ WaitsFor (seat_at who core) ticket
+  -- at places that have keys
+  pub placed : (who : ℕ) (ticket : Held) → has_session who core ≡ true → Has (seat_at who core) ticket ⊎ WaitsFor (seat_at who core) ticket
+      → has_key ticket.place core ≡ true
+  -- each stands there once, and a session waits once at most
+  pub granted_once : (place : ℕ) → has_key place core ≡ true
+      → AllPairs (λ (one other : Ticket). ticket_id one ≢ ticket_id other) (book_at place core).granted
+  pub waiting_once : (place : ℕ) → has_key place core ≡ true
+      → AllPairs (λ (one other : Ticket). one.session ≢ other.session) (book_at place core).waiting
+  pub numbered : (who : ℕ) → has_session who core ≡ true → IsNumbered (seat_at who core)
+
+-- all that is always so
+pub record IsSound (core : Core) : Type 0 where
+  pub tied : IsTied core
+  pub lawful : IsLawful (system_of core)
+  pub none_forgotten : NoneForgotten (system_of core)

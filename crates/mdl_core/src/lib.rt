@@ -1,0 +1,22 @@
+//! The lock space of one thread as data: books by place and seats by session (`specs/Cores`), what a call changes of them
+//! (`specs/Moves`), and what each call answers and does (`specs/CoreCalls`).
+//!
+//! Its laws say that this is the system of locks that a reader believes: each call is an event of it, and grants of waiters.
+//! The program that keeps such a space is `CoreSpace` of `mdl_space`.
+#![tactic(auto)]
+
+mod core_laws;
+mod new_error;
+mod pending;
+mod session_laws;
+
+pub use core_laws::{
+    calls_are_events, calls_keep_sound, calls_lead_by_events, grants_what_is_grantable,
+    only_new_waits_make_deadlocks, searches_find_deadlocks, searches_leave_no_deadlock,
+    searches_suffice, searching_ends_deadlocks, waiting_leaves_no_deadlock,
+};
+pub use new_error::NewError;
+pub use pending::Pending;
+pub use session_laws::{
+    kills_just_that_wait, refuses_for_cause, sessions_have_what_the_system_says,
+};

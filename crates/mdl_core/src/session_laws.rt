@@ -1,0 +1,20 @@
+//! Laws of what a session has in the space of one thread, and of what its calls are told. Each is proved as the contract of a
+//! function that does nothing.
+ghost use Rattle.mdl_core.specs.SessionLaws.{SessionsHaveWhatTheSystemSays, KillsJustThatWait, RefusesForCause};
+
+/// What a session holds, and how its wait stands, is what the system of locks says of it, and nothing there is of what is no
+/// session.
+pub fn sessions_have_what_the_system_says()
+    ensures { SessionsHaveWhatTheSystemSays }
+{}
+
+/// A kill says that it killed exactly where the session's wait has the number and is unsettled, as it then stands in the system
+/// of locks, and else changes nothing. The number that is told of a wait is that of the session's wait.
+pub fn kills_just_that_wait()
+    ensures { KillsJustThatWait }
+{}
+
+/// No call is refused for want of a place, for a full lock or for a full counter where that limit isn't met.
+pub fn refuses_for_cause()
+    ensures { RefusesForCause }
+{}

@@ -1,6 +1,0 @@
--- By its lemma.
-use Rattle.mdl_space.specs.Lemmas.CoreSound.{calls_are-events}
-use Rattle.mdl_space.proofs.core_laws.calls_are_events.Goals as goal
-
-pub returns : goal.returns
-returns g c = calls_are-events g.row.C.Denot

@@ -1,6 +1,0 @@
--- By its lemma.
-use Rattle.mdl_space.specs.Lemmas.CoreSound.{grants-grantable}
-use Rattle.mdl_space.proofs.core_laws.grants_what_is_grantable.Goals as goal
-
-pub returns : goal.returns
-returns c = grants-grantable

@@ -1,6 +1,0 @@
--- By its lemma.
-use Rattle.mdl_space.specs.Lemmas.DeadlockCauses.{only-new_waits}
-use Rattle.mdl_space.proofs.core_laws.only_new_waits_make_deadlocks.Goals as goal
-
-pub returns : goal.returns
-returns c = only-new_waits

@@ -1,6 +1,0 @@
--- By its lemma.
-use Rattle.mdl_space.specs.Lemmas.SearchRuns.{searches-find}
-use Rattle.mdl_space.proofs.core_laws.searches_find_deadlocks.Goals as goal
-
-pub returns : goal.returns
-returns c = searches-find

@@ -1,7 +1,0 @@
--- By its lemma.
-use Rattle.mdl_space.specs.Lemmas.CoreSound.{calls_keep-sound}
-use Rattle.mdl_space.specs.Lemmas.SearchRuns.{searches-suffice}
-use Rattle.mdl_space.proofs.core_laws.searches_suffice.Goals as goal
-
-pub returns : goal.returns
-returns c = searches-suffice calls_keep-sound

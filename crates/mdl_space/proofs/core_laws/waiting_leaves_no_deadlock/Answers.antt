@@ -1,6 +1,0 @@
--- By its lemma.
-use Rattle.mdl_space.specs.Lemmas.DeadlockCauses.{waiting-leaves}
-use Rattle.mdl_space.proofs.core_laws.waiting_leaves_no_deadlock.Goals as goal
-
-pub returns : goal.returns
-returns c = waiting-leaves

@@ -1,6 +1,0 @@
--- By its lemma.
-use Rattle.mdl_space.proofs.HeldLemmas.{stands-still}
-use Rattle.mdl_space.proofs.laws.definitions_stand_still.Goals as goal
-
-pub returns : goal.returns
-returns g c = stands-still

@@ -1,6 +1,0 @@
--- By its lemma.
-use Rattle.mdl_space.proofs.HeldAfter.{held-after}
-use Rattle.mdl_space.proofs.laws.events_change_held.Goals as goal
-
-pub returns : goal.returns
-returns g c = held-after

@@ -1,6 +1,0 @@
--- By its lemma.
-use Rattle.mdl_space.specs.Lemmas.ConcernLemmas.{step-concerns}
-use Rattle.mdl_space.proofs.laws.events_concern_one_key.Goals as goal
-
-pub returns : goal.returns
-returns g c = step-concerns

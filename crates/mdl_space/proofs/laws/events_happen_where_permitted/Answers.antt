@@ -1,6 +1,0 @@
--- By its lemma.
-use Rattle.mdl_space.proofs.NextSystems.{happens-where_permitted}
-use Rattle.mdl_space.proofs.laws.events_happen_where_permitted.Goals as goal
-
-pub returns : goal.returns
-returns g c = happens-where_permitted

@@ -1,6 +1,0 @@
--- By its lemma.
-use Rattle.mdl_space.specs.Lemmas.BookLemmas.{grantable-by_lists}
-use Rattle.mdl_space.proofs.laws.grantable_by_lists.Goals as goal
-
-pub returns : goal.returns
-returns g c = grantable-by_lists

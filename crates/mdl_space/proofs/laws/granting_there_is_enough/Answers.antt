@@ -1,6 +1,0 @@
--- By its lemma.
-use Rattle.mdl_space.specs.Lemmas.ConcernLemmas.{granting-there}
-use Rattle.mdl_space.proofs.laws.granting_there_is_enough.Goals as goal
-
-pub returns : goal.returns
-returns g c = granting-there

@@ -1,6 +1,0 @@
--- By what covers and what still waits.
-use Rattle.mdl_space.specs.Lemmas.BlockingLemmas.{more-blocks}
-use Rattle.mdl_space.proofs.laws.more_blocks_more.Goals as goal
-
-pub returns : goal.returns
-returns g c = more-blocks

@@ -1,6 +1,0 @@
--- By its lemma.
-use Rattle.mdl_space.proofs.HeldLemmas.{others-hold}
-use Rattle.mdl_space.proofs.laws.others_hold_the_same.Goals as goal
-
-pub returns : goal.returns
-returns g c = others-hold

@@ -1,6 +1,0 @@
--- By its lemma.
-use Rattle.mdl_space.proofs.SmallSystems.{possible}
-use Rattle.mdl_space.proofs.laws.plausible_events_happen.Goals as goal
-
-pub returns : goal.returns
-returns g c = possible

@@ -1,6 +1,0 @@
--- By one step, by a run, and at the start.
-use Rattle.mdl_space.proofs.NumberingLemmas.{step-well, run-well, empty-well}
-use Rattle.mdl_space.proofs.laws.steps_keep_well_numbered.Goals as goal
-
-pub returns : goal.returns
-returns g c = λ apply. (step-well apply, run-well apply, empty-well g.row.D.Denot)

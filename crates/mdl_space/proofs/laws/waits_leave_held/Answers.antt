@@ -1,6 +1,0 @@
--- By its lemma.
-use Rattle.mdl_space.proofs.NumberingLemmas.{leaves-held}
-use Rattle.mdl_space.proofs.laws.waits_leave_held.Goals as goal
-
-pub returns : goal.returns
-returns g c = leaves-held

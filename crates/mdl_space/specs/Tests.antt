@@ -1,0 +1,2 @@
+pub mod LoneSessions
+pub mod Visits

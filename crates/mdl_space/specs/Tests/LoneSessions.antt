@@ -1,0 +1,97 @@
+-- A lock space that speaks for one session alone and has one key: others come and go between its calls, so that what a
+-- call answers isn't told by what was before it.
+use Rattle.std.specs.Prelude.{◌≡◌, ℕ, true, false, List, [], ◌∷◌, Option, Some, None, is_some}
+use Rattle.std.specs.Option.{IfSome}
+use Rattle.mdl_key.specs.Keys.{KeyName}
+use Rattle.mdl_calls.specs.declared.answers.Held.{Held}
+use Rattle.mdl_calls.specs.declared.answers.Settled.{Settled}
+use Rattle.mdl_calls.specs.declared.answers.Settled.TheVariants.{Killed, Victim}
+use Rattle.mdl_calls.specs.Calls.{Call, Resolve, Search, End_wait, Wait_of, Kill, caller}
+use Rattle.mdl_calls.specs.Answers.{Answer, At_place, Victim_is, Has_wait, Has_killed, Holds, is_answer_of}
+use Rattle.mdl_calls.specs.Own.{Own, Numbers, own_after, wait_number, is_waiting, IsRising, Draws}
+use Rattle.mdl_calls.specs.Causes.{IsExplained}
+use Rattle.mdl_calls.specs.Waits.{told, IsToldOf}
+
+-- what is known of such a space: its session and its key, what the session has, how its wait is settled,
+-- and the last numbers that its tickets and waits were given
+pub record Lone : Type 0 where
+  pub who : ℕ
+  pub key : KeyName
+  pub own : Own
+  pub settled : Option Settled
+  pub numbers : Numbers
+
+-- a session that has nothing
+abbrev pub alone : ℕ → KeyName → Lone
+alone who key = record {
+  who = who;
+  key = key;
+  own = record { held = []; wait = None };
+  settled = None;
+  numbers = record { last_ticket = 0; last_wait = 0 };
+}
+
+-- with other numbers
+abbrev pub numbering : Numbers → Lone → Lone
+numbering numbers a = record a { numbers = numbers }
+
+-- the value, where there is one at all
+abbrev pub last_of : {A : Type 0} → Option (Option A) → Option A
+last_of None = None
+last_of (Some value) = value
+
+-- all tickets are of place 1
+abbrev pub AreAtOne : List Held → Type 0
+AreAtOne [] = Unit {0}
+AreAtOne (ticket ∷ tickets) = (ticket.place ≡ 1) × AreAtOne tickets
+
+-- what is always so: the numbers of tickets rise, only a wait is settled, and tickets and waits are of place 1
+pub record IsWhole (a : Lone) : Type 0 where
+  pub rising : IsRising a.own
+  pub waits : (how : Settled) → a.settled ≡ Some how → is_waiting a.own ≡ true
+  pub held : AreAtOne a.own.held
+  pub wait : IfSome a.own.wait (λ wait. wait.place ≡ 1)
+
+-- the space speaks for its session
+abbrev pub SpeaksFor : Lone → ℕ → Type 0
+SpeaksFor a who = (who ≡ a.who) × IsWhole a
+
+-- its key is at place 1
+abbrev pub Knows : Lone → ℕ → ℕ → KeyName → Type 0
+Knows a who place key = (who ≡ a.who) × (place ≡ 1) × (key ≡ a.key)
+
+-- the wait is settled so
+abbrev pub IsSettled : Lone → ℕ → Settled → Type 0
+IsSettled a who how = (who ≡ a.who) × (a.settled ≡ Some how)
+
+-- what an answer of these calls says beside what it does
+abbrev pub IsTold : Lone → Call → Answer → Lone → Type 0
+IsTold a (Resolve who key) (At_place place) b = (place ≡ 1) × (key ≡ a.key)
+IsTold a (Search who) (Victim_is victim) b = (victim ≡ a.who) × (b.settled ≡ Some Victim)
+IsTold a (Wait_of target) (Has_wait number) b = target ≡ a.who → number ≡ wait_number a.own
+IsTold a (Kill target number) (Has_killed true) b =
+    (target ≡ a.who) × (wait_number a.own ≡ Some number) × (b.settled ≡ Some Killed)
+IsTold a (Kill target number) (Has_killed false) b =
+    target ≡ a.who → wait_number a.own ≡ Some number → is_some b.settled ≡ true
+IsTold a call (Holds tickets) b = tickets ≡ a.own.held
+IsTold a _ _ b = Unit {0}
+
+-- how the wait is settled after a call, where it was settled before it
+abbrev pub Stays : Call → Option Settled → Option Settled → Type 0
+Stays (End_wait who) before after = Unit {0}
+Stays call None after = Unit {0}
+Stays call before after = after ≡ before
+
+-- what every call and its answer keep to
+pub record Joins (a : Lone) (call : Call) (answer : Answer) (b : Lone) : Type 0 where
+  pub allowed : IfSome (caller call) (SpeaksFor a)
+  pub same : (b.who ≡ a.who) × (b.key ≡ a.key)
+  pub changed : b.own ≡ own_after call answer a.own
+  pub whole : IsWhole a → IsWhole b
+  pub fits : is_answer_of call answer ≡ true
+  pub explained : IsExplained (Knows a a.who) call answer a.own
+  pub told_truly : IsTold a call answer b
+  pub told_end : IfSome (told call answer) (λ how. b.settled ≡ Some how)
+  pub stays : Stays call a.settled b.settled
+  pub drawn : Draws call answer a.numbers b.numbers
+  pub agreed : IfSome a.settled (λ how. IsToldOf how call answer)

@@ -1,0 +1,16 @@
+pub mod ApartLemmas
+pub mod BlockingLemmas
+pub mod BookLemmas
+pub mod ConcernLemmas
+pub mod DeadlockRounds
+pub mod Deciding
+pub mod GrantingRuns
+pub mod HeldAfter
+pub mod HeldLemmas
+pub mod LawfulLemmas
+pub mod MemberLemmas
+pub mod NextSystems
+pub mod NumberingLemmas
+pub mod OrderLemmas
+pub mod SmallSystems
+pub mod StrengthLemmas

@@ -1,0 +1,9 @@
+pub mod BlockingLaws
+pub mod BookLaws
+pub mod Deadlocks
+pub mod Events
+pub mod NumberingLaws
+pub mod PermittedEvents
+pub mod Strength
+pub mod SystemLaws
+pub mod Systems

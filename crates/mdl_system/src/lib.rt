@@ -1,0 +1,17 @@
+//! The system of locks, as a reader believes it: who holds what, who waits for what and what is defined (`specs/Systems`), what
+//! can happen in it (`specs/Events`), deadlocks over it (`specs/Deadlocks`), and the laws of these.
+//!
+//! It has no places, no limits, and nothing of how locks are kept. Whoever keeps them shows that what he does is an event here.
+#![tactic(auto)]
+
+mod laws;
+mod strength;
+
+pub use laws::{
+    changes_by_lists, covers_by_kind, definitions_change_exclusively, definitions_stand_still,
+    events_change_held, events_concern_one_key, events_happen_where_permitted, grantable_by_lists,
+    granting_comes_to_an_end, granting_there_is_enough, lawful_by_lists, more_blocks_more,
+    nobody_forgotten_unless_freed, only_going_frees, others_hold_the_same, plausible_events_happen,
+    steps_keep_lawful, steps_keep_well_numbered, waits_leave_held,
+};
+pub use strength::covers;
