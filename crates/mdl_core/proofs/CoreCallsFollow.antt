@@ -16,7 +16,7 @@ use Rattle.mdl_calls.specs.Calls.{Call, Resolve, Try_now, Begin_wait}
 use Rattle.mdl_core.specs.CoreCalls.{first_cause, refused_or, is_counted_out, is_full, placing, resolving, request_causes, granted_unless_full, queued_unless_full, trying, beginning, is_open_wait}
 use Rattle.mdl_core.specs.CoreLaws.{IsEventOf}
 use Rattle.mdl_core.specs.Cores.{Core, book_at, seat_at, key_at, has_key, has_session, index_of, is_free}
-use Rattle.mdl_core.specs.Moves.{next_ticket, opening, granting_to, queueing}
+use Rattle.mdl_core.specs.Changes.{next_ticket, opening, granting_to, queueing}
 use Rattle.mdl_system.specs.Events.{Event, Grant, BeginWait}
 use Rattle.mdl_system.specs.Systems.{Unsettled}
 use Rattle.mdl_core.specs.Ties.{IsTied, IsSound}

@@ -12,12 +12,13 @@ use Rattle.mdl_core.specs.declared.pending.Pending.{Pending}
 use Rattle.mdl_system.specs.BookLaws.{of_lock}
 use Rattle.mdl_core.specs.Cores.{Core, book_at, seat_at, key_at, has_key, has_session, is_free}
 use Rattle.mdl_core.specs.CoreSystems.{system_of, state_of, waiter_of, waiter_in}
-use Rattle.mdl_core.specs.Moves.{next_ticket, granting_to, queueing, losing, taking_up, leaving, freeing, admitting_at, is_unsettled}
+use Rattle.mdl_core.specs.Changes.{next_ticket, granting_to, queueing, losing, taking_up, leaving, freeing, admitting_at, is_unsettled}
 use Rattle.mdl_system.specs.Events.{SameMembers, Gains, SameWaits, SameSystem, ElseSame, GrantsNew, ClonesTicket, BeginsWait, GrantsWaiter, SettlesLost, EndsGrantedWait, EndsLostWait, Releases}
 use Rattle.mdl_system.specs.Strength.{covers}
 use Rattle.mdl_system.specs.Systems.{Unsettled, System, Held as Holds, IsGrantable}
 use Rattle.mdl_core.specs.Ties.{IsTied, in_book_of}
-use Rattle.mdl_core.proofs.CoreGranted.{free-grantable, holding_of, granted-of_held, new_number}
+use Rattle.mdl_core.specs.ChangeEvents.{holding_of}
+use Rattle.mdl_core.proofs.CoreGranted.{free-grantable, granted-of_held, new_number}
 use Rattle.mdl_core.proofs.CoreSettling.{waiting-queueing, waiting-losing, waiting-taking_up, waiting-leaving, waiting-admitting}
 use Rattle.mdl_core.proofs.CoreUnended.{not_unended}
 use Rattle.mdl_core.proofs.CoreWaiting.{waiting_of, no_wait}
@@ -79,13 +80,13 @@ granting-clones core who ticket mode tied after has key free among strong fit = 
   rest = else_same core (granting_to who ticket.place mode core) (waits-granting core who ticket.place mode tied has key free after);
 }
 
-pub freeing-releases : (core : Core) (who : ℕ) (ticket : Held) → IsTied core → IsTied (freeing who ticket.place ticket.id core)
+pub freeing-releases : (core : Core) (who : ℕ) (ticket : Held) → IsTied core → IsTied (freeing who ticket core)
     → has_session who core ≡ true → Contains (seat_at who core).held ticket
-    → Releases (holding_of who ticket core) (system_of core) (system_of (freeing who ticket.place ticket.id core))
+    → Releases (holding_of who ticket core) (system_of core) (system_of (freeing who ticket core))
 freeing-releases core who ticket tied after has among = record {
   held = held-in core who ticket tied has among;
   granted = granted-freeing core who ticket tied has among after;
-  rest = else_same core (freeing who ticket.place ticket.id core) (waits-freeing core who ticket tied has among after);
+  rest = else_same core (freeing who ticket core) (waits-freeing core who ticket tied has among after);
 }
 
 -- ---- waits

@@ -9,7 +9,7 @@ use Rattle.mdl_calls.specs.Calls.{Call}
 use Rattle.mdl_core.specs.CoreLaws.{is_change, IsEventOf, GrantsInOrder}
 use Rattle.mdl_core.specs.Cores.{Core, key_at, has_key}
 use Rattle.mdl_core.specs.CoreSystems.{system_of}
-use Rattle.mdl_core.specs.Moves.{serving}
+use Rattle.mdl_core.specs.Changes.{serving}
 use Rattle.mdl_system.specs.Events.{Event, Happens, SameSystem}
 use Rattle.mdl_system.specs.Systems.{System, Waiter, NoneForgotten, IsLawful}
 use Rattle.mdl_core.specs.Ties.{IsTied, IsSound}

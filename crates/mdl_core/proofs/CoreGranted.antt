@@ -12,6 +12,7 @@ use Rattle.mdl_calls.specs.declared.answers.Settled.TheVariants as settled_as
 use Rattle.mdl_core.specs.declared.pending.Pending.{Pending}
 use Rattle.mdl_system.specs.BookLaws.{in_book, of_lock, IsGrantedByLists}
 use Rattle.mdl_core.specs.Cores.{Core, book_at, seat_at, key_at, has_key, has_session, index_of, is_free}
+use Rattle.mdl_core.specs.ChangeEvents.{holding_of}
 use Rattle.mdl_core.specs.CoreSystems.{granted_in, book_found, book_of, waiter_of, waiter_in, system_of}
 use Rattle.mdl_core.specs.Seats.{SeatView, ticket_of_wait}
 use Rattle.mdl_system.specs.Events.{IsNewNumber}
@@ -109,10 +110,6 @@ free-grantable core who place mode tied has =
     ((λ free. by.1 (same ∙ free)), λ grantable. sym same ∙ by.0 grantable)
 
 -- ---- what a session has
-
--- a held ticket as a granted one of the system
-abbrev pub holding_of : ℕ → Held → Core → Holding
-holding_of who ticket core = record { session = who; number = ticket.id; key = key_at ticket.place core; mode = ticket.mode }
 
 pub granted-of_held : (core : Core) (who : ℕ) (ticket : Held) → IsTied core → has_session who core ≡ true → Contains (seat_at who core).held ticket
     → Contains (system_of core).granted (holding_of who ticket core)

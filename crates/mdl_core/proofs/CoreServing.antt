@@ -13,7 +13,7 @@ use Rattle.mdl_system.specs.BlockingLaws.{IsGrantAt}
 use Rattle.mdl_core.specs.CoreLaws.{IsFirst, GrantsInOrder}
 use Rattle.mdl_core.specs.Cores.{Core, book_at, seat_at, key_at, has_key, is_free, seating}
 use Rattle.mdl_core.specs.CoreSystems.{system_of, book_of, waiter_in}
-use Rattle.mdl_core.specs.Moves.{admitting_at, admitting_if, admitting_up_to, is_ready, is_unsettled, next_ready, serving}
+use Rattle.mdl_core.specs.Changes.{admitting_at, admitting_if, admitting_up_to, is_ready, is_unsettled, next_ready, serving}
 use Rattle.mdl_core.specs.Seats.{settling}
 use Rattle.mdl_system.specs.Events.{Event, GrantWaiter, Run, LeavesOrder}
 use Rattle.mdl_system.specs.Systems.{IsGrantable, NoneForgottenAt, Unsettled, Waiter}

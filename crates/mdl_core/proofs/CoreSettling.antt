@@ -13,7 +13,7 @@ use Rattle.mdl_calls.specs.declared.answers.Settled.TheVariants as settled_as
 use Rattle.mdl_core.specs.declared.pending.Pending.{Pending}
 use Rattle.mdl_core.specs.Cores.{Core, book_at, seat_at, key_at, has_key, has_session, booking, seating}
 use Rattle.mdl_core.specs.CoreSystems.{state_of, waiter_of, waiter_in, unended_at, unended_of, system_of}
-use Rattle.mdl_core.specs.Moves.{next_ticket, queueing, losing, taking_up, leaving, admitting_at, is_unsettled}
+use Rattle.mdl_core.specs.Changes.{next_ticket, queueing, losing, taking_up, leaving, admitting_at, is_unsettled}
 use Rattle.mdl_core.specs.Seats.{SeatView, beginning_wait, is_open, settling, without_wait, with_ticket_of}
 use Rattle.mdl_system.specs.Events.{SameMembers, Gains, Loses, LeavesOrder, TakesTurn, SameElsewhere, SameAt, granted_wait}
 use Rattle.mdl_system.specs.Systems.{Unsettled, Waiter, GrantedWait}

@@ -17,7 +17,7 @@ use Rattle.mdl_core.specs.CoreJoins.{Joins, SpeaksFor}
 use Rattle.mdl_core.specs.CoreLaws.{is_change, IsEventOf, Reaches, CallsAreEvents, CallsKeepSound, GrantsWhatIsGrantable, GrantsInOrder, Joined}
 use Rattle.mdl_core.specs.Cores.{Core, empty_core, seat_at, book_at, key_at, has_key, is_free}
 use Rattle.mdl_core.specs.CoreSystems.{system_of, unended_from}
-use Rattle.mdl_core.specs.Moves.{granting_to, queueing}
+use Rattle.mdl_core.specs.Changes.{granting_to, queueing}
 use Rattle.mdl_core.specs.Seats.{empty_seat}
 use Rattle.mdl_system.specs.Events.{Event, Happens, Run, SameMembers, SameSystem}
 use Rattle.mdl_system.specs.Systems.{System, empty_system, IsGrantable, IsLawful, NoneForgotten}

@@ -15,10 +15,10 @@ use Rattle.mdl_calls.specs.declared.answers.Settled.TheVariants as settled_as
 use Rattle.mdl_core.specs.declared.pending.Pending.{Pending}
 use Rattle.mdl_core.specs.Cores.{Core, book_at, seat_at, key_at, has_key, has_session, index_of}
 use Rattle.mdl_core.specs.CoreSystems.{book_found, book_of, state_of, waiter_of, waiter_in, system_of}
-use Rattle.mdl_core.specs.Moves.{is_unsettled}
+use Rattle.mdl_core.specs.Changes.{is_unsettled}
 use Rattle.mdl_core.specs.Seats.{SeatView, is_open, ticket_of_wait}
 use Rattle.mdl_system.specs.Systems.{Unsettled, Waiter, GrantedWait, HasNoWait}
-use Rattle.mdl_core.specs.Ties.{WaitsFor, in_book_of, IsTied}
+use Rattle.mdl_core.specs.Ties.{Awaits, in_book_of, IsTied}
 use Rattle.mdl_core.proofs.CoreReads.{within, found-at, found}
 use Rattle.mdl_core.proofs.CoreUnended.{own-unended, granted_of}
 use Rattle.mdl_system.proofs.OrderLemmas.{Contains-here, Contains-later, Contains-cons_cases, middle}
@@ -89,7 +89,7 @@ pub record IsWaitAt (core : Core) (place : ℕ) (ticket : Ticket) (wait : Pendin
   pub there : wait.place ≡ place
   pub stands : record { session = ticket.session; number = wait.id; mode = wait.mode } ≡ ticket
 
-waits_for-wait : (seat : SeatView) (o : Option Pending) (ticket : Held) → seat.wait ≡ o → WaitsFor seat ticket
+waits_for-wait : (seat : SeatView) (o : Option Pending) (ticket : Held) → seat.wait ≡ o → Awaits seat ticket
     → (wait : Pending) × (seat.wait ≡ Some wait) × (wait.settled ≢ Some settled_as.Granted) × (ticket ≡ ticket_of_wait wait)
 waits_for-wait seat None ticket e waits =
     absurd (subst (λ o. MatchOption o ⊥ (λ (wait : Pending). (wait.settled ≢ Some settled_as.Granted) × (ticket ≡ ticket_of_wait wait))) e waits)
@@ -117,7 +117,7 @@ pub place_of_wait : (core : Core) (who : ℕ) (wait : Pending) → IsTied core �
     → wait.settled ≢ Some settled_as.Granted
     → (has_key wait.place core ≡ true) × Contains (book_at wait.place core).waiting (record { session = who; number = wait.id; mode = wait.mode })
 place_of_wait core who wait tied has is other =
-    let waits : WaitsFor (seat_at who core) (ticket_of_wait wait) =
+    let waits : Awaits (seat_at who core) (ticket_of_wait wait) =
     subst (λ o. MatchOption o ⊥ (λ (w : Pending). (w.settled ≢ Some settled_as.Granted) × (ticket_of_wait wait ≡ ticket_of_wait w))) (sym is) (other, refl) in
     let key = tied.placed who (ticket_of_wait wait) has (inr waits) in
     (key, (tied.waiting who (ticket_of_wait wait) has key).1 waits)

@@ -11,7 +11,7 @@ use Rattle.mdl_book.specs.Books.{empty_book, granting, removing}
 use Rattle.mdl_calls.specs.declared.answers.Held.{Held}
 use Rattle.mdl_core.specs.Cores.{Core, book_at, seat_at, key_at, has_key, has_session, index_of, booking, seating}
 use Rattle.mdl_core.specs.CoreSystems.{book_found, book_of, waiter_of, waiter_in, unended_of, system_of}
-use Rattle.mdl_core.specs.Moves.{next_ticket, opening, granting_to, freeing}
+use Rattle.mdl_core.specs.Changes.{next_ticket, opening, granting_to, freeing}
 use Rattle.mdl_core.specs.Seats.{SeatView, holding, without_ticket}
 use Rattle.mdl_system.specs.Events.{SameElsewhere, SameWaits}
 use Rattle.mdl_core.specs.Ties.{IsTied}
@@ -174,7 +174,7 @@ waits-granting core who place mode tied has has_place none after =
     waits-kept core who place (holding place mode (seat_at who core)) (granting (next_ticket who mode core) (book_at place core)) tied has has_place refl refl refl
 
 pub waits-freeing : (core : Core) (who : ℕ) (ticket : Held) → IsTied core → has_session who core ≡ true → Contains (seat_at who core).held ticket
-    → IsTied (freeing who ticket.place ticket.id core) → SameWaits (system_of core) (system_of (freeing who ticket.place ticket.id core))
+    → IsTied (freeing who ticket core) → SameWaits (system_of core) (system_of (freeing who ticket core))
 waits-freeing core who ticket tied has held after =
     waits-kept core who ticket.place (without_ticket ticket.id (seat_at who core)) (removing who ticket.id (book_at ticket.place core)) tied has
     (tied.placed who ticket has (inl (inl held))) refl refl refl

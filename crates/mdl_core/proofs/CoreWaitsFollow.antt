@@ -21,7 +21,7 @@ use Rattle.mdl_core.specs.CoreCalls.{first_cause, refused_or, is_counted_out, is
 use Rattle.mdl_core.specs.CoreLaws.{IsEventOf}
 use Rattle.mdl_core.specs.Cores.{Core, book_at, seat_at, key_at, has_key, has_session, booking, seating}
 use Rattle.mdl_core.specs.CoreSystems.{state_of}
-use Rattle.mdl_core.specs.Moves.{granting_to, losing, taking_up, leaving, freeing, serving}
+use Rattle.mdl_core.specs.Changes.{granting_to, losing, taking_up, leaving, freeing, serving}
 use Rattle.mdl_calls.specs.Own.{is_number}
 use Rattle.mdl_core.specs.Seats.{SeatView, is_open, without_wait, without_ticket}
 use Rattle.mdl_system.specs.Events.{Clone, SettleLost, EndGrantedWait, EndLostWait, Release as Give_up}
@@ -31,7 +31,7 @@ use Rattle.mdl_core.proofs.CoreEvents.{granting-clones, freeing-releases, losing
 use Rattle.mdl_core.proofs.CoreFollows.{Follows, LeadsTo, follows-same, follows-event, follows-serving}
 use Rattle.mdl_core.proofs.CoreReads.{has_key-booking, booked-same}
 use Rattle.mdl_core.proofs.CoreServing.{found-first}
-use Rattle.mdl_core.proofs.CoreGranted.{holding_of}
+use Rattle.mdl_core.specs.ChangeEvents.{holding_of}
 use Rattle.mdl_core.proofs.CoreWaiting.{waiting_of, place_of_wait}
 use Rattle.mdl_core.proofs.TiedMoves.{tied-granting, tied-losing, tied-taking_up, tied-leaving, tied-freeing}
 use Rattle.mdl_core.proofs.CoreCallsFollow.{clone_clear, none_there, unsettled_wait}
@@ -160,7 +160,7 @@ module _ {C : Type 0} (apply : KeyName → C → Option Definition → Option (O
           let key = tied.placed who ticket has (inl (inl mine.0)) in
           let after = tied-freeing a who ticket tied has mine.0 in
           let same = key-written a ticket.place who (removing who ticket.id (book_at ticket.place a)) (without_ticket ticket.id (seat_at who a)) key in
-          follows-serving apply a (Release who id) Done (freeing who ticket.place ticket.id a) ticket.place (Give_up (holding_of who ticket a)) sound after
+          follows-serving apply a (Release who id) Done (freeing who ticket a) ticket.place (Give_up (holding_of who ticket a)) sound after
           (has_key-booking (seating who (without_ticket ticket.id (seat_at who a)) a) ticket.place ticket.place (removing who ticket.id (book_at ticket.place a)) ∙ key)
           (holding_of who ticket a, refl, mine.1, refl)
           (λ other e. sym e ∙ sym same)

@@ -20,12 +20,13 @@ use Rattle.mdl_core.specs.declared.pending.Pending.{Pending}
 use Rattle.mdl_system.specs.BookLaws.{in_book, of_lock}
 use Rattle.mdl_core.specs.Cores.{Core, book_at, seat_at, key_at, has_key, has_session, index_of, booking}
 use Rattle.mdl_core.specs.CoreSystems.{granted_in, book_found, book_of, system_of}
-use Rattle.mdl_core.specs.Moves.{next_ticket, opening, granting_to, queueing, losing, taking_up, leaving, freeing, admitting_at}
+use Rattle.mdl_core.specs.Changes.{next_ticket, opening, granting_to, queueing, losing, taking_up, leaving, freeing, admitting_at}
 use Rattle.mdl_core.specs.Seats.{ticket_of_wait}
 use Rattle.mdl_system.specs.Events.{SameMembers, Gains, Loses, Replaces, SameElsewhere}
 use Rattle.mdl_core.specs.Ties.{IsTied, in_book_of}
 use Rattle.mdl_system.proofs.BookLemmas.{changes-by_lists}
-use Rattle.mdl_core.proofs.CoreGranted.{KeysApart, book_of-place, by_lists-apart, holding_of}
+use Rattle.mdl_core.specs.ChangeEvents.{holding_of}
+use Rattle.mdl_core.proofs.CoreGranted.{KeysApart, book_of-place, by_lists-apart}
 use Rattle.mdl_core.proofs.CoreReads.{has_key-booking, booked-same, booked-other, found-at, found}
 use Rattle.mdl_system.proofs.Deciding.{nat_told, key_told}
 use Rattle.mdl_system.proofs.MemberLemmas.{push-gains, find-named, without-named}
@@ -166,8 +167,8 @@ granted-leaving core who wait tied has_who is lost after =
     booking-same core wait.place (cancelling who wait.id (book_at wait.place core)) tied.keys has refl refl
 
 pub granted-freeing : (core : Core) (who : ℕ) (ticket : Held) → IsTied core → has_session who core ≡ true → Contains (seat_at who core).held ticket
-    → IsTied (freeing who ticket.place ticket.id core)
-    → Loses (holding_of who ticket core) (system_of core).granted (system_of (freeing who ticket.place ticket.id core)).granted
+    → IsTied (freeing who ticket core)
+    → Loses (holding_of who ticket core) (system_of core).granted (system_of (freeing who ticket core)).granted
 granted-freeing core who ticket tied has_who held after =
     let has : has_key ticket.place core ≡ true = tied.placed who ticket has_who (inl (inl held)) in
     let there : Contains (book_at ticket.place core).granted (in_book_of who ticket) = (tied.granted who ticket has_who has).1 (inl held) in

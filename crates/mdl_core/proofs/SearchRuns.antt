@@ -23,7 +23,7 @@ use Rattle.mdl_core.specs.Cores.{Core, seat_at, has_session}
 use Rattle.mdl_core.specs.CoreSystems.{system_of}
 use Rattle.mdl_core.specs.SearchLaws.{SearchesFindDeadlocks, SearchesSuffice, SearchesLeaveNoDeadlock}
 use Rattle.mdl_system.specs.Deadlocks.{Wishes, WaitsFor, IsDeadlock, IsChosenDeadlock, IsVictimOf}
-use Rattle.mdl_core.specs.Moves.{losing}
+use Rattle.mdl_core.specs.Changes.{losing}
 use Rattle.mdl_calls.specs.Runs.{Runs, Give}
 use Rattle.mdl_calls.specs.Searches.{SearchEnd, Over, Cut_off, Failed, after_search, seeking}
 use Rattle.mdl_core.specs.Seats.{SeatView, empty_seat, is_open, settling}

@@ -11,7 +11,7 @@ use Rattle.mdl_calls.specs.Answers.{Answer, Refused, At_place, Granted, Would_wa
 use Rattle.mdl_calls.specs.Calls.{Call, Resolve, Try_now, Begin_wait, Search, Poll_wait, Settle_timeout, End_wait, Wait_of, Kill, Release, Clone_ticket, List_held}
 use Rattle.mdl_core.specs.CoreCalls.{has_call, outcome, refused_or, first_cause, is_counted_out, is_full, placing, resolving, request_causes, granted_unless_full, queued_unless_full, trying, beginning, clone_causes, cloning_of, cloning, held_ticket}
 use Rattle.mdl_core.specs.Cores.{Core, book_at, seat_at, has_key, index_of, is_free}
-use Rattle.mdl_core.specs.Moves.{opening, granting_to, queueing}
+use Rattle.mdl_core.specs.Changes.{opening, granting_to, queueing}
 use Rattle.mdl_core.specs.SessionLaws.{IsNowhere, HasNoRoom, HasNoNumber, MeetsLimit, RefusesForCause}
 use Rattle.mdl_core.proofs.CallLaws.Cases.{poll_cases, timeout_cases, end_cases, kill_cases, search_cases, release_cases}
 use Rattle.mdl_core.proofs.CallLaws.Choices.{test_cases}

@@ -8,7 +8,7 @@ use Rattle.mdl_calls.specs.Calls.{Kill, Wait_of}
 use Rattle.mdl_core.specs.CoreCalls.{wait_at, is_open_wait, killing}
 use Rattle.mdl_core.specs.CoreJoins.{Joins, own_at}
 use Rattle.mdl_core.specs.Cores.{Core, seat_at, has_session}
-use Rattle.mdl_core.specs.Moves.{losing}
+use Rattle.mdl_core.specs.Changes.{losing}
 use Rattle.mdl_calls.specs.Own.{wait_number}
 use Rattle.mdl_core.specs.Seats.{SeatView, own_of}
 use Rattle.mdl_core.specs.SessionLaws.{WaitsUnsettled, KillsJustThatWait}

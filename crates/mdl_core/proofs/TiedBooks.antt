@@ -7,7 +7,7 @@ use Rattle.mdl_book.specs.Tickets.{is_ticket, ticket_id}
 use Rattle.mdl_calls.specs.declared.answers.Held.{Held}
 use Rattle.mdl_core.specs.Cores.{Core, book_at, seat_at, has_key, has_session}
 use Rattle.mdl_system.specs.Events.{Gains, Loses}
-use Rattle.mdl_core.specs.Ties.{Has, WaitsFor, in_book_of, IsTied}
+use Rattle.mdl_core.specs.Ties.{Has, Awaits, in_book_of, IsTied}
 use Rattle.mdl_system.proofs.OrderLemmas.{gained-others, lost-others}
 use Rattle.mdl_core.proofs.TiedWrites.{Follows}
 
@@ -113,9 +113,9 @@ module _ (core : Core) (who place : ℕ) (tied : IsTied core) (session : has_ses
   granted-here ticket here =
       subst (λ p. Contains (book_at p core).granted (in_book_of who ticket) ↔ Has (seat_at who core) ticket) here (tied.granted who ticket session (at-key ticket here))
 
-  pub waiting-here : (ticket : Held) → ticket.place ≡ place → Contains (book_at place core).waiting (in_book_of who ticket) ↔ WaitsFor (seat_at who core) ticket
+  pub waiting-here : (ticket : Held) → ticket.place ≡ place → Contains (book_at place core).waiting (in_book_of who ticket) ↔ Awaits (seat_at who core) ticket
   waiting-here ticket here =
-      subst (λ p. Contains (book_at p core).waiting (in_book_of who ticket) ↔ WaitsFor (seat_at who core) ticket) here (tied.waiting who ticket session (at-key ticket here))
+      subst (λ p. Contains (book_at p core).waiting (in_book_of who ticket) ↔ Awaits (seat_at who core) ticket) here (tied.waiting who ticket session (at-key ticket here))
 
   -- what stands in the book as the session's is its
   own-here : (ticket : Ticket) → ticket.session ≡ who → ticket ≡ in_book_of who (record { id = ticket.number; place = place; mode = ticket.mode })
@@ -128,7 +128,7 @@ module _ (core : Core) (who place : ℕ) (tied : IsTied core) (session : has_ses
       (subst (Contains (book_at place core).granted) (own-here ticket own) among)
 
   pub waiting-own : (ticket : Ticket) → ticket.session ≡ who → Contains (book_at place core).waiting ticket
-      → WaitsFor (seat_at who core) (record { id = ticket.number; place = place; mode = ticket.mode })
+      → Awaits (seat_at who core) (record { id = ticket.number; place = place; mode = ticket.mode })
   waiting-own ticket own among =
       (waiting-here (record { id = ticket.number; place = place; mode = ticket.mode }) refl).0
       (subst (Contains (book_at place core).waiting) (own-here ticket own) among)

@@ -16,9 +16,9 @@ use Rattle.mdl_calls.specs.declared.answers.Settled.{Settled}
 use Rattle.mdl_calls.specs.declared.answers.Settled.TheVariants as settled_as
 use Rattle.mdl_core.specs.declared.pending.Pending.{Pending}
 use Rattle.mdl_core.specs.Cores.{Core, empty_core, book_at, seat_at, key_at, index_of, has_key, has_session, booking, seating}
-use Rattle.mdl_core.specs.Moves.{next_ticket, opening, granting_to, queueing, losing, taking_up, leaving, freeing, admitting_at, is_unsettled}
+use Rattle.mdl_core.specs.Changes.{next_ticket, opening, granting_to, queueing, losing, taking_up, leaving, freeing, admitting_at, is_unsettled}
 use Rattle.mdl_core.specs.Seats.{SeatView, empty_seat, holding, without_ticket, beginning_wait, is_open, settling, without_wait, ticket_of_wait, with_ticket_of}
-use Rattle.mdl_core.specs.Ties.{Has, WaitsFor, in_book_of, IsNumbered, IsTied}
+use Rattle.mdl_core.specs.Ties.{Has, Awaits, in_book_of, IsNumbered, IsTied}
 use Rattle.mdl_core.proofs.CoreReads.{within, of_within, found-at}
 use Rattle.mdl_core.proofs.PairLemmas.{none-in, pairs-push, pairs-without, loses-one, found-one}
 use Rattle.mdl_core.proofs.TiedBooks.{other_number, other_session, swap-number, swap-session, alone-number, alone-session, that-is, follows-same, follows-gaining, follows-losing, granted-here, waiting-here, granted-own, waiting-own}
@@ -41,7 +41,7 @@ tied-empty places sessions = record {
   waiting_by = λ place key. absurd (no_key place key);
   granted = λ who ticket session key. absurd (no_key ticket.place key);
   waiting = λ who ticket session key. absurd (no_key ticket.place key);
-  placed = λ who ticket session has. absurd (elim (subst (λ s. Has s ticket ⊎ WaitsFor s ticket) (tied-nothing places sessions who session) has) [
+  placed = λ who ticket session has. absurd (elim (subst (λ s. Has s ticket ⊎ Awaits s ticket) (tied-nothing places sessions who session) has) [
     | inl holds ↦ elim holds [ inl held ↦ none-in ticket held | inr none ↦ none ]
     | inr none ↦ none
   ]);
@@ -120,7 +120,7 @@ module _ (key : KeyName) (core : Core) (tied : IsTied core) (new : index_of key 
     waiting_by = by-place (λ p b. (ticket : Ticket) → Contains b.waiting ticket → (has_session ticket.session core ≡ true) × IsTrue (is_mode_of (lock_kind b) ticket.mode))
         tied.waiting_by (λ ticket among. absurd (none-in ticket among));
     granted = matches (λ b. b.granted) Has refl tied.granted (λ who ticket session had. tied.placed who ticket session (inl had));
-    waiting = matches (λ b. b.waiting) WaitsFor refl tied.waiting (λ who ticket session waits. tied.placed who ticket session (inr waits));
+    waiting = matches (λ b. b.waiting) Awaits refl tied.waiting (λ who ticket session waits. tied.placed who ticket session (inr waits));
     placed = λ who ticket session has. still ticket.place (tied.placed who ticket session has);
     granted_once = by-place (λ p b. AllPairs other_number b.granted) tied.granted_once (λ i j d lt short. absurd (omega arith));
     waiting_once = by-place (λ p b. AllPairs other_session b.waiting) tied.waiting_once (λ i j d lt short. absurd (omega arith));
@@ -169,7 +169,7 @@ module _ (core : Core) (who place : ℕ) (mode : Mode) (tied : IsTied core) (ses
     granted = follows-gaining who place book.granted (book.granted ++ next_ticket who mode core ∷ []) (Has seat) (Has (holding place mode seat))
         (granted-here core who place tied session key) new refl (push-gains (next_ticket who mode core) book.granted)
         (has-holding seat place mode (tied.numbered who session) none);
-    waiting = follows-same who place book.waiting book.waiting (WaitsFor seat) (WaitsFor (holding place mode seat))
+    waiting = follows-same who place book.waiting book.waiting (Awaits seat) (Awaits (holding place mode seat))
         (waiting-here core who place tied session key) (λ ticket. same) (λ ticket. same);
     mode = λ ticket has. elim has [
       | inl holds ↦ elim ((has-holding seat place mode (tied.numbered who session) none ticket).0 holds) [
@@ -188,7 +188,7 @@ module _ (core : Core) (who place : ℕ) (mode : Mode) (tied : IsTied core) (ses
     same_key = refl;
     granted = follows-same who place book.granted book.granted (Has seat) (Has (beginning_wait place mode seat))
         (granted-here core who place tied session key) (λ ticket. same) (has-beginning seat place mode (tied.numbered who session) none);
-    waiting = follows-gaining who place book.waiting (book.waiting ++ next_ticket who mode core ∷ []) (WaitsFor seat) (WaitsFor (beginning_wait place mode seat))
+    waiting = follows-gaining who place book.waiting (book.waiting ++ next_ticket who mode core ∷ []) (Awaits seat) (Awaits (beginning_wait place mode seat))
         (waiting-here core who place tied session key) new refl (push-gains (next_ticket who mode core) book.waiting)
         (waits-beginning seat place mode (tied.numbered who session) none);
     mode = λ ticket has. elim has [
@@ -207,13 +207,13 @@ module _ (core : Core) (who place : ℕ) (mode : Mode) (tied : IsTied core) (ses
 
 -- the session has the same and waits for the same
 seat-same : (core : Core) (who place : ℕ) (seat : SeatView) → IsTied core → has_session who core ≡ true → has_key place core ≡ true
-    → ((ticket : Held) → Has seat ticket ↔ Has (seat_at who core) ticket) → ((ticket : Held) → WaitsFor seat ticket ↔ WaitsFor (seat_at who core) ticket)
+    → ((ticket : Held) → Has seat ticket ↔ Has (seat_at who core) ticket) → ((ticket : Held) → Awaits seat ticket ↔ Awaits (seat_at who core) ticket)
     → IsNumbered seat → IsTied (seating who seat core)
 seat-same core who place seat tied session key has waits numbered = tied-seated core who place seat tied session key (record {
   same_key = refl;
   granted = follows-same who place (book_at place core).granted (book_at place core).granted (Has (seat_at who core)) (Has seat)
       (granted-here core who place tied session key) (λ ticket. same) has;
-  waiting = follows-same who place (book_at place core).waiting (book_at place core).waiting (WaitsFor (seat_at who core)) (WaitsFor seat)
+  waiting = follows-same who place (book_at place core).waiting (book_at place core).waiting (Awaits (seat_at who core)) (Awaits seat)
       (waiting-here core who place tied session key) (λ ticket. same) waits;
   mode = λ ticket either. elim either [ inl now ↦ inl (inl ((has ticket).0 now)) | inr now ↦ inl (inr ((waits ticket).0 now)) ];
   granted_once = tied.granted_once place key;
@@ -261,7 +261,7 @@ tied-leaving core who wait tied session is lost =
       same_key = refl;
       granted = follows-same who place book.granted book.granted (Has seat) (Has (without_wait seat))
           (granted-here core who place tied session key) (λ ticket. same) has;
-      waiting = follows-losing who place book.waiting (without who wait.id book.waiting) (WaitsFor seat) (WaitsFor (without_wait seat))
+      waiting = follows-losing who place book.waiting (without who wait.id book.waiting) (Awaits seat) (Awaits (without_wait seat))
           (waiting-here core who place tied session key) x refl
           (loses-one other_session swap-session test (alone-session who wait.id) book.waiting (in_book_of who x) once among passes) waiting;
       mode = λ ticket either. elim either [ inl now ↦ inl (inl ((has ticket).0 now)) | inr now ↦ inl (inr ((waiting ticket).0 now).0) ];
@@ -271,7 +271,7 @@ tied-leaving core who wait tied session is lost =
     })
 
 pub tied-freeing : (core : Core) (who : ℕ) (ticket : Held) → IsTied core → has_session who core ≡ true → Contains (seat_at who core).held ticket
-    → IsTied (freeing who ticket.place ticket.id core)
+    → IsTied (freeing who ticket core)
 tied-freeing core who ticket tied session held =
     let seat : SeatView = seat_at who core in
     let place : ℕ = ticket.place in
@@ -288,7 +288,7 @@ tied-freeing core who ticket tied session held =
       granted = follows-losing who place book.granted (without who ticket.id book.granted) (Has seat) (Has (without_ticket ticket.id seat))
           (granted-here core who place tied session key) ticket refl
           (loses-one other_number swap-number test (alone-number who ticket.id) book.granted (in_book_of who ticket) once among passes) has;
-      waiting = follows-same who place book.waiting book.waiting (WaitsFor seat) (WaitsFor (without_ticket ticket.id seat))
+      waiting = follows-same who place book.waiting book.waiting (Awaits seat) (Awaits (without_ticket ticket.id seat))
           (waiting-here core who place tied session key) (λ t. same) (λ t. same);
       mode = λ t either. elim either [ inl now ↦ inl (inl ((has t).0 now).0) | inr now ↦ inl (inr now) ];
       granted_once = pairs-without other_number swap-number test (alone-number who ticket.id) book.granted (in_book_of who ticket) once among passes;
@@ -313,7 +313,7 @@ tied-admitting core place ticket tied key among is_ready =
     let unsettled = open-wait seat.wait parts.1 in
     let wait : Pending = unsettled.0 in
     let x : Held = record { id = ticket.number; place = place; mode = ticket.mode } in
-    let waits : WaitsFor seat x = waiting-own core who place tied session key ticket refl among in
+    let waits : Awaits seat x = waiting-own core who place tied session key ticket refl among in
     let is : x ≡ ticket_of_wait wait = waits-alone seat wait unsettled.1 unsettled.2 x waits in
     let once = tied.waiting_once place key in
     let test : Ticket → Bool = is_ticket who ticket.number in
@@ -321,19 +321,19 @@ tied-admitting core place ticket tied key among is_ready =
     let new : Lists = record book { granted = book.granted ++ ticket ∷ []; waiting = without who ticket.number book.waiting } in
     let has : (t : Held) → Has (settling settled_as.Granted seat) t ↔ (Has seat t ⊎ (t ≡ x)) =
     subst (λ y. (t : Held) → Has (settling settled_as.Granted seat) t ↔ (Has seat t ⊎ (t ≡ y))) (sym is) (has-winning seat wait unsettled.1 unsettled.2) in
-    let waiting : (t : Held) → WaitsFor (settling settled_as.Granted seat) t ↔ (WaitsFor seat t × (t ≢ x)) =
-    subst (λ y. (t : Held) → WaitsFor (settling settled_as.Granted seat) t ↔ (WaitsFor seat t × (t ≢ y))) (sym is) (waits-winning seat wait unsettled.1 unsettled.2) in
+    let waiting : (t : Held) → Awaits (settling settled_as.Granted seat) t ↔ (Awaits seat t × (t ≢ x)) =
+    subst (λ y. (t : Held) → Awaits (settling settled_as.Granted seat) t ↔ (Awaits seat t × (t ≢ y))) (sym is) (waits-winning seat wait unsettled.1 unsettled.2) in
     let found = found-one other_session swap-session test (alone-session who ticket.number) book.waiting ticket once among passes in
     subst (λ o. IsTied (booking place (record new { granted = book.granted ++ option_to_list o }) (seating who (settling settled_as.Granted seat) core))) (sym found)
     (tied-written core who place new (settling settled_as.Granted seat) tied session key (record {
       same_key = refl;
       granted = follows-gaining who place book.granted (book.granted ++ ticket ∷ []) (Has seat) (Has (settling settled_as.Granted seat))
           (granted-here core who place tied session key) x refl (push-gains ticket book.granted) has;
-      waiting = follows-losing who place book.waiting (without who ticket.number book.waiting) (WaitsFor seat) (WaitsFor (settling settled_as.Granted seat))
+      waiting = follows-losing who place book.waiting (without who ticket.number book.waiting) (Awaits seat) (Awaits (settling settled_as.Granted seat))
           (waiting-here core who place tied session key) x refl
           (loses-one other_session swap-session test (alone-session who ticket.number) book.waiting ticket once among passes) waiting;
       mode = λ t either. elim either [
-        | inl now ↦ elim ((has t).0 now) [ inl had ↦ inl (inl had) | inr e ↦ inl (inr (subst (WaitsFor seat) (sym e) waits)) ]
+        | inl now ↦ elim ((has t).0 now) [ inl had ↦ inl (inl had) | inr e ↦ inl (inr (subst (Awaits seat) (sym e) waits)) ]
         | inr now ↦ inl (inr ((waiting t).0 now).0)
       ];
       granted_once = pairs-push other_number book.granted ticket (tied.granted_once place key) (λ other there e.

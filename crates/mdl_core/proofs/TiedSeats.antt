@@ -12,7 +12,7 @@ use Rattle.mdl_core.specs.declared.pending.Pending.{Pending}
 use Rattle.mdl_calls.specs.Own.{is_number}
 use Rattle.mdl_core.specs.Seats.{SeatView, holding, without_ticket, beginning_wait, is_open, ticket_of_wait}
 use Rattle.mdl_system.specs.Events.{Gains}
-use Rattle.mdl_core.specs.Ties.{Has, WaitsFor, IsNumbered}
+use Rattle.mdl_core.specs.Ties.{Has, Awaits, IsNumbered}
 use Rattle.mdl_core.proofs.PairLemmas.{below, filter-members, in-filter, pairs-push, pairs-from_rising, rising-from_pairs, same-number}
 
 pub push-gains : {T : Type 0} (x : T) (xs : List T) → Gains x xs (xs ++ x ∷ [])
@@ -41,7 +41,7 @@ abbrev WaitNumbered : SeatView → Pending → Type 0
 WaitNumbered seat wait = (wait.id ≡ seat.last_ticket) × (wait.number ≤ seat.last_wait) × ((ticket : Held) → Contains seat.held ticket → ticket.id < wait.id)
 
 -- the number of what a session has or waits for isn't above the last one
-pub number-bound : (seat : SeatView) → IsNumbered seat → (ticket : Held) → Has seat ticket ⊎ WaitsFor seat ticket → ticket.id ≤ seat.last_ticket
+pub number-bound : (seat : SeatView) → IsNumbered seat → (ticket : Held) → Has seat ticket ⊎ Awaits seat ticket → ticket.id ≤ seat.last_ticket
 number-bound seat numbered ticket has = elim has [
   | inl holds ↦ elim holds [
     | inl held ↦ numbered.held ticket held
@@ -90,7 +90,7 @@ module _ (seat : SeatView) (place : ℕ) (mode : Mode) (numbered : IsNumbered se
     λ had. elim had [ inl held ↦ inl held | inr wait ↦ absurd (no-wait seat.wait (λ w. (w.settled ≡ Some settled_as.Granted) × (ticket ≡ ticket_of_wait w)) none wait) ],
   )
 
-  pub waits-beginning : (ticket : Held) → WaitsFor (beginning_wait place mode seat) ticket ↔ (WaitsFor seat ticket ⊎ (ticket ≡ new_held))
+  pub waits-beginning : (ticket : Held) → Awaits (beginning_wait place mode seat) ticket ↔ (Awaits seat ticket ⊎ (ticket ≡ new_held))
   waits-beginning ticket = (
     (λ waits. inr waits.1),
     λ either. elim either [ inl waited ↦ absurd (no-wait seat.wait (λ w. (w.settled ≢ Some settled_as.Granted) × (ticket ≡ ticket_of_wait w)) none waited) | inr e ↦ ((λ (f : None ≡ Some settled_as.Granted). cc), e) ],

@@ -5,7 +5,7 @@ use Rattle.mdl_calls.specs.declared.answers.Settled.{Settled}
 use Rattle.mdl_calls.specs.declared.answers.Settled.TheVariants as settled_as
 use Rattle.mdl_core.specs.declared.pending.Pending.{Pending}
 use Rattle.mdl_core.specs.Seats.{SeatView, settling, without_wait, ticket_of_wait, with_ticket_of}
-use Rattle.mdl_core.specs.Ties.{Has, WaitsFor, IsNumbered}
+use Rattle.mdl_core.specs.Ties.{Has, Awaits, IsNumbered}
 use Rattle.mdl_core.proofs.PairLemmas.{below, pairs-push, pairs-from_rising, rising-from_pairs}
 use Rattle.mdl_core.proofs.TiedSeats.{push-gains}
 
@@ -29,8 +29,8 @@ module _ (seat : SeatView) (wait : Pending) (is : seat.wait ≡ Some wait) (unse
     λ had. elim had [ inl held ↦ inl held | inr granted ↦ let e = granted.0 in cc ],
   ))
 
-  pub waits-losing : how ≢ settled_as.Granted → (ticket : Held) → WaitsFor (settling how seat) ticket ↔ WaitsFor seat ticket
-  waits-losing lost = with-wait (λ s. (ticket : Held) → WaitsFor (settling how s) ticket ↔ WaitsFor s ticket) seat wait is (λ ticket. (
+  pub waits-losing : how ≢ settled_as.Granted → (ticket : Held) → Awaits (settling how seat) ticket ↔ Awaits seat ticket
+  waits-losing lost = with-wait (λ s. (ticket : Held) → Awaits (settling how s) ticket ↔ Awaits s ticket) seat wait is (λ ticket. (
     (λ waits. ((λ (e : wait.settled ≡ Some settled_as.Granted). cc), waits.1)),
     λ waited. ((λ (e : Some how ≡ Some settled_as.Granted). lost (cc)), waited.1),
   ))
@@ -47,16 +47,16 @@ module _ (seat : SeatView) (wait : Pending) (is : seat.wait ≡ Some wait) (unse
         ],
       ))
 
-  pub waits-winning : (ticket : Held) → WaitsFor (settling settled_as.Granted seat) ticket ↔ (WaitsFor seat ticket × (ticket ≢ ticket_of_wait wait))
-  waits-winning = with-wait (λ s. (ticket : Held) → WaitsFor (settling settled_as.Granted s) ticket ↔ (WaitsFor s ticket × (ticket ≢ ticket_of_wait wait))) seat wait is
+  pub waits-winning : (ticket : Held) → Awaits (settling settled_as.Granted seat) ticket ↔ (Awaits seat ticket × (ticket ≢ ticket_of_wait wait))
+  waits-winning = with-wait (λ s. (ticket : Held) → Awaits (settling settled_as.Granted s) ticket ↔ (Awaits s ticket × (ticket ≢ ticket_of_wait wait))) seat wait is
       (λ ticket. ((λ waits. absurd (waits.0 refl)), λ waited. absurd (waited.1 waited.0.1)))
 
   -- it waited for that ticket
-  pub waits-now : WaitsFor seat (ticket_of_wait wait)
-  waits-now = with-wait (λ s. WaitsFor s (ticket_of_wait wait)) seat wait is ((λ (e : wait.settled ≡ Some settled_as.Granted). cc), refl)
+  pub waits-now : Awaits seat (ticket_of_wait wait)
+  waits-now = with-wait (λ s. Awaits s (ticket_of_wait wait)) seat wait is ((λ (e : wait.settled ≡ Some settled_as.Granted). cc), refl)
 
-  pub waits-alone : (ticket : Held) → WaitsFor seat ticket → ticket ≡ ticket_of_wait wait
-  waits-alone = with-wait (λ s. (ticket : Held) → WaitsFor s ticket → ticket ≡ ticket_of_wait wait) seat wait is (λ ticket waits. waits.1)
+  pub waits-alone : (ticket : Held) → Awaits seat ticket → ticket ≡ ticket_of_wait wait
+  waits-alone = with-wait (λ s. (ticket : Held) → Awaits s ticket → ticket ≡ ticket_of_wait wait) seat wait is (λ ticket waits. waits.1)
 
   -- and has none of its number
   pub number-new : IsNumbered seat → (ticket : Held) → Has seat ticket → ticket.id ≢ wait.id
@@ -83,8 +83,8 @@ module _ (seat : SeatView) (wait : Pending) (is : seat.wait ≡ Some wait) (gran
     ],
   ))
 
-  pub waits-taking : (ticket : Held) → WaitsFor (with_ticket_of wait seat) ticket ↔ WaitsFor seat ticket
-  waits-taking = with-wait (λ s. (ticket : Held) → WaitsFor (with_ticket_of wait s) ticket ↔ WaitsFor s ticket) seat wait is
+  pub waits-taking : (ticket : Held) → Awaits (with_ticket_of wait seat) ticket ↔ Awaits seat ticket
+  waits-taking = with-wait (λ s. (ticket : Held) → Awaits (with_ticket_of wait s) ticket ↔ Awaits s ticket) seat wait is
       (λ ticket. ((λ waits. absurd waits), λ waited. absurd (waited.0 granted)))
 
   pub numbered-taking : IsNumbered seat → IsNumbered (with_ticket_of wait seat)
@@ -100,8 +100,8 @@ module _ (seat : SeatView) (wait : Pending) (is : seat.wait ≡ Some wait) (gran
 
 -- a lost wait is ended
 module _ (seat : SeatView) (wait : Pending) (is : seat.wait ≡ Some wait) (lost : wait.settled ≢ Some settled_as.Granted) where
-  pub waits-lost : WaitsFor seat (ticket_of_wait wait)
-  waits-lost = with-wait (λ s. WaitsFor s (ticket_of_wait wait)) seat wait is (lost, refl)
+  pub waits-lost : Awaits seat (ticket_of_wait wait)
+  waits-lost = with-wait (λ s. Awaits s (ticket_of_wait wait)) seat wait is (lost, refl)
 
   pub has-leaving : (ticket : Held) → Has (without_wait seat) ticket ↔ Has seat ticket
   has-leaving = with-wait (λ s. (ticket : Held) → Has (without_wait s) ticket ↔ Has s ticket) seat wait is (λ ticket. (
@@ -109,8 +109,8 @@ module _ (seat : SeatView) (wait : Pending) (is : seat.wait ≡ Some wait) (lost
     λ had. elim had [ inl held ↦ inl held | inr granted ↦ absurd (lost granted.0) ],
   ))
 
-  pub waits-leaving : (ticket : Held) → WaitsFor (without_wait seat) ticket ↔ (WaitsFor seat ticket × (ticket ≢ ticket_of_wait wait))
-  waits-leaving = with-wait (λ s. (ticket : Held) → WaitsFor (without_wait s) ticket ↔ (WaitsFor s ticket × (ticket ≢ ticket_of_wait wait))) seat wait is
+  pub waits-leaving : (ticket : Held) → Awaits (without_wait seat) ticket ↔ (Awaits seat ticket × (ticket ≢ ticket_of_wait wait))
+  waits-leaving = with-wait (λ s. (ticket : Held) → Awaits (without_wait s) ticket ↔ (Awaits s ticket × (ticket ≢ ticket_of_wait wait))) seat wait is
       (λ ticket. ((λ waits. absurd waits), λ waited. absurd (waited.1 waited.0.1)))
 
   pub numbered-leaving : IsNumbered seat → IsNumbered (without_wait seat)

@@ -11,7 +11,7 @@ use Rattle.mdl_book.specs.Tickets.{ticket_id}
 use Rattle.mdl_calls.specs.declared.answers.Held.{Held}
 use Rattle.mdl_core.specs.Cores.{Core, book_at, seat_at, key_at, has_key, has_session, booking, seating}
 use Rattle.mdl_core.specs.Seats.{SeatView}
-use Rattle.mdl_core.specs.Ties.{Has, WaitsFor, in_book_of, IsNumbered, IsTied}
+use Rattle.mdl_core.specs.Ties.{Has, Awaits, in_book_of, IsNumbered, IsTied}
 use Rattle.mdl_core.proofs.CoreReads.{has_key-booking, has_session-seating, booked-same, booked-other, seated-same, seated-other}
 use Rattle.mdl_system.proofs.Deciding.{nat_told}
 
@@ -25,10 +25,10 @@ pub record Follows (who place : ℕ) (old new : List Ticket) (had has : Held →
 pub record Fits (core : Core) (who place : ℕ) (book : Lists) (seat : SeatView) : Type 0 where
   pub same_key : book.key ≡ key_at place core
   pub granted : Follows who place (book_at place core).granted book.granted (Has (seat_at who core)) (Has seat)
-  pub waiting : Follows who place (book_at place core).waiting book.waiting (WaitsFor (seat_at who core)) (WaitsFor seat)
+  pub waiting : Follows who place (book_at place core).waiting book.waiting (Awaits (seat_at who core)) (Awaits seat)
   -- what is new is in a mode of the lock's kind
-  pub mode : (ticket : Held) → Has seat ticket ⊎ WaitsFor seat ticket
-      → (Has (seat_at who core) ticket ⊎ WaitsFor (seat_at who core) ticket) ⊎ IsTrue (is_mode_of (lock_kind (book_at place core)) ticket.mode)
+  pub mode : (ticket : Held) → Has seat ticket ⊎ Awaits seat ticket
+      → (Has (seat_at who core) ticket ⊎ Awaits (seat_at who core) ticket) ⊎ IsTrue (is_mode_of (lock_kind (book_at place core)) ticket.mode)
   pub granted_once : AllPairs (λ (one other : Ticket). ticket_id one ≢ ticket_id other) book.granted
   pub waiting_once : AllPairs (λ (one other : Ticket). one.session ≢ other.session) book.waiting
   pub numbered : IsNumbered seat
@@ -69,7 +69,7 @@ module _ (core : Core) (who place : ℕ) (book : Lists) (seat : SeatView) (tied 
   key-same = at_place (λ p (b : Lists). b.key ≡ key_at p core) fits.same_key (λ other has apart. refl)
 
   -- own tickets of this place are of its kind
-  own-mode : (ticket : Held) → ticket.place ≡ place → Has seat ticket ⊎ WaitsFor seat ticket → IsTrue (is_mode_of (lock_kind (book_at place core)) ticket.mode)
+  own-mode : (ticket : Held) → ticket.place ≡ place → Has seat ticket ⊎ Awaits seat ticket → IsTrue (is_mode_of (lock_kind (book_at place core)) ticket.mode)
   own-mode ticket here has = elim (fits.mode ticket has) [
     | inl old ↦ elim old [
       | inl had ↦ (tied.granted_by place key (in_book_of who ticket)
@@ -121,7 +121,7 @@ module _ (core : Core) (who place : ℕ) (book : Lists) (seat : SeatView) (tied 
       ticket.place (had_key ticket.place is_key) w ticket (had_session w is_session) refl
 
   -- what the session has stands at places that have keys
-  own-placed : (ticket : Held) → Has seat ticket ⊎ WaitsFor seat ticket → has_key ticket.place core ≡ true
+  own-placed : (ticket : Held) → Has seat ticket ⊎ Awaits seat ticket → has_key ticket.place core ≡ true
   own-placed ticket has = elim (nat_told ticket.place place) [
     | inl here ↦ subst (λ p. has_key p core ≡ true) (sym here) key
     | inr there ↦ tied.placed who ticket session (elim has [
@@ -151,13 +151,13 @@ module _ (core : Core) (who place : ℕ) (book : Lists) (seat : SeatView) (tied 
         (by-own book.granted (book_at place core).granted (Has (seat_at who core)) (Has seat) fits.granted (λ ticket here has. own-mode ticket here (inl has)) (tied.granted_by place key))
         (λ other has _. tied.granted_by other has));
     waiting_by = by (λ b. b.waiting) (at_place (By (λ b. b.waiting))
-        (by-own book.waiting (book_at place core).waiting (WaitsFor (seat_at who core)) (WaitsFor seat) fits.waiting (λ ticket here has. own-mode ticket here (inr has)) (tied.waiting_by place key))
+        (by-own book.waiting (book_at place core).waiting (Awaits (seat_at who core)) (Awaits seat) fits.waiting (λ ticket here has. own-mode ticket here (inr has)) (tied.waiting_by place key))
         (λ other has _. tied.waiting_by other has));
     granted = matches (λ b. b.granted) Has fits.granted tied.granted;
-    waiting = matches (λ b. b.waiting) WaitsFor fits.waiting tied.waiting;
+    waiting = matches (λ b. b.waiting) Awaits fits.waiting tied.waiting;
     placed = λ w ticket has_w has.
         has_key-booking (seating who seat core) place ticket.place book
-        ∙ at_session (λ v s. Has s ticket ⊎ WaitsFor s ticket → has_key ticket.place core ≡ true) (own-placed ticket)
+        ∙ at_session (λ v s. Has s ticket ⊎ Awaits s ticket → has_key ticket.place core ≡ true) (own-placed ticket)
         (λ v is_v _. tied.placed v ticket is_v) w (had_session w has_w) has;
     granted_once = λ at has. at_place (λ _ b. AllPairs (λ (one other : Ticket). ticket_id one ≢ ticket_id other) b.granted)
         fits.granted_once (λ other has_other _. tied.granted_once other has_other) at (had_key at has);

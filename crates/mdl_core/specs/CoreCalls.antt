@@ -20,7 +20,7 @@ use Rattle.mdl_core.specs.declared.pending.Pending.{Pending}
 use Rattle.mdl_calls.specs.Answers.{Answer, Refused, Done, At_place, Granted, Would_wait, Waits, No_cycle, Victim_is, Pending as Is_pending, Is_settled, Timed_out, Lost, Has_wait, Has_killed, Holds}
 use Rattle.mdl_calls.specs.Calls.{Call, Resolve, Try_now, Begin_wait, Search, Poll_wait, Settle_timeout, End_wait, Wait_of, Kill, Release, Clone_ticket, List_held}
 use Rattle.mdl_core.specs.Cores.{Core, book_at, seat_at, has_key, has_session, index_of, is_free}
-use Rattle.mdl_core.specs.Moves.{opening, granting_to, queueing, losing, taking_up, leaving, freeing, serving}
+use Rattle.mdl_core.specs.Changes.{opening, granting_to, queueing, losing, taking_up, leaving, freeing, serving}
 use Rattle.mdl_calls.specs.Own.{is_number}
 use Rattle.mdl_core.specs.Seats.{is_open, is_closed}
 use Rattle.mdl_system.specs.Strength.{covers}
@@ -124,7 +124,7 @@ cloning who id mode core = cloning_of who mode (held_ticket who id core) core
 -- this ticket is given up, and then waiters of its place are granted
 abbrev pub releasing_of : ℕ → Option Held → Core → Answer × Core
 releasing_of who None core = (Refused NotHeld, core)
-releasing_of who (Some ticket) core = (Done, serving ticket.place (freeing who ticket.place ticket.id core))
+releasing_of who (Some ticket) core = (Done, serving ticket.place (freeing who ticket core))
 
 -- the ticket of a number is given up
 abbrev pub releasing : ℕ → ℕ → Core → Answer × Core

@@ -1,9 +1,10 @@
+pub mod ChangeEvents
+pub mod Changes
 pub mod CoreCalls
 pub mod CoreJoins
 pub mod CoreLaws
 pub mod CoreSystems
 pub mod Cores
-pub mod Moves
 pub mod SearchLaws
 pub mod Seats
 pub mod SessionLaws

@@ -21,8 +21,8 @@ Has seat ticket =
     ⊎ MatchOption seat.wait ⊥ (λ (wait : Pending). (wait.settled ≡ Some settled_as.Granted) × (ticket ≡ ticket_of_wait wait))
 
 -- a session has a waiting ticket: its wait isn't granted
-abbrev pub WaitsFor : SeatView → Held → Type 0
-WaitsFor seat ticket = MatchOption seat.wait ⊥ (λ (wait : Pending). (wait.settled ≢ Some settled_as.Granted) × (ticket ≡ ticket_of_wait wait))
+abbrev pub Awaits : SeatView → Held → Type 0
+Awaits seat ticket = MatchOption seat.wait ⊥ (λ (wait : Pending). (wait.settled ≢ Some settled_as.Granted) × (ticket ≡ ticket_of_wait wait))
 
 -- the ticket of a session as it stands in a book
 abbrev pub in_book_of : ℕ → Held → Ticket
@@ -49,9 +49,9 @@ pub record IsTied (core : Core) : Type 0 where
   pub granted : (who : ℕ) (ticket : Held) → has_session who core ≡ true → has_key ticket.place core ≡ true
       → Contains (book_at ticket.place core).granted (in_book_of who ticket) ↔ Has (seat_at who core) ticket
   pub waiting : (who : ℕ) (ticket : Held) → has_session who core ≡ true → has_key ticket.place core ≡ true
-      → Contains (book_at ticket.place core).waiting (in_book_of who ticket) ↔ WaitsFor (seat_at who core) ticket
+      → Contains (book_at ticket.place core).waiting (in_book_of who ticket) ↔ Awaits (seat_at who core) ticket
   -- at places that have keys
-  pub placed : (who : ℕ) (ticket : Held) → has_session who core ≡ true → Has (seat_at who core) ticket ⊎ WaitsFor (seat_at who core) ticket
+  pub placed : (who : ℕ) (ticket : Held) → has_session who core ≡ true → Has (seat_at who core) ticket ⊎ Awaits (seat_at who core) ticket
       → has_key ticket.place core ≡ true
   -- each stands there once, and a session waits once at most
   pub granted_once : (place : ℕ) → has_key place core ≡ true

@@ -20,9 +20,10 @@ use Rattle.mdl_system.specs.BookLaws.{of_lock}
 use Rattle.mdl_core.specs.CoreSystems.{system_of}
 use Rattle.mdl_system.specs.Strength.{covers}
 use Rattle.mdl_core.specs.CoreJoins.{SpeaksFor}
-use Rattle.mdl_core.specs.Ties.{IsTied, Has, WaitsFor, in_book_of}
+use Rattle.mdl_core.specs.Ties.{IsTied, Has, Awaits, in_book_of}
 use Rattle.mdl_system.proofs.BookLemmas.{compatible-Decides}
-use Rattle.mdl_core.proofs.CoreGranted.{granted-from_place, holding_of, granted-of_held}
+use Rattle.mdl_core.specs.ChangeEvents.{holding_of}
+use Rattle.mdl_core.proofs.CoreGranted.{granted-from_place, granted-of_held}
 use Rattle.mdl_system.proofs.LawfulLemmas.{compatible-from_weaker}
 use Rattle.mdl_system.proofs.StrengthLemmas.{covers-at_least}
 
@@ -67,7 +68,7 @@ module _ (core : Core) (who : ℕ) (speaks : SpeaksFor core who) where
     held-in_book = found_passing (is_ticket who ticket.id) (book_at ticket.place core).granted (in_book_of who ticket) held-among (itself who ticket)
 
   module _ (wait : Pending) (how : Settled) (has : (seat_at who core).wait ≡ Some wait) (settled : wait.settled ≡ Some how) (lost : how ≢ settled_as.Granted) where
-    waits_for : WaitsFor (seat_at who core) (ticket_of_wait wait)
+    waits_for : Awaits (seat_at who core) (ticket_of_wait wait)
     waits_for = rw has ((λ won. let same : how ≡ settled_as.Granted = cc in lost same), refl)
 
     pub wait-key : has_key wait.place core ≡ true

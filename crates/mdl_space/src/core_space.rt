@@ -9,7 +9,7 @@ ghost use Rattle.mdl_system.specs.Strength.{covers};
 ghost use Rattle.mdl_core.specs.Cores.{empty_core, book_at, has_key, has_session, seat_at};
 ghost use Rattle.mdl_core.specs.CoreCalls.{new_fault, first_cause, request_causes, clone_causes, listing, resolving, trying, beginning, searching, polling, timing_out, ending, looking_after, killing, releasing, granted_unless_full, cloning, Makes};
 ghost use Rattle.mdl_core.specs.CoreJoins.{SpeaksFor};
-ghost use Rattle.mdl_core.specs.Moves.{leaving, freeing, serving};
+ghost use Rattle.mdl_core.specs.Changes.{leaving, freeing, serving};
 ghost use Rattle.mdl_calls.specs.Own.{are_rising};
 ghost use Rattle.mdl_calls.specs.Answers.{Has_wait, Has_killed, placed, attempted, begun, searched, polled, timed_out, ended, done, cloned, listed};
 
@@ -377,7 +377,7 @@ impl CoreSpace {
         requires key { has_key ticket.place self.old ≡ true }
         requires stands { IsSome (ticket_of who ticket.id (book_at ticket.place self.old).granted) }
         requires rising { IsTrue (are_rising (seat_at who self.old).held) }
-        ensures { self.new ≡ serving ticket.place (freeing who ticket.place ticket.id self.old) }
+        ensures { self.new ≡ serving ticket.place (freeing who ticket self.old) }
     {
         self.seats[usize::from(who) - 1].give_up(ticket.id);
         let book = &mut self.books[usize::from(ticket.place) - 1];

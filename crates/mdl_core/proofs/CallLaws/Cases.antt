@@ -15,7 +15,7 @@ use Rattle.mdl_calls.specs.declared.space_error.SpaceError.TheVariants.{NoPlace,
 use Rattle.mdl_calls.specs.Answers.{Answer, Refused, Done, At_place, Granted, Would_wait, Waits, Pending as Is_pending, Is_settled, Timed_out, Lost, Has_killed, No_cycle, Victim_is}
 use Rattle.mdl_core.specs.CoreCalls.{refused_or, first_cause, is_counted_out, is_full, placing, resolving, request_causes, granted_unless_full, queued_unless_full, trying, beginning, cloning_of, cloning, held_ticket, releasing_of, releasing, standing, polling_of, polling, timing_out_at, timing_out_of, timing_out, ending_at, ending_of, ending, wait_at, is_open_wait, killing, victim_at, searching_of, searching}
 use Rattle.mdl_core.specs.Cores.{Core, book_at, seat_at, has_key, has_session, index_of, is_free}
-use Rattle.mdl_core.specs.Moves.{opening, granting_to, queueing, losing, taking_up, leaving, freeing, serving}
+use Rattle.mdl_core.specs.Changes.{opening, granting_to, queueing, losing, taking_up, leaving, freeing, serving}
 use Rattle.mdl_system.specs.Strength.{covers}
 use Rattle.mdl_core.proofs.CallLaws.Choices.{test_cases}
 
@@ -161,7 +161,7 @@ module _ (P : Answer × Core → Type 0) where
 
   pub release_cases : (who id : ℕ) (a : Core)
       → (held_ticket who id a ≡ None → P (Refused NotHeld, a))
-      → ((ticket : Held) → held_ticket who id a ≡ Some ticket → P (Done, serving ticket.place (freeing who ticket.place ticket.id a)))
+      → ((ticket : Held) → held_ticket who id a ≡ Some ticket → P (Done, serving ticket.place (freeing who ticket a)))
       → P (releasing who id a)
   release_cases who id a none freed = go (held_ticket who id a) refl
     where

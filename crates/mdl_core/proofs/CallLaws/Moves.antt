@@ -8,12 +8,13 @@ use Rattle.mdl_book.specs.declared.ticket.Ticket.{Ticket}
 use Rattle.mdl_book.proofs.TicketLemmas.{find-passes}
 use Rattle.mdl_key.specs.declared.mode.Mode.{Mode}
 use Rattle.mdl_key.specs.Keys.{KeyName, global_key}
+use Rattle.mdl_calls.specs.declared.answers.Held.{Held}
 use Rattle.mdl_calls.specs.declared.answers.Settled.{Settled}
 use Rattle.mdl_calls.specs.declared.answers.Settled.TheVariants as settled_as
 use Rattle.mdl_core.specs.declared.pending.Pending.{Pending}
 use Rattle.mdl_core.specs.CoreJoins.{own_at, Knows}
 use Rattle.mdl_core.specs.Cores.{Core, book_at, seat_at, has_session}
-use Rattle.mdl_core.specs.Moves.{next_ticket, granting_to, queueing, losing, taking_up, leaving, freeing, admitting_at, is_ready, next_ready, admitting_if, admitting_up_to, serving}
+use Rattle.mdl_core.specs.Changes.{next_ticket, granting_to, queueing, losing, taking_up, leaving, freeing, admitting_at, is_ready, next_ready, admitting_if, admitting_up_to, serving}
 use Rattle.mdl_calls.specs.Own.{Wait, gaining, waiting, ending, winning, giving_up}
 use Rattle.mdl_core.specs.Seats.{SeatView, own_of, numbers_of, holding, without_ticket, beginning_wait, is_open, settling, without_wait, with_ticket_of}
 use Rattle.mdl_core.proofs.CallLaws.Seats.{session_bounds, HasSettled, Moves, Serves, seat-written, writes, serves-same, serves-then, serves-one}
@@ -83,10 +84,10 @@ module _ (a : Core) (who : ℕ) (is : has_session who a ≡ true) where
       (keys-booked a (leaving who wait a) wait.place (cancelling who wait.id (book_at wait.place a)) refl refl)
       (λ how e settled. cc)
 
-  pub freeing-moves : (place id : ℕ) → Moves a who (giving_up id (own_at a who)) false (freeing who place id a)
-  freeing-moves place id =
-      writes a (freeing who place id a) who (without_ticket id (seat_at who a)) is refl false
-      (keys-booked a (freeing who place id a) place (removing who id (book_at place a)) refl refl)
+  pub freeing-moves : (ticket : Held) → Moves a who (giving_up ticket.id (own_at a who)) false (freeing who ticket a)
+  freeing-moves ticket =
+      writes a (freeing who ticket a) who (without_ticket ticket.id (seat_at who a)) is refl false
+      (keys-booked a (freeing who ticket a) ticket.place (removing who ticket.id (book_at ticket.place a)) refl refl)
       (λ how _ settled. settled)
 
 -- ---- waits that are settled

@@ -11,7 +11,7 @@ use Rattle.mdl_calls.specs.Calls.{Call, Resolve, Try_now, Begin_wait, Search, Po
 use Rattle.mdl_core.specs.CoreCalls.{has_call, outcome}
 use Rattle.mdl_core.specs.CoreJoins.{SpeaksFor, numbers_at, Joins}
 use Rattle.mdl_core.specs.Cores.{Core, seat_at, has_session}
-use Rattle.mdl_core.specs.Moves.{granting_to, queueing, losing, taking_up, leaving, freeing, serving}
+use Rattle.mdl_core.specs.Changes.{granting_to, queueing, losing, taking_up, leaving, freeing, serving}
 use Rattle.mdl_calls.specs.Own.{Numbers, DrawsTicket, DrawsWait, Draws}
 use Rattle.mdl_core.specs.Seats.{SeatView, numbers_of, holding, without_ticket, beginning_wait, settling, without_wait, with_ticket_of}
 use Rattle.mdl_core.specs.Ties.{IsNumbered}
@@ -42,10 +42,10 @@ module _ (a : Core) (who : ℕ) (is : has_session who a ≡ true) where
       (serving-serves wait.place (leaving who wait a)).numbers who (sessions-written a (leaving who wait a) who (without_wait (seat_at who a)) is refl who ∙ is)
       ∙ ap numbers_of (seat-written a (leaving who wait a) who (without_wait (seat_at who a)) is refl)
 
-  freeing-same : (place id : ℕ) → numbers_at (serving place (freeing who place id a)) who ≡ numbers_at a who
-  freeing-same place id =
-      (serving-serves place (freeing who place id a)).numbers who (sessions-written a (freeing who place id a) who (without_ticket id (seat_at who a)) is refl who ∙ is)
-      ∙ ap numbers_of (seat-written a (freeing who place id a) who (without_ticket id (seat_at who a)) is refl)
+  freeing-same : (ticket : Held) → numbers_at (serving ticket.place (freeing who ticket a)) who ≡ numbers_at a who
+  freeing-same ticket =
+      (serving-serves ticket.place (freeing who ticket a)).numbers who (sessions-written a (freeing who ticket a) who (without_ticket ticket.id (seat_at who a)) is refl who ∙ is)
+      ∙ ap numbers_of (seat-written a (freeing who ticket a) who (without_ticket ticket.id (seat_at who a)) is refl)
 
 -- ---- what each call does
 
@@ -82,7 +82,7 @@ numbered a (Wait_of target) has is = refl
 numbered a (Kill target number) has is =
     kill_cases (Numbered a (Kill target number)) target number a (λ wait its _ _ _. losing-same a target its settled_as.Killed) refl
 numbered a (Release who id) has is =
-    release_cases (Numbered a (Release who id)) who id a (λ _. refl) (λ ticket _. freeing-same a who is.0 ticket.place ticket.id)
+    release_cases (Numbered a (Release who id)) who id a (λ _. refl) (λ ticket _. freeing-same a who is.0 ticket)
 numbered a (Clone_ticket who id mode) has is =
     clone_cases (Numbered a (Clone_ticket who id mode)) who id mode a (λ _. refl) (λ ticket _ refusal _. refl)
     (λ ticket _ _. granting-draws a who is.0 ticket.place mode)

@@ -21,10 +21,10 @@ use Rattle.mdl_calls.specs.declared.answers.Settled.TheVariants as settled_as
 use Rattle.mdl_core.specs.declared.pending.Pending.{Pending}
 use Rattle.mdl_core.specs.CoreJoins.{SpeaksFor, own_at, Knows, Joins}
 use Rattle.mdl_core.specs.Cores.{Core, seat_at, key_at, has_key, index_of}
-use Rattle.mdl_core.specs.Moves.{opening}
+use Rattle.mdl_core.specs.Changes.{opening}
 use Rattle.mdl_calls.specs.Own.{Wait}
 use Rattle.mdl_core.specs.Seats.{SeatView, ticket_of_wait}
-use Rattle.mdl_core.specs.Ties.{Has, WaitsFor}
+use Rattle.mdl_core.specs.Ties.{Has, Awaits}
 use Rattle.mdl_core.proofs.CallLaws.Cases.{resolve_cases}
 use Rattle.mdl_core.proofs.CallLaws.Moves.{as_wait}
 use Rattle.mdl_core.proofs.CallLaws.Owned.{joined, joins-steps}
@@ -115,13 +115,13 @@ core-held_places a w ticket speaks holds =
     (key_at ticket.place a, (speaks.1.tied.placed w ticket speaks.0 (inl (inl holds)), refl))
 
 -- the ticket of a wait is had or waited for
-waits-ticket : (seat : SeatView) (wait : Pending) → seat.wait ≡ Some wait → Has seat (ticket_of_wait wait) ⊎ WaitsFor seat (ticket_of_wait wait)
+waits-ticket : (seat : SeatView) (wait : Pending) → seat.wait ≡ Some wait → Has seat (ticket_of_wait wait) ⊎ Awaits seat (ticket_of_wait wait)
 waits-ticket seat wait its = go wait.settled refl
   where
     at : (P : Pending → Type 0) → P wait → MatchOption seat.wait ⊥ P
     at P h = subst (λ (o : Option Pending). MatchOption o ⊥ P) (sym its) h
 
-    go : (s : Option Settled) → wait.settled ≡ s → Has seat (ticket_of_wait wait) ⊎ WaitsFor seat (ticket_of_wait wait)
+    go : (s : Option Settled) → wait.settled ≡ s → Has seat (ticket_of_wait wait) ⊎ Awaits seat (ticket_of_wait wait)
     go None e = inr (at _ ((λ f. (let g = sym e ∙ f in cc)), refl))
     go (Some settled_as.Granted) e = inl (inr (at _ (e, refl)))
     go (Some settled_as.Victim) e = inr (at _ ((λ f. (let g = sym e ∙ f in cc)), refl))

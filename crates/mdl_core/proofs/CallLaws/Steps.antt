@@ -15,7 +15,7 @@ use Rattle.mdl_calls.specs.Calls.{Call, Resolve, Try_now, Begin_wait, Search, Po
 use Rattle.mdl_core.specs.CoreCalls.{resolving, trying, beginning, cloning, held_ticket, releasing, polling, timing_out, ending, killing, searching, victim_at, has_call, outcome}
 use Rattle.mdl_core.specs.CoreJoins.{SpeaksFor, own_at, Knows}
 use Rattle.mdl_core.specs.Cores.{Core, seat_at, has_session}
-use Rattle.mdl_core.specs.Moves.{opening, granting_to, losing, leaving, freeing, serving}
+use Rattle.mdl_core.specs.Changes.{opening, granting_to, losing, leaving, freeing, serving}
 use Rattle.mdl_calls.specs.Own.{own_after, cloning as cloning_own, ending as ending_own, giving_up, is_number}
 use Rattle.mdl_core.specs.Seats.{is_open}
 use Rattle.mdl_core.proofs.CallLaws.Cases.{resolve_cases, try_cases, begin_cases, clone_cases, release_cases, poll_cases, timeout_cases, end_cases, kill_cases, search_cases}
@@ -101,13 +101,13 @@ module _ (a : Core) (who : ℕ) (is : has_session who a ≡ true) where
   release-steps id = release_cases (Steps a (Release who id)) who id a (λ _. stands a who false) freed
     where
       freed : (ticket : Held) → held_ticket who id a ≡ Some ticket
-          → Moves a who (giving_up id (own_at a who)) false (serving ticket.place (freeing who ticket.place ticket.id a))
+          → Moves a who (giving_up id (own_at a who)) false (serving ticket.place (freeing who ticket a))
       freed ticket e =
           let same : ticket.id ≡ id = eqb-true _ _ (find-passes (is_number id) (seat_at who a).held ticket e) in
-          let free = freeing who ticket.place ticket.id a in
+          let free = freeing who ticket a in
           subst (λ n. Moves a who (giving_up n (own_at a who)) false (serving ticket.place free)) same
           (moves-then a free (serving ticket.place free) who (giving_up ticket.id (own_at a who)) false is
-          (freeing-moves a who is ticket.place ticket.id) (serving-serves ticket.place free))
+          (freeing-moves a who is ticket) (serving-serves ticket.place free))
 
   -- ---- waits
 

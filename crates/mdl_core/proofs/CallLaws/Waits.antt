@@ -9,7 +9,7 @@ use Rattle.mdl_calls.specs.Calls.{Call, Search, Poll_wait, Settle_timeout, End_w
 use Rattle.mdl_core.specs.CoreCalls.{wait_at, is_open_wait, killing, victim_at}
 use Rattle.mdl_core.specs.CoreJoins.{SpeaksFor, own_at, IsSettledAs, Joins}
 use Rattle.mdl_core.specs.Cores.{Core, seat_at, has_session}
-use Rattle.mdl_core.specs.Moves.{losing}
+use Rattle.mdl_core.specs.Changes.{losing}
 use Rattle.mdl_calls.specs.Own.{wait_number, is_waiting}
 use Rattle.mdl_core.specs.Seats.{SeatView, own_of, settling}
 use Rattle.mdl_calls.specs.Waits.{told, IsEndOf, IsToldOf}

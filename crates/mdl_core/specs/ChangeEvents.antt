@@ -1,0 +1,38 @@
+-- Which event of the system of locks a change in the space of one thread is.
+use Rattle.std.specs.Prelude.{◌≡◌, ◌⊎◌, ℕ, ◌+◌, Some, Contains}
+use Rattle.mdl_key.specs.Classes.{IsAtLeast}
+use Rattle.mdl_book.specs.declared.ticket.Ticket.{Ticket}
+use Rattle.mdl_calls.specs.declared.answers.Held.{Held}
+use Rattle.mdl_core.specs.declared.pending.Pending.{Pending}
+use Rattle.mdl_core.specs.Changes.{Change, Gain, Lose, Queue, Admit, Settle, Leave, Take_up, next_ticket}
+use Rattle.mdl_core.specs.Cores.{Core, seat_at, key_at}
+use Rattle.mdl_core.specs.CoreSystems.{system_of, state_of, waiter_of, waiter_in}
+use Rattle.mdl_system.specs.Events.{Event, Grant, Clone, BeginWait, GrantWaiter, SettleLost, EndGrantedWait, EndLostWait, Release}
+use Rattle.mdl_system.specs.Systems.{Unsettled, Holding, lock_kind, IsGrantable}
+
+-- a held ticket as a granted one of the system
+abbrev pub holding_of : ℕ → Held → Core → Holding
+holding_of who ticket core = record { session = who; number = ticket.id; key = key_at ticket.place core; mode = ticket.mode }
+
+-- the ticket that waits, for a wait
+abbrev pub waiting_ticket : ℕ → Pending → Ticket
+waiting_ticket who wait = record { session = who; number = wait.id; mode = wait.mode }
+
+-- the event that a change is, and what the event asks beyond what the change asks: a new ticket has a grantable wish, or is a
+-- clone of a held one that is at least as strong
+abbrev pub IsChangeEvent : {C : Type 0} → ℕ → ℕ → Change → Core → Event C → Type 0
+IsChangeEvent who place (Gain mode) core event =
+    ((event ≡ Grant (record { session = who; number = (seat_at who core).last_ticket + 1; key = key_at place core; mode = mode }))
+    × IsGrantable (system_of core) who (key_at place core) mode)
+    ⊎ ((held : Held) × Contains (seat_at who core).held held × (held.place ≡ place) × IsAtLeast (lock_kind (key_at place core)) held.mode mode
+    × (event ≡ Clone (holding_of who held core) (record { session = who; number = (seat_at who core).last_ticket + 1; key = key_at place core; mode = mode })))
+IsChangeEvent who place (Lose ticket) core event = event ≡ Release (holding_of who ticket core)
+IsChangeEvent who place (Queue mode) core event =
+    event ≡ BeginWait (key_at place core) (record { ticket = next_ticket who mode core; wait = (seat_at who core).last_wait + 1; state = Unsettled })
+IsChangeEvent who place (Admit ticket) core event =
+    (event ≡ GrantWaiter (key_at place core) (waiter_in core ticket)) × IsGrantable (system_of core) who (key_at place core) ticket.mode
+IsChangeEvent who place (Settle how) core event =
+    (wait : Pending) × ((seat_at who core).wait ≡ Some wait)
+    × (event ≡ SettleLost (key_at place core) (waiter_of (waiting_ticket who wait) (Some wait)) (state_of (Some how)))
+IsChangeEvent who place (Leave wait) core event = event ≡ EndLostWait (key_at place core) (waiter_of (waiting_ticket who wait) (Some wait))
+IsChangeEvent who place (Take_up wait) core event = event ≡ EndGrantedWait (record { session = who; wait = wait.number; ticket = wait.id })

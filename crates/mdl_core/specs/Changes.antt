@@ -1,0 +1,157 @@
+-- What a call changes in the lock space of one thread: the seat of one session, and the book of one place.
+use Rattle.std.specs.Prelude.{◌≡◌, ◌≢◌, ℕ, zero, suc, ◌+◌, Bool, true, false, ◌&&◌, [], ◌∷◌, ◌++◌, length, find, Option, Some, None, Contains}
+use Rattle.mdl_key.specs.declared.mode.Mode.{Mode}
+use Rattle.mdl_key.specs.Keys.{KeyName}
+use Rattle.mdl_key.specs.Modes.{is_mode_of}
+use Rattle.mdl_book.specs.declared.lists.Lists.{Lists}
+use Rattle.mdl_book.specs.declared.ticket.Ticket.{Ticket}
+use Rattle.mdl_book.specs.Books.{lock_kind, empty_book, granting, enqueueing, admitting, cancelling, removing}
+use Rattle.mdl_calls.specs.declared.answers.Held.{Held}
+use Rattle.mdl_calls.specs.declared.answers.Settled.{Settled}
+use Rattle.mdl_calls.specs.declared.answers.Settled.TheVariants as settled_as
+use Rattle.mdl_core.specs.declared.pending.Pending.{Pending}
+use Rattle.mdl_core.specs.Seats.{SeatView, holding, without_ticket, beginning_wait, is_open, settling, without_wait, with_ticket_of}
+use Rattle.mdl_core.specs.Cores.{Core, book_at, seat_at, has_key, has_session, is_free, booking, seating}
+
+-- ---- one change
+
+-- what changes for a session at a place
+pub data Change : Type 0 where
+  -- a new ticket in this mode is granted
+  Gain : Mode → Change
+  -- a held ticket is given up
+  Lose : Held → Change
+  -- a wait begins, for a new ticket in this mode
+  Queue : Mode → Change
+  -- the ticket that is waited for is granted; its wait isn't ended yet
+  Admit : Ticket → Change
+  -- the wait is lost
+  Settle : Settled → Change
+  -- a lost wait ends
+  Leave : Pending → Change
+  -- a granted wait ends, and its ticket is held
+  Take_up : Pending → Change
+
+-- the next ticket that a session gains or waits for
+abbrev pub ticket_after : ℕ → Mode → SeatView → Ticket
+ticket_after who mode seat = record { session = who; number = seat.last_ticket + 1; mode = mode }
+
+-- the session's seat after it
+abbrev pub seat_after : ℕ → Change → SeatView → SeatView
+seat_after place (Gain mode) seat = holding place mode seat
+seat_after place (Lose ticket) seat = without_ticket ticket.id seat
+seat_after place (Queue mode) seat = beginning_wait place mode seat
+seat_after place (Admit ticket) seat = settling settled_as.Granted seat
+seat_after place (Settle how) seat = settling how seat
+seat_after place (Leave wait) seat = without_wait seat
+seat_after place (Take_up wait) seat = with_ticket_of wait seat
+
+-- the place's book after it
+abbrev pub book_after : ℕ → SeatView → Change → Lists → Lists
+book_after who seat (Gain mode) book = granting (ticket_after who mode seat) book
+book_after who seat (Lose ticket) book = removing who ticket.id book
+book_after who seat (Queue mode) book = enqueueing (ticket_after who mode seat) book
+book_after who seat (Admit ticket) book = admitting ticket.session ticket.number book
+book_after who seat (Settle how) book = book
+book_after who seat (Leave wait) book = cancelling who wait.id book
+book_after who seat (Take_up wait) book = book
+
+-- whether it is one of the book, too, and not of the seat alone
+abbrev pub is_of_book : Change → Bool
+is_of_book (Settle how) = false
+is_of_book (Take_up wait) = false
+is_of_book _ = true
+
+abbrev pub booked_if : Bool → ℕ → Lists → Core → Core
+booked_if true place book core = booking place book core
+booked_if false place book core = core
+
+-- the space after it
+abbrev pub changing : ℕ → ℕ → Change → Core → Core
+changing who place change core =
+    booked_if (is_of_book change) place (book_after who (seat_at who core) change (book_at place core))
+    (seating who (seat_after place change (seat_at who core)) core)
+
+-- what a change asks of the session's seat and of the place's book
+abbrev pub Allows : ℕ → ℕ → Change → SeatView → Lists → Type 0
+Allows who place (Gain mode) seat book = (seat.wait ≡ None) × (is_mode_of (lock_kind book) mode ≡ true)
+Allows who place (Lose ticket) seat book = Contains seat.held ticket × (ticket.place ≡ place)
+Allows who place (Queue mode) seat book = (seat.wait ≡ None) × (is_mode_of (lock_kind book) mode ≡ true)
+Allows who place (Admit ticket) seat book =
+    Contains book.waiting ticket × (ticket.session ≡ who) × ((wait : Pending) × (seat.wait ≡ Some wait) × (wait.settled ≡ None))
+Allows who place (Settle how) seat book =
+    ((wait : Pending) × (seat.wait ≡ Some wait) × (wait.settled ≡ None) × (wait.place ≡ place)) × (how ≢ settled_as.Granted)
+Allows who place (Leave wait) seat book = (seat.wait ≡ Some wait) × (wait.settled ≢ Some settled_as.Granted) × (wait.place ≡ place)
+Allows who place (Take_up wait) seat book = (seat.wait ≡ Some wait) × (wait.settled ≡ Some settled_as.Granted) × (wait.place ≡ place)
+
+-- it may be made
+pub record May (who place : ℕ) (change : Change) (core : Core) : Type 0 where
+  pub session : has_session who core ≡ true
+  pub key : has_key place core ≡ true
+  pub allows : Allows who place change (seat_at who core) (book_at place core)
+
+-- ---- each change by its name
+
+-- the next ticket that a session gains or waits for
+abbrev pub next_ticket : ℕ → Mode → Core → Ticket
+next_ticket who mode core = ticket_after who mode (seat_at who core)
+
+-- a key is given the next place
+abbrev pub opening : KeyName → Core → Core
+opening key core = record core { books = core.books ++ empty_book key ∷ [] }
+
+-- a lock is granted to a session
+abbrev pub granting_to : ℕ → ℕ → Mode → Core → Core
+granting_to who place mode core = changing who place (Gain mode) core
+
+-- a session begins to wait for a lock
+abbrev pub queueing : ℕ → ℕ → Mode → Core → Core
+queueing who place mode core = changing who place (Queue mode) core
+
+-- a session's wait is lost
+abbrev pub losing : ℕ → Settled → Core → Core
+losing who how core = seating who (settling how (seat_at who core)) core
+
+-- a session takes up the ticket that its wait was granted
+abbrev pub taking_up : ℕ → Pending → Core → Core
+taking_up who wait core = changing who wait.place (Take_up wait) core
+
+-- a session ends its lost wait: its ticket no longer stands among those that wait
+abbrev pub leaving : ℕ → Pending → Core → Core
+leaving who wait core = changing who wait.place (Leave wait) core
+
+-- a session gives up a ticket, which it holds at its place
+abbrev pub freeing : ℕ → Held → Core → Core
+freeing who ticket core = changing who ticket.place (Lose ticket) core
+
+-- ---- waiters
+
+-- a waiting ticket is granted to its session, which hasn't ended its wait yet
+abbrev pub admitting_at : ℕ → Ticket → Core → Core
+admitting_at place ticket core = changing ticket.session place (Admit ticket) core
+
+-- whether a session has an unsettled wait
+abbrev pub is_unsettled : ℕ → Core → Bool
+is_unsettled who core = has_session who core && is_open (seat_at who core).wait
+
+-- whether a waiting ticket's wait is unsettled and its wish can be granted
+abbrev pub is_ready : ℕ → Core → Ticket → Bool
+is_ready place core ticket = is_unsettled ticket.session core && is_free ticket.session place ticket.mode core
+
+-- the first such ticket, in order of arrival
+abbrev pub next_ready : ℕ → Core → Option Ticket
+next_ready place core = find (is_ready place core) (book_at place core).waiting
+
+-- that one is granted, if there is one
+abbrev pub admitting_if : ℕ → Option Ticket → Core → Core
+admitting_if place None core = core
+admitting_if place (Some ticket) core = admitting_at place ticket core
+
+-- so many times
+unfoldable pub admitting_up_to : ℕ → ℕ → Core → Core
+admitting_up_to zero place core = core
+admitting_up_to (suc more) place core = admitting_up_to more place (admitting_if place (next_ready place core) core)
+
+-- the waiters of a place are granted, as long as there is one that can be
+abbrev pub serving : ℕ → Core → Core
+serving place core = admitting_up_to (length (book_at place core).waiting) place core
