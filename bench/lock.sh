@@ -12,14 +12,20 @@ if [ ! -x /usr/bin/time ]; then
     exit 1
 fi
 
-# Runs a script so many times, and prints the time of one run and the peak memory.
+# Runs a script so many times, and prints the time of one run and the peak memory, and then the nanoseconds of a line for a program
+# to read: ROW, the workload, the threads, the figure's name and the figure.
 measure() {
-    lines=$1
-    turns=$2
-    script="$scripts/$lines.lock"
-    awk -v LINES="$lines" -v SEED=7 -v WRITERS=5 -f "$folder/lock_scripts.awk" > "$script"
+    life=$1
+    lines=$2
+    turns=$3
+    script="$scripts/$life.$lines.lock"
+    awk -v LINES="$lines" -v SEED=7 -v WRITERS=5 -v LIFE="$life" -f "$folder/lock_scripts.awk" > "$script"
     bytes=$(wc -c < "$script")
     /usr/bin/time -f '%M' -o "$scripts/memory" "$program" lock < "$script" > "$scripts/answers"
+    if grep -q REFUSED "$scripts/answers"; then
+        echo "$life: a session asked for what it can't have" >&2
+        exit 1
+    fi
     began=$(date +%s%N)
     turn=0
     while [ "$turn" -lt "$turns" ]; do
@@ -27,14 +33,18 @@ measure() {
         turn=$((turn + 1))
     done
     ended=$(date +%s%N)
-    awk -v lines="$lines" -v bytes="$bytes" -v spent="$((ended - began))" -v turns="$turns" \
+    awk -v life="$life" -v lines="$lines" -v bytes="$bytes" -v spent="$((ended - began))" -v turns="$turns" \
         -v memory="$(cat "$scripts/memory")" 'BEGIN {
         seconds = spent / turns / 1e9
-        printf "%9d lines  %9d bytes  %8.4f s  %9.0f lines/s  %6d KiB, %.1f times the script\n",
-            lines, bytes, seconds, lines / seconds, memory, memory * 1024 / bytes
+        printf "%-8s %9d lines  %9d bytes  %8.4f s  %9.0f lines/s  %6d KiB, %.1f times the script\n",
+            life, lines, bytes, seconds, lines / seconds, memory, memory * 1024 / bytes
+        printf "ROW lock_%s 1 line_of_%d %.0f\n", life, lines, seconds / lines * 1e9
     }'
 }
 
-measure 10000 100
-measure 100000 20
-measure 1000000 5
+# Lives of all kinds of sessions, and X that passes from session to session.
+for life in mixed passing; do
+    measure "$life" 10000 100
+    measure "$life" 100000 20
+    measure "$life" 1000000 5
+done

@@ -1,11 +1,14 @@
-# Writes a lock script of LINES lines: 64 sessions ask for the lock, give it up and give up waiting, at random. The same
-# SEED gives the same script.
+# Writes a lock script of LINES lines, in which 64 sessions live as sessions do: one that holds the lock gives it up before it asks
+# again, and one that waits does nothing but wait, or lose its patience. The same SEED gives the same script.
 #
 #     awk -v LINES=10000 -v SEED=1 -v WRITERS=5 -f bench/lock_scripts.awk
+#     awk -v LINES=10000 -v LIFE=passing -f bench/lock_scripts.awk
 #
-# A session asks at one of its turns, and at the next gives up, nine times of ten by RELEASE. Of a thousand wishes 450 are
-# for SR, 350 for SW, 50 for SH, 50 for SWLP, 15 for SU, 10 for SRO, 5 for SNW, 5 for SNRW, WRITERS for X, and the others
-# for S. Whoever waits is refused its RELEASE, and waits on.
+# By default a session that has nothing asks at its turn, and one that holds gives up. Of a thousand wishes 450 are for SR, 350 for
+# SW, 50 for SH, 50 for SWLP, 15 for SU, 10 for SRO, 5 for SNW, 5 for SNRW, WRITERS for X, and the others for S. One of four
+# turns of a session that waits is a TIMEOUT; the others are left out. To know who waits, the generator keeps the lock itself, as
+# plainly as can be. With LIFE=passing all sessions ask for X; whoever holds gives it up, which grants it to the next one, and
+# asks again.
 
 # The high bits of a linear congruential generator modulo 2^31.
 function next_below(bound) {
@@ -15,27 +18,122 @@ function next_below(bound) {
 
 function next_wish(wish, mode) {
     wish = next_below(1000)
-    for (mode = 1; mode <= modes; mode++) {
+    for (mode = 1; mode <= shares; mode++) {
         if (wish < share[mode]) {
-            return name[mode]
+            return wished[mode]
         }
         wish -= share[mode]
     }
     return "S"
 }
 
+# Whether a wish stands beside what the others hold, and behind nothing that the others wait for. A session that asks has neither.
+function is_grantable(wish, own, mode) {
+    for (mode in clashes_with) {
+        if (granted[mode] > 0 && index(clashes_with[wish], " " mode " ")) {
+            return 0
+        }
+        if (waiting[mode] - (own == mode) > 0 && index(waits_behind[wish], " " mode " ")) {
+            return 0
+        }
+    }
+    return 1
+}
+
+function ask(session, wish) {
+    print session, wish
+    mode_of[session] = wish
+    if (is_grantable(wish, "")) {
+        holds[session] = 1
+        granted[wish]++
+    } else {
+        waits[session] = 1
+        waiting[wish]++
+        queue[++last] = session
+    }
+}
+
+function leave_queue(session, at) {
+    for (at = first; queue[at] != session; at++) { }
+    for (; at < last; at++) {
+        queue[at] = queue[at + 1]
+    }
+    delete queue[last--]
+    waits[session] = 0
+    waiting[mode_of[session]]--
+}
+
+function grant_waiters(at, session) {
+    for (at = first; at <= last; at++) {
+        session = queue[at]
+        if (is_grantable(mode_of[session], mode_of[session])) {
+            leave_queue(session)
+            holds[session] = 1
+            granted[mode_of[session]]++
+            at = first - 1
+        }
+    }
+}
+
+function release(session) {
+    print session, "RELEASE"
+    holds[session] = 0
+    granted[mode_of[session]]--
+    grant_waiters()
+}
+
+function time_out(session) {
+    print session, "TIMEOUT"
+    leave_queue(session)
+    grant_waiters()
+}
+
+# A turn of a session. Whether it made a line of it.
+function lives(session) {
+    if (holds[session]) {
+        release(session)
+    } else if (!waits[session]) {
+        ask(session, next_wish())
+    } else if (next_below(4)) {
+        return 0
+    } else {
+        time_out(session)
+    }
+    return 1
+}
+
+function pass_on(lines, line, session) {
+    for (line = 1; line <= lines && line <= 64; line++) {
+        print line, "X"
+    }
+    for (session = 1; line <= lines; line++) {
+        print session, (line % 2) ? "RELEASE" : "X"
+        session = (line % 2) ? session : session % 64 + 1
+    }
+}
+
 BEGIN {
     state = SEED
-    modes = split("SR SW SH SWLP SU SRO SNW SNRW X", name)
+    first = 1
+    shares = split("SR SW SH SWLP SU SRO SNW SNRW X", wished)
     split("450 350 50 50 15 10 5 5 " WRITERS, share)
-    for (line = 1; line <= LINES; line++) {
-        session = 1 + next_below(64)
-        if (asked[session]) {
-            asked[session] = 0
-            print session, next_below(10) ? "RELEASE" : "TIMEOUT"
-        } else {
-            asked[session] = 1
-            print session, next_wish()
-        }
+    clashes_with["S"] = clashes_with["SH"] = " X "
+    clashes_with["SR"] = " SNRW X "
+    clashes_with["SW"] = clashes_with["SWLP"] = " SRO SNW SNRW X "
+    clashes_with["SU"] = " SU SNW SNRW X "
+    clashes_with["SRO"] = " SW SWLP SNRW X "
+    clashes_with["SNW"] = " SW SWLP SU SNW SNRW X "
+    clashes_with["SNRW"] = " SR SW SWLP SU SRO SNW SNRW X "
+    clashes_with["X"] = " S SH SR SW SWLP SU SRO SNW SNRW X "
+    waits_behind["S"] = waits_behind["SU"] = waits_behind["SNW"] = waits_behind["SNRW"] = " X "
+    waits_behind["SH"] = waits_behind["X"] = " "
+    waits_behind["SR"] = " SNRW X "
+    waits_behind["SW"] = " SNW SNRW X "
+    waits_behind["SWLP"] = " SRO SNW SNRW X "
+    waits_behind["SRO"] = " SW SNRW X "
+    if (LIFE == "passing") {
+        pass_on(LINES)
+    } else {
+        for (line = 1; line <= LINES; line += lives(1 + next_below(64))) { }
     }
 }
