@@ -26,44 +26,43 @@ use Rattle.mdl_system.specs.Systems.{Holding, Waiter, GrantedWait}
 
 -- ---- the numbers of one session
 
--- how the tickets of a session with this wait are numbered
-abbrev NumberedBy : SeatView → Pending → Type 0
-NumberedBy seat wait = (wait.id ≡ seat.last_ticket) × (wait.number ≤ seat.last_wait) × ((ticket : Held) → Contains seat.held ticket → ticket.id < wait.id)
+-- the ticket of a session's wait, which is granted
+abbrev Won : SeatView → Held → Type 0
+Won seat ticket = (wait : Pending) × (seat.wait ≡ Some wait) × (wait.settled ≡ Some settled_as.Granted) × (ticket ≡ ticket_of_wait wait)
 
--- its tickets are those that it holds, and that of the wait where it is granted
-has-cases : (seat : SeatView) (ticket : Held) → IsNumbered seat → Has seat ticket
-    → Contains seat.held ticket ⊎ ((wait : Pending) × (seat.wait ≡ Some wait) × (wait.settled ≡ Some settled_as.Granted) × (ticket ≡ ticket_of_wait wait))
-has-cases seat ticket numbered (inl held) = inl held
-has-cases seat ticket numbered (inr won) = inr (go seat.wait refl won)
+has-cases : (seat : SeatView) (ticket : Held) → Has seat ticket → Contains seat.held ticket ⊎ Won seat ticket
+has-cases seat ticket (inl held) = inl held
+has-cases seat ticket (inr its) = inr (go seat.wait refl its)
   where
-    go : (o : Option Pending) → seat.wait ≡ o → MatchOption o ⊥ (λ (wait : Pending). (wait.settled ≡ Some settled_as.Granted) × (ticket ≡ ticket_of_wait wait))
-        → (wait : Pending) × (seat.wait ≡ Some wait) × (wait.settled ≡ Some settled_as.Granted) × (ticket ≡ ticket_of_wait wait)
+    go : (o : Option Pending) → seat.wait ≡ o → MatchOption o ⊥ (λ (wait : Pending). (wait.settled ≡ Some settled_as.Granted) × (ticket ≡ ticket_of_wait wait)) → Won seat ticket
     go None e none = absurd none
     go (Some wait) e its = (wait, e, its.0, its.1)
 
-numbered-by : (seat : SeatView) (wait : Pending) → IsNumbered seat → seat.wait ≡ Some wait → NumberedBy seat wait
-numbered-by seat wait numbered is = subst (λ o. MatchOption o (Unit {0}) (NumberedBy seat)) is numbered.wait
+-- a session has one wait
+one_of : (seat : SeatView) (wait other : Pending) → seat.wait ≡ Some wait → seat.wait ≡ Some other → wait ≡ other
+one_of seat wait other e f = let same : Some wait ≡ Some other = sym e ∙ f in cc
+
+-- each held ticket has a smaller number than that of the wait
+held-below : (seat : SeatView) (wait : Pending) → IsNumbered seat → seat.wait ≡ Some wait → (ticket : Held) → Contains seat.held ticket → ticket.id < wait.id
+held-below seat wait numbered is =
+    (subst (λ o. MatchOption o (Unit {0}) (λ (w : Pending).
+    (w.id ≡ seat.last_ticket) × (w.number ≤ seat.last_wait) × ((ticket : Held) → Contains seat.held ticket → ticket.id < w.id))) is numbered.wait).2
 
 -- two tickets of one number are one
 has-one : (seat : SeatView) (t u : Held) → IsNumbered seat → Has seat t → Has seat u → t.id ≡ u.id → t ≡ u
-has-one seat t u numbered one other e = go (has-cases seat t numbered one) (has-cases seat u numbered other)
+has-one seat t u numbered one other e = go (has-cases seat t one) (has-cases seat u other)
   where
-    -- a held ticket has another number than that of the wait
-    below : (held won : Held) → Contains seat.held held → (wait : Pending) → seat.wait ≡ Some wait → won ≡ ticket_of_wait wait → held.id ≢ won.id
-    below held won among wait is its same =
-        let lt : held.id < wait.id = (numbered-by seat wait numbered is).2 held among in
-        let own : won.id ≡ wait.id = ap (λ (x : Held). x.id) its in
+    apart : (held won : Held) → Contains seat.held held → Won seat won → held.id ≢ won.id
+    apart held won among its same =
+        let lt = held-below seat its.0 numbered its.1 held among in
+        let own : won.id ≡ its.0.id = ap (λ (x : Held). x.id) its.3 in
         omega arith
 
-    go : Contains seat.held t ⊎ ((wait : Pending) × (seat.wait ≡ Some wait) × (wait.settled ≡ Some settled_as.Granted) × (t ≡ ticket_of_wait wait))
-        → Contains seat.held u ⊎ ((wait : Pending) × (seat.wait ≡ Some wait) × (wait.settled ≡ Some settled_as.Granted) × (u ≡ ticket_of_wait wait)) → t ≡ u
+    go : Contains seat.held t ⊎ Won seat t → Contains seat.held u ⊎ Won seat u → t ≡ u
     go (inl p) (inl q) = same-number seat.held (pairs-from_rising seat.held numbered.rising) t u p q e
-    go (inl p) (inr q) = absurd (below t u p q.0 q.1 q.3 e)
-    go (inr p) (inl q) = absurd (below u t q p.0 p.1 p.3 (sym e))
-    go (inr p) (inr q) =
-        let same : Some p.0 ≡ Some q.0 = sym p.1 ∙ q.1 in
-        let wait : p.0 ≡ q.0 = cc in
-        p.3 ∙ ap ticket_of_wait wait ∙ sym q.3
+    go (inl p) (inr q) = absurd (apart t u p q e)
+    go (inr p) (inl q) = absurd (apart u t q p (sym e))
+    go (inr p) (inr q) = p.3 ∙ ap ticket_of_wait (one_of seat p.0 q.0 p.1 q.1) ∙ sym q.3
 
 -- ---- waiters of different sessions
 
@@ -123,11 +122,9 @@ module _ (core : Core) (sound : IsSound core) where
       let w = waits held.session key waiter among (sym s) in
       let numbered = sound.tied.numbered held.session t.2 in
       let id : t.0.id ≡ w.0.id = ap (λ (h : Holding). h.number) t.3 ∙ n ∙ ap (λ (x : Waiter). x.ticket.number) w.4 in
-      elim (has-cases (seat_at held.session core) t.0 numbered t.1) [
-        | inl own ↦ (let lt = (numbered-by (seat_at held.session core) w.0 numbered w.1).2 t.0 own in omega arith)
-        | inr its ↦ (let same : Some its.0 ≡ Some w.0 = sym its.1 ∙ w.1 in
-            let wait : its.0 ≡ w.0 = cc in
-            w.2 (ap (λ (p : Pending). p.settled) (sym wait) ∙ its.2))
+      elim (has-cases (seat_at held.session core) t.0 t.1) [
+        | inl own ↦ (let lt = held-below (seat_at held.session core) w.0 numbered w.1 t.0 own in omega arith)
+        | inr its ↦ w.2 (ap (λ (p : Pending). p.settled) (one_of (seat_at held.session core) w.0 its.0 w.1 its.1) ∙ its.2)
       ]
 
   once : (key : KeyName) → AllPairs (λ (one other : Waiter). one.ticket.session ≢ other.ticket.session) ((system_of core).waiting key)
@@ -143,27 +140,22 @@ module _ (core : Core) (sound : IsSound core) where
   one_key key other waiter another p q s =
       let w = waits another.ticket.session key waiter p s in
       let v = waits another.ticket.session other another q refl in
-      let same : Some w.0 ≡ Some v.0 = sym w.1 ∙ v.1 in
-      let wait : w.0 ≡ v.0 = cc in
-      sym w.3 ∙ ap (λ (x : Pending). key_at x.place core) wait ∙ v.3
+      sym w.3 ∙ ap (λ (x : Pending). key_at x.place core) (one_of (seat_at another.ticket.session core) w.0 v.0 w.1 v.1) ∙ v.3
 
   ended : (key : KeyName) (waiter : Waiter) (wait : GrantedWait) → Contains ((system_of core).waiting key) waiter → Contains (system_of core).unended wait
       → waiter.ticket.session ≢ wait.session
   ended key waiter wait p q s =
       let w = waits wait.session key waiter p s in
       let v = won wait.session wait q refl in
-      let same : Some v.0 ≡ Some w.0 = sym v.1 ∙ w.1 in
-      let pending : v.0 ≡ w.0 = cc in
-      w.2 (ap (λ (x : Pending). x.settled) (sym pending) ∙ v.2)
+      w.2 (ap (λ (x : Pending). x.settled) (one_of (seat_at wait.session core) w.0 v.0 w.1 v.1) ∙ v.2)
 
   one_wait : (one other : GrantedWait) → Contains (system_of core).unended one → Contains (system_of core).unended other → one.session ≡ other.session → one ≡ other
   one_wait one other p q s =
       let w = won other.session one p s in
       let v = won other.session other q refl in
-      let same : Some w.0 ≡ Some v.0 = sym w.1 ∙ v.1 in
-      let pending : w.0 ≡ v.0 = cc in
-      let number : one.wait ≡ other.wait = sym w.3 ∙ ap (λ (x : Pending). x.number) pending ∙ v.3 in
-      let ticket : one.ticket ≡ other.ticket = sym w.4 ∙ ap (λ (x : Pending). x.id) pending ∙ v.4 in
+      let same = one_of (seat_at other.session core) w.0 v.0 w.1 v.1 in
+      let number : one.wait ≡ other.wait = sym w.3 ∙ ap (λ (x : Pending). x.number) same ∙ v.3 in
+      let ticket : one.ticket ≡ other.ticket = sym w.4 ∙ ap (λ (x : Pending). x.id) same ∙ v.4 in
       λ i. record { session = s i; wait = number i; ticket = ticket i }
 
   stands : (wait : GrantedWait) → Contains (system_of core).unended wait
