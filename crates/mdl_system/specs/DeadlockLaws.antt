@@ -34,8 +34,8 @@ RunsMakeDeadlocksByWaiting C D =
     DeadlocksGoThrough sessions a →
     DeadlocksGoThrough (λ session. sessions session || begins_to_wait events session) b
 
--- a session owes a search as long as a deadlock may go through it. The debt ends where none does: all deadlocks that went through
--- some sessions go through these but for that one
+-- so whoever begins to wait owes a search. The debt ends once the session is part of no deadlock: where all deadlocks go through
+-- some sessions, they go through these but for that one
 abbrev pub SearchesEndDebts : Type 0 → Type 0
 SearchesEndDebts D =
     (who : ℕ) (sessions : ℕ → Bool) (system : System D) →

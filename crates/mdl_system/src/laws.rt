@@ -83,7 +83,7 @@ pub fn granting_there_is_enough<C, D>()
     ensures { GrantingThereIsEnough C D }
 {}
 
-/// Whatever happens, a deadlock comes to be only through a session that begins to wait by it.
+/// Whatever happens, a deadlock comes to be only through the session that begins to wait by it, if one does.
 pub fn events_make_deadlocks_by_waiting<C, D>()
     ensures { EventsMakeDeadlocksByWaiting C D }
 {}
@@ -93,7 +93,7 @@ pub fn runs_make_deadlocks_by_waiting<C, D>()
     ensures { RunsMakeDeadlocksByWaiting C D }
 {}
 
-/// A session owes no search once no deadlock goes through it: all that went through it and others go through the others.
+/// Once a session is part of no deadlock, it owes no search: all deadlocks go through the others that do.
 pub fn searches_end_debts<D>()
     ensures { SearchesEndDebts D }
 {}
