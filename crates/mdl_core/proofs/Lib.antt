@@ -3,6 +3,7 @@ pub mod CoreCallsFollow
 pub mod CoreEvents
 pub mod CoreFollows
 pub mod CoreGranted
+pub mod CoreNumbered
 pub mod CoreReads
 pub mod CoreServing
 pub mod CoreSettling
@@ -12,7 +13,6 @@ pub mod CoreWaiting
 pub mod CoreWaits
 pub mod CoreWaitsFollow
 pub mod DeadlockCauses
-pub mod DeadlockEvents
 pub mod DeadlockSystems
 pub mod DeadlockWaits
 pub mod GrantedMoves

@@ -13,13 +13,13 @@ use Rattle.mdl_system.proofs.OrderLemmas.{within, gone-before, changed-before, g
 -- ---- who waits after an event
 
 -- the event by which a ticket begins to wait
-abbrev Begins : {C : Type 0} → Event C → KeyName → Waiter → Type 0
+abbrev pub Begins : {C : Type 0} → Event C → KeyName → Waiter → Type 0
 Begins (BeginWait at new) key waiter = (key ≡ at) × (waiter ≡ new)
 Begins _ key waiter = ⊥
 
 module _ {C D : Type 0} (apply : KeyName → C → Option D → Option (Option D)) where
   -- an unsettled waiter has waited before, or begins to
-  waits-since : (event : Event C) (a b : System D) → Happens apply event a b → (key : KeyName) (waiter : Waiter) → Contains (b.waiting key) waiter
+  pub waits-since : (event : Event C) (a b : System D) → Happens apply event a b → (key : KeyName) (waiter : Waiter) → Contains (b.waiting key) waiter
       → waiter.state ≡ Unsettled → Contains (a.waiting key) waiter ⊎ Begins event key waiter
   waits-since (Grant ticket) a b step key = λ waiter among unsettled. inl (within _ _ waiter (step.rest.waits.waiting key) among)
   waits-since (Clone first second) a b step key = λ waiter among unsettled. inl (within _ _ waiter (step.rest.waits.waiting key) among)

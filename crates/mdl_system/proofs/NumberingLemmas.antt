@@ -132,7 +132,7 @@ module _ {D : Type 0} (a b : System D) (well : IsWellNumbered a) where
   there at gone step = within _ (a.waiting at) gone (sym step.leaves.2) (middle step.leaves.0 step.leaves.1 gone)
 
   -- who still waits is of another session
-  still : (at : KeyName) (gone : Waiter) → GrantsWaiter at gone a b → (key : KeyName) (waiter : Waiter) → Contains (b.waiting key) waiter
+  pub still : (at : KeyName) (gone : Waiter) → GrantsWaiter at gone a b → (key : KeyName) (waiter : Waiter) → Contains (b.waiting key) waiter
       → Contains (a.waiting key) waiter × (waiter.ticket.session ≢ gone.ticket.session)
   still at gone step key = at_any (λ k. (waiter : Waiter) → Contains (b.waiting k) waiter → Contains (a.waiting k) waiter × (waiter.ticket.session ≢ gone.ticket.session)) at key
       (λ waiter among. (gone-before gone (a.waiting at) (b.waiting at) step.leaves waiter among, leaves-others (a.waiting at) (b.waiting at) gone step.leaves (well.once at) waiter among))

@@ -1,5 +1,6 @@
 pub mod BlockingLaws
 pub mod BookLaws
+pub mod DeadlockLaws
 pub mod Deadlocks
 pub mod Events
 pub mod NumberingLaws

@@ -1,6 +1,7 @@
 //! Laws of the system of locks and of its steps. Each is proved as the contract of a function that does nothing.
 ghost use Rattle.mdl_system.specs.BlockingLaws.{MoreBlocksMore, OnlyGoingFrees, NobodyForgottenUnlessFreed, EventsConcernOneKey, GrantingComesToAnEnd, GrantingThereIsEnough};
 ghost use Rattle.mdl_system.specs.BookLaws.{LawfulByLists, GrantableByLists, ChangesByLists};
+ghost use Rattle.mdl_system.specs.DeadlockLaws.{EventsMakeDeadlocksByWaiting, RunsMakeDeadlocksByWaiting, SearchesEndDebts};
 ghost use Rattle.mdl_system.specs.NumberingLaws.{StepsKeepWellNumbered, EventsChangeHeld, WaitsLeaveHeld};
 ghost use Rattle.mdl_system.specs.PermittedEvents.{EventsHappenWherePermitted, PlausibleEventsHappen};
 ghost use Rattle.mdl_system.specs.Strength.{CoversByKind};
@@ -80,6 +81,21 @@ pub fn granting_comes_to_an_end<C, D>()
 /// After an event it is enough to grant waiters of its key until none is left to be: then nobody is forgotten.
 pub fn granting_there_is_enough<C, D>()
     ensures { GrantingThereIsEnough C D }
+{}
+
+/// Whatever happens, a deadlock comes to be only through the session that begins to wait by it, if one does.
+pub fn events_make_deadlocks_by_waiting<C, D>()
+    ensures { EventsMakeDeadlocksByWaiting C D }
+{}
+
+/// However much happens, deadlocks come to be only through sessions that begin to wait meanwhile.
+pub fn runs_make_deadlocks_by_waiting<C, D>()
+    ensures { RunsMakeDeadlocksByWaiting C D }
+{}
+
+/// Once a session is part of no deadlock, it owes no search: all deadlocks go through the others that do.
+pub fn searches_end_debts<D>()
+    ensures { SearchesEndDebts D }
 {}
 
 /// A system is lawful exactly where the granted list in each lock's book is.

@@ -9,9 +9,11 @@ mod strength;
 
 pub use laws::{
     changes_by_lists, covers_by_kind, definitions_change_exclusively, definitions_stand_still,
-    events_change_held, events_concern_one_key, events_happen_where_permitted, grantable_by_lists,
-    granting_comes_to_an_end, granting_there_is_enough, lawful_by_lists, more_blocks_more,
-    nobody_forgotten_unless_freed, only_going_frees, others_hold_the_same, plausible_events_happen,
-    steps_keep_lawful, steps_keep_well_numbered, waits_leave_held,
+    events_change_held, events_concern_one_key, events_happen_where_permitted,
+    events_make_deadlocks_by_waiting, grantable_by_lists, granting_comes_to_an_end,
+    granting_there_is_enough, lawful_by_lists, more_blocks_more, nobody_forgotten_unless_freed,
+    only_going_frees, others_hold_the_same, plausible_events_happen,
+    runs_make_deadlocks_by_waiting, searches_end_debts, steps_keep_lawful,
+    steps_keep_well_numbered, waits_leave_held,
 };
 pub use strength::covers;
