@@ -21,10 +21,7 @@ pub struct Chain {
 impl Chain {
     pub fn new(alloc: Global, waiters: u16) -> Result<Chain, Failure> {
         let mut book = Book::new(alloc, Key::table(alloc, "test", "t")?);
-        book.grant(ticket(OWNER, Mode::X), NO_FAST_TICKETS)?;
-        for waiter in 0..waiters {
-            book.enqueue(ticket(waiter % 1000 + 2, Mode::SR))?;
-        }
+        queue(&mut book, waiters)?;
         Ok(Chain {
             book,
             everyone: Sessions::all(),
@@ -43,6 +40,15 @@ impl Chain {
         }
         Ok(())
     }
+}
+
+// The owner has the lock, and so many wait for it.
+fn queue(book: &mut Book, waiters: u16) -> Result<(), Failure> {
+    book.grant(ticket(OWNER, Mode::X), NO_FAST_TICKETS)?;
+    for waiter in 0..waiters {
+        book.enqueue(ticket(waiter % 1000 + 2, Mode::SR))?;
+    }
+    Ok(())
 }
 
 // The one ticket of a session.

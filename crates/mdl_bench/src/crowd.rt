@@ -26,19 +26,7 @@ pub struct Crowd {
 impl Crowd {
     pub fn new(alloc: Global, tickets: u16) -> Result<Crowd, Failure> {
         let mut book = Book::new(alloc, Key::table(alloc, "test", "t")?);
-        for number in 0..tickets {
-            let ticket = Ticket {
-                session: 1 + number % HOLDERS,
-                number: u64::from(number),
-                mode: Mode::SR,
-            };
-            book.grant(ticket, NO_FAST_TICKETS)?;
-        }
-        book.enqueue(Ticket {
-            session: NEWCOMER,
-            number: 1,
-            mode: Mode::SU,
-        })?;
+        gather(&mut book, tickets)?;
         Ok(Crowd {
             book,
             everyone: Sessions::all(),
@@ -68,6 +56,24 @@ impl Crowd {
         }
         found
     }
+}
+
+// So many hold the lock, and the newcomer waits for it.
+fn gather(book: &mut Book, tickets: u16) -> Result<(), Failure> {
+    for number in 0..tickets {
+        let ticket = Ticket {
+            session: 1 + number % HOLDERS,
+            number: u64::from(number),
+            mode: Mode::SR,
+        };
+        book.grant(ticket, NO_FAST_TICKETS)?;
+    }
+    book.enqueue(Ticket {
+        session: NEWCOMER,
+        number: 1,
+        mode: Mode::SU,
+    })?;
+    Ok(())
 }
 
 #[cfg(test)]

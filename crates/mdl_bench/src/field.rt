@@ -124,6 +124,27 @@ pub fn pass_on<S: LockSpace>(space: &mut S) -> Result<(), Failure>
     serve_all(space, first)
 }
 
+/// A lock goes through all sessions, so many times.
+pub fn pass_on_often<S: LockSpace>(space: &mut S, turns: u32) -> Result<(), Failure>
+    requires { (w : ℕ) → 1 ≤ w → w ≤ 64 → S.speaks_for space.old w }
+    ensures { (w : ℕ) → 1 ≤ w → w ≤ 64 → S.speaks_for space.new w }
+{
+    for _turn in 0..turns {
+        pass_on(space)?;
+    }
+    Ok(())
+}
+
+/// Makes each call once.
+pub fn try_calls<S: LockSpace>(space: &mut S) -> Result<(), Failure>
+    requires { (w : ℕ) → 1 ≤ w → w ≤ 64 → S.speaks_for space.old w }
+    ensures { (w : ℕ) → 1 ≤ w → w ≤ 64 → S.speaks_for space.new w }
+{
+    pass_on(space)?;
+    fill(space, 1)?;
+    take_and_release(space, 1)
+}
+
 #[cfg(test)]
 mod tests {
     use super::*;

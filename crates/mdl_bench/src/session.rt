@@ -129,3 +129,33 @@ pub fn go_back<S: LockSpace>(
     }
     Ok(())
 }
+
+/// Locks the last of these tables and gives it up, so many times.
+pub fn take_and_release_last<S: LockSpace>(
+    space: &mut S,
+    context: &mut Context<S>,
+    keys: &[Key],
+    turns: u32,
+) -> Result<(), Failure>
+    requires { Attends S.speaks_for S.own S.knows space.old context.old }
+    ensures { Attends S.speaks_for S.own S.knows space.new context.new }
+{
+    let Some(key) = keys.last() else {
+        return Err(Failure::Unexpected);
+    };
+    take_and_release(space, context, key, turns)
+}
+
+/// Makes each call once.
+pub fn try_calls<S: LockSpace>(
+    space: &mut S,
+    context: &mut Context<S>,
+    keys: &[Key],
+) -> Result<(), Failure>
+    requires { Attends S.speaks_for S.own S.knows space.old context.old }
+    ensures { Attends S.speaks_for S.own S.knows space.new context.new }
+{
+    fill(space, context, keys, 1)?;
+    go_back(space, context, keys, 1)?;
+    take_and_release_last(space, context, keys, 1)
+}

@@ -41,14 +41,7 @@ pub struct Tangle {
 impl Tangle {
     pub fn new(alloc: Global, shape: Shape, sessions: u16) -> Result<Tangle, Failure> {
         let mut books = Vec::new(alloc);
-        match shape {
-            Shape::Chain => link(alloc, &mut books, sessions)?,
-            Shape::Ring => {
-                link(alloc, &mut books, sessions)?;
-                shelve(&mut books, contested(alloc, 1, sessions)?)?;
-            }
-            Shape::Dense => shelve(&mut books, crowded(alloc, sessions)?)?,
-        }
+        tie(alloc, &mut books, shape, sessions)?;
         Ok(Tangle { books, sessions })
     }
 
@@ -62,6 +55,18 @@ impl Tangle {
             Some(cycle) => Ok(Some(victim(&cycle))),
             None => Ok(None),
         }
+    }
+}
+
+// The locks of a tangle of this shape.
+fn tie(alloc: Global, books: &mut Vec<Book>, shape: Shape, sessions: u16) -> Result<(), Failure> {
+    match shape {
+        Shape::Chain => link(alloc, books, sessions),
+        Shape::Ring => {
+            link(alloc, books, sessions)?;
+            shelve(books, contested(alloc, 1, sessions)?)
+        }
+        Shape::Dense => shelve(books, crowded(alloc, sessions)?),
     }
 }
 
@@ -84,21 +89,33 @@ fn shelve(books: &mut Vec<Book>, book: Book) -> Result<(), Failure> {
 // A lock that one session holds and another one waits for.
 fn contested(alloc: Global, holder: u16, waiter: u16) -> Result<Book, Failure> {
     let mut book = Book::new(alloc, Key::table(alloc, "test", "t")?);
+    contest(&mut book, holder, waiter)?;
+    Ok(book)
+}
+
+// One session has the lock, and another one waits for it.
+fn contest(book: &mut Book, holder: u16, waiter: u16) -> Result<(), Failure> {
     book.grant(ticket(holder, 1, Mode::X), NO_FAST_TICKETS)?;
     book.enqueue(ticket(waiter, 2, Mode::SR))?;
-    Ok(book)
+    Ok(())
 }
 
 // A lock that all sessions hold, and that each waits for more strongly.
 fn crowded(alloc: Global, sessions: u16) -> Result<Book, Failure> {
     let mut book = Book::new(alloc, Key::table(alloc, "test", "t")?);
+    crowd(&mut book, sessions)?;
+    Ok(book)
+}
+
+// All sessions have the lock, and each waits for it more strongly.
+fn crowd(book: &mut Book, sessions: u16) -> Result<(), Failure> {
     for session in 1..sessions.saturating_add(1) {
         book.grant(ticket(session, 1, Mode::SR), NO_FAST_TICKETS)?;
     }
     for session in 1..sessions.saturating_add(1) {
         book.enqueue(ticket(session, 2, Mode::X))?;
     }
-    Ok(book)
+    Ok(())
 }
 
 // A ticket of a session.

@@ -7,7 +7,5 @@
 mod answers;
 mod space_error;
 
-pub use answers::{
-    Attempt, Begun, Ended, Held, Place, Poll, Search, Settled, TicketId, TimedOut,
-};
+pub use answers::{Attempt, Begun, Ended, Held, Place, Poll, Search, Settled, TicketId, TimedOut};
 pub use space_error::SpaceError;

@@ -8,7 +8,8 @@ use Rattle.mdl_key.specs.declared.mode.Duration.TheVariants.{Statement, Transact
 use Rattle.mdl_calls.specs.Answers.{Answer}
 use Rattle.mdl_calls.specs.Calls.{Call}
 use Rattle.mdl_calls.specs.Own.{Own, IsRising, is_number, holds, giving_up}
-use Rattle.mdl_calls.specs.Runs.{Program, Runs, Give, runs_bind}
+use Rattle.mdl_calls.specs.Runs.{Program, Runs, Give}
+use Rattle.mdl_calls.proofs.RunLemmas.{runs_bind}
 use Rattle.mdl_context.specs.declared.context_error.ContextError.{ContextError}
 use Rattle.mdl_context.specs.declared.kept.Kept.{Kept}
 use Rattle.mdl_context.specs.declared.kept.Wanted.{Wanted}

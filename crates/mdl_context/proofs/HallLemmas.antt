@@ -8,7 +8,7 @@ use Rattle.mdl_calls.specs.Calls.{Call, Unpin, caller}
 use Rattle.mdl_calls.specs.Own.{Own}
 use Rattle.mdl_core.specs.CoreJoins.{SpeaksFor, own_at, Knows}
 use Rattle.mdl_context.specs.Contexts.{ContextView, Attends, LeavesOthers}
-use Rattle.mdl_context.specs.Halls.{AreServed}
+use Rattle.mdl_context.specs.Tests.Halls.{AreServed}
 use Rattle.mdl_context.proofs.AttendLemmas.{attends-same}
 
 -- each of them is of its session, and attended to

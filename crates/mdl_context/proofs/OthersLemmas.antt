@@ -69,10 +69,6 @@ for_abandoning who = (refl, λ _. (refl, for_unwanted who))
 
 -- ---- wishes
 
-for_copy : (place : ℕ) (request : Request) (context : ContextView) (answer : Answer) → IsFor context.who (requests.copy_answered place request context answer)
-for_copy place request context (Granted id) = tt
-for_copy place request context _ = tt
-
 for_wish_sought : (place number : ℕ) (request : Request) (context : ContextView) (end : SearchEnd) → IsFor context.who (requests.wish_sought place number request context end)
 for_wish_sought place number request context Over = tt
 for_wish_sought place number request context Cut_off = tt
@@ -96,10 +92,6 @@ for_place request context _ = tt
 pub for_asking : (ticket : Option Held) (request : Request) (context : ContextView) → IsFor context.who (requests.asking ticket request context)
 for_asking (Some ticket) request context = (refl, for_try ticket.place request context)
 for_asking None request context = (refl, for_place request context)
-
-pub for_copying : (ticket : Held) (request : Request) (context : ContextView)
-    → IsFor context.who (Ask (Clone_ticket context.who ticket.id request.mode) (requests.copy_answered ticket.place request context))
-for_copying ticket request context = (refl, for_copy ticket.place request context)
 
 -- ---- waits
 

@@ -113,16 +113,6 @@ serves-left own after before then serves held there here = record {
   wait = ap (option_map wish_there) there ∙ serves.wait ∙ sym (ap (option_map wish_here) here);
 }
 
--- a session that begins to wait, and ends its wait without a ticket, has what it had
-pub own-idle : (number place : ℕ) (mode : Mode) (own : Own) (context : ContextView) → Serves own context → context.wait ≡ None → ending (waiting number place mode own) ≡ own
-own-idle number place mode own context serves idle = idle-own own.held own.wait (no-wish own.wait (serves.wait ∙ ap (option_map wish_here) idle)) where
-  no-wish : (w : Option Wait) → option_map wish_there w ≡ None → w ≡ None
-  no-wish None e = refl
-  no-wish (Some w) e = cc
-
-  idle-own : (held : List Held) (w : Option Wait) → w ≡ None → ending (waiting number place mode (record { held = held; wait = w })) ≡ record { held = held; wait = w }
-  idle-own held w none = sym (ap (λ x. let o : Own = record { held = held; wait = x } in o) none)
-
 -- a wait whose searches are over, or aren't, is one
 pub searched-waits : {searched : Bool} (wait : Option Wanted) (found : Option Bool) → found ≡ is_searched wait → found ≡ Some searched → is_some wait ≡ true
 searched-waits None found is e = cc

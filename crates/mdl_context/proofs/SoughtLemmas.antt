@@ -3,7 +3,8 @@ use Rattle.std.proofs.Common.{◌≡◌, ℕ, Bool, true, false, Ok, Err, refl, 
 use Rattle.mdl_calls.specs.declared.space_error.SpaceError.{SpaceError}
 use Rattle.mdl_calls.specs.Answers.{Answer}
 use Rattle.mdl_calls.specs.Calls.{Call}
-use Rattle.mdl_calls.specs.Runs.{Runs, Give, ◌>>◌, runs_bind}
+use Rattle.mdl_calls.specs.Runs.{Runs, Give, ◌>>◌}
+use Rattle.mdl_calls.proofs.RunLemmas.{runs_bind}
 use Rattle.mdl_calls.specs.Searches.{Over, Cut_off, Failed, seeking, most_searches}
 use Rattle.mdl_context.specs.declared.context_error.ContextError.TheVariants.{Space}
 use Rattle.mdl_context.specs.declared.request.Acquire.TheVariants.{MustWait}

@@ -1,9 +1,9 @@
 pub mod Contexts
 pub mod DurationLaws
 pub mod Goings
-pub mod Halls
 pub mod Holdings
 pub mod Indexes
 pub mod Releases
 pub mod Requests
 pub mod SearchEnds
+pub mod Tests

@@ -11,10 +11,11 @@ use Rattle.mdl_book.specs.declared.lists.Lists.{Lists}
 use Rattle.mdl_book.specs.declared.ticket.Ticket.{Ticket}
 use Rattle.mdl_book.specs.Books.{empty_book}
 use Rattle.mdl_graph.specs.declared.cycle.Member.{Member}
-use Rattle.mdl_graph.specs.CycleLaws.{chosen_cycles, member_of_cycle_waits}
+use Rattle.mdl_graph.proofs.CycleLaws.{chosen_cycles, member_of_cycle_waits}
 use Rattle.mdl_graph.specs.Cycles.{chosen_cycle}
 use Rattle.mdl_graph.specs.Graphs.{member_of, victim_in}
-use Rattle.mdl_graph.specs.Members.{Among, contained}
+use Rattle.mdl_graph.proofs.MemberLemmas.{contained}
+use Rattle.mdl_graph.specs.Members.{Among}
 use Rattle.mdl_graph.specs.Victims.{falls_before, weakest, victim_of}
 use Rattle.mdl_graph.specs.WaitsFor.{SessionTest, is_unsettled, is_tied, waits_at, waits_for, wishes_in}
 use Rattle.mdl_core.specs.declared.pending.Pending.{Pending}

@@ -8,9 +8,10 @@ use Rattle.std.proofs.lemmas.List.{length-map}
 use Rattle.mdl_book.specs.declared.lists.Lists.{Lists}
 use Rattle.mdl_book.specs.declared.ticket.Ticket.{Ticket}
 use Rattle.mdl_graph.specs.declared.cycle.Member.{Member}
-use Rattle.mdl_graph.specs.Members.{Among, mapped, flat_mapped, among_map, among_flat_map, among_filter, among_filtered, contained, among_these}
+use Rattle.mdl_graph.proofs.MemberLemmas.{mapped, flat_mapped, among_map, among_flat_map, among_filter, among_filtered, contained, among_these}
+use Rattle.mdl_graph.specs.Members.{Among}
 use Rattle.mdl_graph.specs.Cycles.{IsCycleThrough, chosen_cycle, is_chosen_before}
-use Rattle.mdl_graph.specs.CycleLaws.{chosen_cycles, chosen_first, chosen_none, chosen_same, member_of_cycle_waits}
+use Rattle.mdl_graph.proofs.CycleLaws.{chosen_cycles, chosen_first, chosen_none, chosen_same, member_of_cycle_waits}
 use Rattle.mdl_graph.specs.WaitsFor.{SessionTest, waits_for, is_unsettled, wish_of, wishes_at, wishes_in}
 use Rattle.mdl_graph.specs.Graphs.{GraphView, IsGraphOf, member_of, weight_found, cycle_found, deadlock, deadlock_in, waits}
 use Rattle.mdl_graph.specs.GraphLaws.{sessions_of, IsChosen, IsFree, HasWish, IsWaiting}

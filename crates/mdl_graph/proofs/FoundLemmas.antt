@@ -5,7 +5,7 @@ use Rattle.std.specs.List.{Contains}
 use Rattle.std.specs.Option.{option_map, unwrap_or}
 use Rattle.mdl_graph.specs.declared.cycle.Member.{Member}
 use Rattle.mdl_graph.specs.declared.ways.Way.{Way}
-use Rattle.mdl_graph.specs.CycleLaws.{chosen_is, none_chosen, chosen_same}
+use Rattle.mdl_graph.proofs.CycleLaws.{chosen_is, none_chosen, chosen_same}
 use Rattle.mdl_graph.specs.Cycles.{chosen_cycle}
 use Rattle.mdl_graph.specs.Graphs.{GraphView, waits, weight_found, member_of, deadlock}
 use Rattle.mdl_graph.specs.Searches.{IsOver, way_of, walk, weight_at, weighed}

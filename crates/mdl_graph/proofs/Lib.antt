@@ -1,7 +1,10 @@
 pub mod AnyLemmas
 pub mod CountLemmas
+pub mod CycleLaws
+pub mod CycleOrder
 pub mod DeadlockLemmas
 pub mod FoundLemmas
+pub mod MemberLemmas
 pub mod OrderLemmas
 pub mod RoundLemmas
 pub mod RowLemmas

@@ -4,7 +4,7 @@ use Rattle.std.specs.Prelude.{IsTrue}
 use Rattle.std.proofs.lemmas.Bool.{cases_lt, false≢true}
 use Rattle.std.proofs.lemmas.Bool.Decides.{nat_tests}
 use Rattle.mdl_graph.specs.Cycles.{in_order, is_chosen_before}
-use Rattle.mdl_graph.specs.CycleOrder.{before_itself}
+use Rattle.mdl_graph.proofs.CycleOrder.{before_itself}
 use Rattle.mdl_graph.specs.GraphLaws.{IsLessAtFirst}
 
 -- of two lists as long, in order

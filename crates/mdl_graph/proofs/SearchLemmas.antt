@@ -198,14 +198,6 @@ module _ (waits : ℕ → ℕ → Bool) (from n : ℕ) (old new : List (Option W
 
 -- ---- the beginning and the end
 
--- where nothing was found yet
-pub searched_none : (waits : ℕ → ℕ → Bool) (from : ℕ) (ways : List (Option Way)) → ((session : ℕ) → way_of ways session ≡ None) → IsSearched waits from ways 0
-searched_none waits from ways none = record {
-  sound = λ session way is. absurd (let bad : None ≡ Some way = sym (none session) ∙ is in cc);
-  within = λ session way is. absurd (let bad : None ≡ Some way = sym (none session) ∙ is in cc);
-  best = λ m next session near at waiting. absurd (omega arith);
-}
-
 -- where the session that was asked for has a way
 pub over_found : (waits : ℕ → ℕ → Bool) (from : ℕ) (ways : List (Option Way)) (n : ℕ) → IsSearched waits from ways n
     → is_none (way_of ways from) ≡ false → IsOver waits from ways

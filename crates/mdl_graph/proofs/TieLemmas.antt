@@ -14,7 +14,8 @@ use Rattle.mdl_book.specs.declared.ticket.Ticket.{Ticket}
 use Rattle.mdl_graph.specs.declared.cycle.Member.{Member}
 use Rattle.mdl_graph.specs.declared.ties.Tie.{Tie}
 use Rattle.mdl_graph.specs.Graphs.{GraphView, IsGraphOf, is_settled, waits}
-use Rattle.mdl_graph.specs.Members.{Among, contained}
+use Rattle.mdl_graph.proofs.MemberLemmas.{contained}
+use Rattle.mdl_graph.specs.Members.{Among}
 use Rattle.mdl_graph.specs.WaitsFor.{SessionTest, is_unsettled, is_tied, waits_at, waits_for, wish_of, wishes_at, wishes_in}
 use Rattle.mdl_graph.specs.Searches.{are_tied, pair_of, AreWished}
 

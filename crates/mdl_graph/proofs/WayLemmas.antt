@@ -7,10 +7,11 @@ use Rattle.std.proofs.lemmas.Bool.{and_parts, and_from, not-true, not_from_false
 use Rattle.std.proofs.lemmas.Bool.Decides.{nat_tests}
 use Rattle.std.proofs.lemmas.List.{take_more, get_or_append_left}
 use Rattle.std.proofs.lemmas.List.Elements.{Contains-get_or}
-use Rattle.mdl_graph.specs.Members.{Among, among_these, among_left, among_right, among_filter, among_filtered, mapped, flat_mapped, appended}
+use Rattle.mdl_graph.proofs.MemberLemmas.{among_these, among_left, among_right, among_filter, among_filtered, mapped, flat_mapped, appended}
+use Rattle.mdl_graph.specs.Members.{Among, AreAmong}
 use Rattle.mdl_graph.specs.Cycles.{leads, are_distinct, is_cycle_through, IsCycleThrough, is_chosen_before, first_of, lists_of, chosen_cycle}
-use Rattle.mdl_graph.specs.CycleOrder.{before_total, before_trans}
-use Rattle.mdl_graph.specs.CycleLaws.{AreAmong, listed, at_most, chosen_of, none_of, cycle_distinct}
+use Rattle.mdl_graph.proofs.CycleOrder.{before_total, before_trans}
+use Rattle.mdl_graph.proofs.CycleLaws.{listed, at_most, chosen_of, none_of, cycle_distinct}
 use Rattle.mdl_graph.specs.Ways.{Search, search_of, better_of, waits_by, IsWay, IsWayBy, IsChosenOf}
 
 -- ---- the same session before two lists changes nothing

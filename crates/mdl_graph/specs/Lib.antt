@@ -1,5 +1,3 @@
-pub mod CycleLaws
-pub mod CycleOrder
 pub mod Cycles
 pub mod GraphLaws
 pub mod Graphs

@@ -1,9 +1,8 @@
 -- The ways by which a path of sessions goes on to a cycle, and the chosen one of them: what trying every path finds.
 use Rattle.std.specs.Prelude.{ℕ, ◌≤◌, Bool, ◌&&◌, ◌==◌, List, [], ◌∷◌, length, get_or, Option, Some, None, IsTrue, MatchOption}
 use Rattle.std.specs.List.{list_any}
-use Rattle.mdl_graph.specs.Members.{Among}
+use Rattle.mdl_graph.specs.Members.{Among, AreAmong}
 use Rattle.mdl_graph.specs.Cycles.{leads, are_distinct, is_chosen_before, first_of}
-use Rattle.mdl_graph.specs.CycleLaws.{AreAmong}
 
 -- whether one of these pairs says that a session waits for another
 abbrev pub waits_by : List (ℕ × ℕ) → ℕ → ℕ → Bool

@@ -26,10 +26,6 @@ class_of Object _ = None
 abbrev pub is_obtrusive : Kind → Mode → Bool
 is_obtrusive kind mode = not (is_some (class_of kind mode))
 
--- the same as a fact
-abbrev pub IsObtrusive : Kind → Mode → Type 0
-IsObtrusive kind mode = IsTrue (is_obtrusive kind mode)
-
 -- a is at least as strong as b, both being modes of the kind: whatever clashes with b clashes with a
 abbrev pub IsAtLeast : Kind → Mode → Mode → Type 0
 IsAtLeast kind a b = (held : Mode) → IsTrue (clashes kind b held) → IsTrue (clashes kind a held)

@@ -4,7 +4,7 @@ use Rattle.std.specs.Option.{option_map}
 use Rattle.std.proofs.lemmas.List.{take_all}
 use Rattle.mdl_book.specs.declared.lists.Lists.{Lists}
 use Rattle.mdl_graph.specs.declared.cycle.Member.{Member}
-use Rattle.mdl_graph.specs.CycleLaws.{chosen_same}
+use Rattle.mdl_graph.proofs.CycleLaws.{chosen_same}
 use Rattle.mdl_graph.specs.Graphs.{GraphView, IsGraphOf, waits, member_of, cycle_found, deadlock, deadlock_in}
 use Rattle.mdl_graph.specs.Victims.{victim_of}
 use Rattle.mdl_graph.specs.WaitsFor.{SessionTest, waits_for}

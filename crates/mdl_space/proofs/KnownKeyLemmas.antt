@@ -13,10 +13,6 @@ use Rattle.mdl_book.specs.declared.lists.Lists.{Lists}
 use Rattle.mdl_space.specs.KnownKeys.{TellsPlaces, place_of}
 use Rattle.mdl_core.proofs.CallLaws.Places.{key_eq-Decides}
 
--- in a space without books no key is known
-pub none_known : TellsPlaces [] []
-none_known = record { tells = λ key. refl }
-
 -- ---- a book more
 
 module _ (p : Lists → Bool) (books : List Lists) (lists : Lists) where

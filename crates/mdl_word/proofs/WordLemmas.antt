@@ -42,13 +42,6 @@ module _ {word a b c : ℕ} {slow obtrusive : Bool} (e : Encodes word a b c slow
   pub adds : (x y z : ℕ) → a + x < 1048576 → b + y < 1048576 → c + z < 1048576 → Encodes (word + encode x y z false false) (a + x) (b + y) (c + z) slow obtrusive
   adds x y z first second third = record { first_fits = first; second_fits = second; third_fits = third; is_encoded = omega arith }
 
-pub subtracts : {word a b c : ℕ} {slow obtrusive : Bool} (x y z : ℕ) → Encodes word (a + x) (b + y) (c + z) slow obtrusive → (encode x y z false false ≤ word) × Encodes (word - encode x y z false false) a b c slow obtrusive
-subtracts x y z e = (omega arith, record { first_fits = omega arith; second_fits = omega arith; third_fits = omega arith; is_encoded = omega arith })
-
--- an increment is the word of one ticket
-pub increment_of-one : (kind : Kind) (mode : Mode) (n : ℕ) → increment_of kind mode ≡ Some n → n ≡ encode (one_in 0 kind mode) (one_in 1 kind mode) (one_in 2 kind mode) false false
-increment_of-one kind mode n is = search rules
-
 -- ---- the flags
 
 flag_at : (bit_value power : ℕ) → bit_value < 2 → 0 < power → not (nat_eq (bit_value * power) 0) ≡ nat_eq bit_value 1

@@ -16,7 +16,3 @@ pub appends_more : (a b c : Option (List ℕ)) (text : List ℕ) (done count : �
 appends_more a b c text done count p q =
     let e : take (done + count) text ≡ take done text ++ take count (drop done text) = take-add done count text in
     rw e (appends_both a b c (take done text) (take count (drop done text)) p q)
-
--- what was written, and then nothing more
-pub appends_none : (a b c : Option (List ℕ)) (text : List ℕ) (done : ℕ) → Appends a b (take done text) → Appends b c [] → AppendsFront a c text
-appends_none a b c text done p q = (done, let e = append-nil (take done text) in let P : List ℕ → Type 0 = λ xs. Appends a c xs in subst P e (appends_both a b c (take done text) [] p q))

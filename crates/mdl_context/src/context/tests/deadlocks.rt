@@ -3,7 +3,7 @@
 //! `rt try --test --fail-alloc N` refuses the allocation of that number to those of two sessions. Then the act that needed it
 //! is done again.
 ghost use Rattle.std.specs.Prelude.{◌≤◌};
-ghost use Rattle.mdl_context.specs.Halls.{AreServed};
+ghost use Rattle.mdl_context.specs.Tests.Halls.{AreServed};
 
 use super::acts::{Act, Lock, Reply};
 use super::hall::Hall;

@@ -2,7 +2,7 @@
 ghost use Rattle.std.specs.Prelude.{◌≡◌, ℕ, ◌≤◌, length, IfOk};
 ghost use Rattle.mdl_core.specs.Cores.{empty_core};
 ghost use Rattle.mdl_core.specs.CoreJoins.{SpeaksFor};
-ghost use Rattle.mdl_context.specs.Halls.{AreServed};
+ghost use Rattle.mdl_context.specs.Tests.Halls.{AreServed};
 
 use super::acts::{Act, Lock, Reply, make};
 use super::plain::{Plain, Ticket};

@@ -1,5 +1,5 @@
 //! Acts of several sessions as rows.
-ghost use Rattle.mdl_context.specs.Halls.{AreServed};
+ghost use Rattle.mdl_context.specs.Tests.Halls.{AreServed};
 
 use super::acts::{Act, Reply};
 use super::hall::{Hall, SESSIONS};

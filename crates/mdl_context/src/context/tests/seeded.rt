@@ -1,6 +1,6 @@
 //! Ten thousand calls by chance and more, after each of which contexts stand where the plain program does.
 ghost use Rattle.std.specs.Prelude.{ℕ, ◌≤◌, ◌<◌, IfOk};
-ghost use Rattle.mdl_context.specs.Halls.{AreServed};
+ghost use Rattle.mdl_context.specs.Tests.Halls.{AreServed};
 
 use super::acts::{Act, Lock, Reply, mark};
 use super::hall::{Hall, SESSIONS};

@@ -1,5 +1,5 @@
 -- All contexts are served.
-use Rattle.mdl_context.specs.Halls.{AreServed}
+use Rattle.mdl_context.specs.Tests.Halls.{AreServed}
 use Rattle.mdl_context.proofs.context.tests.seeded.run_seed.Given as goal
 
 abbrev pub invariant-loop-hundred : goal.invariant-loop-hundred

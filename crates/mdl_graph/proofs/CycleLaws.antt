@@ -5,8 +5,9 @@ use Rattle.std.specs.List.{list_any, Contains}
 use Rattle.std.proofs.lemmas.Bool.{and_parts, eqb-true, false≢true}
 use Rattle.std.proofs.lemmas.Bool.Decides.{nat_tests}
 use Rattle.std.proofs.lemmas.List.Elements.{filter_agree}
-use Rattle.mdl_graph.specs.CycleOrder.{before_total, before_itself, before_trans, before_same}
-use Rattle.mdl_graph.specs.Members.{Among, among_map, among_flat_map, among_filter, among_filtered, among_these}
+use Rattle.mdl_graph.proofs.CycleOrder.{before_total, before_itself, before_trans, before_same}
+use Rattle.mdl_graph.proofs.MemberLemmas.{among_map, among_flat_map, among_filter, among_filtered, among_these}
+use Rattle.mdl_graph.specs.Members.{Among, AreAmong}
 use Rattle.mdl_graph.specs.Cycles.{leads, are_distinct, is_cycle_through, IsCycleThrough, is_chosen_before, first_of, first_chosen, lists_of, chosen_cycle}
 
 -- ---- the chosen one of some cycles
@@ -72,10 +73,6 @@ none_of [] none = refl
 none_of (one ∷ others) none = absurd (none one (inl refl))
 
 -- ---- every cycle of these sessions is among the lists
-
--- all members of a list are among these
-abbrev pub AreAmong : List ℕ → List ℕ → Type 0
-AreAmong cycle sessions = (session : ℕ) → Among session cycle → Among session sessions
 
 pub listed : (sessions cycle : List ℕ) (n : ℕ) → AreAmong cycle sessions → length cycle ≤ n → Among cycle (lists_of sessions n)
 listed sessions [] zero within short = inl refl
