@@ -142,7 +142,7 @@ not_unended core who ticket tied has held wait among own e =
 
 module _ (core : Core) (who : ℕ) (seat : SeatView) (has : has_session who core ≡ true) where
   -- those of others are the same
-  others-unended : (wait : GrantedWait) → wait.session ≢ who
+  pub others-unended : (wait : GrantedWait) → wait.session ≢ who
       → Contains (system_of (seating who seat core)).unended wait ↔ Contains (system_of core).unended wait
   others-unended wait other = (
     (λ among. let h = (unended-members (seating who seat core) wait).0 among in
@@ -156,7 +156,7 @@ module _ (core : Core) (who : ℕ) (seat : SeatView) (has : has_session who core
   )
 
   -- and one's own is that of the seat
-  seated-unended : (wait : GrantedWait) → wait.session ≡ who → Contains (system_of (seating who seat core)).unended wait ↔ (unended_of who seat.wait ≡ Some wait)
+  pub seated-unended : (wait : GrantedWait) → wait.session ≡ who → Contains (system_of (seating who seat core)).unended wait ↔ (unended_of who seat.wait ≡ Some wait)
   seated-unended wait own =
       let has_still : has_session who (seating who seat core) ≡ true = has_session-seating core who who seat ∙ has in
       subst (λ (s : SeatView). Contains (system_of (seating who seat core)).unended wait ↔ (unended_of who s.wait ≡ Some wait)) (seated-same core who seat has)

@@ -1,17 +1,15 @@
 -- Lists any two members of which are in a relation, the one member that passes a test, and lists of rising numbers.
-use Rattle.std.proofs.Common.{◌≡◌, ◌⊎◌, ℕ, suc, ◌<◌, Bool, true, false, cond, inl, inr, List, [], ◌∷◌, ◌++◌, length, get_or, Some, refl, sym, ap, subst, ◌∙◌, arith}
-use Rattle.std.specs.Prelude.{All, AllPairs, Contains, IsTrue, filter, find, nat_lt}
+use Rattle.std.proofs.Common.{◌≡◌, ◌≢◌, ◌⊎◌, ℕ, suc, ◌<◌, Bool, true, false, cond, inl, inr, List, [], ◌∷◌, ◌++◌, get_or, map, refl, sym, ap, subst, ◌∙◌, arith}
+use Rattle.std.specs.Prelude.{All, AllPairs, Contains, IsTrue, filter, nat_lt}
 use Rattle.std.specs.List.{list_all, before_first, after_first, position_or_len}
 use Rattle.std.proofs.lemmas.Bool.Decides.{nat_tests}
 use Rattle.std.proofs.lemmas.List.Elements.{All-contains, All-contains_itself, All-filter, Contains-get_or, filter_passes}
-use Rattle.std.proofs.lemmas.List.Folds.{find_at}
 use Rattle.std.proofs.lemmas.List.Kept.{AllPairs-cons}
 use Rattle.std.proofs.lemmas.List.Quantifiers.{all_pairs_push}
 use Rattle.std.proofs.lemmas.List.Sums.{position_or_len_is, split_at_first}
-use Rattle.std.proofs.lemmas.Option.{slice_get_read}
 use Rattle.mdl_calls.specs.declared.answers.Held.{Held}
 use Rattle.mdl_calls.specs.Own.{are_rising}
-use Rattle.mdl_system.specs.Events.{Loses}
+use Rattle.mdl_system.proofs.MemberLemmas.{AreApart}
 use Rattle.mdl_system.proofs.OrderLemmas.{Contains-cons_cases, Contains-here, Contains-later, around, around_cases, middle, within}
 
 pub none-in : {T : Type 0} (x : T) → Contains [] x → ⊥
@@ -46,49 +44,46 @@ module _ {T : Type 0} (R : T → T → Type 0) where
     | inr e ↦ subst (λ (z : T). R z x) (sym e) (pairs-head b (bs ++ x ∷ after) pairs x (middle bs after x))
   ]
 
--- ---- the one member that passes a test
+-- of two names, another may stand for one of the same name
+module _ {T N : Type 0} (name : T → N) where
+  pub pairs-turned : (before after : List T) (x y : T) → name y ≡ name x → AreApart name (before ++ x ∷ after) → AreApart name (before ++ y ∷ after)
+  pairs-turned [] after x y is apart =
+      AllPairs-cons (λ (one other : T). name one ≢ name other) y after
+      (all-from_members (λ (one other : T). name one ≢ name other) (λ z. name y ≢ name z) after (λ z among e. pairs-head (λ (one other : T). name one ≢ name other) x after apart z among (sym is ∙ e)))
+      (pairs-tail (λ (one other : T). name one ≢ name other) x after apart)
+  pairs-turned (b ∷ bs) after x y is apart =
+      AllPairs-cons (λ (one other : T). name one ≢ name other) b (bs ++ y ∷ after)
+      (all-from_members (λ (one other : T). name one ≢ name other) (λ z. name b ≢ name z) (bs ++ y ∷ after) (λ z among e. elim (around_cases bs after y z among) [
+        | inl rest ↦ pairs-head (λ (one other : T). name one ≢ name other) b (bs ++ x ∷ after) apart z (around bs after x z rest) e
+        | inr here ↦ pairs-head (λ (one other : T). name one ≢ name other) b (bs ++ x ∷ after) apart x (middle bs after x) (e ∙ ap name here ∙ is)
+      ]))
+      (pairs-turned bs after x y is (pairs-tail (λ (one other : T). name one ≢ name other) b (bs ++ x ∷ after) apart))
 
-module _ {T : Type 0} (R : T → T → Type 0) (swap : (x y : T) → R x y → R y x) (p : T → Bool)
-    (alone : (x y : T) → p x ≡ true → p y ≡ true → R x y → ⊥) (xs : List T) (x : T) (pairs : AllPairs R xs) (among : Contains xs x)
-    (passes : p x ≡ true) where
+-- lists of what is made of each member agree where that does
+pub map-agree : {X Y : Type 0} (f g : X → Y) (xs : List X) → ((x : X) → Contains xs x → f x ≡ g x) → map f xs ≡ map g xs
+map-agree f g [] same = refl
+map-agree f g (x ∷ xs) same = λ i. same x (Contains-here x xs) i ∷ map-agree f g xs (λ y among. same y (Contains-later x xs y among)) i
+
+-- ---- the one member that passes a test for its name
+
+module _ {T N : Type 0} (name : T → N) (p : T → Bool) (x : T) (passes : p x ≡ true) (named : (y : T) → p y ≡ true → name y ≡ name x)
+    (xs : List T) (apart : AreApart name xs) (among : Contains xs x) where
   first : position_or_len p xs ≡ among.0
   first =
       let inside = among.1 in
       position_or_len_is p xs among.0 x (omega arith)
-      (λ k lt. fails (p (get_or xs k x)) (λ yes. alone (get_or xs k x) (get_or xs among.0 x) yes (ap p among.2 ∙ passes) (pairs k among.0 x lt inside)))
+      (λ k lt. fails (p (get_or xs k x)) (λ yes. apart k among.0 x lt inside (named (get_or xs k x) yes ∙ ap name (sym among.2))))
       (λ _. ap p among.2 ∙ passes)
     where
       fails : (b : Bool) → (b ≡ true → ⊥) → b ≡ false
       fails true n = absurd (n refl)
       fails false n = refl
 
-  inside : position_or_len p xs < length xs
-  inside = let lt = among.1 in let e = first in omega arith
-
-  there : get_or xs (position_or_len p xs) x ≡ x
-  there = ap (λ n. get_or xs n x) first ∙ among.2
-
   pub split-at : xs ≡ before_first p xs ++ x ∷ after_first p xs
-  split-at = split_at_first p xs x inside ∙ ap (λ y. before_first p xs ++ y ∷ after_first p xs) there
-
-  pub found-one : find p xs ≡ Some x
-  found-one = find_at p xs ∙ slice_get_read xs (length xs) (position_or_len p xs) x refl inside (sym there)
-
-  pub pairs-without : AllPairs R (before_first p xs ++ after_first p xs)
-  pairs-without = pairs-fewer R (before_first p xs) (after_first p xs) x (subst (AllPairs R) split-at pairs)
-
-  -- without it, all are in the relation to it
-  pub rest-apart : (y : T) → Contains (before_first p xs ++ after_first p xs) y → R y x
-  rest-apart y rest = pairs-others R swap (before_first p xs) (after_first p xs) x (subst (AllPairs R) split-at pairs) y rest
-
-  pub loses-one : Loses x xs (before_first p xs ++ after_first p xs)
-  loses-one y = (
-    (λ rest. (
-      within _ xs y (sym split-at) (around (before_first p xs) (after_first p xs) x y rest),
-      λ e. alone x x passes passes (subst (λ z. R z x) e (rest-apart y rest)),
-    )),
-    λ was. elim (around_cases (before_first p xs) (after_first p xs) x y (within xs _ y split-at was.0)) [ inl rest ↦ rest | inr e ↦ absurd (was.1 e) ],
-  )
+  split-at =
+      let lt = among.1 in
+      let e = first in
+      split_at_first p xs x (omega arith) ∙ ap (λ y. before_first p xs ++ y ∷ after_first p xs) (ap (λ n. get_or xs n x) first ∙ among.2)
 
 -- ---- the members that pass a test
 

@@ -1,18 +1,17 @@
 -- Books and sessions tell the same after one book and one seat were written, where that book and that seat do.
-use Rattle.std.proofs.Common.{◌≡◌, ◌≢◌, ◌⊎◌, ◌↔◌, ℕ, ◌-◌, inl, inr, List, true, refl, sym, subst, ◌∙◌}
+use Rattle.std.proofs.Common.{◌≡◌, ◌≢◌, ◌⊎◌, ◌↔◌, ℕ, inl, inr, List, true, refl, sym, subst, ◌∙◌}
 use Rattle.std.specs.Prelude.{Contains, AllPairs, IsTrue}
-use Rattle.std.proofs.lemmas.List.{set-get_or}
-use Rattle.mdl_key.specs.Keys.{global_key}
 use Rattle.mdl_key.specs.Modes.{is_mode_of, kind_of}
 use Rattle.mdl_book.specs.declared.lists.Lists.{Lists}
 use Rattle.mdl_book.specs.declared.ticket.Ticket.{Ticket}
-use Rattle.mdl_book.specs.Books.{empty_book, lock_kind}
+use Rattle.mdl_book.specs.Books.{lock_kind}
 use Rattle.mdl_book.specs.Tickets.{ticket_id}
 use Rattle.mdl_calls.specs.declared.answers.Held.{Held}
 use Rattle.mdl_core.specs.Cores.{Core, book_at, seat_at, key_at, has_key, has_session, booking, seating}
 use Rattle.mdl_core.specs.Seats.{SeatView}
 use Rattle.mdl_core.specs.Ties.{Has, Awaits, in_book_of, IsNumbered, IsTied}
 use Rattle.mdl_core.proofs.CoreReads.{has_key-booking, has_session-seating, booked-same, booked-other, seated-same, seated-other}
+use Rattle.mdl_core.proofs.Effects.{then, back}
 use Rattle.mdl_system.proofs.Deciding.{nat_told}
 
 -- the tickets of a place's book were of what a session had and others had, and now they are of what it has and the same others have
@@ -32,12 +31,6 @@ pub record Fits (core : Core) (who place : ℕ) (book : Lists) (seat : SeatView)
   pub granted_once : AllPairs (λ (one other : Ticket). ticket_id one ≢ ticket_id other) book.granted
   pub waiting_once : AllPairs (λ (one other : Ticket). one.session ≢ other.session) book.waiting
   pub numbered : IsNumbered seat
-
-after : {A B C : Type 0} → A ↔ B → B ↔ C → A ↔ C
-after one two = ((λ a. two.0 (one.0 a)), λ c. one.1 (two.1 c))
-
-back : {A B : Type 0} → A ↔ B → B ↔ A
-back one = (one.1, one.0)
 
 module _ (core : Core) (who place : ℕ) (book : Lists) (seat : SeatView) (tied : IsTied core) (session : has_session who core ≡ true)
     (key : has_key place core ≡ true) (fits : Fits core who place book seat) where
@@ -110,13 +103,13 @@ module _ (core : Core) (who place : ℕ) (book : Lists) (seat : SeatView) (tied 
   matches list has follows before w ticket is_session is_key =
       at_place (Match list has)
       (λ w ticket is here. at_session (λ v s. Contains (list book) (in_book_of v ticket) ↔ has s ticket) (follows.here ticket here)
-      (λ other is apart. after (follows.others (in_book_of other ticket) apart)
+      (λ other is apart. then (follows.others (in_book_of other ticket) apart)
       (subst (λ p. Contains (list (book_at p core)) (in_book_of other ticket) ↔ has (seat_at other core) ticket) here
       (before other ticket is (subst (λ p. has_key p core ≡ true) (sym here) key)))) w is)
       (λ other has_other apart w ticket is there.
       subst (λ p. Contains (list (book_at p core)) (in_book_of w ticket) ↔ has (seat_at w written) ticket) there
       (at_session (λ v s. Contains (list (book_at ticket.place core)) (in_book_of v ticket) ↔ has s ticket)
-      (after (before who ticket session (subst (λ p. has_key p core ≡ true) (sym there) has_other)) (back (follows.elsewhere ticket (λ e. apart (sym there ∙ e)))))
+      (then (before who ticket session (subst (λ p. has_key p core ≡ true) (sym there) has_other)) (back (follows.elsewhere ticket (λ e. apart (sym there ∙ e)))))
       (λ v is_v _. before v ticket is_v (subst (λ p. has_key p core ≡ true) (sym there) has_other)) w is))
       ticket.place (had_key ticket.place is_key) w ticket (had_session w is_session) refl
 
@@ -165,10 +158,3 @@ module _ (core : Core) (who place : ℕ) (book : Lists) (seat : SeatView) (tied 
         fits.waiting_once (λ other has_other _. tied.waiting_once other has_other) at (had_key at has);
     numbered = λ w has. at_session (λ _ s. IsNumbered s) fits.numbered (λ v is_v _. tied.numbered v is_v) w (had_session w has);
   }
-
--- the same where only a seat is written
-pub tied-seated : (core : Core) (who place : ℕ) (seat : SeatView) → IsTied core → has_session who core ≡ true → has_key place core ≡ true
-    → Fits core who place (book_at place core) seat → IsTied (seating who seat core)
-tied-seated core who place seat tied session key fits =
-    subst IsTied (λ i. record (seating who seat core) { books = set-get_or core.books (place - 1) (empty_book global_key) i })
-    (tied-written core who place (book_at place core) seat tied session key fits)
