@@ -20,9 +20,9 @@ use Rattle.mdl_core.proofs.CoreGranted.{held-in, new_number}
 use Rattle.mdl_core.proofs.CoreUnended.{own-unended}
 use Rattle.mdl_core.proofs.CoreWaiting.{no_wait}
 use Rattle.mdl_core.proofs.Effects.{InOrder, turned}
-use Rattle.mdl_core.proofs.TiedPlaces.{held_at}
 use Rattle.mdl_system.specs.Events.{SameMembers, Gains, Loses, LeavesOrder, SameElsewhere, SameSystem, ElseSame, Event, GrantWaiter, Happens, granted_wait}
 use Rattle.mdl_system.specs.Systems.{Unsettled, Waiter, System, lock_kind}
+use Rattle.mdl_core.proofs.TiedWrites.{held_at}
 
 -- ---- what stays
 

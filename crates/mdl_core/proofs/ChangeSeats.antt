@@ -22,10 +22,10 @@ use Rattle.mdl_core.specs.Ties.{Has, Awaits, in_book_of, IsNumbered, IsTied}
 use Rattle.mdl_core.proofs.CoreUnended.{not_granted}
 use Rattle.mdl_core.proofs.Effects.{Effect, Stays, Comes, Goes, Turns, Becomes, Each, same, either}
 use Rattle.mdl_core.proofs.PairLemmas.{below, filter-members, in-filter, pairs-push, pairs-from_rising, rising-from_pairs, same-number}
-use Rattle.mdl_core.proofs.TiedPlaces.{held_at, waiting-own}
 use Rattle.mdl_system.specs.Events.{granted_wait}
 use Rattle.mdl_system.specs.Systems.{GrantedWait}
 use Rattle.mdl_system.proofs.MemberLemmas.{push-gains}
+use Rattle.mdl_core.proofs.TiedWrites.{held_at, waiting-own}
 
 -- ---- the effects
 

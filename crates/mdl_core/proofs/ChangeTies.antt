@@ -18,8 +18,7 @@ use Rattle.mdl_core.specs.Ties.{Has, Awaits, in_book_of, IsTied}
 use Rattle.mdl_core.proofs.ChangeSeats.{wait_turned, has_effect, wait_effect, MayBe, Makes, Fitting, SeatMade, seat-made}
 use Rattle.mdl_core.proofs.Effects.{Effect, Stays, Comes, Goes, Turns, Becomes, InOrder, Each, mapped, then, back, each-also, each-mapped, after-other, after-mapped, Joins, order-members, order-apart}
 use Rattle.mdl_core.proofs.PairLemmas.{split-at}
-use Rattle.mdl_core.proofs.TiedPlaces.{held_at, as-held, granted-here, waiting-here}
-use Rattle.mdl_core.proofs.TiedWrites.{Follows, tied-written}
+use Rattle.mdl_core.proofs.TiedWrites.{held_at, as-held, granted-here, waiting-here, Follows, tied-written}
 use Rattle.mdl_system.proofs.MemberLemmas.{AreApart, find-named}
 use Rattle.mdl_system.specs.Events.{LeavesOrder}
 

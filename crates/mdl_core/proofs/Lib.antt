@@ -24,6 +24,5 @@ pub mod SessionHas
 pub mod SessionLimits
 pub mod SessionWaits
 pub mod TiedOpening
-pub mod TiedPlaces
 pub mod TiedWrites
 pub mod VictimLemmas
