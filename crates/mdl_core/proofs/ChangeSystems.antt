@@ -1,6 +1,6 @@
 -- What each change makes of the system of locks: of its granted tickets, of those that wait, and of the granted waits that aren't
 -- ended.
-use Rattle.std.proofs.Common.{◌≡◌, ◌≢◌, ◌↔◌, ℕ, true, inl, inr, map, Option, Some, None, refl, sym, ap, subst, ◌∙◌}
+use Rattle.std.proofs.Common.{◌≡◌, ◌≢◌, ◌↔◌, ℕ, true, inl, inr, map, Option, refl, sym, ap, subst, ◌∙◌}
 use Rattle.std.specs.Prelude.{Contains}
 use Rattle.mdl_key.specs.Keys.{KeyName}
 use Rattle.mdl_book.specs.declared.lists.Lists.{Lists}
@@ -8,16 +8,16 @@ use Rattle.mdl_book.specs.declared.ticket.Ticket.{Ticket}
 use Rattle.mdl_calls.specs.declared.answers.Held.{Held}
 use Rattle.mdl_core.specs.declared.pending.Pending.{Pending}
 use Rattle.mdl_core.specs.Changes.{Change, seat_after, book_after, changing, May}
-use Rattle.mdl_core.specs.Cores.{Core, book_at, seat_at, key_at, has_key, has_session, index_of, booking, seating}
-use Rattle.mdl_core.specs.CoreSystems.{book_found, book_of, waiter_of, waiter_in, system_of}
+use Rattle.mdl_core.specs.Cores.{Core, book_at, seat_at, key_at, has_key, has_session, seating}
+use Rattle.mdl_core.specs.CoreSystems.{book_of, waiter_of, waiter_in, system_of}
 use Rattle.mdl_core.specs.Seats.{SeatView}
 use Rattle.mdl_core.specs.Ties.{Awaits, in_book_of, IsTied}
 use Rattle.mdl_core.proofs.ChangeSeats.{has_effect, wait_effect, unended_effect, Unended}
-use Rattle.mdl_core.proofs.ChangeTies.{session_of, made}
-use Rattle.mdl_core.proofs.CoreGranted.{by_lists-apart}
-use Rattle.mdl_core.proofs.CoreReads.{has_key-booking, booked-same, booked-other, seated-same, seated-other}
+use Rattle.mdl_core.proofs.ChangeTies.{session_of, made, tied-changing}
+use Rattle.mdl_core.proofs.CoreGranted.{by_lists}
+use Rattle.mdl_core.proofs.CoreReads.{has_key-booking, booked-same, booked-other, seated-same}
 use Rattle.mdl_core.proofs.CoreUnended.{own-unended, others-unended, seated-unended}
-use Rattle.mdl_core.proofs.CoreWaiting.{IsKeyed, book-there, place_told, book-nowhere, not_there, ticket-there}
+use Rattle.mdl_core.proofs.CoreWaiting.{book-there, place_told, book-nowhere, not_there, ticket-there}
 use Rattle.mdl_core.proofs.Effects.{Effect, After, Becomes, InOrder, Each, turned, mapped, turned-mapped, then, back, each-all, each-also, each-unmapped, each-mapped, after-other, after-like, after-mapped, Joins, order-mapped}
 use Rattle.mdl_core.proofs.PairLemmas.{map-agree}
 use Rattle.mdl_system.specs.BookLaws.{in_book, of_lock}
@@ -25,52 +25,7 @@ use Rattle.mdl_system.specs.Events.{SameElsewhere, SameAt}
 use Rattle.mdl_system.specs.Systems.{Holding, Waiter, GrantedWait}
 use Rattle.mdl_system.proofs.Deciding.{nat_told, key_told}
 use Rattle.mdl_system.proofs.MemberLemmas.{AreApart}
-use Rattle.mdl_core.proofs.TiedWrites.{held_at, waiting-own}
-
--- ---- the book of a key after one was written
-
-module _ (core : Core) (place : ℕ) (book : Lists) (has : has_key place core ≡ true) (same_key : book.key ≡ key_at place core) (keyed : IsKeyed core) where
-  key-booking : (other : ℕ) → has_key other core ≡ true → key_at other (booking place book core) ≡ key_at other core
-  key-booking other has_other = elim (nat_told other place) [
-    | inl e ↦ subst (λ n. key_at n (booking place book core) ≡ key_at n core) (sym e) (ap (λ (b : Lists). b.key) (booked-same core place book has) ∙ same_key)
-    | inr n ↦ ap (λ (b : Lists). b.key) (booked-other core place other book has has_other n)
-  ]
-
-  -- keys are told apart as before
-  keyed-booking : IsKeyed (booking place book core)
-  keyed-booking one other p q e =
-      let p_before : has_key one core ≡ true = sym (has_key-booking core place one book) ∙ p in
-      let q_before : has_key other core ≡ true = sym (has_key-booking core place other book) ∙ q in
-      keyed one other p_before q_before (sym (key-booking one p_before) ∙ e ∙ key-booking other q_before)
-
-  -- the key of the place has the new book
-  book-written : book_of (key_at place core) (booking place book core) ≡ book
-  book-written =
-      book-there (booking place book core) place (key_at place core) keyed-booking (has_key-booking core place place book ∙ has) (key-booking place has)
-      ∙ booked-same core place book has
-
-  -- and others have theirs
-  book-elsewhere : (key : KeyName) → key ≢ key_at place core → book_of key (booking place book core) ≡ book_of key core
-  book-elsewhere key other = elim (place_told core key) [
-    | inl at ↦ (
-        book-there (booking place book core) at.0 key keyed-booking (has_key-booking core place at.0 book ∙ at.1) (key-booking at.0 at.1 ∙ at.2)
-        ∙ booked-other core place at.0 book has at.1 (λ e. other (sym at.2 ∙ ap (λ n. key_at n core) e))
-        ∙ sym (book-there core at.0 key keyed at.1 at.2))
-    | inr none ↦ elim (place_told (booking place book core) key) [
-      | inl at ↦ absurd (
-          let before : has_key at.0 core ≡ true = sym (has_key-booking core place at.0 book) ∙ at.1 in
-          not_there core key at.0 keyed none before (sym (key-booking at.0 before) ∙ at.2))
-      | inr still ↦ book-nowhere (booking place book core) key still ∙ sym (book-nowhere core key none)
-    ]
-  ]
-
--- seats have no part in it
-book-seating : (core : Core) (who : ℕ) (seat : SeatView) (key : KeyName) → book_of key (seating who seat core) ≡ book_of key core
-book-seating core who seat key = go (index_of key core.books)
-  where
-    go : (o : Option ℕ) → book_found key o (seating who seat core) ≡ book_found key o core
-    go None = refl
-    go (Some index) = refl
+use Rattle.mdl_core.proofs.TiedWrites.{held_at, waiting-own, written, had_key, at_session, key-same}
 
 -- ---- after a book and a seat were written
 
@@ -79,39 +34,58 @@ abbrev pub waits_as : ℕ → Option Pending → Held → Waiter
 waits_as who wait ticket = waiter_of (in_book_of who ticket) wait
 
 module _ (core : Core) (who place : ℕ) (seat : SeatView) (book : Lists) (tied : IsTied core) (session : has_session who core ≡ true) (key : has_key place core ≡ true)
-    (same_key : book.key ≡ key_at place core) where
+    (same_key : book.key ≡ key_at place core) (after : IsTied (written core who place book seat session key)) where
   abbrev now : Core
-  now = booking place book (seating who seat core)
+  now = written core who place book seat session key
 
   abbrev here : KeyName
   here = key_at place core
 
+  -- each place with a key has it still
+  still : (other : ℕ) → has_key other core ≡ true → has_key other now ≡ true
+  still other has = has_key-booking (seating who seat core) place other book ∙ has
+
+  same : (other : ℕ) → has_key other core ≡ true → key_at other now ≡ key_at other core
+  same = key-same core who place book seat session key same_key
+
+  -- the key of the place has the new book, and others have theirs
   book-now : book_of here now ≡ book
-  book-now = book-written (seating who seat core) place book key same_key tied.keys
+  book-now = book-there now place here after.keys (still place key) (same place key) ∙ booked-same (seating who seat core) place book key
 
   book-then : book_of here core ≡ book_at place core
   book-then = book-there core place here tied.keys key refl
 
   book-other : (other : KeyName) → other ≢ here → book_of other now ≡ book_of other core
-  book-other other apart = book-elsewhere (seating who seat core) place book key same_key tied.keys other apart ∙ book-seating core who seat other
+  book-other other apart = elim (place_told core other) [
+    | inl at ↦
+        book-there now at.0 other after.keys (still at.0 at.1) (same at.0 at.1 ∙ at.2)
+        ∙ booked-other (seating who seat core) place at.0 book key at.1 (λ e. apart (sym at.2 ∙ ap (λ n. key_at n core) e))
+        ∙ sym (book-there core at.0 other tied.keys at.1 at.2)
+    | inr none ↦ elim (place_told now other) [
+      | inl at ↦ absurd (
+          let before = had_key core who place book seat session key at.0 at.1 in
+          not_there core other at.0 tied.keys none before (sym (same at.0 before) ∙ at.2))
+      | inr none_still ↦ book-nowhere now other none_still ∙ sym (book-nowhere core other none)
+    ]
+  ]
 
   -- its granted tickets
   granted-made : (effect : Effect Ticket) → Becomes effect (Contains (book_at place core).granted) (Contains book.granted)
       → Becomes (mapped (of_lock here) effect) (Contains (system_of core).granted) (Contains (system_of now).granted)
   granted-made effect members held =
-      let before = by_lists-apart core tied.keys in
-      let after = by_lists-apart now (keyed-booking (seating who seat core) place book key same_key tied.keys) in
+      let before = by_lists core tied in
+      let by = by_lists now after in
       elim (key_told held.key here) [
         | inl k ↦ (
             let t = in_book held in
             subst (λ (h : Holding). Contains (system_of now).granted h ↔ After (mapped (of_lock here) effect) h (Contains (system_of core).granted h))
             (λ i. record { session = held.session; number = held.number; key = sym k i; mode = held.mode })
-            (then (subst (λ (b : Lists). Contains (system_of now).granted (of_lock here t) ↔ Contains b.granted t) book-now (after (of_lock here t)))
+            (then (subst (λ (b : Lists). Contains (system_of now).granted (of_lock here t) ↔ Contains b.granted t) book-now (by (of_lock here t)))
             (then (members t) (back (after-mapped (of_lock here) t (Contains (system_of core).granted (of_lock here t)) (Contains (book_at place core).granted t) effect
             (each-all (λ y. of_lock here t ≡ of_lock here y → t ≡ y) (λ y e. ap in_book e) effect)
             (subst (λ (b : Lists). Contains (system_of core).granted (of_lock here t) ↔ Contains b.granted t) book-then (before (of_lock here t))))))))
         | inr other ↦
-            then (after held)
+            then (by held)
             (then (subst (λ (b : Lists). Contains b.granted (in_book held) ↔ Contains (system_of core).granted held) (sym (book-other held.key other)) (back (before held)))
             (back (after-other held (Contains (system_of core).granted held) (mapped (of_lock here) effect)
             (each-mapped (λ y. held ≢ y) (of_lock here) (λ t e. other (ap (λ (h : Holding). h.key) e)) effect))))
@@ -134,13 +108,10 @@ module _ (core : Core) (who place : ℕ) (seat : SeatView) (book : Lists) (tied 
     -- a ticket waits as before, but for the one that comes, goes or is settled
     waiter-kept : (p : ℕ) (ticket : Ticket) → has_key p core ≡ true → Contains (book_at p core).waiting ticket
         → (ticket.session ≡ who → Each (λ other. held_at p ticket ≢ other) effect) → waiter_in now ticket ≡ waiter_in core ticket
-    waiter-kept p ticket has among apart = elim (nat_told ticket.session who) [
-      | inl own ↦ ap (waiter_of ticket) (
-          ap (λ w. (seat_at w now).wait) own ∙ ap (λ (s : SeatView). s.wait) (seated-same core who seat session)
-          ∙ keeps (held_at p ticket) (waiting-own core who p tied session has ticket own among) (apart own)
-          ∙ ap (λ w. (seat_at w core).wait) (sym own))
-      | inr other ↦ ap (λ (s : SeatView). waiter_of ticket s.wait) (seated-other core who ticket.session seat session (tied.waiting_by p has ticket among).0 other)
-    ]
+    waiter-kept p ticket has among apart = ap (waiter_of ticket)
+        (at_session core who place book seat session key (λ w (s : SeatView). w ≡ ticket.session → s.wait ≡ (seat_at w core).wait)
+        (λ own. keeps (held_at p ticket) (waiting-own core who p tied session has ticket (sym own) among) (apart (sym own))) (λ _ _ _ _. refl)
+        ticket.session (tied.waiting_by p has ticket among).0 refl)
 
     waiting-elsewhere : SameElsewhere here (system_of core).waiting (system_of now).waiting
     waiting-elsewhere other apart =
@@ -180,12 +151,13 @@ system-made core who place change tied may =
     let seat = seat_after place change old in
     let book = book_after who old change (book_at place core) in
     let is = made core who place change tied may in
+    let after : IsTied (written core who place book seat may.session may.key) = subst IsTied is.books.written (tied-changing core who place change tied may) in
     subst (SystemMade core who place change old) (sym is.books.written) (record {
-      granted = granted-made core who place seat book tied may.session may.key is.books.key (mapped (in_book_of who) (has_effect place change old)) is.granted.members;
-      waiting = waiting-made core who place seat book tied may.session may.key is.books.key (wait_effect place change old) is.seats.waits.at is.seats.keeps
+      granted = granted-made core who place seat book tied may.session may.key is.books.key after (mapped (in_book_of who) (has_effect place change old)) is.granted.members;
+      waiting = waiting-made core who place seat book tied may.session may.key is.books.key after (wait_effect place change old) is.seats.waits.at is.seats.keeps
           (tied.waiting_once place may.key) is.waiting.joins is.waiting.order;
-      elsewhere = waiting-elsewhere core who place seat book tied may.session may.key is.books.key (wait_effect place change old) is.seats.waits.at is.seats.keeps;
-      unended = unended-made core who place seat book tied may.session may.key is.books.key (unended_effect who place change old) is.seats.own is.seats.unended;
+      elsewhere = waiting-elsewhere core who place seat book tied may.session may.key is.books.key after (wait_effect place change old) is.seats.waits.at is.seats.keeps;
+      unended = unended-made core who place seat book tied may.session may.key is.books.key after (unended_effect who place change old) is.seats.own is.seats.unended;
     })
 
 -- where none comes, goes or turns, those of all keys wait as before

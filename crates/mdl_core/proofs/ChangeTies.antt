@@ -200,7 +200,7 @@ tied-changing core who place change tied may =
     let is = made core who place change tied may in
     let seat = seat_at who core in
     subst IsTied (sym is.books.written)
-    (tied-written core who place (book_after who seat change (book_at place core)) (seat_after place change seat) tied may.session may.key (record {
+    (tied-written core who place (book_after who seat change (book_at place core)) (seat_after place change seat) may.session may.key tied (record {
       same_key = is.books.key;
       granted = is.granted.follows;
       waiting = is.waiting.follows;

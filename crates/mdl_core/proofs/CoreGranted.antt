@@ -21,7 +21,7 @@ use Rattle.mdl_core.specs.Ties.{IsTied, IsNumbered, Has, in_book_of}
 use Rattle.mdl_system.proofs.BookLemmas.{grantable-by_lists}
 use Rattle.mdl_core.proofs.CoreReads.{within, of_within, found}
 use Rattle.mdl_core.proofs.CoreUnended.{not_unended}
-use Rattle.mdl_core.proofs.CoreWaiting.{IsKeyed, book-there, ticket_of-waiter}
+use Rattle.mdl_core.proofs.CoreWaiting.{book-there, ticket_of-waiter}
 use Rattle.mdl_system.proofs.MemberLemmas.{Contains-none, Contains-map, Contains-map_from, Contains-flat_map, Contains-flat_map_from}
 
 -- ---- the book of a key
@@ -59,11 +59,11 @@ granted-from_place core place held has key among =
 
 -- ---- by the lists of keys
 
-pub by_lists-apart : (core : Core) → IsKeyed core → IsGrantedByLists (system_of core) (λ key. (book_of key core).granted)
-by_lists-apart core keys held = (
+pub by_lists : (core : Core) → IsTied core → IsGrantedByLists (system_of core) (λ key. (book_of key core).granted)
+by_lists core tied held = (
   (λ among.
       let at = granted-place core held among in
-      let same : book_of held.key core ≡ book_at at.0 core = book-there core at.0 held.key keys at.1 at.2 in
+      let same : book_of held.key core ≡ book_at at.0 core = book-there core at.0 held.key tied.keys at.1 at.2 in
       subst (λ (b : Lists). Contains b.granted (in_book held)) (sym same) at.3),
   λ among. from (index_of held.key core.books) refl among,
 )
@@ -71,9 +71,6 @@ by_lists-apart core keys held = (
     from : (o : Option ℕ) → index_of held.key core.books ≡ o → Contains (book_found held.key o core).granted (in_book held) → Contains (system_of core).granted held
     from None e among = absurd (Contains-none (in_book held) among)
     from (Some index) e among = let at = found core held.key index e in granted-from_place core (index + 1) held at.0 at.1 among
-
-pub by_lists : (core : Core) → IsTied core → IsGrantedByLists (system_of core) (λ key. (book_of key core).granted)
-by_lists core tied = by_lists-apart core tied.keys
 
 -- ---- what can be granted
 

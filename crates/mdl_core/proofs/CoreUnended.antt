@@ -11,11 +11,9 @@ use Rattle.mdl_core.specs.declared.pending.Pending.{Pending}
 use Rattle.mdl_core.specs.Cores.{Core, seat_at, has_session, seating}
 use Rattle.mdl_core.specs.CoreSystems.{unended_at, unended_of, unended_from, system_of}
 use Rattle.mdl_core.specs.Seats.{SeatView, empty_seat}
-use Rattle.mdl_system.specs.Events.{SameMembers, Gains, Loses}
 use Rattle.mdl_system.specs.Systems.{GrantedWait}
 use Rattle.mdl_core.specs.Ties.{IsNumbered, IsTied}
 use Rattle.mdl_core.proofs.CoreReads.{within, of_within, seated-same, seated-other, has_session-seating}
-use Rattle.mdl_system.proofs.Deciding.{nat_told}
 use Rattle.mdl_system.proofs.OrderLemmas.{Contains-here}
 
 -- ---- a seat's granted wait
