@@ -1,8 +1,9 @@
 -- What each change makes of what its session has and waits for.
-use Rattle.std.proofs.Common.{◌≡◌, ◌≢◌, ◌⊎◌, ℕ, ◌+◌, ◌<◌, ◌≤◌, Bool, true, not, inl, inr, List, [], ◌∷◌, ◌++◌, Option, Some, None, refl, sym, ap, subst, ◌∙◌, arith}
+use Rattle.std.proofs.Common.{◌≡◌, ◌≢◌, ◌⊎◌, ℕ, ◌+◌, ◌<◌, ◌≤◌, Bool, true, not, cond, inl, inr, List, [], ◌∷◌, ◌++◌, Option, Some, None, refl, sym, ap, subst, ◌∙◌, arith}
 use Rattle.std.specs.Prelude.{Contains, IsTrue, MatchOption, filter}
 use Rattle.std.proofs.lemmas.Bool.Decides.{nat_tests}
-use Rattle.std.proofs.lemmas.List.Kept.{AllPairs-filter}
+use Rattle.std.specs.List.{before_first, after_first}
+use Rattle.std.proofs.lemmas.List.Elements.{Contains-append_left, Contains-append_right, filter-append}
 use Rattle.mdl_key.specs.declared.mode.Mode.{Mode}
 use Rattle.mdl_key.specs.declared.namespace.Kind.{Kind}
 use Rattle.mdl_key.specs.Modes.{is_mode_of}
@@ -17,14 +18,14 @@ use Rattle.mdl_core.specs.declared.pending.Pending.{Pending}
 use Rattle.mdl_core.specs.Changes.{Change, Gain, Lose, Queue, Admit, Settle, Leave, Take_up, seat_after, Allows, May}
 use Rattle.mdl_core.specs.Cores.{Core, book_at, seat_at}
 use Rattle.mdl_core.specs.CoreSystems.{waiter_of, unended_at, unended_of}
-use Rattle.mdl_core.specs.Seats.{SeatView, ticket_of_wait}
+use Rattle.mdl_core.specs.Seats.{SeatView, without_ticket, ticket_of_wait}
 use Rattle.mdl_core.specs.Ties.{Has, Awaits, in_book_of, IsNumbered, IsTied}
 use Rattle.mdl_core.proofs.CoreUnended.{not_granted}
-use Rattle.mdl_core.proofs.Effects.{Effect, Stays, Comes, Goes, Turns, Becomes, Each, same, either}
-use Rattle.mdl_core.proofs.PairLemmas.{below, filter-members, in-filter, pairs-push, pairs-from_rising, rising-from_pairs, same-number}
-use Rattle.mdl_system.specs.Events.{granted_wait}
+use Rattle.mdl_core.proofs.Effects.{Effect, Stays, Comes, Goes, Turns, Becomes, InOrder, Each, same, then, either, order-members, order-pairs, Joins, after-all, after-beside}
+use Rattle.mdl_core.proofs.PairLemmas.{below, pairs-others, split-at, filter-all, pairs-from_rising, rising-from_pairs}
+use Rattle.mdl_system.specs.Events.{LeavesOrder, granted_wait}
 use Rattle.mdl_system.specs.Systems.{GrantedWait}
-use Rattle.mdl_system.proofs.MemberLemmas.{push-gains}
+use Rattle.mdl_system.proofs.MemberLemmas.{AreApart, push-gains}
 use Rattle.mdl_core.proofs.TiedWrites.{held_at, waiting-own}
 
 -- ---- the effects
@@ -95,23 +96,81 @@ pub record SeatMade (who place : ℕ) (kind : Kind) (change : Change) (seat : Se
 stays : {N : Type 0} {name : Ticket → N} {who place : ℕ} {fits had has : Held → Type 0} → Becomes Stays had has → Makes name who place fits Stays had has
 stays becomes = record { becomes = becomes; at = tt; may = tt }
 
--- ---- numbers
+-- ---- held tickets
 
--- what is known of a wait's number
-abbrev WaitNumbered : SeatView → Pending → Type 0
-WaitNumbered seat wait = (wait.id ≡ seat.last_ticket) × (wait.number ≤ seat.last_wait) × ((ticket : Held) → Contains seat.held ticket → ticket.id < wait.id)
+-- what is known of a wait's number, where these are held
+abbrev WaitNumbered : List Held → ℕ → ℕ → Pending → Type 0
+WaitNumbered held last_ticket last_wait wait =
+    (wait.id ≡ last_ticket) × (wait.number ≤ last_wait) × ((ticket : Held) → Contains held ticket → ticket.id < wait.id)
 
--- no held ticket has a number above this
-numbered-more : (held : List Held) (x : Held) (last_ticket last_wait : ℕ) → IsTrue (are_rising held) → ((ticket : Held) → Contains held ticket → ticket.id < x.id) → x.id ≤ last_ticket
-    → IsNumbered (record { held = held ++ x ∷ []; wait = None; last_ticket = last_ticket; last_wait = last_wait })
-numbered-more held x last_ticket last_wait rising under most = record {
-  rising = rising-from_pairs (held ++ x ∷ []) (pairs-push below held x (pairs-from_rising held rising) under);
-  held = λ ticket among. elim ((push-gains held x ticket).0 among) [
-    | inl before ↦ let lt = under ticket before in omega arith
-    | inr e ↦ let is : ticket.id ≡ x.id = ap (λ (h : Held). h.id) e in omega arith
-  ];
-  wait = tt;
-}
+-- a granted wait's ticket
+abbrev Won : Option Pending → Held → Type 0
+Won wait ticket = MatchOption wait ⊥ (λ (w : Pending). (w.settled ≡ Some settled_as.Granted) × (ticket ≡ ticket_of_wait w))
+
+-- it has a number above those that are held
+won-other : (held : List Held) (wait : Option Pending) (n m : ℕ) → MatchOption wait (Unit {0}) (WaitNumbered held n m) → (x : Held) → Contains held x
+    → (ticket : Held) → Won wait ticket → ticket.id ≢ x.id
+won-other held None n m numbered x among ticket won e = won
+won-other held (Some w) n m numbered x among ticket won e =
+    let lt = numbered.2 x among in
+    let is : ticket.id ≡ w.id = ap (λ (h : Held). h.id) won.1 in
+    omega arith
+
+by-id : (held : List Held) → IsTrue (are_rising held) → AreApart (λ (h : Held). h.id) held
+by-id held rising i j d lt within e = let below = pairs-from_rising held rising i j d lt within in omega arith
+
+-- the held tickets change in order, and a wait stays
+module _ (effect : Effect Held) (old now : List Held) (order : InOrder effect old now) (rising : IsTrue (are_rising old)) where
+  members : Becomes effect (Contains old) (Contains now)
+  members = order-members (λ (h : Held). h.id) effect old now (by-id old rising) order
+
+  held-has : (wait : Option Pending) → ((ticket : Held) → Won wait ticket → Each (λ other. ticket ≢ other) effect)
+      → Becomes effect (λ ticket. Contains old ticket ⊎ Won wait ticket) (λ ticket. Contains now ticket ⊎ Won wait ticket)
+  held-has wait other ticket =
+      then (either (members ticket).0 (λ won. won), either (members ticket).1 (λ won. won)) (after-beside ticket (Contains old ticket) (Won wait ticket) effect (other ticket))
+
+  held-numbered : (wait : Option Pending) (n m : ℕ) → Joins below effect old → ((ticket : Held) → Contains old ticket → ticket.id ≤ n) → Each (λ (h : Held). h.id ≤ n) effect
+      → MatchOption wait (Unit {0}) (λ w. WaitNumbered old n m w × Each (λ (h : Held). h.id < w.id) effect)
+      → IsNumbered (record { held = now; wait = wait; last_ticket = n; last_wait = m })
+  held-numbered wait n m joins most each waits = record {
+    rising = rising-from_pairs now (order-pairs below effect old now joins (pairs-from_rising old rising) order);
+    held = λ ticket among. after-all (λ h. h.id ≤ n) effect ticket (Contains old ticket) (most ticket) each ((members ticket).0 among);
+    wait = numbered wait waits;
+  }
+    where
+      numbered : (o : Option Pending) → MatchOption o (Unit {0}) (λ w. WaitNumbered old n m w × Each (λ (h : Held). h.id < w.id) effect)
+          → MatchOption o (Unit {0}) (WaitNumbered now n m)
+      numbered None q = tt
+      numbered (Some w) q = (q.0.0, q.0.1, λ ticket among. after-all (λ h. h.id < w.id) effect ticket (Contains old ticket) (q.0.2 ticket) q.1 ((members ticket).0 among))
+
+-- the ticket of a number is left out
+left-out : (x : Held) (held : List Held) → AreApart (λ (h : Held). h.id) held → Contains held x → LeavesOrder x held (filter (λ ticket. not (is_number x.id ticket)) held)
+left-out x held apart among =
+    let before = before_first (is_number x.id) held in
+    let after = after_first (is_number x.id) held in
+    let whole = split-at (λ (h : Held). h.id) (is_number x.id) x (is-number x.id x refl) (number-is x.id) held apart among in
+    let kept : (t : Held) → Contains (before ++ after) t → not (is_number x.id t) ≡ true =
+    λ t there. not-number x.id t (pairs-others (λ (one other : Held). one.id ≢ other.id) (λ one other n e. n (sym e)) before after x
+    (subst (AreApart (λ (h : Held). h.id)) whole apart) t there) in (
+      before,
+      after,
+      whole,
+      ap (filter other) whole ∙ filter-append other before (x ∷ after)
+          ∙ (λ i. filter-all other before (λ t there. kept t (Contains-append_left before after t there)) i
+          ++ cond (not (is-number x.id x refl i)) (x ∷ filter other after) (filter-all other after (λ t there. kept t (Contains-append_right before after t there)) i)),
+    )
+  where
+    other : Held → Bool
+    other ticket = not (is_number x.id ticket)
+
+    is-number : (id : ℕ) (t : Held) → t.id ≡ id → is_number id t ≡ true
+    is-number id t e = grind (arith, nat_tests)
+
+    number-is : (id : ℕ) (t : Held) → is_number id t ≡ true → t.id ≡ id
+    number-is id t e = grind (arith, nat_tests)
+
+    not-number : (id : ℕ) (t : Held) → t.id ≢ id → not (is_number id t) ≡ true
+    not-number id t n = grind (arith, nat_tests)
 
 -- ---- by cases
 
@@ -127,28 +186,28 @@ module _ (who place : ℕ) (kind : Kind) (seat : SeatView) where
   Made change wait = IsNumbered (with_wait seat wait) → SeatMade who place kind change (with_wait seat wait)
 
   gain : (mode : Mode) → IsTrue (is_mode_of kind mode) → Made (Gain mode) None
-  gain mode fits numbered = record {
-    has = record {
-      becomes = λ ticket. (
-        (λ has. elim has [ inl held ↦ either (λ h. inl h) (λ e. e) ((push-gains seat.held (new_held place mode seat) ticket).0 held) | inr none ↦ absurd none ]),
-        λ had. inl ((push-gains seat.held (new_held place mode seat) ticket).1 (either (λ h. elim h [ inl held ↦ held | inr none ↦ absurd none ]) (λ e. e) had)),
-      );
-      at = refl;
-      may = (
-        inr fits,
-        λ ticket had e. elim had [
-          | inl held ↦ (let le = numbered.held ticket held in let is : ticket.id ≡ seat.last_ticket + 1 = ap (λ (id : ℕ × ℕ). id.1) e in omega arith)
-          | inr none ↦ none
-        ],
-      );
-    };
-    waits = stays (λ ticket. same);
-    unended = λ won. same;
-    own = tt;
-    keeps = λ ticket waits other. refl;
-    numbered = numbered-more seat.held (new_held place mode seat) (seat.last_ticket + 1) seat.last_wait numbered.rising
-        (λ ticket among. let le = numbered.held ticket among in omega arith) (omega arith);
-  }
+  gain mode fits numbered =
+      let new = new_held place mode seat in
+      let later : (ticket : Held) → Contains seat.held ticket → ticket.id < new.id = λ ticket among. let le = numbered.held ticket among in omega arith in
+      record {
+        has = record {
+          becomes = held-has (Comes new) seat.held (seat.held ++ new ∷ []) refl numbered.rising None (λ ticket none. absurd none);
+          at = refl;
+          may = (
+            inr fits,
+            λ ticket had e. elim had [
+              | inl held ↦ let lt = later ticket held in let is : ticket.id ≡ new.id = ap (λ (id : ℕ × ℕ). id.1) e in omega arith
+              | inr none ↦ none
+            ],
+          );
+        };
+        waits = stays (λ ticket. same);
+        unended = λ won. same;
+        own = tt;
+        keeps = λ ticket waits other. refl;
+        numbered = held-numbered (Comes new) seat.held (seat.held ++ new ∷ []) refl numbered.rising None (seat.last_ticket + 1) seat.last_wait later
+            (λ ticket among. let lt = later ticket among in omega arith) (omega arith) tt;
+      }
 
   queue : (mode : Mode) → IsTrue (is_mode_of kind mode) → Made (Queue mode) None
   queue mode fits numbered = record {
@@ -168,55 +227,29 @@ module _ (who place : ℕ) (kind : Kind) (seat : SeatView) where
     };
   }
 
+  -- a held ticket has a smaller number than the one that is waited for
+  under : (x : Held) → Contains seat.held x → (wait : Option Pending) → MatchOption wait (Unit {0}) (WaitNumbered seat.held seat.last_ticket seat.last_wait)
+      → MatchOption wait (Unit {0}) (λ w. WaitNumbered seat.held seat.last_ticket seat.last_wait w × (x.id < w.id))
+  under x held None q = tt
+  under x held (Some w) q = (q, q.2 x held)
+
   lose : (x : Held) (wait : Option Pending) → Contains seat.held x → x.place ≡ place → Made (Lose x) wait
-  lose x wait held at numbered = record {
-    has = record {
-      becomes = λ ticket. (
-        (λ has. elim has [
-          | inl kept ↦ (
-            inl (filter-members other seat.held ticket kept).0,
-            λ e. (other-Decides ticket).0 (filter-members other seat.held ticket kept).1 (ap (λ (h : Held). h.id) e),
-          )
-          | inr won ↦ (inr won, λ e. waited wait numbered.wait ticket won e)
-        ]),
-        λ had. elim had.0 [
-          | inl among ↦ inl (in-filter other seat.held ticket among
-              ((other-Decides ticket).1 (λ e. had.1 (same-number seat.held (pairs-from_rising seat.held numbered.rising) ticket x among held e))))
-          | inr won ↦ inr won
-        ],
-      );
-      at = at;
-      may = inl held;
-    };
-    waits = stays (λ ticket. same);
-    unended = λ won. same;
-    own = tt;
-    keeps = λ ticket waits apart. refl;
-    numbered = record {
-      rising = rising-from_pairs _ (AllPairs-filter below other seat.held (pairs-from_rising seat.held numbered.rising));
-      held = λ ticket among. numbered.held ticket (filter-members other seat.held ticket among).0;
-      wait = fewer wait numbered.wait;
-    };
-  }
-    where
-      other : Held → Bool
-      other ticket = not (is_number x.id ticket)
-
-      other-Decides : (ticket : Held) → (other ticket ≡ true → ticket.id ≢ x.id) × (ticket.id ≢ x.id → other ticket ≡ true)
-      other-Decides ticket = ((λ e. grind (arith, nat_tests)), λ n. grind (arith, nat_tests))
-
-      waited : (o : Option Pending) → MatchOption o (Unit {0}) (WaitNumbered seat) → (ticket : Held)
-          → MatchOption o ⊥ (λ (w : Pending). (w.settled ≡ Some settled_as.Granted) × (ticket ≡ ticket_of_wait w)) → ticket ≢ x
-      waited None q ticket p e = p
-      waited (Some w) q ticket p e =
-          let lt = q.2 x held in
-          let is : x.id ≡ w.id = ap (λ (h : Held). h.id) (sym e ∙ p.1) in
-          omega arith
-
-      fewer : (o : Option Pending) → MatchOption o (Unit {0}) (WaitNumbered seat)
-          → MatchOption o (Unit {0}) (WaitNumbered (record seat { held = filter other seat.held }))
-      fewer None q = tt
-      fewer (Some w) q = (q.0, q.1, λ ticket among. q.2 ticket (filter-members other seat.held ticket among).0)
+  lose x wait held at numbered =
+      let order = left-out x seat.held (by-id seat.held numbered.rising) held in
+      record {
+        has = record {
+          becomes = held-has (Goes x) seat.held (without_ticket x.id seat).held order numbered.rising wait
+              (λ ticket won e. won-other seat.held wait seat.last_ticket seat.last_wait numbered.wait x held ticket won (ap (λ (h : Held). h.id) e));
+          at = at;
+          may = inl held;
+        };
+        waits = stays (λ ticket. same);
+        unended = λ won. same;
+        own = tt;
+        keeps = λ ticket waits apart. refl;
+        numbered = held-numbered (Goes x) seat.held (without_ticket x.id seat).held order numbered.rising wait seat.last_ticket seat.last_wait tt numbered.held
+            (numbered.held x held) (under x held wait numbered.wait);
+      }
 
   module _ (wait : Pending) (at : wait.place ≡ place) where
     admit : (ticket : Ticket) → wait.settled ≡ None → held_at place ticket ≡ ticket_of_wait wait → Made (Admit ticket) (Some wait)
@@ -304,7 +337,8 @@ module _ (who place : ℕ) (kind : Kind) (seat : SeatView) where
           ((λ e. cc), λ had. let e = had.0 in absurd (had.1 (cc)));
       own = refl;
       keeps = λ ticket waits other. absurd (waits.0 granted);
-      numbered = numbered-more seat.held (ticket_of_wait wait) seat.last_ticket seat.last_wait numbered.rising numbered.wait.2 (let e = numbered.wait.0 in omega arith);
+      numbered = held-numbered (Comes (ticket_of_wait wait)) seat.held (seat.held ++ ticket_of_wait wait ∷ []) refl numbered.rising None seat.last_ticket seat.last_wait
+          numbered.wait.2 numbered.held (let e = numbered.wait.0 in omega arith) tt;
     }
 
 -- where an option is one, what is so of it is so of that

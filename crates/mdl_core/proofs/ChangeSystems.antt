@@ -122,7 +122,7 @@ module _ (core : Core) (who place : ℕ) (seat : SeatView) (book : Lists) (tied 
         each-also (λ (h : Held). h.place ≡ place) (λ h. held_at there.0 ticket ≢ h)
         (λ h is e. apart (sym there.2 ∙ ap (λ p. key_at p core) (ap (λ (x : Held). x.place) e ∙ is))) effect at))
 
-    waiting-made : AreApart session_of (book_at place core).waiting → Joins session_of (mapped (in_book_of who) effect) (book_at place core).waiting
+    waiting-made : AreApart session_of (book_at place core).waiting → Joins (λ (one other : Ticket). one.session ≢ other.session) (mapped (in_book_of who) effect) (book_at place core).waiting
         → InOrder (mapped (in_book_of who) effect) (book_at place core).waiting book.waiting
         → InOrder (turned (waits_as who (seat_at who core).wait) (waits_as who seat.wait) effect) ((system_of core).waiting here) ((system_of now).waiting here)
     waiting-made apart joins order =

@@ -16,7 +16,7 @@ use Rattle.mdl_core.specs.Cores.{Core, book_at, seat_at, booking, seating}
 use Rattle.mdl_core.specs.Seats.{SeatView, ticket_of_wait}
 use Rattle.mdl_core.specs.Ties.{Has, Awaits, in_book_of, IsTied}
 use Rattle.mdl_core.proofs.ChangeSeats.{wait_turned, has_effect, wait_effect, MayBe, Makes, Fitting, SeatMade, seat-made}
-use Rattle.mdl_core.proofs.Effects.{Effect, Stays, Comes, Goes, Turns, Becomes, InOrder, Each, mapped, then, back, each-also, each-mapped, after-other, after-mapped, Joins, order-members, order-apart}
+use Rattle.mdl_core.proofs.Effects.{Effect, Stays, Comes, Goes, Turns, Becomes, InOrder, Each, mapped, then, back, each-also, each-mapped, after-other, after-mapped, Joins, order-members, order-pairs}
 use Rattle.mdl_core.proofs.PairLemmas.{split-at}
 use Rattle.mdl_core.proofs.TiedWrites.{held_at, as-held, granted-here, waiting-here, Follows, tied-written}
 use Rattle.mdl_system.proofs.MemberLemmas.{AreApart, find-named}
@@ -28,7 +28,7 @@ use Rattle.mdl_system.specs.Events.{LeavesOrder}
 pub record ListMade {N : Type 0} (name : Ticket → N) (who place : ℕ) (fits : Held → Type 0) (effect : Effect Held) (old new : List Ticket) (had has : Held → Type 0) : Type 0 where
   pub order : InOrder (mapped (in_book_of who) effect) old new
   pub members : Becomes (mapped (in_book_of who) effect) (Contains old) (Contains new)
-  pub joins : Joins name (mapped (in_book_of who) effect) old
+  pub joins : Joins (λ (one other : Ticket). name one ≢ name other) (mapped (in_book_of who) effect) old
   pub apart : AreApart name new
   pub follows : Follows who place old new had has
   pub fit : (ticket : Held) → has ticket → had ticket ⊎ fits ticket
@@ -36,14 +36,15 @@ pub record ListMade {N : Type 0} (name : Ticket → N) (who place : ℕ) (fits :
 module _ {N : Type 0} (name : Ticket → N) (told : (one other : Ticket) → name one ≡ name other → one.session ≡ other.session)
     (who place : ℕ) (fits : Held → Type 0) (old new : List Ticket) (had has : Held → Type 0) (apart : AreApart name old)
     (before : (ticket : Held) → ticket.place ≡ place → Contains old (in_book_of who ticket) ↔ had ticket) where
-  joining : (effect : Effect Held) → Each (λ (h : Held). h.place ≡ place) effect → MayBe name who fits had effect → Joins name (mapped (in_book_of who) effect) old
+  joining : (effect : Effect Held) → Each (λ (h : Held). h.place ≡ place) effect → MayBe name who fits had effect
+      → Joins (λ (one other : Ticket). name one ≢ name other) (mapped (in_book_of who) effect) old
   joining Stays at may = tt
   joining (Comes new) at may = λ ticket among e.
       let own : ticket.session ≡ who = told ticket (in_book_of who new) e in
       let is : in_book_of who (held_at place ticket) ≡ ticket = λ i. record { session = sym own i; number = ticket.number; mode = ticket.mode } in
       may.1 (held_at place ticket) ((before (held_at place ticket) refl).0 (as-held old who place ticket own among)) (ap name is ∙ e)
   joining (Goes old) at may = tt
-  joining (Turns old new) at may = may.2
+  joining (Turns old new) at may = (λ x n e. n (sym may.2 ∙ e), λ x n e. n (e ∙ may.2))
 
   fitting : (effect : Effect Held) → Becomes effect had has → MayBe name who fits had effect → (ticket : Held) → has ticket → had ticket ⊎ fits ticket
   fitting Stays becomes may ticket now = inl ((becomes ticket).0 now)
@@ -64,7 +65,7 @@ module _ {N : Type 0} (name : Ticket → N) (told : (one other : Ticket) → nam
         order = order;
         members = members;
         joins = joins;
-        apart = order-apart name (mapped (in_book_of who) effect) old new joins apart order;
+        apart = order-pairs (λ (one other : Ticket). name one ≢ name other) (mapped (in_book_of who) effect) old new joins apart order;
         follows = record {
           others = λ ticket other. then (members ticket) (after-other ticket (Contains old ticket) (mapped (in_book_of who) effect)
               (each-mapped (λ (y : Ticket). ticket ≢ y) (in_book_of who) (λ x e. other (ap (λ (t : Ticket). t.session) e)) effect));

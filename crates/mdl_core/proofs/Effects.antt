@@ -1,6 +1,6 @@
 -- What becomes of a list, and of what is so of its members: it stays, or one comes, goes or turns into another.
 use Rattle.std.proofs.Common.{◌≡◌, ◌≢◌, ◌⊎◌, ◌↔◌, inl, inr, List, [], ◌∷◌, ◌++◌, map, refl, sym, ap, subst, ◌∙◌}
-use Rattle.std.specs.Prelude.{Contains}
+use Rattle.std.specs.Prelude.{AllPairs, Contains}
 use Rattle.std.proofs.lemmas.List.{map-append}
 use Rattle.std.proofs.lemmas.List.Elements.{Contains-append_left, Contains-append_right}
 use Rattle.mdl_system.specs.Events.{Loses, LeavesOrder, TakesTurn}
@@ -122,6 +122,45 @@ module _ {A B : Type 0} (f : A → B) (x : A) (was had : Type 0) where
   pub after-mapped : (effect : Effect A) → Each (λ y. f x ≡ f y → x ≡ y) effect → was ↔ had → After (mapped f effect) (f x) was ↔ After effect x had
   after-mapped effect one is = then (named effect one) (after-like x was had effect is)
 
+-- ---- lists any two members of which are in a relation
+
+module _ {T : Type 0} (R : T → T → Type 0) where
+  -- all are in it to one that comes, and to one that another turns into if they were to that
+  abbrev pub Joins : Effect T → List T → Type 0
+  Joins (Comes come) old = (x : T) → Contains old x → R x come
+  Joins (Turns gone come) old = ((x : T) → R gone x → R come x) × ((x : T) → R x gone → R x come)
+  Joins _ old = Unit {0}
+
+  pub order-pairs : (effect : Effect T) (old new : List T) → Joins effect old → AllPairs R old → InOrder effect old new → AllPairs R new
+  order-pairs Stays old new joins pairs is = subst (AllPairs R) (sym is) pairs
+  order-pairs (Comes come) old new joins pairs is = subst (AllPairs R) (sym is) (pairs-push R old come pairs joins)
+  order-pairs (Goes gone) old new joins pairs is = subst (AllPairs R) (sym is.3) (pairs-fewer R is.0 is.1 gone (subst (AllPairs R) is.2 pairs))
+  order-pairs (Turns gone come) old new joins pairs is =
+      subst (AllPairs R) (sym is.3) (pairs-turned R gone come joins.0 joins.1 is.0 is.1 (subst (AllPairs R) is.2 pairs))
+
+-- what is so of all that were there, and of those that come and go, is so of all that are
+pub after-all : {T : Type 0} (P : T → Type 0) (effect : Effect T) (x : T) (was : Type 0) → (was → P x) → Each P effect → After effect x was → P x
+after-all P Stays x was so each now = so now
+after-all P (Comes new) x was so each now = elim now [ inl w ↦ so w | inr e ↦ subst P (sym e) each ]
+after-all P (Goes old) x was so each now = so now.0
+after-all P (Turns old new) x was so each now = elim now [ inl w ↦ so w.0 | inr e ↦ subst P (sym e) each.1 ]
+
+-- what is so beside it stays so, where it is of no one that comes or goes
+pub after-beside : {T : Type 0} (x : T) (was also : Type 0) (effect : Effect T) → (also → Each (λ y. x ≢ y) effect) → (After effect x was ⊎ also) ↔ After effect x (was ⊎ also)
+after-beside x was also Stays other = same
+after-beside x was also (Comes new) other = (
+  (λ now. elim now [ inl a ↦ either (λ w. inl w) (λ e. e) a | inr s ↦ inl (inr s) ]),
+  λ now. elim now [ inl a ↦ either (λ w. inl w) (λ s. s) a | inr e ↦ inl (inr e) ],
+)
+after-beside x was also (Goes old) other = (
+  (λ now. elim now [ inl a ↦ (inl a.0, a.1) | inr s ↦ (inr s, other s) ]),
+  λ now. either (λ w. (w, now.1)) (λ s. s) now.0,
+)
+after-beside x was also (Turns old new) other = (
+  (λ now. elim now [ inl a ↦ either (λ w. (inl w.0, w.1)) (λ e. e) a | inr s ↦ inl (inr s, (other s).0) ]),
+  λ now. elim now [ inl a ↦ either (λ w. inl (w, a.1)) (λ s. s) a.0 | inr e ↦ inl (inr e) ],
+)
+
 -- ---- lists of which no two members have one name
 
 module _ {T N : Type 0} (name : T → N) where
@@ -154,22 +193,8 @@ module _ {T N : Type 0} (name : T → N) where
         ]),
       )
 
-  -- one that comes has a new name, and one that turns into another keeps its own
-  abbrev pub Joins : Effect T → List T → Type 0
-  Joins (Comes come) old = (x : T) → Contains old x → name x ≢ name come
-  Joins (Turns gone come) old = name come ≡ name gone
-  Joins _ old = Unit {0}
-
-  pub order-apart : (effect : Effect T) (old new : List T) → Joins effect old → AreApart name old → InOrder effect old new → AreApart name new
-  order-apart Stays old new joins apart is = subst (AreApart name) (sym is) apart
-  order-apart (Comes come) old new joins apart is = subst (AreApart name) (sym is) (pairs-push (λ (one other : T). name one ≢ name other) old come apart joins)
-  order-apart (Goes gone) old new joins apart is =
-      subst (AreApart name) (sym is.3) (pairs-fewer (λ (one other : T). name one ≢ name other) is.0 is.1 gone (subst (AreApart name) is.2 apart))
-  order-apart (Turns gone come) old new joins apart is =
-      subst (AreApart name) (sym is.3) (pairs-turned name is.0 is.1 gone come joins (subst (AreApart name) is.2 apart))
-
   -- what is made of each member one way before it and another way after it, which agree but where one goes or turns into another
-  pub order-mapped : {B : Type 0} (f g : T → B) (effect : Effect T) (old new : List T) → AreApart name old → Joins effect old → InOrder effect old new
+  pub order-mapped : {B : Type 0} (f g : T → B) (effect : Effect T) (old new : List T) → AreApart name old → Joins (λ (one other : T). name one ≢ name other) effect old → InOrder effect old new
       → ((x : T) → Contains old x → Each (λ y. name x ≢ name y) effect → g x ≡ f x) → InOrder (turned f g effect) (map f old) (map g new)
   order-mapped f g Stays old new apart joins is agree = ap (map g) is ∙ map-agree g f old (λ x among. agree x among tt)
   order-mapped f g (Comes come) old new apart joins is agree =
@@ -183,7 +208,7 @@ module _ {T N : Type 0} (name : T → N) where
       )
   order-mapped f g (Turns gone come) old new apart joins is agree =
       let others = round gone old apart is.0 is.1 is.2 in
-      let now : (x : T) → Contains (is.0 ++ is.1) x → g x ≡ f x = λ x among. let o = others x among in agree x o.0 (o.1, λ e. o.1 (e ∙ joins)) in (
+      let now : (x : T) → Contains (is.0 ++ is.1) x → g x ≡ f x = λ x among. let o = others x among in agree x o.0 (o.1, joins.1 x o.1) in (
         map f is.0,
         map f is.1,
         ap (map f) is.2 ∙ map-append f is.0 (gone ∷ is.1),

@@ -1,9 +1,9 @@
 -- Lists any two members of which are in a relation, the one member that passes a test, and lists of rising numbers.
-use Rattle.std.proofs.Common.{◌≡◌, ◌≢◌, ◌⊎◌, ℕ, suc, ◌<◌, Bool, true, false, cond, inl, inr, List, [], ◌∷◌, ◌++◌, get_or, map, refl, sym, ap, subst, ◌∙◌, arith}
+use Rattle.std.proofs.Common.{◌≡◌, ℕ, suc, ◌<◌, Bool, true, false, cond, inl, inr, List, [], ◌∷◌, ◌++◌, get_or, map, refl, sym, ap, subst, ◌∙◌, arith}
 use Rattle.std.specs.Prelude.{All, AllPairs, Contains, IsTrue, filter, nat_lt}
 use Rattle.std.specs.List.{list_all, before_first, after_first, position_or_len}
 use Rattle.std.proofs.lemmas.Bool.Decides.{nat_tests}
-use Rattle.std.proofs.lemmas.List.Elements.{All-contains, All-contains_itself, All-filter, Contains-get_or, filter_passes}
+use Rattle.std.proofs.lemmas.List.Elements.{All-contains, Contains-get_or}
 use Rattle.std.proofs.lemmas.List.Kept.{AllPairs-cons}
 use Rattle.std.proofs.lemmas.List.Quantifiers.{all_pairs_push}
 use Rattle.std.proofs.lemmas.List.Sums.{position_or_len_is, split_at_first}
@@ -44,20 +44,18 @@ module _ {T : Type 0} (R : T → T → Type 0) where
     | inr e ↦ subst (λ (z : T). R z x) (sym e) (pairs-head b (bs ++ x ∷ after) pairs x (middle bs after x))
   ]
 
--- of two names, another may stand for one of the same name
-module _ {T N : Type 0} (name : T → N) where
-  pub pairs-turned : (before after : List T) (x y : T) → name y ≡ name x → AreApart name (before ++ x ∷ after) → AreApart name (before ++ y ∷ after)
-  pairs-turned [] after x y is apart =
-      AllPairs-cons (λ (one other : T). name one ≢ name other) y after
-      (all-from_members (λ (one other : T). name one ≢ name other) (λ z. name y ≢ name z) after (λ z among e. pairs-head (λ (one other : T). name one ≢ name other) x after apart z among (sym is ∙ e)))
-      (pairs-tail (λ (one other : T). name one ≢ name other) x after apart)
-  pairs-turned (b ∷ bs) after x y is apart =
-      AllPairs-cons (λ (one other : T). name one ≢ name other) b (bs ++ y ∷ after)
-      (all-from_members (λ (one other : T). name one ≢ name other) (λ z. name b ≢ name z) (bs ++ y ∷ after) (λ z among e. elim (around_cases bs after y z among) [
-        | inl rest ↦ pairs-head (λ (one other : T). name one ≢ name other) b (bs ++ x ∷ after) apart z (around bs after x z rest) e
-        | inr here ↦ pairs-head (λ (one other : T). name one ≢ name other) b (bs ++ x ∷ after) apart x (middle bs after x) (e ∙ ap name here ∙ is)
+-- another may stand for one that is in the relation to what that is
+module _ {T : Type 0} (R : T → T → Type 0) (x y : T) (left : (z : T) → R x z → R y z) (right : (z : T) → R z x → R z y) where
+  pub pairs-turned : (before after : List T) → AllPairs R (before ++ x ∷ after) → AllPairs R (before ++ y ∷ after)
+  pairs-turned [] after pairs =
+      AllPairs-cons R y after (all-from_members R (R y) after (λ z among. left z (pairs-head R x after pairs z among))) (pairs-tail R x after pairs)
+  pairs-turned (b ∷ bs) after pairs =
+      AllPairs-cons R b (bs ++ y ∷ after)
+      (all-from_members R (R b) (bs ++ y ∷ after) (λ z among. elim (around_cases bs after y z among) [
+        | inl rest ↦ pairs-head R b (bs ++ x ∷ after) pairs z (around bs after x z rest)
+        | inr here ↦ subst (R b) (sym here) (right b (pairs-head R b (bs ++ x ∷ after) pairs x (middle bs after x)))
       ]))
-      (pairs-turned bs after x y is (pairs-tail (λ (one other : T). name one ≢ name other) b (bs ++ x ∷ after) apart))
+      (pairs-turned bs after (pairs-tail R b (bs ++ x ∷ after) pairs))
 
 -- lists of what is made of each member agree where that does
 pub map-agree : {X Y : Type 0} (f g : X → Y) (xs : List X) → ((x : X) → Contains xs x → f x ≡ g x) → map f xs ≡ map g xs
@@ -85,27 +83,10 @@ module _ {T N : Type 0} (name : T → N) (p : T → Bool) (x : T) (passes : p x 
       let e = first in
       split_at_first p xs x (omega arith) ∙ ap (λ y. before_first p xs ++ y ∷ after_first p xs) (ap (λ n. get_or xs n x) first ∙ among.2)
 
--- ---- the members that pass a test
-
-module _ {T : Type 0} (p : T → Bool) where
-  pub filter-members : (xs : List T) (y : T) → Contains (filter p xs) y → Contains xs y × (p y ≡ true)
-  filter-members xs y among = (
-    All-contains (Contains xs) (filter p xs) y (All-filter p (Contains xs) xs (All-contains_itself xs)) among,
-    All-contains (λ z. p z ≡ true) (filter p xs) y (filter_passes p xs) among,
-  )
-
-  one : (b : Bool) (x : T) (us : List T) (y : T) → p x ≡ b → p y ≡ true → Contains us y ⊎ (y ≡ x) → Contains (cond b (x ∷ us) us) y
-  one true x us y is passes (inl later) = Contains-later x us y later
-  one true x us y is passes (inr e) = subst (Contains (x ∷ us)) (sym e) (Contains-here x us)
-  one false x us y is passes (inl later) = later
-  one false x us y is passes (inr e) = let same = ap p e in cc
-
-  pub in-filter : (xs : List T) (y : T) → Contains xs y → p y ≡ true → Contains (filter p xs) y
-  in-filter [] y among passes = absurd (none-in y among)
-  in-filter (x ∷ xs) y among passes = one (p x) x (filter p xs) y refl passes (elim (Contains-cons_cases x xs y among) [
-    | inl later ↦ inl (in-filter xs y later passes)
-    | inr e ↦ inr e
-  ])
+-- where all pass a test, it keeps them all
+pub filter-all : {T : Type 0} (p : T → Bool) (xs : List T) → ((x : T) → Contains xs x → p x ≡ true) → filter p xs ≡ xs
+filter-all p [] all = refl
+filter-all p (x ∷ xs) all = λ i. cond (all x (Contains-here x xs) i) (x ∷ filter-all p xs (λ y among. all y (Contains-later x xs y among)) i) (filter p xs)
 
 -- ---- rising numbers
 
@@ -139,14 +120,3 @@ rising-from_pairs (x ∷ xs) pairs =
     let head = all-less x.id xs (pairs-head below x xs pairs) in
     let tail = rising-from_pairs xs (pairs-tail below x xs pairs) in
     grind (arith, nat_tests)
-
--- two of one number are one
-pub same-number : (xs : List Held) → AllPairs below xs → (t u : Held) → Contains xs t → Contains xs u → t.id ≡ u.id → t ≡ u
-same-number [] pairs t u one other e = absurd (none-in t one)
-same-number (x ∷ xs) pairs t u one other e = go (Contains-cons_cases x xs t one) (Contains-cons_cases x xs u other) (λ a b. same-number xs (pairs-tail below x xs pairs) t u a b e)
-  where
-    go : Contains xs t ⊎ (t ≡ x) → Contains xs u ⊎ (u ≡ x) → (Contains xs t → Contains xs u → t ≡ u) → t ≡ u
-    go (inl a) (inl b) rest = rest a b
-    go (inl a) (inr f) rest = let lt = pairs-head below x xs pairs t a in let same : u.id ≡ x.id = ap (λ (h : Held). h.id) f in absurd (omega arith)
-    go (inr f) (inl b) rest = let lt = pairs-head below x xs pairs u b in let same : t.id ≡ x.id = ap (λ (h : Held). h.id) f in absurd (omega arith)
-    go (inr f) (inr g) rest = f ∙ sym g
