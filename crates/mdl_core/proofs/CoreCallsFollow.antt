@@ -20,12 +20,9 @@ use Rattle.mdl_core.specs.Changes.{next_ticket, opening, granting_to, queueing}
 use Rattle.mdl_system.specs.Events.{Event, Grant, BeginWait}
 use Rattle.mdl_system.specs.Systems.{Unsettled}
 use Rattle.mdl_core.specs.Ties.{IsTied, IsSound}
-use Rattle.mdl_core.proofs.CoreEvents.{granting-grants, queueing-begins}
 use Rattle.mdl_core.proofs.CoreFollows.{LeadsTo, follows-same, follows-as_same, follows-event}
 use Rattle.mdl_core.proofs.CoreGranted.{free-grantable}
-use Rattle.mdl_core.proofs.CoreWaits.{waits-opening}
-use Rattle.mdl_core.proofs.GrantedMoves.{granted-opening}
-use Rattle.mdl_core.proofs.TiedMoves.{tied-opening, tied-granting, tied-queueing}
+use Rattle.mdl_core.proofs.MoveNames.{granting-grants, queueing-begins, waits-opening, granted-opening, tied-opening, tied-granting, tied-queueing}
 
 -- ---- causes
 

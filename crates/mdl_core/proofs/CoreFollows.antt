@@ -14,7 +14,7 @@ use Rattle.mdl_system.specs.Events.{Event, Happens, SameSystem}
 use Rattle.mdl_system.specs.Systems.{System, Waiter, NoneForgotten, IsLawful}
 use Rattle.mdl_core.specs.Ties.{IsTied, IsSound}
 use Rattle.mdl_system.proofs.ConcernLemmas.{step-forgets, granting-there}
-use Rattle.mdl_core.proofs.CoreEvents.{same_system}
+use Rattle.mdl_core.proofs.ChangeEvents.{same_system}
 use Rattle.mdl_core.proofs.CoreServing.{serves}
 use Rattle.mdl_system.proofs.LawfulLemmas.{step-lawful, run-lawful, lawful-fewer}
 

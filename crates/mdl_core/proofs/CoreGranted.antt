@@ -13,32 +13,21 @@ use Rattle.mdl_core.specs.declared.pending.Pending.{Pending}
 use Rattle.mdl_system.specs.BookLaws.{in_book, of_lock, IsGrantedByLists}
 use Rattle.mdl_core.specs.Cores.{Core, book_at, seat_at, key_at, has_key, has_session, index_of, is_free}
 use Rattle.mdl_core.specs.ChangeEvents.{holding_of}
-use Rattle.mdl_core.specs.CoreSystems.{granted_in, book_found, book_of, waiter_of, waiter_in, system_of}
+use Rattle.mdl_core.specs.CoreSystems.{granted_in, book_found, book_of, waiter_in, system_of}
 use Rattle.mdl_core.specs.Seats.{SeatView, ticket_of_wait}
 use Rattle.mdl_system.specs.Events.{IsNewNumber}
-use Rattle.mdl_system.specs.Systems.{Holding, Waiter, lock_kind, IsGrantable}
+use Rattle.mdl_system.specs.Systems.{Holding, Waiter, Held as Holds, lock_kind, IsGrantable}
 use Rattle.mdl_core.specs.Ties.{IsTied, IsNumbered, Has, in_book_of}
 use Rattle.mdl_system.proofs.BookLemmas.{grantable-by_lists}
-use Rattle.mdl_core.proofs.CoreReads.{within, of_within, found-at, found}
+use Rattle.mdl_core.proofs.CoreReads.{within, of_within, found}
+use Rattle.mdl_core.proofs.CoreUnended.{not_unended}
+use Rattle.mdl_core.proofs.CoreWaiting.{book-there, ticket_of-waiter}
 use Rattle.mdl_system.proofs.MemberLemmas.{Contains-none, Contains-map, Contains-map_from, Contains-flat_map, Contains-flat_map_from}
-
--- each place has a key of its own
-abbrev pub KeysApart : Core → Type 0
-KeysApart core = (one other : ℕ) → has_key one core ≡ true → has_key other core ≡ true → key_at one core ≡ key_at other core → one ≡ other
 
 -- ---- the book of a key
 
--- a place, from the one before it
-back : (place : ℕ) → 1 ≤ place → place - 1 + 1 ≡ place
-back place least = omega arith
-
-pub book_of-place : (core : Core) (place : ℕ) → KeysApart core → has_key place core ≡ true → book_of (key_at place core) core ≡ book_at place core
-book_of-place core place keys has =
-    ap (λ o. book_found (key_at place core) o core) (found-at core place keys has)
-    ∙ ap (λ n. book_at n core) (back place (within place (length core.books) has).0)
-
 pub book_of-at : (core : Core) (place : ℕ) → IsTied core → has_key place core ≡ true → book_of (key_at place core) core ≡ book_at place core
-book_of-at core place tied has = book_of-place core place tied.keys has
+book_of-at core place tied has = book-there core place (key_at place core) tied.keys has refl
 
 -- ---- by places
 
@@ -70,11 +59,11 @@ granted-from_place core place held has key among =
 
 -- ---- by the lists of keys
 
-pub by_lists-apart : (core : Core) → KeysApart core → IsGrantedByLists (system_of core) (λ key. (book_of key core).granted)
-by_lists-apart core keys held = (
+pub by_lists : (core : Core) → IsTied core → IsGrantedByLists (system_of core) (λ key. (book_of key core).granted)
+by_lists core tied held = (
   (λ among.
       let at = granted-place core held among in
-      let same : book_of held.key core ≡ book_at at.0 core = ap (λ k. book_of k core) (sym at.2) ∙ book_of-place core at.0 keys at.1 in
+      let same : book_of held.key core ≡ book_at at.0 core = book-there core at.0 held.key tied.keys at.1 at.2 in
       subst (λ (b : Lists). Contains b.granted (in_book held)) (sym same) at.3),
   λ among. from (index_of held.key core.books) refl among,
 )
@@ -83,19 +72,12 @@ by_lists-apart core keys held = (
     from None e among = absurd (Contains-none (in_book held) among)
     from (Some index) e among = let at = found core held.key index e in granted-from_place core (index + 1) held at.0 at.1 among
 
-pub by_lists : (core : Core) → IsTied core → IsGrantedByLists (system_of core) (λ key. (book_of key core).granted)
-by_lists core tied = by_lists-apart core tied.keys
-
 -- ---- what can be granted
-
-ticket_of_waiter : (ticket : Ticket) (o : Option Pending) → (waiter_of ticket o).ticket ≡ ticket
-ticket_of_waiter ticket None = refl
-ticket_of_waiter ticket (Some wait) = refl
 
 -- the waiting tickets of a lock
 pub waiting-tickets : (core : Core) (tickets : List Ticket) → map (λ (waiter : Waiter). waiter.ticket) (map (waiter_in core) tickets) ≡ tickets
 waiting-tickets core [] = refl
-waiting-tickets core (ticket ∷ tickets) = λ i. ticket_of_waiter ticket (seat_at ticket.session core).wait i ∷ waiting-tickets core tickets i
+waiting-tickets core (ticket ∷ tickets) = λ i. ticket_of-waiter ticket (seat_at ticket.session core).wait i ∷ waiting-tickets core tickets i
 
 pub free-grantable : (core : Core) (who place : ℕ) (mode : Mode) → IsTied core → has_key place core ≡ true
     → (is_free who place mode core ≡ true) ↔ IsGrantable (system_of core) who (key_at place core) mode
@@ -116,6 +98,12 @@ pub granted-of_held : (core : Core) (who : ℕ) (ticket : Held) → IsTied core 
 granted-of_held core who ticket tied has held =
     let there : has_key ticket.place core ≡ true = tied.placed who ticket has (inl (inl held)) in
     granted-from_place core ticket.place (holding_of who ticket core) there refl ((tied.granted who ticket has there).1 (inl held))
+
+-- what a session has in hand it holds in the system
+pub held-in : (core : Core) (who : ℕ) (ticket : Held) → IsTied core → has_session who core ≡ true → Contains (seat_at who core).held ticket
+    → Holds (system_of core) who (holding_of who ticket core)
+held-in core who ticket tied has among =
+    (granted-of_held core who ticket tied has among, refl, λ wait stands same. not_unended core who ticket tied has among wait stands same)
 
 -- what a session has is numbered up to its last ticket
 has-numbered : (seat : SeatView) (ticket : Held) → IsNumbered seat → Has seat ticket → ticket.id ≤ seat.last_ticket

@@ -18,12 +18,11 @@ use Rattle.mdl_core.specs.Seats.{settling}
 use Rattle.mdl_system.specs.Events.{Event, GrantWaiter, Run, LeavesOrder}
 use Rattle.mdl_system.specs.Systems.{IsGrantable, NoneForgottenAt, Unsettled, Waiter}
 use Rattle.mdl_core.specs.Ties.{IsTied}
-use Rattle.mdl_core.proofs.CoreEvents.{same_system, admitting-grants, ticket_of-waiter}
+use Rattle.mdl_core.proofs.ChangeEvents.{same_system}
 use Rattle.mdl_core.proofs.CoreReads.{has_key-booking, booked-same}
 use Rattle.mdl_core.proofs.CoreGranted.{book_of-at, free-grantable}
-use Rattle.mdl_core.proofs.CoreSettling.{waiting-admitting}
-use Rattle.mdl_core.proofs.CoreWaiting.{waiter-found, unsettled-found}
-use Rattle.mdl_core.proofs.TiedMoves.{tied-admitting}
+use Rattle.mdl_core.proofs.CoreWaiting.{ticket_of-waiter, waiter-found, unsettled-found}
+use Rattle.mdl_core.proofs.MoveNames.{tied-admitting, waiting-admitting, admitting-grants}
 use Rattle.mdl_system.proofs.MemberLemmas.{Contains-map_from}
 use Rattle.mdl_system.proofs.OrderLemmas.{Contains-cons_cases, Contains-here, Contains-later}
 

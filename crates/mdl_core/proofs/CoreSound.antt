@@ -23,12 +23,12 @@ use Rattle.mdl_system.specs.Events.{Event, Happens, Run, SameMembers, SameSystem
 use Rattle.mdl_system.specs.Systems.{System, empty_system, IsGrantable, IsLawful, NoneForgotten}
 use Rattle.mdl_core.specs.Ties.{IsSound}
 use Rattle.mdl_core.proofs.CoreCallsFollow.{request_clear, follows-resolving, follows-trying, follows-beginning}
-use Rattle.mdl_core.proofs.CoreEvents.{same_members}
+use Rattle.mdl_core.proofs.ChangeEvents.{same_members}
 use Rattle.mdl_core.proofs.CoreFollows.{Follows, LeadsTo, follows-same}
 use Rattle.mdl_core.proofs.CoreWaitsFollow.{follows-polling, follows-timing_out, follows-killing, follows-searching, follows-ending, follows-releasing, follows-cloning}
 use Rattle.mdl_system.proofs.LawfulLemmas.{empty-lawful, run-lawful}
 use Rattle.mdl_core.proofs.CoreGranted.{free-grantable}
-use Rattle.mdl_core.proofs.TiedMoves.{tied-empty}
+use Rattle.mdl_core.proofs.TiedOpening.{tied-empty}
 
 -- a refusal changes nothing
 calm : (call : Call) (refusal : SpaceError) → is_change call (Refused refusal) ≡ false

@@ -11,11 +11,9 @@ use Rattle.mdl_core.specs.declared.pending.Pending.{Pending}
 use Rattle.mdl_core.specs.Cores.{Core, seat_at, has_session, seating}
 use Rattle.mdl_core.specs.CoreSystems.{unended_at, unended_of, unended_from, system_of}
 use Rattle.mdl_core.specs.Seats.{SeatView, empty_seat}
-use Rattle.mdl_system.specs.Events.{SameMembers, Gains, Loses}
 use Rattle.mdl_system.specs.Systems.{GrantedWait}
 use Rattle.mdl_core.specs.Ties.{IsNumbered, IsTied}
 use Rattle.mdl_core.proofs.CoreReads.{within, of_within, seated-same, seated-other, has_session-seating}
-use Rattle.mdl_system.proofs.Deciding.{nat_told}
 use Rattle.mdl_system.proofs.OrderLemmas.{Contains-here}
 
 -- ---- a seat's granted wait
@@ -142,7 +140,7 @@ not_unended core who ticket tied has held wait among own e =
 
 module _ (core : Core) (who : ℕ) (seat : SeatView) (has : has_session who core ≡ true) where
   -- those of others are the same
-  others-unended : (wait : GrantedWait) → wait.session ≢ who
+  pub others-unended : (wait : GrantedWait) → wait.session ≢ who
       → Contains (system_of (seating who seat core)).unended wait ↔ Contains (system_of core).unended wait
   others-unended wait other = (
     (λ among. let h = (unended-members (seating who seat core) wait).0 among in
@@ -156,49 +154,8 @@ module _ (core : Core) (who : ℕ) (seat : SeatView) (has : has_session who core
   )
 
   -- and one's own is that of the seat
-  seated-unended : (wait : GrantedWait) → wait.session ≡ who → Contains (system_of (seating who seat core)).unended wait ↔ (unended_of who seat.wait ≡ Some wait)
+  pub seated-unended : (wait : GrantedWait) → wait.session ≡ who → Contains (system_of (seating who seat core)).unended wait ↔ (unended_of who seat.wait ≡ Some wait)
   seated-unended wait own =
       let has_still : has_session who (seating who seat core) ≡ true = has_session-seating core who who seat ∙ has in
       subst (λ (s : SeatView). Contains (system_of (seating who seat core)).unended wait ↔ (unended_of who s.wait ≡ Some wait)) (seated-same core who seat has)
       (own-unended (seating who seat core) who wait has_still own)
-
-  pub unended-same : unended_of who seat.wait ≡ unended_of who (seat_at who core).wait → SameMembers (system_of core).unended (system_of (seating who seat core)).unended
-  unended-same e wait = elim (nat_told wait.session who) [
-    | inl own ↦ (
-      (λ among. (own-unended core who wait has own).1 (sym e ∙ (seated-unended wait own).0 among)),
-      λ among. (seated-unended wait own).1 (e ∙ (own-unended core who wait has own).0 among),
-    )
-    | inr other ↦ others-unended wait other
-  ]
-
-  pub unended-gains : (come : GrantedWait) → unended_of who (seat_at who core).wait ≡ None → unended_of who seat.wait ≡ Some come
-      → Gains come (system_of core).unended (system_of (seating who seat core)).unended
-  unended-gains come none some wait = elim (nat_told wait.session who) [
-    | inl own ↦ (
-      (λ among. let is = (seated-unended wait own).0 among in inr (cc)),
-      λ either. elim either [
-        | inl among ↦ (let is = (own-unended core who wait has own).0 among in cc)
-        | inr e ↦ (seated-unended wait own).1 (some ∙ ap (λ g. Some g) (sym e))
-      ],
-    )
-    | inr other ↦ (
-      (λ among. inl ((others-unended wait other).0 among)),
-      λ either. elim either [
-        | inl among ↦ (others-unended wait other).1 among
-        | inr e ↦ absurd (other (ap (λ (g : GrantedWait). g.session) e ∙ granted_of-session who seat.wait come some))
-      ],
-    )
-  ]
-
-  pub unended-loses : (gone : GrantedWait) → unended_of who (seat_at who core).wait ≡ Some gone → unended_of who seat.wait ≡ None
-      → Loses gone (system_of core).unended (system_of (seating who seat core)).unended
-  unended-loses gone some none wait = elim (nat_told wait.session who) [
-    | inl own ↦ (
-      (λ among. let is = (seated-unended wait own).0 among in cc),
-      λ both. let is = (own-unended core who wait has own).0 both.0 in absurd (both.1 (cc)),
-    )
-    | inr other ↦ (
-      (λ among. ((others-unended wait other).0 among, λ e. other (ap (λ (g : GrantedWait). g.session) e ∙ granted_of-session who _ gone some))),
-      λ both. (others-unended wait other).1 both.0,
-    )
-  ]

@@ -1,14 +1,10 @@
 -- Who waits in the lock space of one thread: the waiting tickets of a key, and the waits of their sessions.
-use Rattle.std.proofs.Common.{◌≡◌, ◌≢◌, ◌⊎◌, ℕ, suc, ◌+◌, ◌-◌, ◌<◌, ◌&&◌, ◌==◌, true, false, not, inl, inr, List, [], ◌∷◌, ◌++◌, length, map, Option, Some, None, refl, sym, ap, subst, ◌∙◌, arith}
-use Rattle.std.specs.Prelude.{Contains, AllPairs, MatchOption, slice_index_or, is_some}
-use Rattle.std.specs.List.{before_first, after_first, position_or_len}
-use Rattle.std.proofs.lemmas.Bool.Decides.{eqb_tells}
-use Rattle.std.proofs.lemmas.List.Sums.{split_at_first, position_or_len_is}
+use Rattle.std.proofs.Common.{◌≡◌, ◌≢◌, ◌⊎◌, ℕ, ◌+◌, ◌-◌, ◌&&◌, true, not, inl, inr, length, map, Option, Some, None, refl, sym, ap, subst, ◌∙◌, arith}
+use Rattle.std.specs.Prelude.{Contains, MatchOption, is_some}
 use Rattle.mdl_key.specs.Keys.{KeyName}
 use Rattle.mdl_book.specs.declared.lists.Lists.{Lists}
 use Rattle.mdl_book.specs.declared.ticket.Ticket.{Ticket}
 use Rattle.mdl_book.specs.Books.{empty_book}
-use Rattle.mdl_book.specs.Tickets.{is_ticket, without}
 use Rattle.mdl_calls.specs.declared.answers.Held.{Held}
 use Rattle.mdl_calls.specs.declared.answers.Settled.{Settled}
 use Rattle.mdl_calls.specs.declared.answers.Settled.TheVariants as settled_as
@@ -21,25 +17,11 @@ use Rattle.mdl_system.specs.Systems.{Unsettled, Waiter, GrantedWait, HasNoWait}
 use Rattle.mdl_core.specs.Ties.{Awaits, in_book_of, IsTied}
 use Rattle.mdl_core.proofs.CoreReads.{within, found-at, found}
 use Rattle.mdl_core.proofs.CoreUnended.{own-unended, granted_of}
-use Rattle.mdl_system.proofs.OrderLemmas.{Contains-here, Contains-later, Contains-cons_cases, middle}
+use Rattle.mdl_system.proofs.MemberLemmas.{Contains-map_from}
 
 -- the ticket that a session waits for, as it waits
 abbrev pub waiting_of : ℕ → Pending → Waiter
 waiting_of who wait = waiter_of (record { session = who; number = wait.id; mode = wait.mode }) (Some wait)
-
--- ---- what is made of each member of a list
-
-module _ {X Y : Type 0} where
-  pub map-agree : (f g : X → Y) (xs : List X) → ((x : X) → Contains xs x → f x ≡ g x) → map f xs ≡ map g xs
-  map-agree f g [] same = refl
-  map-agree f g (x ∷ xs) same = λ i. same x (Contains-here x xs) i ∷ map-agree f g xs (λ y among. same y (Contains-later x xs y among)) i
-
-  pub from-map : (f : X → Y) (xs : List X) (y : Y) → Contains (map f xs) y → (x : X) × Contains xs x × (y ≡ f x)
-  from-map f [] y among = absurd (let lt = among.1 in omega arith)
-  from-map f (x ∷ xs) y among = elim (Contains-cons_cases (f x) (map f xs) y among) [
-    | inl later ↦ (let h = from-map f xs y later in (h.0, Contains-later x xs h.0 h.1, h.2))
-    | inr e ↦ (x, Contains-here x xs, e)
-  ]
 
 -- ---- the book of a key
 
@@ -131,37 +113,20 @@ none-waiting core who place ticket tied none has among own =
     let no : None ≡ Some h.0 = sym none ∙ is in
     cc
 
--- and one with a granted wait has none
-pub granted-waiting : (core : Core) (who place : ℕ) (wait : Pending) (ticket : Ticket) → IsTied core → (seat_at who core).wait ≡ Some wait
-    → wait.settled ≡ Some settled_as.Granted → has_key place core ≡ true → Contains (book_at place core).waiting ticket → ticket.session ≢ who
-granted-waiting core who place wait ticket tied is granted has among own =
-    let h = wait-at core place ticket tied has among in
-    let there : (seat_at who core).wait ≡ Some h.0 = subst (λ n. (seat_at n core).wait ≡ Some h.0) own h.1.waits in
-    let same : wait ≡ h.0 = cc in
-    h.1.not_granted (ap (λ (w : Pending). w.settled) (sym same) ∙ granted)
-
--- and any other has one only where it waits
-pub elsewhere-waiting : (core : Core) (who place : ℕ) (wait : Pending) (ticket : Ticket) → IsTied core → (seat_at who core).wait ≡ Some wait
-    → place ≢ wait.place → has_key place core ≡ true → Contains (book_at place core).waiting ticket → ticket.session ≢ who
-elsewhere-waiting core who place wait ticket tied is other has among own =
-    let h = wait-at core place ticket tied has among in
-    let there : (seat_at who core).wait ≡ Some h.0 = subst (λ n. (seat_at n core).wait ≡ Some h.0) own h.1.waits in
-    let same : wait ≡ h.0 = cc in
-    other (sym h.1.there ∙ ap (λ (w : Pending). w.place) (sym same))
-
 -- ---- waiters
+
+-- a waiter is that of its ticket, whatever its session's wait is
+pub ticket_of-waiter : (ticket : Ticket) (wait : Option Pending) → (waiter_of ticket wait).ticket ≡ ticket
+ticket_of-waiter ticket None = refl
+ticket_of-waiter ticket (Some wait) = refl
 
 pub waiter-found : (core : Core) (place : ℕ) (waiter : Waiter) → IsTied core → has_key place core ≡ true
     → Contains ((system_of core).waiting (key_at place core)) waiter → Contains (book_at place core).waiting waiter.ticket × (waiter ≡ waiter_in core waiter.ticket)
 waiter-found core place waiter tied has among =
     let book = book-there core place (key_at place core) tied.keys has refl in
-    let h = from-map (waiter_in core) (book_at place core).waiting waiter (subst (λ (b : Lists). Contains (map (waiter_in core) b.waiting) waiter) book among) in
-    let own : waiter.ticket ≡ h.0 = ap (λ (w : Waiter). w.ticket) h.2 ∙ ticket_of_waiter h.0 (seat_at h.0.session core).wait in
+    let h = Contains-map_from (waiter_in core) (book_at place core).waiting waiter (subst (λ (b : Lists). Contains (map (waiter_in core) b.waiting) waiter) book among) in
+    let own : waiter.ticket ≡ h.0 = ap (λ (w : Waiter). w.ticket) h.2 ∙ ticket_of-waiter h.0 (seat_at h.0.session core).wait in
     (subst (λ t. Contains (book_at place core).waiting t) (sym own) h.1, h.2 ∙ ap (waiter_in core) (sym own))
-  where
-    ticket_of_waiter : (ticket : Ticket) (o : Option Pending) → (waiter_of ticket o).ticket ≡ ticket
-    ticket_of_waiter ticket None = refl
-    ticket_of_waiter ticket (Some wait) = refl
 
 unsettled-open : (settled : Option Settled) → state_of settled ≡ Unsettled → settled ≢ Some settled_as.Granted → not (is_some settled) ≡ true
 unsettled-open None e other = refl
@@ -195,65 +160,3 @@ no_wait core who tied has none = (waits_nowhere, unended_none)
         let h = granted_of who (seat_at who core).wait wait is in
         let no : None ≡ Some h.0 = sym none ∙ h.1 in
         cc
-
--- ---- a waiting list with one of a session
-
--- all of the list but a ticket are of other sessions
-pub record IsSplit (ticket : Ticket) (waiting before after : List Ticket) : Type 0 where
-  pub whole : waiting ≡ before ++ ticket ∷ after
-  pub others : (other : Ticket) → Contains (before ++ after) other → other.session ≢ ticket.session
-
-apart-head : (x : Ticket) (xs : List Ticket) → AllPairs (λ (one other : Ticket). one.session ≢ other.session) (x ∷ xs) → (y : Ticket) → Contains xs y → x.session ≢ y.session
-apart-head x xs pairs y among =
-    let lt = among.1 in
-    subst (λ (z : Ticket). x.session ≢ z.session) among.2 (pairs 0 (suc among.0) y (omega arith) (omega arith))
-
-apart-tail : (x : Ticket) (xs : List Ticket) → AllPairs (λ (one other : Ticket). one.session ≢ other.session) (x ∷ xs)
-    → AllPairs (λ (one other : Ticket). one.session ≢ other.session) xs
-apart-tail x xs pairs i j d lt within = pairs (suc i) (suc j) d (omega arith) (omega arith)
-
-apart-others : (before after : List Ticket) (x : Ticket) → AllPairs (λ (one other : Ticket). one.session ≢ other.session) (before ++ x ∷ after)
-    → (y : Ticket) → Contains (before ++ after) y → y.session ≢ x.session
-apart-others [] after x pairs y among = λ e. apart-head x after pairs y among (sym e)
-apart-others (b ∷ bs) after x pairs y among = elim (Contains-cons_cases b (bs ++ after) y among) [
-  | inl later ↦ apart-others bs after x (apart-tail b (bs ++ x ∷ after) pairs) y later
-  | inr e ↦ subst (λ (z : Ticket). z.session ≢ x.session) (sym e) (apart-head b (bs ++ x ∷ after) pairs x (middle bs after x))
-]
-
--- the test of a ticket passes it, and none of another session
-ticket_tests : (ticket other : Ticket)
-    → (other.session ≢ ticket.session → is_ticket ticket.session ticket.number other ≡ false)
-    × (other.session ≡ ticket.session → other.number ≡ ticket.number → is_ticket ticket.session ticket.number other ≡ true)
-ticket_tests ticket other = (
-  (λ n. elim (eqb_tells other.session ticket.session) [ inl e ↦ absurd (n e.1) | inr e ↦ ap (λ b. b && other.number == ticket.number) e.0 ]),
-  λ s n. elim (eqb_tells other.session ticket.session) [
-    | inl e ↦ elim (eqb_tells other.number ticket.number) [ inl f ↦ (λ i. e.0 i && f.0 i) | inr f ↦ absurd (f.1 n) ]
-    | inr e ↦ absurd (e.1 s)
-  ],
-)
-
--- the list splits round it, and this is what is left without it
-pub split-without : (ticket : Ticket) (waiting : List Ticket) → AllPairs (λ (one other : Ticket). one.session ≢ other.session) waiting → Contains waiting ticket
-    → (before after : List Ticket) × IsSplit ticket waiting before after × (without ticket.session ticket.number waiting ≡ before ++ after)
-split-without ticket waiting pairs among =
-    let test = is_ticket ticket.session ticket.number in
-    let k = among.0 in
-    let lt : k < length waiting = among.1 in
-    let here : test (slice_index_or waiting k ticket) ≡ true = ap test among.2 ∙ (ticket_tests ticket ticket).1 refl refl in
-    let first : position_or_len test waiting ≡ k =
-    position_or_len_is test waiting k ticket (omega arith)
-    (λ j below. (ticket_tests ticket (slice_index_or waiting j ticket)).0
-    (subst (λ (t : Ticket). (slice_index_or waiting j ticket).session ≢ t.session) among.2 (pairs j k ticket below lt)))
-    (λ _. here) in
-    let one : slice_index_or waiting (position_or_len test waiting) ticket ≡ ticket = ap (λ n. slice_index_or waiting n ticket) first ∙ among.2 in
-    let whole : waiting ≡ before_first test waiting ++ ticket ∷ after_first test waiting =
-    split_at_first test waiting ticket (omega arith) ∙ ap (λ t. before_first test waiting ++ t ∷ after_first test waiting) one in (
-      before_first test waiting,
-      after_first test waiting,
-      record {
-        whole = whole;
-        others = apart-others (before_first test waiting) (after_first test waiting) ticket
-            (subst (AllPairs (λ (one other : Ticket). one.session ≢ other.session)) whole pairs);
-      },
-      refl,
-    )

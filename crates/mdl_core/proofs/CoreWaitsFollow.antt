@@ -27,13 +27,12 @@ use Rattle.mdl_core.specs.Seats.{SeatView, is_open, without_wait, without_ticket
 use Rattle.mdl_system.specs.Events.{Clone, SettleLost, EndGrantedWait, EndLostWait, Release as Give_up}
 use Rattle.mdl_system.specs.Strength.{covers}
 use Rattle.mdl_core.specs.Ties.{IsTied, IsSound}
-use Rattle.mdl_core.proofs.CoreEvents.{granting-clones, freeing-releases, losing-settles, taking_up-ends, leaving-ends}
 use Rattle.mdl_core.proofs.CoreFollows.{Follows, LeadsTo, follows-same, follows-event, follows-serving}
 use Rattle.mdl_core.proofs.CoreReads.{has_key-booking, booked-same}
 use Rattle.mdl_core.proofs.CoreServing.{found-first}
 use Rattle.mdl_core.specs.ChangeEvents.{holding_of}
 use Rattle.mdl_core.proofs.CoreWaiting.{waiting_of, place_of_wait}
-use Rattle.mdl_core.proofs.TiedMoves.{tied-granting, tied-losing, tied-taking_up, tied-leaving, tied-freeing}
+use Rattle.mdl_core.proofs.MoveNames.{granting-clones, freeing-releases, losing-settles, taking_up-ends, leaving-ends, tied-granting, tied-losing, tied-taking_up, tied-leaving, tied-freeing}
 use Rattle.mdl_core.proofs.CoreCallsFollow.{clone_clear, none_there, unsettled_wait}
 use Rattle.mdl_core.proofs.VictimLemmas.{victim-waits}
 

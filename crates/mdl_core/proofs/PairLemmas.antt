@@ -1,17 +1,15 @@
 -- Lists any two members of which are in a relation, the one member that passes a test, and lists of rising numbers.
-use Rattle.std.proofs.Common.{◌≡◌, ◌⊎◌, ℕ, suc, ◌<◌, Bool, true, false, cond, inl, inr, List, [], ◌∷◌, ◌++◌, length, get_or, Some, refl, sym, ap, subst, ◌∙◌, arith}
-use Rattle.std.specs.Prelude.{All, AllPairs, Contains, IsTrue, filter, find, nat_lt}
+use Rattle.std.proofs.Common.{◌≡◌, ℕ, suc, ◌<◌, Bool, true, false, cond, inl, inr, List, [], ◌∷◌, ◌++◌, get_or, map, refl, sym, ap, subst, ◌∙◌, arith}
+use Rattle.std.specs.Prelude.{All, AllPairs, Contains, IsTrue, filter, nat_lt}
 use Rattle.std.specs.List.{list_all, before_first, after_first, position_or_len}
 use Rattle.std.proofs.lemmas.Bool.Decides.{nat_tests}
-use Rattle.std.proofs.lemmas.List.Elements.{All-contains, All-contains_itself, All-filter, Contains-get_or, filter_passes}
-use Rattle.std.proofs.lemmas.List.Folds.{find_at}
+use Rattle.std.proofs.lemmas.List.Elements.{All-contains, Contains-get_or}
 use Rattle.std.proofs.lemmas.List.Kept.{AllPairs-cons}
 use Rattle.std.proofs.lemmas.List.Quantifiers.{all_pairs_push}
 use Rattle.std.proofs.lemmas.List.Sums.{position_or_len_is, split_at_first}
-use Rattle.std.proofs.lemmas.Option.{slice_get_read}
 use Rattle.mdl_calls.specs.declared.answers.Held.{Held}
 use Rattle.mdl_calls.specs.Own.{are_rising}
-use Rattle.mdl_system.specs.Events.{Loses}
+use Rattle.mdl_system.proofs.MemberLemmas.{AreApart}
 use Rattle.mdl_system.proofs.OrderLemmas.{Contains-cons_cases, Contains-here, Contains-later, around, around_cases, middle, within}
 
 pub none-in : {T : Type 0} (x : T) → Contains [] x → ⊥
@@ -46,71 +44,49 @@ module _ {T : Type 0} (R : T → T → Type 0) where
     | inr e ↦ subst (λ (z : T). R z x) (sym e) (pairs-head b (bs ++ x ∷ after) pairs x (middle bs after x))
   ]
 
--- ---- the one member that passes a test
+-- another may stand for one that is in the relation to what that is
+module _ {T : Type 0} (R : T → T → Type 0) (x y : T) (left : (z : T) → R x z → R y z) (right : (z : T) → R z x → R z y) where
+  pub pairs-turned : (before after : List T) → AllPairs R (before ++ x ∷ after) → AllPairs R (before ++ y ∷ after)
+  pairs-turned [] after pairs =
+      AllPairs-cons R y after (all-from_members R (R y) after (λ z among. left z (pairs-head R x after pairs z among))) (pairs-tail R x after pairs)
+  pairs-turned (b ∷ bs) after pairs =
+      AllPairs-cons R b (bs ++ y ∷ after)
+      (all-from_members R (R b) (bs ++ y ∷ after) (λ z among. elim (around_cases bs after y z among) [
+        | inl rest ↦ pairs-head R b (bs ++ x ∷ after) pairs z (around bs after x z rest)
+        | inr here ↦ subst (R b) (sym here) (right b (pairs-head R b (bs ++ x ∷ after) pairs x (middle bs after x)))
+      ]))
+      (pairs-turned bs after (pairs-tail R b (bs ++ x ∷ after) pairs))
 
-module _ {T : Type 0} (R : T → T → Type 0) (swap : (x y : T) → R x y → R y x) (p : T → Bool)
-    (alone : (x y : T) → p x ≡ true → p y ≡ true → R x y → ⊥) (xs : List T) (x : T) (pairs : AllPairs R xs) (among : Contains xs x)
-    (passes : p x ≡ true) where
+-- lists of what is made of each member agree where that does
+pub map-agree : {X Y : Type 0} (f g : X → Y) (xs : List X) → ((x : X) → Contains xs x → f x ≡ g x) → map f xs ≡ map g xs
+map-agree f g [] same = refl
+map-agree f g (x ∷ xs) same = λ i. same x (Contains-here x xs) i ∷ map-agree f g xs (λ y among. same y (Contains-later x xs y among)) i
+
+-- ---- the one member that passes a test for its name
+
+module _ {T N : Type 0} (name : T → N) (p : T → Bool) (x : T) (passes : p x ≡ true) (named : (y : T) → p y ≡ true → name y ≡ name x)
+    (xs : List T) (apart : AreApart name xs) (among : Contains xs x) where
   first : position_or_len p xs ≡ among.0
   first =
       let inside = among.1 in
       position_or_len_is p xs among.0 x (omega arith)
-      (λ k lt. fails (p (get_or xs k x)) (λ yes. alone (get_or xs k x) (get_or xs among.0 x) yes (ap p among.2 ∙ passes) (pairs k among.0 x lt inside)))
+      (λ k lt. fails (p (get_or xs k x)) (λ yes. apart k among.0 x lt inside (named (get_or xs k x) yes ∙ ap name (sym among.2))))
       (λ _. ap p among.2 ∙ passes)
     where
       fails : (b : Bool) → (b ≡ true → ⊥) → b ≡ false
       fails true n = absurd (n refl)
       fails false n = refl
 
-  inside : position_or_len p xs < length xs
-  inside = let lt = among.1 in let e = first in omega arith
-
-  there : get_or xs (position_or_len p xs) x ≡ x
-  there = ap (λ n. get_or xs n x) first ∙ among.2
-
   pub split-at : xs ≡ before_first p xs ++ x ∷ after_first p xs
-  split-at = split_at_first p xs x inside ∙ ap (λ y. before_first p xs ++ y ∷ after_first p xs) there
+  split-at =
+      let lt = among.1 in
+      let e = first in
+      split_at_first p xs x (omega arith) ∙ ap (λ y. before_first p xs ++ y ∷ after_first p xs) (ap (λ n. get_or xs n x) first ∙ among.2)
 
-  pub found-one : find p xs ≡ Some x
-  found-one = find_at p xs ∙ slice_get_read xs (length xs) (position_or_len p xs) x refl inside (sym there)
-
-  pub pairs-without : AllPairs R (before_first p xs ++ after_first p xs)
-  pairs-without = pairs-fewer R (before_first p xs) (after_first p xs) x (subst (AllPairs R) split-at pairs)
-
-  -- without it, all are in the relation to it
-  pub rest-apart : (y : T) → Contains (before_first p xs ++ after_first p xs) y → R y x
-  rest-apart y rest = pairs-others R swap (before_first p xs) (after_first p xs) x (subst (AllPairs R) split-at pairs) y rest
-
-  pub loses-one : Loses x xs (before_first p xs ++ after_first p xs)
-  loses-one y = (
-    (λ rest. (
-      within _ xs y (sym split-at) (around (before_first p xs) (after_first p xs) x y rest),
-      λ e. alone x x passes passes (subst (λ z. R z x) e (rest-apart y rest)),
-    )),
-    λ was. elim (around_cases (before_first p xs) (after_first p xs) x y (within xs _ y split-at was.0)) [ inl rest ↦ rest | inr e ↦ absurd (was.1 e) ],
-  )
-
--- ---- the members that pass a test
-
-module _ {T : Type 0} (p : T → Bool) where
-  pub filter-members : (xs : List T) (y : T) → Contains (filter p xs) y → Contains xs y × (p y ≡ true)
-  filter-members xs y among = (
-    All-contains (Contains xs) (filter p xs) y (All-filter p (Contains xs) xs (All-contains_itself xs)) among,
-    All-contains (λ z. p z ≡ true) (filter p xs) y (filter_passes p xs) among,
-  )
-
-  one : (b : Bool) (x : T) (us : List T) (y : T) → p x ≡ b → p y ≡ true → Contains us y ⊎ (y ≡ x) → Contains (cond b (x ∷ us) us) y
-  one true x us y is passes (inl later) = Contains-later x us y later
-  one true x us y is passes (inr e) = subst (Contains (x ∷ us)) (sym e) (Contains-here x us)
-  one false x us y is passes (inl later) = later
-  one false x us y is passes (inr e) = let same = ap p e in cc
-
-  pub in-filter : (xs : List T) (y : T) → Contains xs y → p y ≡ true → Contains (filter p xs) y
-  in-filter [] y among passes = absurd (none-in y among)
-  in-filter (x ∷ xs) y among passes = one (p x) x (filter p xs) y refl passes (elim (Contains-cons_cases x xs y among) [
-    | inl later ↦ inl (in-filter xs y later passes)
-    | inr e ↦ inr e
-  ])
+-- where all pass a test, it keeps them all
+pub filter-all : {T : Type 0} (p : T → Bool) (xs : List T) → ((x : T) → Contains xs x → p x ≡ true) → filter p xs ≡ xs
+filter-all p [] all = refl
+filter-all p (x ∷ xs) all = λ i. cond (all x (Contains-here x xs) i) (x ∷ filter-all p xs (λ y among. all y (Contains-later x xs y among)) i) (filter p xs)
 
 -- ---- rising numbers
 
@@ -144,14 +120,3 @@ rising-from_pairs (x ∷ xs) pairs =
     let head = all-less x.id xs (pairs-head below x xs pairs) in
     let tail = rising-from_pairs xs (pairs-tail below x xs pairs) in
     grind (arith, nat_tests)
-
--- two of one number are one
-pub same-number : (xs : List Held) → AllPairs below xs → (t u : Held) → Contains xs t → Contains xs u → t.id ≡ u.id → t ≡ u
-same-number [] pairs t u one other e = absurd (none-in t one)
-same-number (x ∷ xs) pairs t u one other e = go (Contains-cons_cases x xs t one) (Contains-cons_cases x xs u other) (λ a b. same-number xs (pairs-tail below x xs pairs) t u a b e)
-  where
-    go : Contains xs t ⊎ (t ≡ x) → Contains xs u ⊎ (u ≡ x) → (Contains xs t → Contains xs u → t ≡ u) → t ≡ u
-    go (inl a) (inl b) rest = rest a b
-    go (inl a) (inr f) rest = let lt = pairs-head below x xs pairs t a in let same : u.id ≡ x.id = ap (λ (h : Held). h.id) f in absurd (omega arith)
-    go (inr f) (inl b) rest = let lt = pairs-head below x xs pairs u b in let same : t.id ≡ x.id = ap (λ (h : Held). h.id) f in absurd (omega arith)
-    go (inr f) (inr g) rest = f ∙ sym g

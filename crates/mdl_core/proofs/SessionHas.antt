@@ -16,9 +16,8 @@ use Rattle.mdl_system.specs.BookLaws.{in_book}
 use Rattle.mdl_core.specs.SessionLaws.{holdings_of, HasWait, waiter_for, HasWon, WaitsAt, HasWhatTheSystemSays, HasNothing, SessionsHaveWhatTheSystemSays, WaitsUnsettled, WaitsSomewhere}
 use Rattle.mdl_system.specs.Systems.{Unsettled, Holding, Waiter, GrantedWait, Held as Holds, HasNoWait}
 use Rattle.mdl_core.specs.Ties.{IsTied, IsSound, in_book_of}
-use Rattle.mdl_core.proofs.CoreEvents.{held-in}
+use Rattle.mdl_core.proofs.CoreGranted.{held-in, granted-place}
 use Rattle.mdl_core.specs.ChangeEvents.{holding_of}
-use Rattle.mdl_core.proofs.CoreGranted.{granted-place}
 use Rattle.mdl_core.proofs.CoreUnended.{own-unended, unended-members, granted_of}
 use Rattle.mdl_core.proofs.CoreWaiting.{wait-at, place_of_wait, place_told, book-there, book-nowhere, waiter-found, no_wait}
 use Rattle.mdl_system.proofs.MemberLemmas.{Contains-map, Contains-map_from}

@@ -1,0 +1,152 @@
+-- Each change in the space of one thread is an event of the system of locks.
+use Rattle.std.proofs.Common.{◌≡◌, ◌≢◌, ℕ, true, inl, inr, List, Option, Some, None, refl, sym, ap, subst, ◌∙◌}
+use Rattle.std.specs.Option.{option_map}
+use Rattle.mdl_key.specs.Classes.{IsAtLeast}
+use Rattle.mdl_key.specs.Keys.{KeyName}
+use Rattle.mdl_book.specs.declared.ticket.Ticket.{Ticket}
+use Rattle.mdl_calls.specs.declared.answers.Settled.{Settled}
+use Rattle.mdl_calls.specs.declared.answers.Settled.TheVariants as settled_as
+use Rattle.mdl_defs.specs.declared.definition.Definition.{Definition}
+use Rattle.mdl_core.specs.declared.pending.Pending.{Pending}
+use Rattle.mdl_core.specs.ChangeEvents.{waiting_ticket, IsChangeEvent}
+use Rattle.mdl_core.specs.Changes.{Change, Gain, Lose, Queue, Admit, Settle, Leave, Take_up, changing, Allows, May}
+use Rattle.mdl_core.specs.CoreSystems.{state_of, waiter_of, waiter_in, unended_at, unended_of, system_of}
+use Rattle.mdl_core.specs.Cores.{Core, book_at, seat_at, key_at, has_session}
+use Rattle.mdl_core.specs.Seats.{SeatView}
+use Rattle.mdl_core.specs.Ties.{in_book_of, IsTied}
+use Rattle.mdl_core.proofs.ChangeSeats.{wait_turned}
+use Rattle.mdl_core.proofs.ChangeSystems.{waits_as, SystemMade, system-made, waiting-same}
+use Rattle.mdl_core.proofs.CoreGranted.{held-in, new_number}
+use Rattle.mdl_core.proofs.CoreUnended.{own-unended}
+use Rattle.mdl_core.proofs.CoreWaiting.{no_wait}
+use Rattle.mdl_core.proofs.Effects.{InOrder, turned}
+use Rattle.mdl_system.specs.Events.{SameMembers, Gains, Loses, LeavesOrder, SameElsewhere, SameSystem, ElseSame, Event, GrantWaiter, Happens, granted_wait}
+use Rattle.mdl_system.specs.Systems.{Unsettled, Waiter, System, lock_kind}
+use Rattle.mdl_core.proofs.TiedWrites.{held_at}
+
+-- ---- what stays
+
+pub same_members : {T : Type 0} (xs : List T) → SameMembers xs xs
+same_members xs x = (λ p. p, λ p. p)
+
+pub same_system : {D : Type 0} (a : System D) → SameSystem a a
+same_system a = record {
+  granted = same_members a.granted;
+  waits = record { waiting = λ _. refl; unended = same_members a.unended };
+  definitions = λ _. refl;
+}
+
+-- a lost wait isn't open
+not_unsettled : (settled : Option Settled) → settled ≢ None → settled ≢ Some settled_as.Granted → state_of settled ≢ Unsettled
+not_unsettled None none granted = absurd (none refl)
+not_unsettled (Some settled_as.Granted) none granted = absurd (granted refl)
+not_unsettled (Some settled_as.Victim) none granted = λ e. cc
+not_unsettled (Some settled_as.Timeout) none granted = λ e. cc
+not_unsettled (Some settled_as.Killed) none granted = λ e. cc
+
+-- ---- the events
+
+module _ {C : Type 0} (apply : KeyName → C → Option Definition → Option (Option Definition)) (core : Core) (who place : ℕ) (tied : IsTied core) (session : has_session who core ≡ true) where
+  abbrev seat : SeatView
+  seat = seat_at who core
+
+  abbrev key : KeyName
+  key = key_at place core
+
+  abbrev a : System Definition
+  a = system_of core
+
+  abbrev after : Change → System Definition
+  after change = system_of (changing who place change core)
+
+  abbrev Leads : Change → Event C → Type 0
+  Leads change event = Happens apply event a (after change)
+
+  rest : (change : Change) → (after change).waiting key ≡ a.waiting key → SameElsewhere key a.waiting (after change).waiting
+      → SameMembers a.unended (after change).unended → ElseSame a (after change)
+  rest change same elsewhere unended =
+      record { waits = record { waiting = waiting-same core (changing who place change core) key same elsewhere; unended = unended }; definitions = λ _. refl }
+
+  happens : (change : Change) (event : Event C) → Allows who place change seat (book_at place core) → SystemMade core who place change seat (changing who place change core)
+      → IsChangeEvent who place change core event → Leads change event
+  happens (Gain mode) event allows made (inl grant) = subst (Leads (Gain mode)) (sym grant.0) (record {
+    free = no_wait core who tied session allows.0;
+    new_number = new_number core who tied session;
+    grantable = grant.1;
+    granted = made.granted;
+    rest = rest (Gain mode) made.waiting made.elsewhere made.unended;
+  })
+  happens (Gain mode) event allows made (inr clone) = subst (Leads (Gain mode)) (sym clone.4) (record {
+    free = no_wait core who tied session allows.0;
+    new_number = new_number core who tied session;
+    held = held-in core who clone.0 tied session clone.1;
+    same_key = ap (λ p. key_at p core) (sym clone.2);
+    at_least = subst (λ p. IsAtLeast (lock_kind (key_at p core)) (clone.0).mode mode) (sym clone.2) clone.3;
+    granted = made.granted;
+    rest = rest (Gain mode) made.waiting made.elsewhere made.unended;
+  })
+  happens (Lose ticket) event allows made is = subst (Leads (Lose ticket)) (sym is) (record {
+    held = held-in core who ticket tied session allows.0;
+    granted = subst (λ p. Loses (record { session = who; number = ticket.id; key = key_at p core; mode = ticket.mode }) a.granted (after (Lose ticket)).granted)
+        (sym allows.1) made.granted;
+    rest = rest (Lose ticket) made.waiting made.elsewhere made.unended;
+  })
+  happens (Queue mode) event allows made is = subst (Leads (Queue mode)) (sym is) (record {
+    free = no_wait core who tied session allows.0;
+    new_number = new_number core who tied session;
+    unsettled = refl;
+    joins = made.waiting;
+    elsewhere = made.elsewhere;
+    granted = made.granted;
+    unended = made.unended;
+    definitions = λ _. refl;
+  })
+  happens (Admit ticket) event allows made is =
+      let wait = allows.2 in
+      let own : Ticket = in_book_of who (held_at place ticket) in
+      let waiter : Waiter = waiter_of own (Some wait.0) in
+      let same : waiter_in core ticket ≡ waiter =
+      (λ i. waiter_of (record { session = allows.1 i; number = ticket.number; mode = ticket.mode }) (seat_at (allows.1 i) core).wait) ∙ ap (waiter_of own) wait.1 in
+      subst (Leads (Admit ticket)) (sym (is.0 ∙ ap (GrantWaiter key) same)) (record {
+        unsettled = ap state_of wait.2;
+        grantable = is.1;
+        leaves = subst (λ o. LeavesOrder (waiter_of own o) (a.waiting key) ((after (Admit ticket)).waiting key)) wait.1 made.waiting;
+        elsewhere = made.elsewhere;
+        granted = made.granted;
+        unended = subst (λ o. Gains (granted_wait (waiter_of own o)) a.unended (after (Admit ticket)).unended) wait.1 made.unended;
+        definitions = λ _. refl;
+      })
+  happens (Settle how) event allows made is =
+      let wait : Pending = is.0 in
+      let open_still : wait.settled ≡ None = let w = allows.0 in let e = w.1 in let f = w.2 in let g = is.1 in let same : w.0 ≡ wait = cc in ap (λ (p : Pending). p.settled) (sym same) ∙ f in
+      subst (Leads (Settle how)) (sym is.2) (record {
+        unsettled = ap state_of open_still;
+        lost = not_unsettled (Some how) (λ e. cc) (λ e. allows.1 (cc));
+        settled = subst (λ o. InOrder (turned (waits_as who o) (waits_as who (option_map (λ (w : Pending). record w { settled = Some how }) o)) (wait_turned o))
+            (a.waiting key) ((after (Settle how)).waiting key)) is.1 made.waiting;
+        elsewhere = made.elsewhere;
+        granted = made.granted;
+        unended = made.unended;
+        definitions = λ _. refl;
+      })
+  happens (Leave wait) event allows made is = subst (Leads (Leave wait)) (sym is.0) (record {
+    settled = not_unsettled wait.settled is.1 allows.1;
+    leaves = subst (λ o. LeavesOrder (waiter_of (waiting_ticket who wait) o) (a.waiting key) ((after (Leave wait)).waiting key)) allows.0 made.waiting;
+    elsewhere = made.elsewhere;
+    granted = made.granted;
+    unended = made.unended;
+    definitions = λ _. refl;
+  })
+  happens (Take_up wait) event allows made is = subst (Leads (Take_up wait)) (sym is) (record {
+    stands = (own-unended core who (record { session = who; wait = wait.number; ticket = wait.id }) session refl).1
+        (ap (unended_of who) allows.0 ∙ ap (unended_at who wait) allows.1);
+    unended = made.unended;
+    granted = made.granted;
+    waiting = waiting-same core (changing who place (Take_up wait) core) key made.waiting made.elsewhere;
+    definitions = λ _. refl;
+  })
+
+pub change-happens : {C : Type 0} (apply : KeyName → C → Option Definition → Option (Option Definition)) (core : Core) (who place : ℕ) (change : Change) (event : Event C)
+    → IsTied core → May who place change core → IsChangeEvent who place change core event → Happens apply event (system_of core) (system_of (changing who place change core))
+change-happens apply core who place change event tied may is =
+    happens apply core who place tied may.session change event may.allows (system-made core who place change tied may) is
