@@ -1,4 +1,5 @@
 pub mod CallLaws
+pub mod ChangeLemmas
 pub mod CoreCallsFollow
 pub mod CoreEvents
 pub mod CoreFollows

@@ -1,5 +1,5 @@
 -- Which event of the system of locks a change in the space of one thread is.
-use Rattle.std.specs.Prelude.{◌≡◌, ◌⊎◌, ℕ, ◌+◌, Some, Contains}
+use Rattle.std.specs.Prelude.{◌≡◌, ◌≢◌, ◌⊎◌, ℕ, ◌+◌, None, Some, Contains}
 use Rattle.mdl_key.specs.Classes.{IsAtLeast}
 use Rattle.mdl_book.specs.declared.ticket.Ticket.{Ticket}
 use Rattle.mdl_calls.specs.declared.answers.Held.{Held}
@@ -19,7 +19,7 @@ abbrev pub waiting_ticket : ℕ → Pending → Ticket
 waiting_ticket who wait = record { session = who; number = wait.id; mode = wait.mode }
 
 -- the event that a change is, and what the event asks beyond what the change asks: a new ticket has a grantable wish, or is a
--- clone of a held one that is at least as strong
+-- clone of a held one that is at least as strong, and a wait that ends as lost is settled
 abbrev pub IsChangeEvent : {C : Type 0} → ℕ → ℕ → Change → Core → Event C → Type 0
 IsChangeEvent who place (Gain mode) core event =
     ((event ≡ Grant (record { session = who; number = (seat_at who core).last_ticket + 1; key = key_at place core; mode = mode }))
@@ -34,5 +34,6 @@ IsChangeEvent who place (Admit ticket) core event =
 IsChangeEvent who place (Settle how) core event =
     (wait : Pending) × ((seat_at who core).wait ≡ Some wait)
     × (event ≡ SettleLost (key_at place core) (waiter_of (waiting_ticket who wait) (Some wait)) (state_of (Some how)))
-IsChangeEvent who place (Leave wait) core event = event ≡ EndLostWait (key_at place core) (waiter_of (waiting_ticket who wait) (Some wait))
+IsChangeEvent who place (Leave wait) core event =
+    (event ≡ EndLostWait (key_at place core) (waiter_of (waiting_ticket who wait) (Some wait))) × (wait.settled ≢ None)
 IsChangeEvent who place (Take_up wait) core event = event ≡ EndGrantedWait (record { session = who; wait = wait.number; ticket = wait.id })
