@@ -15,7 +15,7 @@ use Rattle.mdl_system.specs.Systems.{System, Waiter, NoneForgotten, IsLawful}
 use Rattle.mdl_core.specs.Ties.{IsTied, IsSound}
 use Rattle.mdl_system.proofs.ConcernLemmas.{step-forgets, granting-there}
 use Rattle.mdl_core.proofs.CoreEvents.{same_system}
-use Rattle.mdl_core.proofs.CoreServing.{serves}
+use Rattle.mdl_core.proofs.CoreServing.{run-in_order, serves}
 use Rattle.mdl_system.proofs.LawfulLemmas.{step-lawful, run-lawful, lawful-fewer}
 
 -- the same system, said twice, is as lawful, and forgets as few
@@ -75,13 +75,14 @@ module _ {C : Type 0} (apply : KeyName → C → Option Definition → Option (O
       → Happens apply event (system_of a) (system_of mid) → Follows a call answer (serving place mid)
   follows-serving a call answer mid place event sound tied key is about happens =
       let served = serves apply mid place tied key in
+      let granted = run-in_order apply (key_at place mid) served.events (system_of mid) (system_of (serving place mid)) served.in_order in
       record {
         sound = record {
           tied = served.tied;
-          lawful = run-lawful apply served.events (system_of mid) (system_of (serving place mid)) served.run
+          lawful = run-lawful apply served.events (system_of mid) (system_of (serving place mid)) granted.1
               (step-lawful apply event (system_of a) (system_of mid) happens sound.lawful);
           none_forgotten = granting-there apply event served.events (system_of a) (system_of mid) (system_of (serving place mid)) (key_at place mid) about
-              happens served.grants served.run served.none_forgotten sound.none_forgotten;
+              happens granted.0 granted.1 served.none_forgotten sound.none_forgotten;
         };
         how = inr (event, served.events, system_of mid, key_at place mid, is, about, happens, served.in_order);
       }

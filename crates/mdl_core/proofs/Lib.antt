@@ -22,6 +22,7 @@ pub mod SearchRuns
 pub mod SessionHas
 pub mod SessionLimits
 pub mod SessionWaits
+pub mod SparedSeats
 pub mod TiedBooks
 pub mod TiedMoves
 pub mod TiedSeats
