@@ -1,3 +1,4 @@
+pub mod CallCases
 pub mod CallLaws
 pub mod ChangeLemmas
 pub mod CoreCallsFollow
@@ -17,6 +18,8 @@ pub mod DeadlockEvents
 pub mod DeadlockSystems
 pub mod DeadlockWaits
 pub mod GrantedMoves
+pub mod KnownPlaces
+pub mod MadeCalls
 pub mod PairLemmas
 pub mod SearchRuns
 pub mod SessionHas
@@ -29,3 +32,4 @@ pub mod TiedSeats
 pub mod TiedWaits
 pub mod TiedWrites
 pub mod VictimLemmas
+pub mod Ways

@@ -97,13 +97,14 @@ is_end (Leave wait) = true
 is_end (Take_up wait) = true
 is_end _ = false
 
+-- a wait, as its session has it
+abbrev pub as_wait : Pending → Wait
+as_wait wait = record { number = wait.number; place = wait.place; mode = wait.mode }
+
 -- what a session has isn't changed as its wait is settled
 pub own-settling : (how : Settled) (seat : SeatView) → own_of (settling how seat) ≡ own_of seat
 own-settling how seat = ap (λ (wait : Option Wait). record { held = seat.held; wait = wait }) (go seat.wait)
   where
-    as_wait : Pending → Wait
-    as_wait wait = record { number = wait.number; place = wait.place; mode = wait.mode }
-
     go : (wait : Option Pending)
         → option_map as_wait (option_map (λ (w : Pending). record w { settled = Some how }) wait)
         ≡ option_map as_wait wait
