@@ -1,5 +1,6 @@
 pub mod CallCases
 pub mod CallLaws
+pub mod CallLaws2
 pub mod ChangeLemmas
 pub mod CoreCallsFollow
 pub mod CoreEvents
