@@ -1,5 +1,5 @@
 -- By the causes that stand against a call, and by the tests that it makes.
-use Rattle.std.proofs.Common.{◌≡◌, Bool, true, false, not, ◌&&◌, List, [], ◌∷◌, Option, Some, None, refl, if◌then◌else◌}
+use Rattle.std.proofs.Common.{◌≡◌, Bool, true, false, not, List, [], ◌∷◌, Option, Some, None, refl, if◌then◌else◌}
 use Rattle.mdl_calls.specs.declared.space_error.SpaceError.{SpaceError}
 use Rattle.mdl_calls.specs.Answers.{Answer, Refused}
 use Rattle.mdl_core.specs.CoreCalls.{refused_or, first_cause}

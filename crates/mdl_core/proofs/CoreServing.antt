@@ -14,15 +14,16 @@ use Rattle.mdl_core.specs.CoreLaws.{IsFirst, GrantsInOrder}
 use Rattle.mdl_core.specs.Cores.{Core, book_at, seat_at, key_at, has_key, is_free}
 use Rattle.mdl_core.specs.CoreSystems.{system_of, book_of, waiter_in}
 use Rattle.mdl_core.specs.Changes.{Admit, May, admitting_at, admitting_if, admitting_up_to, is_ready, is_unsettled, next_ready, serving}
-use Rattle.mdl_system.specs.Events.{Event, GrantWaiter, Happens, Run, LeavesOrder}
-use Rattle.mdl_system.specs.Systems.{System, IsGrantable, NoneForgottenAt, Unsettled, Waiter}
+use Rattle.mdl_system.specs.Events.{Event, GrantWaiter, Happens, LeavesOrder}
+use Rattle.mdl_system.specs.Systems.{IsGrantable, NoneForgottenAt, Unsettled, Waiter}
 use Rattle.mdl_core.specs.Ties.{IsTied}
 use Rattle.mdl_core.proofs.ChangeLemmas.{tied-changing, change-happens}
-use Rattle.mdl_core.proofs.CoreEvents.{same_system, ticket_of-waiter}
+use Rattle.mdl_core.proofs.CoreEvents.{ticket_of-waiter}
 use Rattle.mdl_core.proofs.CoreGranted.{book_of-at, free-grantable}
 use Rattle.mdl_core.proofs.CoreWaiting.{waiter-found, unsettled-found}
 use Rattle.mdl_core.proofs.SparedSeats.{Spares, spares-same, spares-then, open_wait, own-settling, keys-changed, spares-changing}
 use Rattle.mdl_system.proofs.MemberLemmas.{Contains-map_from}
+use Rattle.mdl_system.proofs.RunLemmas.{same_system, Leads}
 use Rattle.mdl_system.proofs.OrderLemmas.{Contains-cons_cases, Contains-here, Contains-later}
 
 -- ---- the first that passes a test
@@ -129,19 +130,13 @@ waiting-length core place tied key =
     ∙ ap (λ (book : Lists). length book.waiting) (book_of-at core place tied key)
 
 module _ {C : Type 0} (apply : KeyName → C → Option Definition → Option (Option Definition)) where
-  -- waiters of a key that are granted in order are all of that key, and this is a run
-  pub run-in_order : (key : KeyName) (events : List (Event C)) (a b : System Definition) → GrantsInOrder apply key events a b
-      → All (IsGrantAt key) events × Run apply events a b
-  run-in_order key [] a b same = (All-nil (IsGrantAt key), same)
-  run-in_order key (event ∷ events) a b (waiter, between, is, first, happens, rest) =
-      let next = run-in_order key events between b rest in
-      (All-cons (IsGrantAt key) event events (subst (IsGrantAt key) (sym is) refl) next.0, (between, happens, next.1))
-
   -- what granting waiters of a place leads to
   pub record IsServed (place : ℕ) (a b : Core) : Type 0 where
     pub tied : IsTied b
     pub spares : Spares a b
     pub events : List (Event C)
+    pub grants : All (IsGrantAt (key_at place a)) events
+    pub leads : Leads apply events (system_of a) (system_of b)
     pub in_order : GrantsInOrder apply (key_at place a) events (system_of a) (system_of b)
     pub none_forgotten : NoneForgottenAt (system_of b) (key_at place a)
 
@@ -150,6 +145,8 @@ module _ {C : Type 0} (apply : KeyName → C → Option Definition → Option (O
     tied = tied;
     spares = spares-same a;
     events = [];
+    grants = All-nil (IsGrantAt (key_at place a));
+    leads = refl;
     in_order = same_system (system_of a);
     none_forgotten = none_ready a place tied key idle;
   }
@@ -197,6 +194,8 @@ module _ {C : Type 0} (apply : KeyName → C → Option Definition → Option (O
           (spares-changing a ticket.session place (Admit ticket) may-next refl (own-settling settled_as.Granted (seat_at ticket.session a)) refl)
           rest.spares;
       events = granted ∷ rest.events;
+      grants = All-cons (IsGrantAt (key_at place a)) granted rest.events refl (subst (λ k. All (IsGrantAt k) rest.events) next-key.1 rest.grants);
+      leads = (system_of next, next-happens, rest.leads);
       in_order = (
         waiter_in a ticket,
         system_of next,

@@ -1,10 +1,7 @@
 pub mod CallCases
 pub mod CallLaws
-pub mod CallLaws2
 pub mod ChangeLemmas
-pub mod CoreCallsFollow
 pub mod CoreEvents
-pub mod CoreFollows
 pub mod CoreGranted
 pub mod CoreReads
 pub mod CoreServing
@@ -13,7 +10,6 @@ pub mod CoreSound
 pub mod CoreUnended
 pub mod CoreWaiting
 pub mod CoreWaits
-pub mod CoreWaitsFollow
 pub mod DeadlockCauses
 pub mod DeadlockEvents
 pub mod DeadlockSystems
@@ -24,7 +20,6 @@ pub mod MadeCalls
 pub mod PairLemmas
 pub mod SearchRuns
 pub mod SessionHas
-pub mod SessionLimits
 pub mod SessionWaits
 pub mod SparedSeats
 pub mod TiedBooks

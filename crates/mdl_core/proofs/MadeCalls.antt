@@ -1,8 +1,8 @@
 -- What comes of each call of the space of one thread, by its causes.
-use Rattle.std.proofs.Common.{◌≡◌, ◌≢◌, ◌⊎◌, ℕ, ◌+◌, ◌-◌, ◌<◌, ◌≤◌, ◌^◌, Bool, true, false, not, ◌&&◌, ◌==◌, nat_le, List, length, Option, Some, None, MatchOption, Contains, IfSome, is_some, option_map, if◌then◌else◌, refl, sym, ap, subst, ◌∙◌, arith, inl, inr, eqb-true}
+use Rattle.std.proofs.Common.{◌≡◌, ◌≢◌, ℕ, ◌+◌, ◌<◌, ◌≤◌, Bool, true, false, not, ◌&&◌, ◌==◌, nat_le, length, Option, Some, None, MatchOption, Contains, IfSome, is_some, option_map, if◌then◌else◌, refl, sym, ap, subst, ◌∙◌, arith, inl, inr, eqb-true}
 use Rattle.std.proofs.lemmas.Bool.{and_parts, and_cases}
 use Rattle.std.proofs.lemmas.Bool.Decides.{nat_tests}
-use Rattle.mdl_book.specs.Books.{lock_kind, ticket_count}
+use Rattle.mdl_book.specs.Books.{lock_kind}
 use Rattle.mdl_key.specs.declared.mode.Mode.{Mode}
 use Rattle.mdl_key.specs.Keys.{KeyName}
 use Rattle.mdl_key.specs.Modes.{kind_of, is_mode_of}
@@ -11,16 +11,16 @@ use Rattle.mdl_calls.specs.declared.answers.Settled.{Settled}
 use Rattle.mdl_calls.specs.declared.answers.Settled.TheVariants as settled_as
 use Rattle.mdl_calls.specs.declared.answers.TimedOut.TheVariants.{ByThisCall, Already}
 use Rattle.mdl_calls.specs.declared.space_error.SpaceError.{SpaceError}
-use Rattle.mdl_calls.specs.declared.space_error.SpaceError.TheVariants.{NoPlace, NotHeld, AlreadyWaiting, BadMode, NoWait, Unsettled as Not_settled, CounterFull, Full, OutOfMemory}
-use Rattle.mdl_calls.specs.Answers.{Answer, Refused, Done, At_place, Granted, Would_wait, Waits, Pending as Is_pending, Is_settled, Timed_out, Lost, Has_wait, Has_killed, No_cycle, Victim_is, Holds, is_answer_of}
-use Rattle.mdl_calls.specs.Calls.{Call, Resolve, Try_now, Begin_wait, Search, Poll_wait, Settle_timeout, End_wait, Wait_of, Kill, Release, Clone_ticket, Upgrade_now, Merge, Downgrade, Read_definition, Change_definition, Tables_of, Key_of, Read_kept, List_held, Unpin, caller, takes_memory}
+use Rattle.mdl_calls.specs.declared.space_error.SpaceError.TheVariants.{NoPlace, NotHeld, AlreadyWaiting, BadMode, NoWait, Unsettled as Not_settled, CounterFull, Full}
+use Rattle.mdl_calls.specs.Answers.{Answer, Refused, At_place, Granted, Would_wait, Waits, Pending as Is_pending, Is_settled, Timed_out, Lost, Has_killed, No_cycle, Victim_is, is_answer_of}
+use Rattle.mdl_calls.specs.Calls.{Call, Resolve, Try_now, Begin_wait, Search, Poll_wait, Settle_timeout, End_wait, Wait_of, Kill, Release, Clone_ticket, List_held, caller}
 use Rattle.mdl_calls.specs.Causes.{OfHeld, IsFit, IsUnfit, IsUnknown, MayClone, MayNotClone, IsCause}
 use Rattle.mdl_calls.specs.Own.{Own, Numbers, is_number, is_waiting, wait_number, own_after, winning, cloning as cloning_own, giving_up, Draws}
 use Rattle.mdl_calls.specs.Waits.{IsEndOf, IsToldOf}
 use Rattle.mdl_core.specs.declared.pending.Pending.{Pending}
 use Rattle.mdl_core.specs.ChangeEvents.{holding_of, waiting_ticket}
-use Rattle.mdl_core.specs.Changes.{Gain, Lose, Queue, Settle, Leave, Take_up, May, next_ticket, changing, opening, granting_to, queueing, losing, leaving, serving}
-use Rattle.mdl_core.specs.CoreCalls.{has_call, outcome, refused_or, first_cause, is_counted_out, is_full, placing, request_causes, clone_causes, granted_unless_full, queued_unless_full, cloning_of, held_ticket, releasing_of, standing, polling_of, timing_out_at, timing_out_of, ending_at, ending_of, wait_at, is_open_wait, victim_at, searching_of, looking_after, listing}
+use Rattle.mdl_core.specs.Changes.{Gain, Lose, Queue, Settle, Leave, Take_up, May, next_ticket, opening, granting_to, queueing, losing, leaving, serving}
+use Rattle.mdl_core.specs.CoreCalls.{has_call, outcome, refused_or, first_cause, is_full, placing, request_causes, clone_causes, granted_unless_full, queued_unless_full, cloning_of, held_ticket, releasing_of, standing, polling_of, timing_out_at, timing_out_of, ending_at, ending_of, wait_at, is_open_wait, victim_at, searching_of, looking_after, listing}
 use Rattle.mdl_core.specs.CoreJoins.{own_at, numbers_at, Knows}
 use Rattle.mdl_core.specs.CoreLaws.{is_change, IsEventOf}
 use Rattle.mdl_core.specs.Cores.{Core, book_at, seat_at, key_at, has_key, has_session, index_of, is_free}
@@ -28,7 +28,7 @@ use Rattle.mdl_core.specs.CoreSystems.{system_of, state_of, waiter_of}
 use Rattle.mdl_core.specs.Seats.{SeatView, own_of, settling, with_ticket_of}
 use Rattle.mdl_core.specs.SessionLaws.{MeetsLimit}
 use Rattle.mdl_core.specs.Ties.{IsTied, IsNumbered, in_book_of}
-use Rattle.mdl_system.specs.Events.{Event, Grant, Clone, BeginWait, SettleLost, EndGrantedWait, EndLostWait, Release as Give_up}
+use Rattle.mdl_system.specs.Events.{Grant, Clone, BeginWait, SettleLost, EndGrantedWait, EndLostWait, Release as Give_up}
 use Rattle.mdl_system.specs.Strength.{covers}
 use Rattle.mdl_system.specs.Systems.{Unsettled, IsGrantable}
 use Rattle.mdl_core.proofs.CallCases.{test_cases, option_cases, not_false, not_true, cause_cases}
@@ -36,9 +36,9 @@ use Rattle.mdl_core.proofs.CoreGranted.{free-grantable}
 use Rattle.mdl_core.proofs.CoreReads.{found, seated-same}
 use Rattle.mdl_core.proofs.CoreServing.{found-first}
 use Rattle.mdl_core.proofs.KnownPlaces.{unplaced, new-known, wait_placed}
-use Rattle.mdl_core.proofs.SparedSeats.{HasSettled, settled_at, settled_as_at, none_settled, not_settled, open_wait, as_wait, seat-changed}
+use Rattle.mdl_core.proofs.SparedSeats.{HasSettled, settled_at, settled_as_at, none_settled, not_settled, as_wait}
 use Rattle.mdl_core.proofs.VictimLemmas.{victim-waits}
-use Rattle.mdl_core.proofs.Ways.{Way, Stay, Open, Settle_wait, Make, space_by, IsSo, ServesCaller, IsMade, Made, Comes}
+use Rattle.mdl_core.proofs.Ways.{Stay, Open, Settle_wait, Make, IsSo, ServesCaller, IsMade, Made, Comes}
 use Rattle.mdl_system.proofs.StrengthLemmas.{covers-at_least}
 
 -- ---- tests

@@ -1,5 +1,5 @@
 -- What comes of a call in the space of one thread: the way that it goes, what is asked of it, and what it leaves to the sessions.
-use Rattle.std.proofs.Common.{◌≡◌, ◌≢◌, ℕ, Bool, true, false, Option, Some, None, IfSome, option_map, refl, sym, ap, subst, ◌∙◌}
+use Rattle.std.proofs.Common.{◌≡◌, ℕ, Bool, true, false, Some, None, IfSome, option_map}
 use Rattle.mdl_key.specs.Keys.{KeyName}
 use Rattle.mdl_calls.specs.declared.answers.Settled.{Settled}
 use Rattle.mdl_calls.specs.declared.answers.Settled.TheVariants as settled_as
@@ -15,7 +15,7 @@ use Rattle.mdl_core.specs.Changes.{Change, Lose, Settle, Leave, May, seat_after,
 use Rattle.mdl_core.specs.CoreCalls.{wait_at, is_open_wait}
 use Rattle.mdl_core.specs.CoreJoins.{own_at, numbers_at, Knows}
 use Rattle.mdl_core.specs.CoreLaws.{is_change, IsEventOf}
-use Rattle.mdl_core.specs.Cores.{Core, seat_at, key_at, has_session, index_of}
+use Rattle.mdl_core.specs.Cores.{Core, seat_at, key_at, index_of}
 use Rattle.mdl_core.specs.CoreSystems.{system_of}
 use Rattle.mdl_core.specs.Seats.{SeatView, own_of, numbers_of}
 use Rattle.mdl_core.specs.SessionLaws.{MeetsLimit}
