@@ -153,10 +153,10 @@ joined : (a b : Core) (call : Call) (answer : Answer) → IsTied a → Joins a c
 joined a b call answer tied joins =
     let h = joins-comes (Unit {0}) a b call answer tied joins in
     record {
-      way = h.0;
-      is = h.1;
-      so = subst (IsSo a call answer) h.2 h.1.so;
-      left = subst (IsLeft a call h.0) h.2 (way-left a call answer tied h.0 h.1);
+      way = h.way;
+      is = h.is;
+      so = subst (IsSo a call answer) h.leads h.is.so;
+      left = subst (IsLeft a call h.way) h.leads (way-left a call answer tied h.way h.is);
     }
 
 -- of a call that somebody makes

@@ -145,7 +145,7 @@ module _ {C : Type 0} (apply : KeyName → C → Option Definition → Option (O
   calls-follow : (a b : Core) (call : Call) (answer : Answer) → IsSound a → Joins a call answer b → Follows a call answer b
   calls-follow a b call answer sound joins =
       let h = joins-comes C a b call answer sound.tied joins in
-      subst (Follows a call answer) h.2 (follows-way a call answer sound h.0 h.1)
+      subst (Follows a call answer) h.leads (follows-way a call answer sound h.way h.is)
 
 pub calls_are-events : (C : Type 0) → CallsAreEvents C
 calls_are-events C apply a b call answer sound joins = (calls-follow apply a b call answer sound joins).how
@@ -165,9 +165,9 @@ granted-grantable a between who id key mode event is happens =
 pub grants-grantable : GrantsWhatIsGrantable
 grants-grantable a b who place mode = (
   (λ id joins. by id (calls_are-events (Unit {0}) (λ _ _ _. None) a b (Try_now who place mode) (Granted id) joins.0.1 joins)),
-  (λ joins. (joins-comes (Unit {0}) a b (Try_now who place mode) Would_wait joins.0.1.tied joins).1.so),
+  (λ joins. (joins-comes (Unit {0}) a b (Try_now who place mode) Would_wait joins.0.1.tied joins).is.so),
   (λ id joins. by id (calls_are-events (Unit {0}) (λ _ _ _. None) a b (Begin_wait who place mode) (Granted id) joins.0.1 joins)),
-  λ number joins. (joins-comes (Unit {0}) a b (Begin_wait who place mode) (Waits number) joins.0.1.tied joins).1.so,
+  λ number joins. (joins-comes (Unit {0}) a b (Begin_wait who place mode) (Waits number) joins.0.1.tied joins).is.so,
 )
   where
     by : (id : ℕ) → ((true ≡ false) × SameSystem (system_of a) (system_of b))

@@ -109,5 +109,7 @@ module _ (C : Type 0) where
     pub caller : IfSome (caller call) (ServesCaller a call answer way)
 
   -- a call with this outcome goes some way
-  abbrev pub Comes : Core → Call → Answer × Core → Type 0
-  Comes a call outcome = (way : Way) × Made a call outcome.0 way × (space_by way a ≡ outcome.1)
+  pub record Comes (a : Core) (call : Call) (outcome : Answer × Core) : Type 0 where
+    pub way : Way
+    pub is : Made a call outcome.0 way
+    pub leads : space_by way a ≡ outcome.1
