@@ -264,24 +264,21 @@ core-remembers a b call answer w place key speaks stays joins = (joined a b call
 
 -- ---- waits
 
-waiting-settled : (seat : SeatView) (how : Settled) → HasSettled seat how → is_waiting (own_of seat) ≡ true
-waiting-settled seat how = go seat.wait
-  where
-    go : (o : Option Pending) → MatchOption o ⊥ (λ (w : Pending). w.settled ≡ Some how) → is_waiting (own_of (record seat { wait = o })) ≡ true
-    go None none = absurd none
-    go (Some wait) settled = refl
-
 -- only a wait is settled
 pub core-waits_settled : (a : Core) (w : ℕ) (how : Settled) → SpeaksFor a w → IsSettledAs a w how → is_waiting (own_at a w) ≡ true
-core-waits_settled a w how speaks settled = waiting-settled (seat_at w a) how (settled-seat a w how speaks.0 settled)
+core-waits_settled a w how speaks settled =
+    elim (seat_at w a).wait as (λ o. MatchOption o ⊥ (λ (wait : Pending). wait.settled ≡ Some how) → is_waiting (own_of (record (seat_at w a) { wait = o })) ≡ true) [
+      | None ↦ λ none. absurd none
+      | Some wait ↦ λ _. refl
+    ] (settled-seat a w how speaks.0 settled)
 
 -- a wait is settled in one way
 pub core-settled_once : (a : Core) (w : ℕ) (how other : Settled) → SpeaksFor a w → IsSettledAs a w how → IsSettledAs a w other → how ≡ other
-core-settled_once a w how other speaks = go (wait_at w a)
-  where
-    go : (o : Option Pending) → MatchOption o ⊥ (λ (x : Pending). x.settled ≡ Some how) → MatchOption o ⊥ (λ (x : Pending). x.settled ≡ Some other) → how ≡ other
-    go None none also = absurd none
-    go (Some wait) one two = let e = sym one ∙ two in cc
+core-settled_once a w how other speaks =
+    elim (wait_at w a) as (λ o. MatchOption o ⊥ (λ (x : Pending). x.settled ≡ Some how) → MatchOption o ⊥ (λ (x : Pending). x.settled ≡ Some other) → how ≡ other) [
+      | None ↦ λ none also. absurd none
+      | Some wait ↦ λ one two. let e = sym one ∙ two in cc
+    ]
 
 same-settled : (b : Core) (w who : ℕ) (h how : Settled) → Some w ≡ Some who → Some h ≡ Some how → HasSettled (seat_at w b) h → HasSettled (seat_at who b) how
 same-settled b w who h how mine e =

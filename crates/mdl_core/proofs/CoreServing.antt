@@ -1,13 +1,14 @@
 -- Granting the waiters of a place, one after another, until there is none who can be.
-use Rattle.std.proofs.Common.{◌++◌, map, ◌≡◌, ◌⊎◌, ℕ, zero, suc, ◌≤◌, Bool, true, false, ◌&&◌, inl, inr, List, [], ◌∷◌, length, find, Option, Some, None, refl, sym, ap, subst, ◌∙◌, arith, length-append}
+use Rattle.std.proofs.Common.{◌++◌, map, ◌≡◌, ◌⊎◌, ℕ, zero, suc, ◌≤◌, Bool, true, false, ◌&&◌, inl, inr, List, [], ◌∷◌, length, find, cond, Option, Some, None, refl, sym, ap, subst, ◌∙◌, arith, length-append}
 use Rattle.std.specs.Prelude.{Contains, All}
 use Rattle.std.proofs.lemmas.Bool.{and_parts, false≢true}
 use Rattle.std.proofs.lemmas.List.{length-map, map-append}
-use Rattle.std.proofs.lemmas.List.Elements.{All-nil, All-cons, Contains-append_left}
+use Rattle.std.proofs.lemmas.List.Elements.{All-nil, All-cons, Contains-append_left, Contains-append_right}
 use Rattle.mdl_key.specs.Keys.{KeyName}
 use Rattle.mdl_defs.specs.declared.definition.Definition.{Definition}
 use Rattle.mdl_book.specs.declared.ticket.Ticket.{Ticket}
 use Rattle.mdl_book.specs.declared.lists.Lists.{Lists}
+use Rattle.mdl_book.proofs.TicketLemmas.{find-passes}
 use Rattle.mdl_calls.specs.declared.answers.Settled.TheVariants as settled_as
 use Rattle.mdl_system.specs.BlockingLaws.{IsGrantAt}
 use Rattle.mdl_core.specs.CoreLaws.{IsFirst, GrantsInOrder}
@@ -28,51 +29,32 @@ use Rattle.mdl_system.proofs.OrderLemmas.{Contains-cons_cases, Contains-here, Co
 
 -- ---- the first that passes a test
 
-truth : (b : Bool) → (b ≡ true) ⊎ (b ≡ false)
-truth true = inl refl
-truth false = inr refl
-
-module _ {T : Type 0} (p : T → Bool) where
-  find-here : (y : T) (ys : List T) → p y ≡ true → find p (y ∷ ys) ≡ Some y
-  find-here y ys h = grind (arith, h)
-
-  find-later : (y : T) (ys : List T) → p y ≡ false → find p (y ∷ ys) ≡ find p ys
-  find-later y ys h = grind (arith, h)
-
-  some_same : (x y : T) → Some y ≡ Some x → y ≡ x
-  some_same x y e = cc
-
-  pub found-first : (xs : List T) (x : T) → find p xs ≡ Some x → Contains xs x × (p x ≡ true)
-  found-first [] x e = cc
-  found-first (y ∷ ys) x e = elim (truth (p y)) [
-    | inl passes ↦ subst (λ z. Contains (y ∷ ys) z × (p z ≡ true)) (some_same x y (sym (find-here y ys passes) ∙ e)) (Contains-here y ys, passes)
-    | inr fails ↦ (let rest = found-first ys x (sym (find-later y ys fails) ∙ e) in (Contains-later y ys x rest.0, rest.1))
-  ]
-
-  pub found-none : (xs : List T) (x : T) → find p xs ≡ None → Contains xs x → p x ≡ false
-  found-none [] x e among = let lt = among.1 in absurd (omega arith)
-  found-none (y ∷ ys) x e among = elim (truth (p y)) [
-    | inl passes ↦ absurd (let clash : Some y ≡ None = sym (find-here y ys passes) ∙ e in cc)
-    | inr fails ↦ elim (Contains-cons_cases y ys x among) [
-      | inl later ↦ found-none ys x (sym (find-later y ys fails) ∙ e) later
-      | inr same ↦ ap p same ∙ fails
-    ]
-  ]
-
 -- a list parted at the first that passes
-pub found-parted : {T : Type 0} (p : T → Bool) (xs : List T) (x : T) → find p xs ≡ Some x
+found-parted : {T : Type 0} (p : T → Bool) (xs : List T) (x : T) → find p xs ≡ Some x
     → (before : List T) × (after : List T) × (xs ≡ before ++ x ∷ after) × ((y : T) → Contains before y → p y ≡ false)
-found-parted p [] x e = cc
-found-parted {T} p (y ∷ ys) x e = elim (truth (p y)) [
-  | inl passes ↦ ([], ys, ap (λ z. z ∷ ys) (some_same p x y (sym (find-here p y ys passes) ∙ e)), λ z among. let lt = among.1 in absurd (omega arith))
-  | inr fails ↦ (
-      let rest = found-parted p ys x (sym (find-later p y ys fails) ∙ e) in (
-        y ∷ rest.0,
-        rest.1,
-        ap (λ zs. y ∷ zs) rest.2,
-        λ z among. elim (Contains-cons_cases y rest.0 z among) [ inl later ↦ rest.3 z later | inr same ↦ ap p same ∙ fails ],
-      ))
-]
+found-parted p [] x found = cc
+found-parted {T} p (y ∷ ys) x found =
+    elim (p y) as (λ b. p y ≡ b → cond b (Some y) (find p ys) ≡ Some x
+    → (before : List T) × (after : List T) × (y ∷ ys ≡ before ++ x ∷ after) × ((z : T) → Contains before z → p z ≡ false)) [
+      | true ↦ λ passes e. ([], ys, (let same : y ≡ x = cc in ap (λ z. z ∷ ys) same), λ z among. (let lt = among.1 in absurd (omega arith)))
+      | false ↦ λ fails e. (
+          let rest = found-parted p ys x e in
+          (y ∷ rest.0, rest.1, ap (λ zs. y ∷ zs) rest.2, λ z among.
+          elim (Contains-cons_cases y rest.0 z among) [ inl later ↦ rest.3 z later | inr same ↦ ap p same ∙ fails ]))
+    ] refl found
+
+pub found-first : {T : Type 0} (p : T → Bool) (xs : List T) (x : T) → find p xs ≡ Some x → Contains xs x × (p x ≡ true)
+found-first p xs x found =
+    let parted = found-parted p xs x found in
+    (subst (λ ys. Contains ys x) (sym parted.2) (Contains-append_right parted.0 (x ∷ parted.1) x (Contains-here x parted.1)), find-passes p xs x found)
+
+found-none : {T : Type 0} (p : T → Bool) (xs : List T) (x : T) → find p xs ≡ None → Contains xs x → p x ≡ false
+found-none p [] x found among = let lt = among.1 in absurd (omega arith)
+found-none p (y ∷ ys) x found among =
+    elim (p y) as (λ b. p y ≡ b → cond b (Some y) (find p ys) ≡ None → p x ≡ false) [
+      | true ↦ λ passes e. cc
+      | false ↦ λ fails e. elim (Contains-cons_cases y ys x among) [ inl later ↦ found-none p ys x e later | inr same ↦ ap p same ∙ fails ]
+    ] refl found
 
 -- ---- granting again and again
 

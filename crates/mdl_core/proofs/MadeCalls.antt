@@ -51,20 +51,15 @@ none_there : {T : Type 0} (value : Option T) → is_some value ≡ false → val
 none_there None e = refl
 none_there (Some x) e = cc
 
-pub waiting-same : (seat : SeatView) → is_waiting (own_of seat) ≡ is_some seat.wait
-waiting-same seat = go seat.wait
-  where
-    go : (o : Option Pending) → is_waiting (own_of (record seat { wait = o })) ≡ is_some o
-    go None = refl
-    go (Some wait) = refl
+waiting-same : (seat : SeatView) → is_waiting (own_of seat) ≡ is_some seat.wait
+waiting-same seat = elim seat.wait as (λ o. is_waiting (own_of (record seat { wait = o })) ≡ is_some o) [ None ↦ refl | Some wait ↦ refl ]
 
 -- the number of a wait, as its session has it
 pub number-same : (seat : SeatView) → option_map (λ (wait : Pending). wait.number) seat.wait ≡ wait_number (own_of seat)
-number-same seat = go seat.wait
-  where
-    go : (o : Option Pending) → option_map (λ (wait : Pending). wait.number) o ≡ wait_number (own_of (record seat { wait = o }))
-    go None = refl
-    go (Some wait) = refl
+number-same seat = elim seat.wait as (λ o. option_map (λ (wait : Pending). wait.number) o ≡ wait_number (own_of (record seat { wait = o }))) [
+  | None ↦ refl
+  | Some wait ↦ refl
+]
 
 -- the ticket that is waited for was given the last number
 last-waits : (seat : SeatView) (wait : Pending) → IsNumbered seat → seat.wait ≡ Some wait → wait.id ≡ seat.last_ticket
