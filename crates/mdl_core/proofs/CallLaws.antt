@@ -18,7 +18,7 @@ use Rattle.mdl_core.specs.CoreCalls.{outcome, Makes, wait_at, is_open_wait}
 use Rattle.mdl_core.specs.CoreJoins.{SpeaksFor, own_at, numbers_at, Knows, IsSettledAs, Joins}
 use Rattle.mdl_core.specs.CoreLaws.{CallsKeepSound}
 use Rattle.mdl_core.specs.Cores.{Core, seat_at, has_session}
-use Rattle.mdl_core.specs.Seats.{SeatView, own_of, numbers_of}
+use Rattle.mdl_core.specs.Seats.{own_of, numbers_of}
 use Rattle.mdl_core.specs.SessionLaws.{RefusesForCause}
 use Rattle.mdl_core.specs.Ties.{IsTied}
 use Rattle.mdl_core.proofs.CallCases.{test_cases}
@@ -26,7 +26,7 @@ use Rattle.mdl_core.proofs.ChangeLemmas.{tied-changing}
 use Rattle.mdl_core.proofs.CoreServing.{serves}
 use Rattle.mdl_core.proofs.KnownPlaces.{spares-opening}
 use Rattle.mdl_core.proofs.MadeCalls.{number-same, refused, made}
-use Rattle.mdl_core.proofs.SparedSeats.{HasSettled, settled-seat, seat-settled, wait-of_session, Spares, spares-same, is_end, own-settling, sessions-changed, seat-changed, seat-other, keys-changed, settled-changed, spares-changing}
+use Rattle.mdl_core.proofs.SparedSeats.{IsSettledWait, HasSettled, settled-seat, seat-settled, wait-of_session, Spares, spares-same, is_end, own-settling, sessions-changed, seat-changed, seat-other, keys-changed, settled-changed, spares-changing}
 use Rattle.mdl_core.proofs.Ways.{Way, Stay, Open, Settle_wait, Make, makes_room, served_if, space_by, seat_by, IsSo, ServesCaller, IsMade, Made, Comes}
 
 -- ---- calls and what comes of them
@@ -267,7 +267,7 @@ core-remembers a b call answer w place key speaks stays joins = (joined a b call
 -- only a wait is settled
 pub core-waits_settled : (a : Core) (w : ℕ) (how : Settled) → SpeaksFor a w → IsSettledAs a w how → is_waiting (own_at a w) ≡ true
 core-waits_settled a w how speaks settled =
-    elim (seat_at w a).wait as (λ o. MatchOption o ⊥ (λ (wait : Pending). wait.settled ≡ Some how) → is_waiting (own_of (record (seat_at w a) { wait = o })) ≡ true) [
+    elim (seat_at w a).wait as (λ o. IsSettledWait how o → is_waiting (own_of (record (seat_at w a) { wait = o })) ≡ true) [
       | None ↦ λ none. absurd none
       | Some wait ↦ λ _. refl
     ] (settled-seat a w how speaks.0 settled)
@@ -275,7 +275,7 @@ core-waits_settled a w how speaks settled =
 -- a wait is settled in one way
 pub core-settled_once : (a : Core) (w : ℕ) (how other : Settled) → SpeaksFor a w → IsSettledAs a w how → IsSettledAs a w other → how ≡ other
 core-settled_once a w how other speaks =
-    elim (wait_at w a) as (λ o. MatchOption o ⊥ (λ (x : Pending). x.settled ≡ Some how) → MatchOption o ⊥ (λ (x : Pending). x.settled ≡ Some other) → how ≡ other) [
+    elim (wait_at w a) as (λ o. IsSettledWait how o → IsSettledWait other o → how ≡ other) [
       | None ↦ λ none also. absurd none
       | Some wait ↦ λ one two. let e = sym one ∙ two in cc
     ]
@@ -333,7 +333,7 @@ core-kills a b w number speaks joins =
 
 -- the wait of a number that isn't open is settled
 shut-settled : (number : ℕ) (o : Option Pending) → option_map (λ (wait : Pending). wait.number) o ≡ Some number → is_open_wait number o ≡ false
-    → (how : Settled) × MatchOption o ⊥ (λ (wait : Pending). wait.settled ≡ Some how)
+    → (how : Settled) × IsSettledWait how o
 shut-settled number None e shut = cc
 shut-settled number (Some wait) e shut = at wait.settled refl
   where

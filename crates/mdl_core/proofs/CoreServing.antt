@@ -1,5 +1,5 @@
 -- Granting the waiters of a place, one after another, until there is none who can be.
-use Rattle.std.proofs.Common.{◌++◌, map, ◌≡◌, ◌⊎◌, ℕ, zero, suc, ◌≤◌, Bool, true, false, ◌&&◌, inl, inr, List, [], ◌∷◌, length, find, cond, Option, Some, None, refl, sym, ap, subst, ◌∙◌, arith, length-append}
+use Rattle.std.proofs.Common.{◌++◌, map, ◌≡◌, ℕ, zero, suc, ◌≤◌, Bool, true, false, ◌&&◌, inl, inr, List, [], ◌∷◌, length, find, cond, Option, Some, None, refl, sym, ap, subst, ◌∙◌, arith, length-append}
 use Rattle.std.specs.Prelude.{Contains, All}
 use Rattle.std.proofs.lemmas.Bool.{and_parts, false≢true}
 use Rattle.std.proofs.lemmas.List.{length-map, map-append}
@@ -25,7 +25,7 @@ use Rattle.mdl_core.proofs.CoreWaiting.{waiter-found, unsettled-found}
 use Rattle.mdl_core.proofs.SparedSeats.{Spares, spares-same, spares-then, open_wait, own-settling, keys-changed, spares-changing}
 use Rattle.mdl_system.proofs.MemberLemmas.{Contains-map_from}
 use Rattle.mdl_system.proofs.RunLemmas.{same_system, Leads}
-use Rattle.mdl_system.proofs.OrderLemmas.{Contains-cons_cases, Contains-here, Contains-later}
+use Rattle.mdl_system.proofs.OrderLemmas.{Contains-cons_cases, Contains-here}
 
 -- ---- the first that passes a test
 
@@ -38,9 +38,13 @@ found-parted {T} p (y ∷ ys) x found =
     → (before : List T) × (after : List T) × (y ∷ ys ≡ before ++ x ∷ after) × ((z : T) → Contains before z → p z ≡ false)) [
       | true ↦ λ passes e. ([], ys, (let same : y ≡ x = cc in ap (λ z. z ∷ ys) same), λ z among. (let lt = among.1 in absurd (omega arith)))
       | false ↦ λ fails e. (
-          let rest = found-parted p ys x e in
-          (y ∷ rest.0, rest.1, ap (λ zs. y ∷ zs) rest.2, λ z among.
-          elim (Contains-cons_cases y rest.0 z among) [ inl later ↦ rest.3 z later | inr same ↦ ap p same ∙ fails ]))
+          let rest = found-parted p ys x e in (
+            y ∷ rest.0,
+            rest.1,
+            ap (λ zs. y ∷ zs) rest.2,
+            λ z among.
+                elim (Contains-cons_cases y rest.0 z among) [ inl later ↦ rest.3 z later | inr same ↦ ap p same ∙ fails ],
+          ))
     ] refl found
 
 pub found-first : {T : Type 0} (p : T → Bool) (xs : List T) (x : T) → find p xs ≡ Some x → Contains xs x × (p x ≡ true)

@@ -4,7 +4,6 @@ use Rattle.std.specs.Prelude.{flat_map, replicate}
 use Rattle.std.proofs.lemmas.List.{append-nil}
 use Rattle.std.proofs.lemmas.List.Concat.{flat_map-append}
 use Rattle.mdl_key.specs.Keys.{KeyName}
-use Rattle.mdl_key.specs.declared.mode.Mode.{Mode}
 use Rattle.mdl_defs.specs.declared.definition.Definition.{Definition}
 use Rattle.mdl_book.specs.Books.{empty_book}
 use Rattle.mdl_calls.specs.Answers.{Answer, Granted, Would_wait, Waits}
@@ -155,28 +154,29 @@ calls_keep-sound a b call answer sound joins = (calls-follow {C = Unit {0}} (λ 
 
 -- ---- what is granted at once
 
-granted-grantable : {C : Type 0} (a between : System Definition) (who id : ℕ) (key : KeyName) (mode : Mode) (event : Event C)
-    → event ≡ Grant (record { session = who; number = id; key = key; mode = mode }) → Happens (λ _ _ _. None) event a between → IsGrantable a who key mode
-granted-grantable a between who id key mode event is happens =
-    let grants : GrantsNew (record { session = who; number = id; key = key; mode = mode }) a between =
-    subst (λ e. Happens (λ _ _ _. None) e a between) is happens in
-    grants.grantable
+-- a call that changes something has happened as its event
+happened : (a b : Core) (call : Call) (answer : Answer) → is_change call answer ≡ true → IsSound a → Joins a call answer b
+    → (event : Event (Unit {0})) × (between : System Definition) × IsEventOf a call answer event × Happens (λ _ _ _. None) event (system_of a) between
+happened a b call answer changes sound joins = elim (calls_are-events (Unit {0}) (λ _ _ _. None) a b call answer sound joins) [
+  | inl calm ↦ (let e = sym changes ∙ calm.0 in cc)
+  | inr h ↦ (h.0, h.2, h.4, h.6)
+]
 
 pub grants-grantable : GrantsWhatIsGrantable
 grants-grantable a b who place mode = (
-  (λ id joins. by id (calls_are-events (Unit {0}) (λ _ _ _. None) a b (Try_now who place mode) (Granted id) joins.0.1 joins)),
+  (λ id joins. grantable id (happened a b (Try_now who place mode) (Granted id) refl joins.0.1 joins)),
   (λ joins. (joins-comes (Unit {0}) a b (Try_now who place mode) Would_wait joins.0.1.tied joins).is.so),
-  (λ id joins. by id (calls_are-events (Unit {0}) (λ _ _ _. None) a b (Begin_wait who place mode) (Granted id) joins.0.1 joins)),
+  (λ id joins. grantable id (happened a b (Begin_wait who place mode) (Granted id) refl joins.0.1 joins)),
   λ number joins. (joins-comes (Unit {0}) a b (Begin_wait who place mode) (Waits number) joins.0.1.tied joins).is.so,
 )
   where
-    by : (id : ℕ) → ((true ≡ false) × SameSystem (system_of a) (system_of b))
-        ⊎ ((event : Event (Unit {0})) × (grants : List (Event (Unit {0}))) × (between : System Definition) × (key : KeyName)
-        × (event ≡ Grant (record { session = who; number = id; key = key_at place a; mode = mode })) × ((other : KeyName) → IsAbout event other → other ≡ key)
-        × Happens (λ _ _ _. None) event (system_of a) between × GrantsInOrder (λ _ _ _. None) key grants between (system_of b))
+    grantable : (id : ℕ) → (event : Event (Unit {0})) × (between : System Definition)
+        × (event ≡ Grant (record { session = who; number = id; key = key_at place a; mode = mode })) × Happens (λ _ _ _. None) event (system_of a) between
         → IsGrantable (system_of a) who (key_at place a) mode
-    by id (inl calm) = let e = calm.0 in cc
-    by id (inr (event, grants, between, key, is, about, happens, order)) = granted-grantable (system_of a) between who id (key_at place a) mode event is happens
+    grantable id (event, between, is, happens) =
+        let grants : GrantsNew (record { session = who; number = id; key = key_at place a; mode = mode }) (system_of a) between =
+        subst (λ e. Happens (λ _ _ _. None) e (system_of a) between) is happens in
+        grants.grantable
 
 -- ---- the empty space
 

@@ -37,7 +37,7 @@ use Rattle.mdl_core.proofs.CoreGranted.{free-grantable}
 use Rattle.mdl_core.proofs.CoreReads.{found, seated-same}
 use Rattle.mdl_core.proofs.CoreServing.{found-first}
 use Rattle.mdl_core.proofs.KnownPlaces.{unplaced, new-known, wait_placed}
-use Rattle.mdl_core.proofs.SparedSeats.{HasSettled, settled_at, settled_as_at, none_settled, not_settled, as_wait, is_end}
+use Rattle.mdl_core.proofs.SparedSeats.{HasSettled, settled_at, settled-once, none_settled, not_settled, as_wait, is_end}
 use Rattle.mdl_core.proofs.VictimLemmas.{victim-waits}
 use Rattle.mdl_core.proofs.Ways.{Way, Stay, Open, Settle_wait, Make, space_by, seat_by, IsSo, ServesCaller, Comes}
 use Rattle.mdl_system.proofs.StrengthLemmas.{covers-at_least}
@@ -133,7 +133,7 @@ module _ (C : Type 0) (a : Core) where
       not_so free how has = not_settled (seat_at who a) wait how its free has
 
       same_settled : (one other : Settled) → wait.settled ≡ Some one → HasSettled (seat_at who a) other → one ≡ other
-      same_settled one other settled has = let e = settled_as_at (seat_at who a) wait other its has in cc
+      same_settled one other settled has = settled-once (seat_at who a) wait one other its settled has
 
   -- ---- what comes of them
 

@@ -1,5 +1,5 @@
 -- What a change in the space of one thread leaves to the sessions: seats, keys, and waits that were settled.
-use Rattle.std.proofs.Common.{◌≡◌, ◌≢◌, ◌⊎◌, ℕ, ◌-◌, Bool, true, false, not, ◌&&◌, nat_le, length, Option, Some, None, MatchOption, is_some, option_map, slice_index_or, slice_set, refl, sym, ap, subst, ◌∙◌, inl, inr, if◌then◌else◌}
+use Rattle.std.proofs.Common.{◌≡◌, ◌≢◌, ◌⊎◌, ℕ, ◌-◌, Bool, true, false, not, ◌&&◌, nat_le, length, Option, Some, None, MatchOption, is_some, slice_index_or, slice_set, refl, sym, ap, subst, ◌∙◌, inl, inr, if◌then◌else◌}
 use Rattle.std.proofs.lemmas.Bool.Decides.{eqb_tells}
 use Rattle.mdl_book.specs.declared.lists.Lists.{Lists}
 use Rattle.mdl_key.specs.Keys.{KeyName}
@@ -15,23 +15,27 @@ use Rattle.mdl_core.proofs.CoreReads.{has_key-booking, booked-same, booked-other
 
 -- ---- settled waits
 
--- a seat's wait is settled so
-abbrev pub HasSettled : SeatView → Settled → Type 0
-HasSettled seat how = MatchOption seat.wait ⊥ (λ (wait : Pending). wait.settled ≡ Some how)
+-- a wait is there and is settled so
+abbrev pub IsSettledWait : Settled → Option Pending → Type 0
+IsSettledWait how o = MatchOption o ⊥ (λ (wait : Pending). wait.settled ≡ Some how)
 
--- it is this wait
-pub settled_as_at : (seat : SeatView) (wait : Pending) (how : Settled) → seat.wait ≡ Some wait → HasSettled seat how → wait.settled ≡ Some how
-settled_as_at seat wait how its settled = subst (λ (o : Option Pending). MatchOption o ⊥ (λ (w : Pending). w.settled ≡ Some how)) its settled
+-- a seat's is
+abbrev pub HasSettled : SeatView → Settled → Type 0
+HasSettled seat how = IsSettledWait how seat.wait
 
 pub settled_at : (seat : SeatView) (wait : Pending) (how : Settled) → seat.wait ≡ Some wait → wait.settled ≡ Some how → HasSettled seat how
-settled_at seat wait how its settled = subst (λ (o : Option Pending). MatchOption o ⊥ (λ (w : Pending). w.settled ≡ Some how)) (sym its) settled
+settled_at seat wait how its settled = subst (IsSettledWait how) (sym its) settled
 
--- what has no wait, or an unsettled one, has none that is settled
+-- in one way
+pub settled-once : (seat : SeatView) (wait : Pending) (one other : Settled) → seat.wait ≡ Some wait → wait.settled ≡ Some one → HasSettled seat other → one ≡ other
+settled-once seat wait one other its settled has = let e = sym settled ∙ subst (IsSettledWait other) its has in cc
+
+-- and not where there is none, or it is unsettled
 pub none_settled : (seat : SeatView) (how : Settled) → seat.wait ≡ None → HasSettled seat how → ⊥
-none_settled seat how none settled = subst (λ (o : Option Pending). MatchOption o ⊥ (λ (w : Pending). w.settled ≡ Some how)) none settled
+none_settled seat how none settled = subst (IsSettledWait how) none settled
 
 pub not_settled : (seat : SeatView) (wait : Pending) (how : Settled) → seat.wait ≡ Some wait → wait.settled ≡ None → HasSettled seat how → ⊥
-not_settled seat wait how its free settled = let e = settled_as_at seat wait how its settled in cc
+not_settled seat wait how its free settled = let e = sym free ∙ subst (IsSettledWait how) its settled in cc
 
 -- what is open is a wait that isn't settled
 pub open_wait : (o : Option Pending) → is_open o ≡ true → (wait : Pending) × (o ≡ Some wait) × (wait.settled ≡ None)
@@ -47,12 +51,10 @@ pub wait-of_session : (core : Core) (who : ℕ) → has_session who core ≡ tru
 wait-of_session core who is = ap (λ b. if b then (seat_at who core).wait else None) is
 
 pub settled-seat : (core : Core) (who : ℕ) (how : Settled) → has_session who core ≡ true → IsSettledAs core who how → HasSettled (seat_at who core) how
-settled-seat core who how is settled =
-    subst (λ (wait : Option Pending). MatchOption wait ⊥ (λ (w : Pending). w.settled ≡ Some how)) (wait-of_session core who is) settled
+settled-seat core who how is settled = subst (IsSettledWait how) (wait-of_session core who is) settled
 
 pub seat-settled : (core : Core) (who : ℕ) (how : Settled) → has_session who core ≡ true → HasSettled (seat_at who core) how → IsSettledAs core who how
-seat-settled core who how is settled =
-    subst (λ (wait : Option Pending). MatchOption wait ⊥ (λ (w : Pending). w.settled ≡ Some how)) (sym (wait-of_session core who is)) settled
+seat-settled core who how is settled = subst (IsSettledWait how) (sym (wait-of_session core who is)) settled
 
 -- ---- seats that say the same
 
@@ -103,13 +105,10 @@ as_wait wait = record { number = wait.number; place = wait.place; mode = wait.mo
 
 -- what a session has isn't changed as its wait is settled
 pub own-settling : (how : Settled) (seat : SeatView) → own_of (settling how seat) ≡ own_of seat
-own-settling how seat = ap (λ (wait : Option Wait). record { held = seat.held; wait = wait }) (go seat.wait)
-  where
-    go : (wait : Option Pending)
-        → option_map as_wait (option_map (λ (w : Pending). record w { settled = Some how }) wait)
-        ≡ option_map as_wait wait
-    go None = refl
-    go (Some w) = refl
+own-settling how seat = elim seat.wait as (λ o. own_of (settling how (record seat { wait = o })) ≡ own_of (record seat { wait = o })) [
+  | None ↦ refl
+  | Some wait ↦ refl
+]
 
 module _ (a : Core) (who place : ℕ) (change : Change) (may : May who place change a) where
   abbrev b : Core
