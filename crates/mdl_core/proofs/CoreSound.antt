@@ -1,84 +1,150 @@
 -- Each call of the lock space of one thread is an event of the system, and keeps the space sound; so does all that is asked of it.
-use Rattle.std.proofs.Common.{◌≡◌, ◌⊎◌, ℕ, Bool, true, false, not, inl, inr, zero, suc, ◌+◌, List, [], ◌∷◌, Option, Some, None, refl, sym, ap, subst, ◌∙◌, arith}
-use Rattle.std.specs.Option.{IfSome}
-use Rattle.std.specs.Prelude.{replicate, is_some, if◌then◌else◌}
+use Rattle.std.proofs.Common.{◌≡◌, ◌⊎◌, ℕ, zero, suc, ◌+◌, Bool, true, false, inl, inr, List, [], ◌∷◌, ◌++◌, Option, None, refl, sym, ap, subst, ◌∙◌, arith}
+use Rattle.std.specs.Prelude.{flat_map, replicate}
+use Rattle.std.proofs.lemmas.List.{append-nil}
+use Rattle.std.proofs.lemmas.List.Concat.{flat_map-append}
 use Rattle.mdl_key.specs.Keys.{KeyName}
-use Rattle.mdl_key.specs.declared.mode.Mode.{Mode}
-use Rattle.mdl_key.specs.Modes.{is_mode_of}
 use Rattle.mdl_defs.specs.declared.definition.Definition.{Definition}
-use Rattle.mdl_book.specs.Books.{lock_kind}
-use Rattle.mdl_calls.specs.declared.space_error.SpaceError.{SpaceError}
-use Rattle.mdl_calls.specs.declared.space_error.SpaceError.TheVariants.{OutOfMemory, Full}
-use Rattle.mdl_calls.specs.Answers.{Answer, Refused, Granted, Would_wait, Waits}
-use Rattle.mdl_system.specs.BlockingLaws.{IsAbout}
-use Rattle.mdl_calls.specs.Calls.{Call, Resolve, Try_now, Begin_wait, Search, Poll_wait, Settle_timeout, End_wait, Wait_of, Kill, Release, Clone_ticket, Upgrade_now, Merge, Downgrade, Read_definition, Change_definition, Tables_of, Key_of, Read_kept, List_held, Unpin, caller, takes_memory}
-use Rattle.mdl_core.specs.CoreCalls.{has_call, outcome, Makes, first_cause, refused_or, request_causes, is_full, is_counted_out, looking_after, listing}
-use Rattle.mdl_core.specs.CoreJoins.{Joins, SpeaksFor}
-use Rattle.mdl_core.specs.CoreLaws.{is_change, IsEventOf, Reaches, CallsAreEvents, CallsKeepSound, GrantsWhatIsGrantable, GrantsInOrder, Joined}
-use Rattle.mdl_core.specs.Cores.{Core, empty_core, seat_at, book_at, key_at, has_key, is_free}
-use Rattle.mdl_core.specs.CoreSystems.{system_of, unended_from}
-use Rattle.mdl_core.specs.Changes.{granting_to, queueing}
+use Rattle.mdl_book.specs.Books.{empty_book}
+use Rattle.mdl_calls.specs.Answers.{Answer, Granted, Would_wait, Waits}
+use Rattle.mdl_calls.specs.Calls.{Call, Try_now, Begin_wait}
+use Rattle.mdl_system.specs.BlockingLaws.{IsAbout, FreesNothing}
+use Rattle.mdl_core.specs.ChangeEvents.{IsChangeEvent}
+use Rattle.mdl_core.specs.Changes.{Change, Gain, Lose, Queue, Admit, Settle, Leave, Take_up, May, changing, opening}
+use Rattle.mdl_core.specs.CoreJoins.{Joins}
+use Rattle.mdl_core.specs.CoreLaws.{is_change, IsEventOf, CallsAreEvents, CallsKeepSound, GrantsWhatIsGrantable, GrantsInOrder, CallsLeadByEvents, Joined}
+use Rattle.mdl_core.specs.Cores.{Core, empty_core, key_at, has_key, index_of}
+use Rattle.mdl_core.specs.CoreSystems.{system_of, granted_in, unended_from}
 use Rattle.mdl_core.specs.Seats.{empty_seat}
-use Rattle.mdl_system.specs.Events.{Event, Happens, Run, SameMembers, SameSystem}
+use Rattle.mdl_core.specs.Ties.{IsTied, IsSound}
+use Rattle.mdl_system.specs.Events.{Event, Grant, Happens, SameSystem, GrantsNew}
 use Rattle.mdl_system.specs.Systems.{System, empty_system, IsGrantable, IsLawful, NoneForgotten}
-use Rattle.mdl_core.specs.Ties.{IsSound}
-use Rattle.mdl_core.proofs.CoreCallsFollow.{request_clear, follows-resolving, follows-trying, follows-beginning}
-use Rattle.mdl_core.proofs.ChangeEvents.{same_members}
-use Rattle.mdl_core.proofs.CoreFollows.{Follows, LeadsTo, follows-same}
-use Rattle.mdl_core.proofs.CoreWaitsFollow.{follows-polling, follows-timing_out, follows-killing, follows-searching, follows-ending, follows-releasing, follows-cloning}
-use Rattle.mdl_system.proofs.LawfulLemmas.{empty-lawful, run-lawful}
-use Rattle.mdl_core.proofs.CoreGranted.{free-grantable}
-use Rattle.mdl_core.proofs.TiedOpening.{tied-empty}
+use Rattle.mdl_core.proofs.CallLaws.{joins-comes}
+use Rattle.mdl_core.proofs.ChangeEvents.{change-happens}
+use Rattle.mdl_core.proofs.ChangeTies.{tied-changing}
+use Rattle.mdl_core.proofs.CoreServing.{serves}
+use Rattle.mdl_core.proofs.SparedSeats.{keys-changed}
+use Rattle.mdl_core.proofs.TiedOpening.{tied-empty, opened, system-opened}
+use Rattle.mdl_core.proofs.Ways.{Way, Stay, Open, Settle_wait, Make, makes_room, served_if, space_by, IsMade, Made}
+use Rattle.mdl_system.proofs.ConcernLemmas.{step-forgets, granting-there}
+use Rattle.mdl_system.proofs.LawfulLemmas.{empty-lawful, step-lawful, run-lawful}
+use Rattle.mdl_system.proofs.RunLemmas.{same_system, Leads, leads-run, leads-then}
 
--- a refusal changes nothing
-calm : (call : Call) (refusal : SpaceError) → is_change call (Refused refusal) ≡ false
-calm (Resolve _ _) e = refl
-calm (Try_now _ _ _) e = refl
-calm (Begin_wait _ _ _) e = refl
-calm (Search _) e = refl
-calm (Poll_wait _) e = refl
-calm (Settle_timeout _) e = refl
-calm (End_wait _) e = refl
-calm (Wait_of _) e = refl
-calm (Kill _ _) e = refl
-calm (Release _ _) e = refl
-calm (Clone_ticket _ _ _) e = refl
-calm (Upgrade_now _ _ _) e = refl
-calm (Merge _ _ _) e = refl
-calm (Downgrade _ _ _) e = refl
-calm (Read_definition _ _) e = refl
-calm (Change_definition _ _ _) e = refl
-calm (Tables_of _ _) e = refl
-calm (Key_of _ _) e = refl
-calm (Read_kept _ _) e = refl
-calm (List_held _) e = refl
-calm (Unpin _ _) e = refl
+-- ---- the event of a change
+
+-- an event is of this key alone, and where no room is made, nothing goes by it
+abbrev IsOf : {C : Type 0} → KeyName → Bool → Event C → Type 0
+IsOf key room event = ((other : KeyName) → IsAbout event other → other ≡ key) × (room ≡ false → FreesNothing event)
+
+change-of : {C : Type 0} (a : Core) (who place : ℕ) (change : Change) (event : Event C) → May who place change a → IsChangeEvent who place change a event
+    → IsOf (key_at place a) (makes_room change) event
+change-of {C} a who place change event may = by change may
+  where
+    told : (room : Bool) (other : Event C) → event ≡ other → IsOf (key_at place a) room other → IsOf (key_at place a) room event
+    told room other is h = subst (IsOf (key_at place a) room) (sym is) h
+
+    by : (c : Change) → May who place c a → IsChangeEvent who place c a event → IsOf (key_at place a) (makes_room c) event
+    by (Gain mode) m (inl is) = told false _ is.0 ((λ k e. sym e), λ _. tt)
+    by (Gain mode) m (inr is) = told false _ is.4 ((λ k e. sym e), λ _. tt)
+    by (Lose ticket) m is = told true _ is ((λ k e. sym e ∙ ap (λ p. key_at p a) m.allows.1), λ e. cc)
+    by (Queue mode) m is = told false _ is ((λ k e. sym e), λ _. tt)
+    by (Admit ticket) m is = told false _ is.0 ((λ k e. sym e), λ _. tt)
+    by (Settle how) m is = told false _ is.2 ((λ k e. sym e), λ _. tt)
+    by (Leave wait) m is = told true _ is.0 ((λ k e. sym e), λ e. cc)
+    by (Take_up wait) m is = told false _ is ((λ k e. absurd e), λ _. tt)
+
+-- a new place is nothing to the system
+opening-same : (core : Core) (key : KeyName) → IsTied core → index_of key core.books ≡ None → system_of core ≡ system_of (opening key core)
+opening-same core key tied none = λ i. record {
+  granted = granted i;
+  waiting = λ k. sym ((system-opened key core tied none).waits.waiting k) i;
+  unended = unended_from 1 core.seats;
+  definitions = λ _. record { version = 0; definition = None };
+}
+  where
+    granted : flat_map granted_in core.books ≡ flat_map granted_in (core.books ++ empty_book key ∷ [])
+    granted = sym (flat_map-append granted_in core.books (empty_book key ∷ []) ∙ append-nil (flat_map granted_in core.books))
 
 module _ {C : Type 0} (apply : KeyName → C → Option Definition → Option (Option Definition)) where
-  -- the outcome of a call of a session that there is
-  outcome-follows : (a : Core) (call : Call) → IsSound a → IfSome (caller call) (SpeaksFor a) → has_call call ≡ true → LeadsTo apply a call (outcome call a)
-  outcome-follows a (Resolve who key) sound speaks has = follows-resolving apply a sound who key
-  outcome-follows a (Try_now who place mode) sound speaks has = follows-trying apply a sound who place mode speaks.0
-  outcome-follows a (Begin_wait who place mode) sound speaks has = follows-beginning apply a sound who place mode speaks.0
-  outcome-follows a (Search who) sound speaks has = follows-searching apply a sound who
-  outcome-follows a (Poll_wait who) sound speaks has = follows-polling apply a sound who
-  outcome-follows a (Settle_timeout who) sound speaks has = follows-timing_out apply a sound who speaks.0
-  outcome-follows a (End_wait who) sound speaks has = follows-ending apply a sound who speaks.0
-  outcome-follows a (Wait_of target) sound speaks has = follows-same apply a (Wait_of target) (looking_after target a).0 sound refl
-  outcome-follows a (Kill target number) sound speaks has = follows-killing apply a sound target number
-  outcome-follows a (Release who id) sound speaks has = follows-releasing apply a sound who id speaks.0
-  outcome-follows a (Clone_ticket who id mode) sound speaks has = follows-cloning apply a sound who id mode speaks.0
-  outcome-follows a (List_held who) sound speaks has = follows-same apply a (List_held who) (listing who a).0 sound refl
-  outcome-follows a _ sound speaks has = cc
+  -- ---- a call
 
-  pub calls-follow : (a b : Core) (call : Call) (answer : Answer) → IsSound a → Joins a call answer b → Follows apply a call answer b
-  calls-follow a b call answer sound (speaks, has, made) = by made
-    where
-      by : Makes (takes_memory call) (outcome call) a answer b → Follows apply a call answer b
-      by (inl (_, refused, same)) =
-          subst (λ r. Follows apply a call r b) (sym refused) (subst (λ c. Follows apply a call (Refused OutOfMemory) c) (sym same)
-          (follows-same apply a call (Refused OutOfMemory) sound (calm call OutOfMemory)))
-      by (inr e) = subst (LeadsTo apply a call) e (outcome-follows a call sound speaks has)
+  -- what a call with this answer has led to: it changed nothing, or it was an event, and then waiters were granted
+  record Follows (a : Core) (call : Call) (answer : Answer) (b : Core) : Type 0 where
+    sound : IsSound b
+    leads : (events : List (Event C)) × Leads apply events (system_of a) (system_of b)
+    how : ((is_change call answer ≡ false) × SameSystem (system_of a) (system_of b))
+        ⊎ ((event : Event C) × (grants : List (Event C)) × (between : System Definition) × (key : KeyName)
+        × IsEventOf a call answer event × ((other : KeyName) → IsAbout event other → other ≡ key)
+        × Happens apply event (system_of a) between × GrantsInOrder apply key grants between (system_of b))
+
+  module _ (a : Core) (call : Call) (answer : Answer) (sound : IsSound a) where
+    follows-calm : (b : Core) → IsTied b → system_of a ≡ system_of b → is_change call answer ≡ false → Follows a call answer b
+    follows-calm b tied same calm = record {
+      sound = record { tied = tied; lawful = subst IsLawful same sound.lawful; none_forgotten = subst NoneForgotten same sound.none_forgotten };
+      leads = ([], same);
+      how = inl (calm, subst (SameSystem (system_of a)) same (same_system (system_of a)));
+    }
+
+    follows-made : (who place : ℕ) (change : Change) → IsMade C a call answer who place change
+        → Follows a call answer (served_if (makes_room change) place (changing who place change a))
+    follows-made who place change made = by (makes_room change) refl
+      where
+        mid : Core
+        mid = changing who place change a
+
+        tied : IsTied mid
+        tied = tied-changing a who place change sound.tied made.may
+
+        happens : Happens apply made.event (system_of a) (system_of mid)
+        happens = change-happens apply a who place change made.event sound.tied made.may made.change_is
+
+        is : IsOf (key_at place a) (makes_room change) made.event
+        is = change-of a who place change made.event made.may made.change_is
+
+        key : (has_key place mid ≡ true) × (key_at place mid ≡ key_at place a)
+        key = keys-changed a who place change made.may place made.may.key
+
+        lawful : IsLawful (system_of mid)
+        lawful = step-lawful apply made.event (system_of a) (system_of mid) happens sound.lawful
+
+        by : (room : Bool) → makes_room change ≡ room → Follows a call answer (served_if room place mid)
+        by false e = record {
+          sound = record {
+            tied = tied;
+            lawful = lawful;
+            none_forgotten = λ other.
+                step-forgets apply made.event (system_of a) (system_of mid) happens (is.1 e) made.cause other (sound.none_forgotten other);
+          };
+          leads = (made.event ∷ [], (system_of mid, happens, refl));
+          how = inr (made.event, [], system_of mid, key_at place a, made.call_is, is.0, happens, same_system (system_of mid));
+        }
+        by true e =
+            let served = serves apply mid place tied key.0 in
+            let after = served_if true place mid in
+            let run = leads-run apply served.events (system_of mid) (system_of after) served.leads in
+            let about : (other : KeyName) → IsAbout made.event other → other ≡ key_at place mid = λ other e. is.0 other e ∙ sym key.1 in
+            record {
+              sound = record {
+                tied = served.tied;
+                lawful = run-lawful apply served.events (system_of mid) (system_of after) run lawful;
+                none_forgotten = granting-there apply made.event served.events (system_of a) (system_of mid) (system_of after) (key_at place mid) about
+                    happens served.grants run served.none_forgotten sound.none_forgotten;
+              };
+              leads = (made.event ∷ served.events, (system_of mid, happens, served.leads));
+              how = inr (made.event, served.events, system_of mid, key_at place mid, made.call_is, about, happens, served.in_order);
+            }
+
+    follows-way : (way : Way) → Made C a call answer way → Follows a call answer (space_by way a)
+    follows-way Stay made = follows-calm a sound.tied refl made.is_way
+    follows-way (Open key) made =
+        follows-calm (opening key a) (opened key a sound.tied made.is_way.1) (opening-same a key sound.tied made.is_way.1) made.is_way.0
+    follows-way (Settle_wait who place how) made = follows-made who place (Settle how) made.is_way
+    follows-way (Make who place change) made = follows-made who place change made.is_way.0
+
+  calls-follow : (a b : Core) (call : Call) (answer : Answer) → IsSound a → Joins a call answer b → Follows a call answer b
+  calls-follow a b call answer sound joins =
+      let h = joins-comes C a b call answer sound.tied joins in
+      subst (Follows a call answer) h.leads (follows-way a call answer sound h.way h.is)
 
 pub calls_are-events : (C : Type 0) → CallsAreEvents C
 calls_are-events C apply a b call answer sound joins = (calls-follow apply a b call answer sound joins).how
@@ -88,102 +154,29 @@ calls_keep-sound a b call answer sound joins = (calls-follow {C = Unit {0}} (λ 
 
 -- ---- what is granted at once
 
--- an answer tells which way was taken
-trying-told : (a c : Core) (n : ℕ) (answer : Answer) (b : Core) (cause : Option SpaceError) (free full : Bool)
-    → refused_or cause a (if not free then (Would_wait, a) else (if full then (Refused Full, a) else (Granted n, c))) ≡ (answer, b)
-    → ((id : ℕ) → answer ≡ Granted id → (cause ≡ None) × (free ≡ true)) × (answer ≡ Would_wait → (cause ≡ None) × (free ≡ false))
-trying-told a c n answer b (Some refusal) free full e =
-    let is : Refused refusal ≡ answer = ap (λ (o : Answer × Core). o.0) e in
-    ((λ id g. let clash : Refused refusal ≡ Granted id = is ∙ g in cc), λ w. let clash : Refused refusal ≡ Would_wait = is ∙ w in cc)
-trying-told a c n answer b None true true e =
-    let is : Refused Full ≡ answer = ap (λ (o : Answer × Core). o.0) e in
-    ((λ id g. (refl, refl)), λ w. let clash : Refused Full ≡ Would_wait = is ∙ w in cc)
-trying-told a c n answer b None true false e =
-    let is : Granted n ≡ answer = ap (λ (o : Answer × Core). o.0) e in
-    ((λ id g. (refl, refl)), λ w. let clash : Granted n ≡ Would_wait = is ∙ w in cc)
-trying-told a c n answer b None false full e =
-    let is : Would_wait ≡ answer = ap (λ (o : Answer × Core). o.0) e in
-    ((λ id g. let clash : Would_wait ≡ Granted id = is ∙ g in cc), λ w. (refl, refl))
-
-beginning-told : (a c d : Core) (n m : ℕ) (answer : Answer) (b : Core) (cause : Option SpaceError) (free full : Bool)
-    → refused_or cause a (if not free then (if full then (Refused Full, a) else (Waits m, d)) else (if full then (Refused Full, a) else (Granted n, c))) ≡ (answer, b)
-    → ((id : ℕ) → answer ≡ Granted id → (cause ≡ None) × (free ≡ true)) × ((number : ℕ) → answer ≡ Waits number → (cause ≡ None) × (free ≡ false))
-beginning-told a c d n m answer b (Some refusal) free full e =
-    let is : Refused refusal ≡ answer = ap (λ (o : Answer × Core). o.0) e in
-    ((λ id g. let clash : Refused refusal ≡ Granted id = is ∙ g in cc), λ number w. let clash : Refused refusal ≡ Waits number = is ∙ w in cc)
-beginning-told a c d n m answer b None true true e =
-    let is : Refused Full ≡ answer = ap (λ (o : Answer × Core). o.0) e in
-    ((λ id g. (refl, refl)), λ number w. let clash : Refused Full ≡ Waits number = is ∙ w in cc)
-beginning-told a c d n m answer b None true false e =
-    let is : Granted n ≡ answer = ap (λ (o : Answer × Core). o.0) e in
-    ((λ id g. (refl, refl)), λ number w. let clash : Granted n ≡ Waits number = is ∙ w in cc)
-beginning-told a c d n m answer b None false true e =
-    let is : Refused Full ≡ answer = ap (λ (o : Answer × Core). o.0) e in
-    ((λ id g. let clash : Refused Full ≡ Granted id = is ∙ g in cc), λ number w. (refl, refl))
-beginning-told a c d n m answer b None false false e =
-    let is : Waits m ≡ answer = ap (λ (o : Answer × Core). o.0) e in
-    ((λ id g. let clash : Waits m ≡ Granted id = is ∙ g in cc), λ number w. (refl, refl))
-
--- a wish without a cause against it is grantable where it is free, and only there
-module _ (a : Core) (who place : ℕ) (mode : Mode) (sound : IsSound a) where
-  wished : first_cause (request_causes who place mode a) ≡ None → has_key place a ≡ true
-  wished clear =
-      (request_clear (has_key place a) (is_some (seat_at who a).wait) (is_mode_of (lock_kind (book_at place a)) mode) (is_counted_out who a) clear).0
-
-  pub free-for_cause : first_cause (request_causes who place mode a) ≡ None → is_free who place mode a ≡ true → IsGrantable (system_of a) who (key_at place a) mode
-  free-for_cause clear free = (free-grantable a who place mode sound.tied (wished clear)).0 free
-
-  pub busy-for_cause : first_cause (request_causes who place mode a) ≡ None → is_free who place mode a ≡ false → IsGrantable (system_of a) who (key_at place a) mode → ⊥
-  busy-for_cause clear busy grantable =
-      let free = (free-grantable a who place mode sound.tied (wished clear)).1 grantable in
-      let clash : true ≡ false = sym free ∙ busy in cc
-
-memory-not_granted : (id : ℕ) → Granted id ≡ Refused OutOfMemory → ⊥
-memory-not_granted id e = cc
-
-memory-not_waits : (number : ℕ) → Waits number ≡ Refused OutOfMemory → ⊥
-memory-not_waits number e = cc
-
-memory-not_would : Would_wait ≡ Refused OutOfMemory → ⊥
-memory-not_would e = cc
+-- a call that changes something has happened as its event
+happened : (a b : Core) (call : Call) (answer : Answer) → is_change call answer ≡ true → IsSound a → Joins a call answer b
+    → (event : Event (Unit {0})) × (between : System Definition) × IsEventOf a call answer event × Happens (λ _ _ _. None) event (system_of a) between
+happened a b call answer changes sound joins = elim (calls_are-events (Unit {0}) (λ _ _ _. None) a b call answer sound joins) [
+  | inl calm ↦ (let e = sym changes ∙ calm.0 in cc)
+  | inr h ↦ (h.0, h.2, h.4, h.6)
+]
 
 pub grants-grantable : GrantsWhatIsGrantable
-grants-grantable a b who place mode = (tried, would, begun, waits)
+grants-grantable a b who place mode = (
+  (λ id joins. grantable id (happened a b (Try_now who place mode) (Granted id) refl joins.0.1 joins)),
+  (λ joins. (joins-comes (Unit {0}) a b (Try_now who place mode) Would_wait joins.0.1.tied joins).is.so),
+  (λ id joins. grantable id (happened a b (Begin_wait who place mode) (Granted id) refl joins.0.1 joins)),
+  λ number joins. (joins-comes (Unit {0}) a b (Begin_wait who place mode) (Waits number) joins.0.1.tied joins).is.so,
+)
   where
-    cause : Option SpaceError
-    cause = first_cause (request_causes who place mode a)
-
-    attempt : (answer : Answer) → (answer ≡ Refused OutOfMemory → ⊥) → Joins a (Try_now who place mode) answer b → outcome (Try_now who place mode) a ≡ (answer, b)
-    attempt answer memory (speaks, has, inl made) = absurd (memory made.1)
-    attempt answer memory (speaks, has, inr made) = made
-
-    start : (answer : Answer) → (answer ≡ Refused OutOfMemory → ⊥) → Joins a (Begin_wait who place mode) answer b → outcome (Begin_wait who place mode) a ≡ (answer, b)
-    start answer memory (speaks, has, inl made) = absurd (memory made.1)
-    start answer memory (speaks, has, inr made) = made
-
-    tried : (id : ℕ) → Joins a (Try_now who place mode) (Granted id) b → IsGrantable (system_of a) who (key_at place a) mode
-    tried id joins =
-        let told = (trying-told a (granting_to who place mode a) ((seat_at who a).last_ticket + 1) (Granted id) b cause (is_free who place mode a) (is_full place a)
-        (attempt (Granted id) (memory-not_granted id) joins)).0 id refl in
-        free-for_cause a who place mode joins.0.1 told.0 told.1
-
-    would : Joins a (Try_now who place mode) Would_wait b → IsGrantable (system_of a) who (key_at place a) mode → ⊥
-    would joins =
-        let told = (trying-told a (granting_to who place mode a) ((seat_at who a).last_ticket + 1) Would_wait b cause (is_free who place mode a) (is_full place a)
-        (attempt Would_wait memory-not_would joins)).1 refl in
-        busy-for_cause a who place mode joins.0.1 told.0 told.1
-
-    begun : (id : ℕ) → Joins a (Begin_wait who place mode) (Granted id) b → IsGrantable (system_of a) who (key_at place a) mode
-    begun id joins =
-        let told = (beginning-told a (granting_to who place mode a) (queueing who place mode a) ((seat_at who a).last_ticket + 1) ((seat_at who a).last_wait + 1) (Granted id) b
-        cause (is_free who place mode a) (is_full place a) (start (Granted id) (memory-not_granted id) joins)).0 id refl in
-        free-for_cause a who place mode joins.0.1 told.0 told.1
-
-    waits : (number : ℕ) → Joins a (Begin_wait who place mode) (Waits number) b → IsGrantable (system_of a) who (key_at place a) mode → ⊥
-    waits number joins =
-        let told = (beginning-told a (granting_to who place mode a) (queueing who place mode a) ((seat_at who a).last_ticket + 1) ((seat_at who a).last_wait + 1) (Waits number) b
-        cause (is_free who place mode a) (is_full place a) (start (Waits number) (memory-not_waits number) joins)).1 number refl in
-        busy-for_cause a who place mode joins.0.1 told.0 told.1
+    grantable : (id : ℕ) → (event : Event (Unit {0})) × (between : System Definition)
+        × (event ≡ Grant (record { session = who; number = id; key = key_at place a; mode = mode })) × Happens (λ _ _ _. None) event (system_of a) between
+        → IsGrantable (system_of a) who (key_at place a) mode
+    grantable id (event, between, is, happens) =
+        let grants : GrantsNew (record { session = who; number = id; key = key_at place a; mode = mode }) (system_of a) between =
+        subst (λ e. Happens (λ _ _ _. None) e (system_of a) between) is happens in
+        grants.grantable
 
 -- ---- the empty space
 
@@ -191,55 +184,36 @@ none_unended : (n who : ℕ) → unended_from who (replicate n empty_seat) ≡ [
 none_unended zero who = refl
 none_unended (suc n) who = none_unended n (who + 1)
 
-empty-same : (places sessions : ℕ) → SameSystem (empty_system {D = Definition}) (system_of (empty_core places sessions))
-empty-same places sessions = record {
-  granted = same_members [];
-  waits = record {
-    waiting = λ _. refl;
-    unended = subst (λ waits. SameMembers [] waits) (sym (none_unended sessions 1)) (same_members []);
-  };
-  definitions = λ _. refl;
+empty-same : (places sessions : ℕ) → empty_system {D = Definition} ≡ system_of (empty_core places sessions)
+empty-same places sessions = λ i. record {
+  granted = [];
+  waiting = λ _. [];
+  unended = sym (none_unended sessions 1) i;
+  definitions = λ _. record { version = 0; definition = None };
 }
 
 pub empty-sound : (places sessions : ℕ) → IsSound (empty_core places sessions)
 empty-sound places sessions = record {
   tied = tied-empty places sessions;
-  lawful = run-lawful {C = Unit {0}} (λ _ _ _. None) [] empty_system (system_of (empty_core places sessions)) (empty-same places sessions) (empty-lawful Definition);
+  lawful = subst IsLawful (empty-same places sessions) (empty-lawful Definition);
   none_forgotten = λ key waiter among _ _. let lt = among.1 in absurd (omega arith);
 }
 
 -- ---- whole lists of calls
 
 module _ {C : Type 0} (apply : KeyName → C → Option Definition → Option (Option Definition)) where
-  run-in_order : {D : Type 0} (make : KeyName → C → Option D → Option (Option D)) (key : KeyName) (events : List (Event C)) (a b : System D)
-      → GrantsInOrder make key events a b → Run make events a b
-  run-in_order make key [] a b same = same
-  run-in_order make key (event ∷ events) a b (waiter, between, is, next, happens, rest) = (between, happens, run-in_order make key events between b rest)
-
   -- what is so after each call
   abbrev IsReached : Core → Type 0
-  IsReached core = IsSound core × ((events : List (List (Event C))) × Reaches apply events empty_system (system_of core))
-
-  goes-on : (a b : Core) (call : Call) (answer : Answer) → IsReached a → Joins a call answer b → IsReached b
-  goes-on a b call answer (sound, (events, reached)) joins =
-      let follows = calls-follow apply a b call answer sound joins in
-      (follows.sound, by follows.how)
-    where
-      by : ((is_change call answer ≡ false) × SameSystem (system_of a) (system_of b))
-          ⊎ ((event : Event C) × (grants : List (Event C)) × (between : System Definition) × (key : KeyName)
-          × IsEventOf a call answer event × ((other : KeyName) → IsAbout event other → other ≡ key)
-          × Happens apply event (system_of a) between × GrantsInOrder apply key grants between (system_of b))
-          → (all : List (List (Event C))) × Reaches apply all empty_system (system_of b)
-      by (inl same) = ([] ∷ events, (system_of a, reached, same.1))
-      by (inr (event, grants, between, key, is, about, happens, order)) =
-          ((event ∷ grants) ∷ events, (system_of a, reached, (between, happens, run-in_order apply key grants between (system_of b) order)))
+  IsReached core = IsSound core × ((events : List (Event C)) × Leads apply events empty_system (system_of core))
 
   all-reached : (calls : List (Call × Answer)) (a b : Core) → IsReached a → Joined calls a b → IsReached b
   all-reached [] a b reached same = subst IsReached same reached
-  all-reached ((call, answer) ∷ calls) a b reached (between, joins, rest) = all-reached calls between b (goes-on a between call answer reached joins) rest
+  all-reached ((call, answer) ∷ calls) a b (sound, (events, early)) (between, joins, rest) =
+      let h = calls-follow apply a between call answer sound joins in
+      all-reached calls between b
+      (h.sound, (events ++ h.leads.0, leads-then apply events h.leads.0 empty_system (system_of a) (system_of between) early h.leads.1)) rest
 
-  pub calls_lead-by_events : (places sessions : ℕ) (calls : List (Call × Answer)) (b : Core) → Joined calls (empty_core places sessions) b
-      → ((events : List (List (Event C))) × Reaches apply events empty_system (system_of b)) × IsLawful (system_of b) × NoneForgotten (system_of b)
-  calls_lead-by_events places sessions calls b joined =
-      let all = all-reached calls (empty_core places sessions) b (empty-sound places sessions, ([], empty-same places sessions)) joined in
-      (all.1, all.0.lawful, all.0.none_forgotten)
+pub calls_lead-by_events : (C : Type 0) → CallsLeadByEvents C
+calls_lead-by_events C apply places sessions calls b joined =
+    let h = all-reached apply calls (empty_core places sessions) b (empty-sound places sessions, ([], empty-same places sessions)) joined in
+    ((h.1.0, leads-run apply h.1.0 empty_system (system_of b) h.1.1), h.0.lawful, h.0.none_forgotten)

@@ -94,16 +94,11 @@ abbrev pub Joined : List (Call × Answer) → Core → Core → Type 0
 Joined [] a b = a ≡ b
 Joined ((call, answer) ∷ calls) a b = (between : Core) × Joins a call answer between × Joined calls between b
 
--- events lead from one system to another, in pieces, of which the last comes first
-abbrev pub Reaches : {C D : Type 0} → (KeyName → C → Option D → Option (Option D)) → List (List (Event C)) → System D → System D → Type 0
-Reaches apply [] a b = SameSystem a b
-Reaches {C} {D} apply (events ∷ before) a b = (between : System D) × Reaches apply before a between × Run apply events between b
-
--- so whatever is asked of an empty space, events have led from the empty system to what it is in the end; that is lawful, and
--- nobody is forgotten in it
+-- so whatever is asked of an empty space, a run of events leads from the empty system to what it is in the end; that is lawful,
+-- and nobody is forgotten in it
 abbrev pub CallsLeadByEvents : Type 0 → Type 0
 CallsLeadByEvents C =
     (apply : KeyName → C → Option Definition → Option (Option Definition)) (places sessions : ℕ)
     (calls : List (Call × Answer)) (b : Core) → Joined calls (empty_core places sessions) b →
-    ((events : List (List (Event C))) × Reaches apply events empty_system (system_of b))
+    ((events : List (Event C)) × Run apply events empty_system (system_of b))
     × IsLawful (system_of b) × NoneForgotten (system_of b)

@@ -1,5 +1,5 @@
 //! The lock space of one thread as data: books by place and seats by session (`specs/Cores`), what a call changes of them
-//! (`specs/Moves`), and what each call answers and does (`specs/CoreCalls`).
+//! (`specs/Changes`), and what each call answers and does (`specs/CoreCalls`).
 //!
 //! Its laws say that this is the system of locks that a reader believes: each call is an event of it, and grants of waiters.
 //! The program that keeps such a space is `CoreSpace` of `mdl_space`.

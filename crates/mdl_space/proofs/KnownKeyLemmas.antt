@@ -11,7 +11,7 @@ use Rattle.mdl_key.specs.Keys.{KeyName, key_eq}
 use Rattle.mdl_book.specs.Books.{empty_book}
 use Rattle.mdl_book.specs.declared.lists.Lists.{Lists}
 use Rattle.mdl_space.specs.KnownKeys.{TellsPlaces, place_of}
-use Rattle.mdl_core.proofs.CallLaws.Places.{key_eq-Decides}
+use Rattle.mdl_system.proofs.Deciding.{key-Decides}
 
 -- ---- a book more
 
@@ -34,7 +34,7 @@ one_more_known known after books key told new put = record { tells = λ q. by q 
   where
     by : (q : KeyName) (b : Bool) → key_eq key q ≡ b → lookup (key_eq q) after ≡ place_of q (books ++ empty_book key ∷ [])
     by q true same =
-        let there : key ≡ q = (key_eq-Decides key q).0 same in
+        let there : key ≡ q = (key-Decides key q).0 same in
         let none : position (λ (lists : Lists). key_eq lists.key q) books ≡ None = unmapped _ (sym (told.tells q) ∙ ap (λ k. lookup (key_eq k) known) (sym there) ∙ new) in
         put q ∙ rw same (sym (ap (option_map (λ index. index + 1)) (passes_last (λ (lists : Lists). key_eq lists.key q) books (empty_book key) same none)))
     by q false differs =

@@ -13,5 +13,6 @@ pub mod MemberLemmas
 pub mod NextSystems
 pub mod NumberingLemmas
 pub mod OrderLemmas
+pub mod RunLemmas
 pub mod SmallSystems
 pub mod StrengthLemmas

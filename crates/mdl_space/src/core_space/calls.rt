@@ -1,10 +1,8 @@
 //! The space of one thread as a lock space: each call has just one outcome, but that memory may run out.
 ghost use Rattle.mdl_core.specs.CoreJoins.{SpeaksFor, own_at, numbers_at, Knows, IsSettledAs, Joins};
-ghost use Rattle.mdl_core.proofs.CallLaws.Owned.{core-allowed, core-keeps, core-changes, core-others, core-rising, core-fits, core-lists};
-ghost use Rattle.mdl_core.proofs.CallLaws.Places.{core-resolves, core-remembers, core-one_key, core-one_place, core-held_places, core-wait_place};
-ghost use Rattle.mdl_core.proofs.CallLaws.Waits.{core-waits_settled, core-settled_once, core-tells, core-stays, core-agrees, core-victims, core-counts, core-kills, core-kills_or_settled};
-ghost use Rattle.mdl_core.proofs.CallLaws.Numbers.{core-draws, core-others_draw};
-ghost use Rattle.mdl_core.proofs.CallLaws.Causes.{core-explains};
+ghost use Rattle.mdl_core.proofs.CallLaws.{core-allowed, core-keeps, core-changes, core-others, core-draws, core-others_draw, core-rising, core-fits, core-explains, core-lists, core-resolves, core-remembers};
+ghost use Rattle.mdl_core.proofs.CallLaws.{core-waits_settled, core-settled_once, core-tells, core-stays, core-agrees, core-victims, core-counts, core-kills, core-kills_or_settled};
+ghost use Rattle.mdl_core.proofs.KnownPlaces.{core-one_key, core-one_place, core-held_places, core-wait_place};
 ghost use Rattle.mdl_core.proofs.CoreSound.{calls_keep-sound};
 
 use super::CoreSpace;

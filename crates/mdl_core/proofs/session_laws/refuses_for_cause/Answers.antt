@@ -1,5 +1,5 @@
 -- By its lemma.
-use Rattle.mdl_core.proofs.SessionLimits.{refuses-caused}
+use Rattle.mdl_core.proofs.CallLaws.{refuses-caused}
 use Rattle.mdl_core.proofs.session_laws.refuses_for_cause.Goals as goal
 
 pub returns : goal.returns

@@ -1,0 +1,116 @@
+-- Which keys are at which places in the space of one thread, and who knows them.
+use Rattle.std.proofs.Common.{◌≡◌, ◌≢◌, ◌⊎◌, ℕ, ◌+◌, ◌-◌, ◌<◌, ◌≤◌, Bool, true, false, List, [], ◌∷◌, ◌++◌, length, position, get_or, Option, Some, None, option_map, MatchOption, Contains, inl, inr, refl, sym, ap, subst, ◌∙◌, arith}
+use Rattle.std.specs.List.{position_or_len}
+use Rattle.std.proofs.lemmas.Bool.Decides.{nat_tests}
+use Rattle.std.proofs.lemmas.Grind.{common_steps}
+use Rattle.std.proofs.lemmas.List.{length-append, get_or_append_left}
+use Rattle.std.proofs.lemmas.List.Sums.{fails_before_first}
+use Rattle.std.proofs.Math.Seq.{get_or-append_seam}
+use Rattle.mdl_book.specs.Books.{empty_book}
+use Rattle.mdl_book.specs.declared.lists.Lists.{Lists}
+use Rattle.mdl_key.specs.Keys.{KeyName, global_key, key_eq}
+use Rattle.mdl_calls.specs.declared.answers.Held.{Held}
+use Rattle.mdl_calls.specs.declared.answers.Settled.{Settled}
+use Rattle.mdl_calls.specs.declared.answers.Settled.TheVariants as settled_as
+use Rattle.mdl_calls.specs.Own.{Wait}
+use Rattle.mdl_core.specs.declared.pending.Pending.{Pending}
+use Rattle.mdl_core.specs.Changes.{opening}
+use Rattle.mdl_core.specs.CoreJoins.{SpeaksFor, own_at, Knows}
+use Rattle.mdl_core.specs.Cores.{Core, seat_at, key_at, has_key, has_session, index_of}
+use Rattle.mdl_core.specs.Seats.{SeatView, ticket_of_wait}
+use Rattle.mdl_core.specs.Ties.{IsTied, Has, Awaits}
+use Rattle.mdl_core.proofs.CoreReads.{within}
+use Rattle.mdl_core.proofs.SparedSeats.{Spares, as_wait}
+use Rattle.mdl_system.proofs.Deciding.{key-Decides}
+
+-- ---- a key's place
+
+none_passes : {X : Type 0} (p : X → Bool) (xs : List X) (k : ℕ) (d : X) → position p xs ≡ None → k < length xs → p (get_or xs k d) ≡ false
+none_passes p xs k d none lt =
+    let past : length xs ≤ position_or_len p xs = grind (arith, common_steps) in
+    fails_before_first p xs k d (omega arith)
+
+-- a key that no book has is at no place
+pub unplaced : (a : Core) (w place : ℕ) (key : KeyName) → index_of key a.books ≡ None → Knows a w place key → ⊥
+unplaced a w place key none knows =
+    let h = within place (length a.books) knows.0 in
+    let differs : key_eq (key_at place a) key ≡ false =
+    none_passes (λ (book : Lists). key_eq book.key key) a.books (place - 1) (empty_book global_key) none (omega (arith, h.0, h.1)) in
+    let same : key_eq (key_at place a) key ≡ true = (key-Decides (key_at place a) key).1 knows.1 in
+    cc
+
+-- ---- a new place
+
+module _ (a : Core) (key : KeyName) where
+  longer : length (a.books ++ empty_book key ∷ []) ≡ length a.books + 1
+  longer = length-append a.books (empty_book key ∷ [])
+
+  -- it has its key
+  pub new-known : (who : ℕ) → Knows (opening key a) who (length a.books + 1) key
+  new-known who =
+      let e = longer in
+      let at : length a.books + 1 - 1 ≡ length a.books = omega arith in (
+        grind (arith, nat_tests, e),
+        ap (λ n. (get_or (a.books ++ empty_book key ∷ []) n (empty_book global_key)).key) at
+            ∙ ap (λ (x : Lists). x.key) (get_or-append_seam a.books (empty_book key) [] (empty_book global_key)),
+      )
+
+  -- and leaves all else
+  pub spares-opening : Spares a (opening key a)
+  spares-opening = record {
+    sessions = λ w. refl;
+    keys = λ w place other knows. (
+        let h = within place (length a.books) knows.0 in
+        let e = longer in (
+          grind (arith, nat_tests, h.0, h.1, e),
+          ap (λ (x : Lists). x.key) (get_or_append_left a.books (empty_book key ∷ []) (empty_book global_key) (place - 1) (omega (arith, h.0, h.1))) ∙ knows.1,
+        ));
+    seats = λ w is. record { own = refl; numbers = refl; settled = λ how settled. settled };
+  }
+
+-- ---- the places of tickets and waits
+
+-- the ticket of a wait is had or waited for
+waits-ticket : (seat : SeatView) (wait : Pending) → seat.wait ≡ Some wait → Has seat (ticket_of_wait wait) ⊎ Awaits seat (ticket_of_wait wait)
+waits-ticket seat wait its = go wait.settled refl
+  where
+    at : (P : Pending → Type 0) → P wait → MatchOption seat.wait ⊥ P
+    at P h = subst (λ (o : Option Pending). MatchOption o ⊥ P) (sym its) h
+
+    other : (s : Option Settled) → wait.settled ≡ s → s ≢ Some settled_as.Granted → Awaits seat (ticket_of_wait wait)
+    other s e apart = at _ ((λ f. apart (sym e ∙ f)), refl)
+
+    go : (s : Option Settled) → wait.settled ≡ s → Has seat (ticket_of_wait wait) ⊎ Awaits seat (ticket_of_wait wait)
+    go (Some settled_as.Granted) e = inl (inr (at _ (e, refl)))
+    go s e = inr (other s e (λ f. cc))
+
+-- so its place has a key
+pub wait_placed : (a : Core) (who : ℕ) (wait : Pending) → IsTied a → has_session who a ≡ true → (seat_at who a).wait ≡ Some wait → has_key wait.place a ≡ true
+wait_placed a who wait tied is its = tied.placed who (ticket_of_wait wait) is (waits-ticket (seat_at who a) wait its)
+
+-- ---- laws of a space
+
+-- a place has one key
+pub core-one_key : (a : Core) (w place : ℕ) (key other : KeyName) → SpeaksFor a w → Knows a w place key → Knows a w place other → key ≡ other
+core-one_key a w place key other speaks one two = sym one.1 ∙ two.1
+
+-- a key has one place
+pub core-one_place : (a : Core) (w place other : ℕ) (key : KeyName) → SpeaksFor a w → Knows a w place key → Knows a w other key → place ≡ other
+core-one_place a w place other key speaks one two = speaks.1.tied.keys place other one.0 two.0 (one.1 ∙ sym two.1)
+
+-- whoever holds a ticket knows the key of its place
+pub core-held_places : (a : Core) (w : ℕ) (ticket : Held) → SpeaksFor a w → Contains (own_at a w).held ticket
+    → (key : KeyName) × Knows a w ticket.place key
+core-held_places a w ticket speaks holds = (key_at ticket.place a, (speaks.1.tied.placed w ticket speaks.0 (inl (inl holds)), refl))
+
+-- whoever waits knows the key of the place that is waited for
+pub core-wait_place : (a : Core) (w : ℕ) (wait : Wait) → SpeaksFor a w → (own_at a w).wait ≡ Some wait
+    → (key : KeyName) × Knows a w wait.place key
+core-wait_place a w wait speaks = go (seat_at w a).wait refl
+  where
+    go : (o : Option Pending) → (seat_at w a).wait ≡ o → option_map as_wait o ≡ Some wait → (key : KeyName) × Knows a w wait.place key
+    go None its e = cc
+    go (Some pending) its e =
+        let same : as_wait pending ≡ wait = cc in
+        subst (λ (x : Wait). (key : KeyName) × Knows a w x.place key) same
+        (key_at pending.place a, (wait_placed a w pending speaks.1.tied speaks.0 its, refl))

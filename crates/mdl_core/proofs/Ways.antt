@@ -1,0 +1,115 @@
+-- What comes of a call in the space of one thread: the way that it goes, what is asked of it, and what it leaves to the sessions.
+use Rattle.std.proofs.Common.{◌≡◌, ℕ, Bool, true, false, Some, None, IfSome, option_map}
+use Rattle.mdl_key.specs.Keys.{KeyName}
+use Rattle.mdl_calls.specs.declared.answers.Settled.{Settled}
+use Rattle.mdl_calls.specs.declared.answers.Settled.TheVariants as settled_as
+use Rattle.mdl_calls.specs.declared.answers.TimedOut.TheVariants.{ByThisCall, Already}
+use Rattle.mdl_calls.specs.Answers.{Answer, Refused, At_place, Would_wait, Waits, Victim_is, Is_settled, Timed_out, Has_wait, Has_killed, Holds, is_answer_of}
+use Rattle.mdl_calls.specs.Calls.{Call, Resolve, Try_now, Begin_wait, Search, Poll_wait, Settle_timeout, End_wait, Wait_of, Kill, List_held, caller}
+use Rattle.mdl_calls.specs.Causes.{IsExplained}
+use Rattle.mdl_calls.specs.Own.{own_after, wait_number, Draws}
+use Rattle.mdl_calls.specs.Waits.{IsToldOf}
+use Rattle.mdl_core.specs.declared.pending.Pending.{Pending}
+use Rattle.mdl_core.specs.ChangeEvents.{IsChangeEvent}
+use Rattle.mdl_core.specs.Changes.{Change, Lose, Settle, Leave, May, seat_after, changing, opening, serving}
+use Rattle.mdl_core.specs.CoreCalls.{wait_at, is_open_wait}
+use Rattle.mdl_core.specs.CoreJoins.{own_at, numbers_at, Knows}
+use Rattle.mdl_core.specs.CoreLaws.{is_change, IsEventOf}
+use Rattle.mdl_core.specs.Cores.{Core, seat_at, key_at, index_of}
+use Rattle.mdl_core.specs.CoreSystems.{system_of}
+use Rattle.mdl_core.specs.Seats.{SeatView, own_of, numbers_of}
+use Rattle.mdl_core.specs.SessionLaws.{MeetsLimit}
+use Rattle.mdl_system.specs.BlockingLaws.{WaitsForCause}
+use Rattle.mdl_system.specs.Events.{Event}
+use Rattle.mdl_system.specs.Systems.{IsGrantable}
+use Rattle.mdl_core.proofs.SparedSeats.{HasSettled, is_end}
+
+-- ---- ways
+
+-- nothing changes; a key is given the next place; a session's wait is lost; or the caller makes a change of its own at a place
+pub data Way : Type 0 where
+  Stay : Way
+  Open : KeyName → Way
+  Settle_wait : (who place : ℕ) → Settled → Way
+  Make : (who place : ℕ) → Change → Way
+
+-- whether a change makes room, so that waiters of its place are granted after it
+abbrev pub makes_room : Change → Bool
+makes_room (Lose ticket) = true
+makes_room (Leave wait) = true
+makes_room _ = false
+
+abbrev pub served_if : Bool → ℕ → Core → Core
+served_if true place core = serving place core
+served_if false place core = core
+
+-- the space after it, before waiters are granted
+abbrev pub mid_by : Way → Core → Core
+mid_by Stay a = a
+mid_by (Open key) a = opening key a
+mid_by (Settle_wait who place how) a = changing who place (Settle how) a
+mid_by (Make who place change) a = changing who place change a
+
+-- and after that
+abbrev pub space_by : Way → Core → Core
+space_by (Make who place change) a = served_if (makes_room change) place (changing who place change a)
+space_by way a = mid_by way a
+
+-- the caller's seat after it, but for how its wait is settled
+abbrev pub seat_by : Way → ℕ → Core → SeatView
+seat_by (Make who place change) w a = seat_after place change (seat_at w a)
+seat_by way w a = seat_at w a
+
+-- ---- what is asked of a way
+
+-- what an answer says of the space is so
+abbrev pub IsSo : Core → Call → Answer → Core → Type 0
+IsSo a call (Refused refusal) b = MeetsLimit a call refusal
+IsSo a (Resolve who key) (At_place place) b = Knows b who place key
+IsSo a (Try_now who place mode) Would_wait b = IsGrantable (system_of a) who (key_at place a) mode → ⊥
+IsSo a (Begin_wait who place mode) (Waits number) b = IsGrantable (system_of a) who (key_at place a) mode → ⊥
+IsSo a (Search who) (Victim_is victim) b = HasSettled (seat_at victim b) settled_as.Victim
+IsSo a (Poll_wait who) (Is_settled how) b = HasSettled (seat_at who b) how
+IsSo a (Settle_timeout who) (Timed_out ByThisCall) b = HasSettled (seat_at who b) settled_as.Timeout
+IsSo a (Settle_timeout who) (Timed_out (Already how)) b = HasSettled (seat_at who b) how
+IsSo a (Wait_of target) (Has_wait number) b = number ≡ option_map (λ (wait : Pending). wait.number) (wait_at target a)
+IsSo a (Kill target number) (Has_killed true) b = (wait_number (own_at a target) ≡ Some number) × HasSettled (seat_at target b) settled_as.Killed
+IsSo a (Kill target number) (Has_killed false) b = (is_open_wait number (wait_at target a) ≡ false) × (b ≡ a)
+IsSo a (List_held who) (Holds tickets) b = tickets ≡ (own_at a who).held
+IsSo a call answer b = Unit {0}
+
+-- a call with this answer does this to its caller, and tells it what is so
+pub record ServesCaller (a : Core) (call : Call) (answer : Answer) (way : Way) (who : ℕ) : Type 0 where
+  pub own : own_of (seat_by way who a) ≡ own_after call answer (own_at a who)
+  pub draws : Draws call answer (numbers_at a who) (numbers_of (seat_by way who a))
+  pub explained : IsExplained (Knows a who) call answer (own_at a who)
+  pub agrees : (how : Settled) → HasSettled (seat_at who a) how → IsToldOf how call answer
+
+module _ (C : Type 0) where
+  -- a change may be made, and is the event that the call is
+  pub record IsMade (a : Core) (call : Call) (answer : Answer) (who place : ℕ) (change : Change) : Type 0 where
+    pub may : May who place change a
+    pub event : Event C
+    pub change_is : IsChangeEvent who place change a event
+    pub call_is : IsEventOf a call answer event
+    pub cause : WaitsForCause event (system_of a)
+
+  abbrev pub IsWay : Core → Call → Answer → Way → Type 0
+  IsWay a call answer Stay = is_change call answer ≡ false
+  IsWay a call answer (Open key) = (is_change call answer ≡ false) × (index_of key a.books ≡ None)
+  IsWay a call answer (Settle_wait who place how) = IsMade a call answer who place (Settle how)
+  IsWay a call answer (Make who place change) =
+      IsMade a call answer who place change × (caller call ≡ Some who) × (is_end change ≡ true → call ≡ End_wait who)
+
+  -- a call goes this way with this answer
+  pub record Made (a : Core) (call : Call) (answer : Answer) (way : Way) : Type 0 where
+    pub fits : is_answer_of call answer ≡ true
+    pub is_way : IsWay a call answer way
+    pub so : IsSo a call answer (space_by way a)
+    pub caller : IfSome (caller call) (ServesCaller a call answer way)
+
+  -- a call with this outcome goes some way
+  pub record Comes (a : Core) (call : Call) (outcome : Answer × Core) : Type 0 where
+    pub way : Way
+    pub is : Made a call outcome.0 way
+    pub leads : space_by way a ≡ outcome.1
