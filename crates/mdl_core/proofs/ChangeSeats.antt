@@ -21,7 +21,7 @@ use Rattle.mdl_core.specs.CoreSystems.{waiter_of, unended_at, unended_of}
 use Rattle.mdl_core.specs.Seats.{SeatView, without_ticket, ticket_of_wait}
 use Rattle.mdl_core.specs.Ties.{Has, Awaits, in_book_of, IsNumbered, IsTied}
 use Rattle.mdl_core.proofs.CoreUnended.{not_granted}
-use Rattle.mdl_core.proofs.Effects.{Effect, Stays, Comes, Goes, Turns, Becomes, InOrder, Each, same, then, either, order-members, order-pairs, Joins, after-all, after-beside}
+use Rattle.mdl_core.proofs.Effects.{Effect, Stays, Comes, Goes, Turns, Becomes, InOrder, Each, same, through, either, order-members, order-pairs, Joins, after-all, after-beside}
 use Rattle.mdl_core.proofs.PairLemmas.{below, pairs-others, split-at, filter-all, pairs-from_rising, rising-from_pairs}
 use Rattle.mdl_system.specs.Events.{LeavesOrder, granted_wait}
 use Rattle.mdl_system.specs.Systems.{GrantedWait}
@@ -127,7 +127,7 @@ module _ (effect : Effect Held) (old now : List Held) (order : InOrder effect ol
   held-has : (wait : Option Pending) → ((ticket : Held) → Won wait ticket → Each (λ other. ticket ≢ other) effect)
       → Becomes effect (λ ticket. Contains old ticket ⊎ Won wait ticket) (λ ticket. Contains now ticket ⊎ Won wait ticket)
   held-has wait other ticket =
-      then (either (members ticket).0 (λ won. won), either (members ticket).1 (λ won. won)) (after-beside ticket (Contains old ticket) (Won wait ticket) effect (other ticket))
+      through (either (members ticket).0 (λ won. won), either (members ticket).1 (λ won. won)) (after-beside ticket (Contains old ticket) (Won wait ticket) effect (other ticket))
 
   held-numbered : (wait : Option Pending) (n m : ℕ) → Joins below effect old → ((ticket : Held) → Contains old ticket → ticket.id ≤ n) → Each (λ (h : Held). h.id ≤ n) effect
       → MatchOption wait (Unit {0}) (λ w. WaitNumbered old n m w × Each (λ (h : Held). h.id < w.id) effect)
