@@ -1,5 +1,5 @@
 -- What each change makes of what its session has and waits for.
-use Rattle.std.proofs.Common.{◌≡◌, ◌≢◌, ◌⊎◌, ℕ, ◌+◌, ◌<◌, ◌≤◌, Bool, true, not, cond, inl, inr, List, [], ◌∷◌, ◌++◌, Option, Some, None, refl, sym, ap, subst, ◌∙◌, arith}
+use Rattle.std.proofs.Common.{◌≡◌, ◌≢◌, ◌⊎◌, ℕ, ◌+◌, ◌<◌, ◌≤◌, Bool, true, false, not, cond, inl, inr, List, [], ◌∷◌, ◌++◌, Option, Some, None, refl, sym, ap, subst, ◌∙◌, arith}
 use Rattle.std.specs.Prelude.{Contains, IsTrue, MatchOption, filter}
 use Rattle.std.proofs.lemmas.Bool.Decides.{nat_tests}
 use Rattle.std.specs.List.{before_first, after_first}
@@ -21,7 +21,7 @@ use Rattle.mdl_core.specs.CoreSystems.{waiter_of, unended_at, unended_of}
 use Rattle.mdl_core.specs.Seats.{SeatView, without_ticket, ticket_of_wait}
 use Rattle.mdl_core.specs.Ties.{Has, Awaits, in_book_of, IsNumbered, IsTied}
 use Rattle.mdl_core.proofs.CoreUnended.{not_granted}
-use Rattle.mdl_core.proofs.Effects.{Effect, Stays, Comes, Goes, Turns, Becomes, InOrder, Each, same, then, either, order-members, order-pairs, Joins, after-all, after-beside}
+use Rattle.mdl_core.proofs.Effects.{Effect, Stays, Comes, Goes, Turns, Becomes, InOrder, Each, same, through, either, order-members, order-pairs, Joins, after-all, after-beside}
 use Rattle.mdl_core.proofs.PairLemmas.{below, pairs-others, split-at, filter-all, pairs-from_rising, rising-from_pairs}
 use Rattle.mdl_system.specs.Events.{LeavesOrder, granted_wait}
 use Rattle.mdl_system.specs.Systems.{GrantedWait}
@@ -127,7 +127,7 @@ module _ (effect : Effect Held) (old now : List Held) (order : InOrder effect ol
   held-has : (wait : Option Pending) → ((ticket : Held) → Won wait ticket → Each (λ other. ticket ≢ other) effect)
       → Becomes effect (λ ticket. Contains old ticket ⊎ Won wait ticket) (λ ticket. Contains now ticket ⊎ Won wait ticket)
   held-has wait other ticket =
-      then (either (members ticket).0 (λ won. won), either (members ticket).1 (λ won. won)) (after-beside ticket (Contains old ticket) (Won wait ticket) effect (other ticket))
+      through (either (members ticket).0 (λ won. won), either (members ticket).1 (λ won. won)) (after-beside ticket (Contains old ticket) (Won wait ticket) effect (other ticket))
 
   held-numbered : (wait : Option Pending) (n m : ℕ) → Joins below effect old → ((ticket : Held) → Contains old ticket → ticket.id ≤ n) → Each (λ (h : Held). h.id ≤ n) effect
       → MatchOption wait (Unit {0}) (λ w. WaitNumbered old n m w × Each (λ (h : Held). h.id < w.id) effect)
@@ -143,34 +143,39 @@ module _ (effect : Effect Held) (old now : List Held) (order : InOrder effect ol
       numbered None q = tt
       numbered (Some w) q = (q.0.0, q.0.1, λ ticket among. after-all (λ h. h.id < w.id) effect ticket (Contains old ticket) (q.0.2 ticket) q.1 ((members ticket).0 among))
 
--- the ticket of a number is left out
-left-out : (x : Held) (held : List Held) → AreApart (λ (h : Held). h.id) held → Contains held x → LeavesOrder x held (filter (λ ticket. not (is_number x.id ticket)) held)
-left-out x held apart among =
-    let before = before_first (is_number x.id) held in
-    let after = after_first (is_number x.id) held in
-    let whole = split-at (λ (h : Held). h.id) (is_number x.id) x (is-number x.id x refl) (number-is x.id) held apart among in
-    let kept : (t : Held) → Contains (before ++ after) t → not (is_number x.id t) ≡ true =
-    λ t there. not-number x.id t (pairs-others (λ (one other : Held). one.id ≢ other.id) (λ one other n e. n (sym e)) before after x
-    (subst (AreApart (λ (h : Held). h.id)) whole apart) t there) in (
-      before,
-      after,
+-- the others have other numbers
+round-number : (x : Held) (held : List Held) → AreApart (λ (h : Held). h.id) held → Contains held x
+    → (before after : List Held) × (held ≡ before ++ x ∷ after) × (is_number x.id x ≡ true) × ((t : Held) → Contains (before ++ after) t → is_number x.id t ≡ false)
+round-number x held apart among =
+    let whole = split-at (λ (h : Held). h.id) (is_number x.id) x (is-number x.id x refl) (number-is x.id) held apart among in (
+      before_first (is_number x.id) held,
+      after_first (is_number x.id) held,
       whole,
-      ap (filter other) whole ∙ filter-append other before (x ∷ after)
-          ∙ (λ i. filter-all other before (λ t there. kept t (Contains-append_left before after t there)) i
-          ++ cond (not (is-number x.id x refl i)) (x ∷ filter other after) (filter-all other after (λ t there. kept t (Contains-append_right before after t there)) i)),
+      is-number x.id x refl,
+      λ t there. not-number x.id t (pairs-others (λ (one other : Held). one.id ≢ other.id) (λ one other n e. n (sym e)) _ _ x (subst (AreApart (λ (h : Held). h.id)) whole apart) t there),
     )
   where
-    other : Held → Bool
-    other ticket = not (is_number x.id ticket)
-
     is-number : (id : ℕ) (t : Held) → t.id ≡ id → is_number id t ≡ true
     is-number id t e = grind (arith, nat_tests)
 
     number-is : (id : ℕ) (t : Held) → is_number id t ≡ true → t.id ≡ id
     number-is id t e = grind (arith, nat_tests)
 
-    not-number : (id : ℕ) (t : Held) → t.id ≢ id → not (is_number id t) ≡ true
+    not-number : (id : ℕ) (t : Held) → t.id ≢ id → is_number id t ≡ false
     not-number id t n = grind (arith, nat_tests)
+
+-- the ticket of a number is left out
+left-out : (x : Held) (held : List Held) → AreApart (λ (h : Held). h.id) held → Contains held x → LeavesOrder x held (filter (λ ticket. not (is_number x.id ticket)) held)
+left-out x held apart among =
+    let round = round-number x held apart among in
+    let other : Held → Bool = λ ticket. not (is_number x.id ticket) in (
+      round.0,
+      round.1,
+      round.2,
+      ap (filter other) round.2 ∙ filter-append other round.0 (x ∷ round.1)
+          ∙ (λ i. filter-all other round.0 (λ t there. ap not (round.4 t (Contains-append_left round.0 round.1 t there))) i
+          ++ cond (not (round.3 i)) (x ∷ filter other round.1) (filter-all other round.1 (λ t there. ap not (round.4 t (Contains-append_right round.0 round.1 t there))) i)),
+    )
 
 -- ---- by cases
 

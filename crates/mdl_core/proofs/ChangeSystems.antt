@@ -18,7 +18,7 @@ use Rattle.mdl_core.proofs.CoreGranted.{by_lists}
 use Rattle.mdl_core.proofs.CoreReads.{has_key-booking, booked-same, booked-other, seated-same}
 use Rattle.mdl_core.proofs.CoreUnended.{own-unended, others-unended, seated-unended}
 use Rattle.mdl_core.proofs.CoreWaiting.{book-there, place_told, book-nowhere, not_there, ticket-there}
-use Rattle.mdl_core.proofs.Effects.{Effect, After, Becomes, InOrder, Each, turned, mapped, turned-mapped, then, back, each-all, each-also, each-unmapped, each-mapped, after-other, after-like, after-mapped, Joins, order-mapped}
+use Rattle.mdl_core.proofs.Effects.{Effect, After, Becomes, InOrder, Each, turned, mapped, turned-mapped, through, back, each-all, each-also, each-unmapped, each-mapped, after-other, after-like, after-mapped, Joins, order-mapped}
 use Rattle.mdl_core.proofs.PairLemmas.{map-agree}
 use Rattle.mdl_system.specs.BookLaws.{in_book, of_lock}
 use Rattle.mdl_system.specs.Events.{SameElsewhere, SameAt}
@@ -80,13 +80,13 @@ module _ (core : Core) (who place : ℕ) (seat : SeatView) (book : Lists) (tied 
             let t = in_book held in
             subst (λ (h : Holding). Contains (system_of now).granted h ↔ After (mapped (of_lock here) effect) h (Contains (system_of core).granted h))
             (λ i. record { session = held.session; number = held.number; key = sym k i; mode = held.mode })
-            (then (subst (λ (b : Lists). Contains (system_of now).granted (of_lock here t) ↔ Contains b.granted t) book-now (by (of_lock here t)))
-            (then (members t) (back (after-mapped (of_lock here) t (Contains (system_of core).granted (of_lock here t)) (Contains (book_at place core).granted t) effect
+            (through (subst (λ (b : Lists). Contains (system_of now).granted (of_lock here t) ↔ Contains b.granted t) book-now (by (of_lock here t)))
+            (through (members t) (back (after-mapped (of_lock here) t (Contains (system_of core).granted (of_lock here t)) (Contains (book_at place core).granted t) effect
             (each-all (λ y. of_lock here t ≡ of_lock here y → t ≡ y) (λ y e. ap in_book e) effect)
             (subst (λ (b : Lists). Contains (system_of core).granted (of_lock here t) ↔ Contains b.granted t) book-then (before (of_lock here t))))))))
         | inr other ↦
-            then (by held)
-            (then (subst (λ (b : Lists). Contains b.granted (in_book held) ↔ Contains (system_of core).granted held) (sym (book-other held.key other)) (back (before held)))
+            through (by held)
+            (through (subst (λ (b : Lists). Contains b.granted (in_book held) ↔ Contains (system_of core).granted held) (sym (book-other held.key other)) (back (before held)))
             (back (after-other held (Contains (system_of core).granted held) (mapped (of_lock here) effect)
             (each-mapped (λ y. held ≢ y) (of_lock here) (λ t e. other (ap (λ (h : Holding). h.key) e)) effect))))
       ]
@@ -96,9 +96,9 @@ module _ (core : Core) (who place : ℕ) (seat : SeatView) (book : Lists) (tied 
       → Becomes effect (Contains (system_of core).unended) (Contains (system_of now).unended)
   unended-made effect own becomes wait = elim (nat_told wait.session who) [
     | inl mine ↦
-        then (seated-unended core who seat session wait mine)
-        (then (becomes wait) (back (after-like wait (Contains (system_of core).unended wait) (Unended who (seat_at who core) wait) effect (own-unended core who wait session mine))))
-    | inr other ↦ then (others-unended core who seat session wait other) (back (after-other wait (Contains (system_of core).unended wait) effect
+        through (seated-unended core who seat session wait mine)
+        (through (becomes wait) (back (after-like wait (Contains (system_of core).unended wait) (Unended who (seat_at who core) wait) effect (own-unended core who wait session mine))))
+    | inr other ↦ through (others-unended core who seat session wait other) (back (after-other wait (Contains (system_of core).unended wait) effect
         (each-also (λ (w : GrantedWait). w.session ≡ who) (λ y. wait ≢ y) (λ y mine e. other (ap (λ (w : GrantedWait). w.session) e ∙ mine)) effect own)))
   ]
 

@@ -16,7 +16,7 @@ use Rattle.mdl_core.specs.Cores.{Core, book_at, seat_at, booking, seating}
 use Rattle.mdl_core.specs.Seats.{SeatView, ticket_of_wait}
 use Rattle.mdl_core.specs.Ties.{Has, Awaits, in_book_of, IsTied}
 use Rattle.mdl_core.proofs.ChangeSeats.{wait_turned, has_effect, wait_effect, MayBe, Makes, Fitting, SeatMade, seat-made}
-use Rattle.mdl_core.proofs.Effects.{Effect, Stays, Comes, Goes, Turns, Becomes, InOrder, Each, mapped, then, back, each-also, each-mapped, after-other, after-mapped, Joins, order-members, order-pairs}
+use Rattle.mdl_core.proofs.Effects.{Effect, Stays, Comes, Goes, Turns, Becomes, InOrder, Each, mapped, through, back, each-also, each-mapped, after-other, after-mapped, Joins, order-members, order-pairs}
 use Rattle.mdl_core.proofs.PairLemmas.{split-at}
 use Rattle.mdl_core.proofs.TiedWrites.{held_at, as-held, granted-here, waiting-here, Follows, tied-written}
 use Rattle.mdl_system.proofs.MemberLemmas.{AreApart, find-named}
@@ -67,13 +67,13 @@ module _ {N : Type 0} (name : Ticket → N) (told : (one other : Ticket) → nam
         joins = joins;
         apart = order-pairs (λ (one other : Ticket). name one ≢ name other) (mapped (in_book_of who) effect) old new joins apart order;
         follows = record {
-          others = λ ticket other. then (members ticket) (after-other ticket (Contains old ticket) (mapped (in_book_of who) effect)
+          others = λ ticket other. through (members ticket) (after-other ticket (Contains old ticket) (mapped (in_book_of who) effect)
               (each-mapped (λ (y : Ticket). ticket ≢ y) (in_book_of who) (λ x e. other (ap (λ (t : Ticket). t.session) e)) effect));
-          here = λ ticket here. then (members (in_book_of who ticket))
-              (then (after-mapped (in_book_of who) ticket (Contains old (in_book_of who ticket)) (had ticket) effect
+          here = λ ticket here. through (members (in_book_of who ticket))
+              (through (after-mapped (in_book_of who) ticket (Contains old (in_book_of who ticket)) (had ticket) effect
               (each-also (λ (h : Held). h.place ≡ place) (λ y. in_book_of who ticket ≡ in_book_of who y → ticket ≡ y) (λ y there e. one-held ticket y here there e) effect makes.at)
               (before ticket here)) (back (makes.becomes ticket)));
-          elsewhere = λ ticket there. then (makes.becomes ticket) (after-other ticket (had ticket) effect
+          elsewhere = λ ticket there. through (makes.becomes ticket) (after-other ticket (had ticket) effect
               (each-also (λ (h : Held). h.place ≡ place) (λ y. ticket ≢ y) (λ y at e. there (ap (λ (h : Held). h.place) e ∙ at)) effect makes.at));
         };
         fit = fitting effect makes.becomes makes.may;

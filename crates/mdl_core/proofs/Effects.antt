@@ -60,8 +60,8 @@ turned-mapped h f g (Turns old new) = refl
 pub same : {A : Type 0} → A ↔ A
 same = ((λ a. a), λ a. a)
 
-pub then : {A B C : Type 0} → A ↔ B → B ↔ C → A ↔ C
-then one two = ((λ a. two.0 (one.0 a)), λ c. one.1 (two.1 c))
+pub through : {A B C : Type 0} → A ↔ B → B ↔ C → A ↔ C
+through one two = ((λ a. two.0 (one.0 a)), λ c. one.1 (two.1 c))
 
 pub back : {A B : Type 0} → A ↔ B → B ↔ A
 back one = (one.1, one.0)
@@ -120,7 +120,7 @@ module _ {A B : Type 0} (f : A → B) (x : A) (was had : Type 0) where
   named (Turns old new) one = (either (λ now. (now.0, λ e. now.1 (ap f e))) one.1, either (λ now. (now.0, λ e. now.1 (one.0 e))) (ap f))
 
   pub after-mapped : (effect : Effect A) → Each (λ y. f x ≡ f y → x ≡ y) effect → was ↔ had → After (mapped f effect) (f x) was ↔ After effect x had
-  after-mapped effect one is = then (named effect one) (after-like x was had effect is)
+  after-mapped effect one is = through (named effect one) (after-like x was had effect is)
 
 -- ---- lists any two members of which are in a relation
 

@@ -12,7 +12,7 @@ use Rattle.mdl_core.specs.Cores.{Core, book_at, seat_at, key_at, has_key, has_se
 use Rattle.mdl_core.specs.Seats.{SeatView}
 use Rattle.mdl_core.specs.Ties.{Has, Awaits, in_book_of, IsNumbered, IsTied}
 use Rattle.mdl_core.proofs.CoreReads.{has_key-booking, has_session-seating, booked-same, booked-other, seated-same, seated-other}
-use Rattle.mdl_core.proofs.Effects.{then, back}
+use Rattle.mdl_core.proofs.Effects.{through, back}
 use Rattle.mdl_system.proofs.Deciding.{nat_told}
 
 -- ---- what one session has at one place, and what stands there in the book
@@ -126,13 +126,13 @@ module _ (core : Core) (who place : ℕ) (book : Lists) (seat : SeatView) (sessi
     matches list has follows before w ticket is_session is_key =
         at_place (Match list has)
         (λ w ticket is here. at_session (λ v s. Contains (list book) (in_book_of v ticket) ↔ has s ticket) (follows.here ticket here)
-        (λ other is apart. then (follows.others (in_book_of other ticket) apart)
+        (λ other is apart. through (follows.others (in_book_of other ticket) apart)
         (subst (λ p. Contains (list (book_at p core)) (in_book_of other ticket) ↔ has (seat_at other core) ticket) here
         (before other ticket is (subst (λ p. has_key p core ≡ true) (sym here) key)))) w is)
         (λ other has_other apart w ticket is there.
         subst (λ p. Contains (list (book_at p core)) (in_book_of w ticket) ↔ has (seat_at w written) ticket) there
         (at_session (λ v s. Contains (list (book_at ticket.place core)) (in_book_of v ticket) ↔ has s ticket)
-        (then (before who ticket session (subst (λ p. has_key p core ≡ true) (sym there) has_other)) (back (follows.elsewhere ticket (λ e. apart (sym there ∙ e)))))
+        (through (before who ticket session (subst (λ p. has_key p core ≡ true) (sym there) has_other)) (back (follows.elsewhere ticket (λ e. apart (sym there ∙ e)))))
         (λ v is_v _. before v ticket is_v (subst (λ p. has_key p core ≡ true) (sym there) has_other)) w is))
         ticket.place (had_key ticket.place is_key) w ticket (had_session w is_session) refl
 
