@@ -63,7 +63,7 @@ joins-comes C a b call answer tied (speaks, has, makes) = by makes
         let who = some_caller call takes in
         let told = memory-told a call who.0 takes in
         subst (λ r. Comes C a call (r, b)) (sym out) (subst (λ c. Comes C a call (Refused OutOfMemory, c)) (sym same)
-        (refused C a call who.0 OutOfMemory who.1 told.0 (λ how has. told.1 how) tt))
+        (refused C a who.0 OutOfMemory who.1 told.0 (λ how has. told.1 how) tt))
     by (inr e) = subst (Comes C a call) e (made C a tied call has (sessions (caller call) speaks))
 
 -- ---- what a call leaves to the sessions
