@@ -44,13 +44,16 @@ use Rattle.mdl_system.proofs.StrengthLemmas.{covers-at_least}
 
 -- ---- tests
 
+-- what a test of numbers says
 at_least : (m n : ℕ) → nat_le m n ≡ true → m ≤ n
 at_least m n e = grind (arith, nat_tests)
 
+-- where it is said that there is none, there is none
 none_there : {T : Type 0} (value : Option T) → is_some value ≡ false → value ≡ None
 none_there None e = refl
 none_there (Some x) e = cc
 
+-- a session waits where its seat has a wait
 waiting-same : (seat : SeatView) → is_waiting (own_of seat) ≡ is_some seat.wait
 waiting-same seat = elim seat.wait as (λ o. is_waiting (own_of (record seat { wait = o })) ≡ is_some o) [ None ↦ refl | Some wait ↦ refl ]
 
@@ -96,24 +99,29 @@ module _ (C : Type 0) (a : Core) where
   -- ---- what a session knows, and has
 
   module _ (who : ℕ) where
+    -- whether it waits
     waits_so : (answer : Bool) → is_some (seat_at who a).wait ≡ answer → is_waiting (own_at a who) ≡ answer
     waits_so answer e = waiting-same (seat_at who a) ∙ e
 
+    -- whether a mode is of the kind of the key that it knows at a place
     fit : (place : ℕ) (mode : Mode) → is_mode_of (lock_kind (book_at place a)) mode ≡ true → IsFit (Knows a who) place mode
     fit place mode e key knows = subst (λ (k : KeyName). is_mode_of (kind_of k.namespace) mode ≡ true) knows.1 e
 
     unfit : (place : ℕ) (mode : Mode) → is_mode_of (lock_kind (book_at place a)) mode ≡ false → IsUnfit (Knows a who) place mode
     unfit place mode e key knows = subst (λ (k : KeyName). is_mode_of (kind_of k.namespace) mode ≡ false) knows.1 e
 
+    -- it knows no key where there is none
     unknown : (place : ℕ) → has_key place a ≡ false → IsUnknown (Knows a who) place
     unknown place e key knows = let f = knows.0 in cc
 
+    -- a ticket that it holds
     of_held : (id : ℕ) (ticket : Held) (P : Held → Type 0) → held_ticket who id a ≡ Some ticket → P ticket → OfHeld id (own_at a who) P
     of_held id ticket P e p = subst (λ (o : Option Held). MatchOption o ⊥ P) (sym e) p
 
     in_hand : (id : ℕ) (ticket : Held) → held_ticket who id a ≡ Some ticket → Contains (seat_at who a).held ticket × (ticket.id ≡ id)
     in_hand id ticket e = let h = found-first (is_number id) (seat_at who a).held ticket e in (h.0, eqb-true _ _ h.1)
 
+    -- one that can't serve for a second one
     not_clonable : (mode : Mode) (ticket : Held) → (covers ticket.mode mode && is_mode_of (lock_kind (book_at ticket.place a)) mode) ≡ false
         → MayNotClone (Knows a who) mode ticket
     not_clonable mode ticket cannot covered = elim (and_cases (covers ticket.mode mode) (is_mode_of (lock_kind (book_at ticket.place a)) mode) cannot) [
@@ -140,11 +148,13 @@ module _ (C : Type 0) (a : Core) where
   abbrev F : Call → Answer × Core → Type 0
   F = Comes C a
 
+  -- what a call does to its caller, and tells it
   tells : {call : Call} {answer : Answer} {way : Way} {who : ℕ} → own_of (seat_by way who a) ≡ own_after call answer (own_at a who)
       → Draws call answer (numbers_at a who) (numbers_of (seat_by way who a)) → IsExplained (Knows a who) call answer (own_at a who)
       → ((how : Settled) → HasSettled (seat_at who a) how → IsToldOf how call answer) → ServesCaller a call answer way who
   tells own draws explained agrees = record { own = own; draws = draws; explained = explained; agrees = agrees }
 
+  -- by a test that the call makes
   tested : {call : Call} {test : Bool} {x y : Answer × Core} → (test ≡ true → F call x) → (test ≡ false → F call y) → F call (if test then x else y)
   tested {call} {test} {x} {y} met unmet = test_cases (F call) test x y met unmet
 

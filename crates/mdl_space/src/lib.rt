@@ -22,9 +22,9 @@ pub use mdl_calls::{
 };
 pub use mdl_core::{
     NewError, calls_are_events, calls_keep_sound, calls_lead_by_events, grants_what_is_grantable,
-    kills_just_that_wait, only_new_waits_make_deadlocks, refuses_for_cause, searches_find_deadlocks,
-    searches_leave_no_deadlock, searches_suffice, searching_ends_deadlocks,
-    sessions_have_what_the_system_says, waiting_leaves_no_deadlock,
+    kills_just_that_wait, only_new_waits_make_deadlocks, refuses_for_cause,
+    searches_find_deadlocks, searches_leave_no_deadlock, searches_suffice,
+    searching_ends_deadlocks, sessions_have_what_the_system_says, waiting_leaves_no_deadlock,
 };
 pub use mdl_system::{
     changes_by_lists, covers_by_kind, definitions_change_exclusively, definitions_stand_still,
