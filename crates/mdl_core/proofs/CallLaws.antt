@@ -37,6 +37,7 @@ some_caller (Wait_of _) takes = cc
 some_caller (Kill _ _) takes = cc
 some_caller _ takes = (_, refl)
 
+-- and want of memory is a cause of its own
 memory-told : (a : Core) (call : Call) (who : ℕ) → takes_memory call ≡ true
     → IsCause (Knows a who) call OutOfMemory (own_at a who) × ((how : Settled) → IsToldOf how call (Refused OutOfMemory))
 memory-told a (Change_definition _ _ _) who takes = (takes, λ how. tt)
@@ -63,7 +64,7 @@ joins-comes C a b call answer tied (speaks, has, makes) = by makes
         let who = some_caller call takes in
         let told = memory-told a call who.0 takes in
         subst (λ r. Comes C a call (r, b)) (sym out) (subst (λ c. Comes C a call (Refused OutOfMemory, c)) (sym same)
-        (refused C a call who.0 OutOfMemory who.1 told.0 (λ how has. told.1 how) tt))
+        (refused C a who.0 OutOfMemory who.1 told.0 (λ how has. told.1 how) tt))
     by (inr e) = subst (Comes C a call) e (made C a tied call has (sessions (caller call) speaks))
 
 -- ---- what a call leaves to the sessions
@@ -76,6 +77,7 @@ record IsLeft (a : Core) (call : Call) (way : Way) (b : Core) : Type 0 where
   others : (w : ℕ) → has_session w a ≡ true → (caller call ≡ Some w → ⊥) → (own_at b w ≡ own_at a w) × (numbers_at b w ≡ numbers_at a w)
   settled : (w : ℕ) (how : Settled) → has_session w a ≡ true → (call ≡ End_wait w → ⊥) → HasSettled (seat_at w a) how → HasSettled (seat_at w b) how
 
+-- a way by which all have what they had
 left-spared : (a : Core) (call : Call) (way : Way) → ((w : ℕ) → seat_by way w a ≡ seat_at w a) → Spares a (space_by way a) → IsLeft a call way (space_by way a)
 left-spared a call way same spares = record {
   sessions = spares.sessions;
@@ -86,6 +88,7 @@ left-spared a call way same spares = record {
 }
 
 module _ (a : Core) (call : Call) (answer : Answer) (tied : IsTied a) where
+  -- a change that the caller makes
   left-made : (who place : ℕ) (change : Change) → IsMade (Unit {0}) a call answer who place change → caller call ≡ Some who
       → (is_end change ≡ true → call ≡ End_wait who) → IsLeft a call (Make who place change) (space_by (Make who place change) a)
   left-made who place change made mine ends = record {
@@ -132,6 +135,7 @@ module _ (a : Core) (call : Call) (answer : Answer) (tied : IsTied a) where
               subst (λ v. HasSettled (seat_at v a) how → HasSettled (seat_at v mid) how) (sym same)
               (λ h. subst (λ s. HasSettled s how) (sym (seat-changed a who place change made.may)) (settled-changed a who place change made.may e how h)) has
 
+  -- any way
   way-left : (way : Way) → Made (Unit {0}) a call answer way → IsLeft a call way (space_by way a)
   way-left Stay made = left-spared a call Stay (λ w. refl) (spares-same a)
   way-left (Open key) made = left-spared a call (Open key) (λ w. refl) (spares-opening a key)
@@ -284,6 +288,7 @@ same-settled : (b : Core) (w who : ℕ) (h how : Settled) → Some w ≡ Some wh
 same-settled b w who h how mine e =
     subst (λ (p : Option ℕ × Option Settled). MatchOption p.0 ⊥ (λ v. MatchOption p.1 ⊥ (HasSettled (seat_at v b)))) (λ i. (mine i, e i))
 
+-- what an answer tells of the caller's wait is so
 told-so : (a b : Core) (call : Call) (answer : Answer) (who : ℕ) (how : Settled) → caller call ≡ Some who → told call answer ≡ Some how
     → IsSo a call answer b → HasSettled (seat_at who b) how
 told-so a b (Poll_wait w) (Is_settled h) who how mine e so = same-settled b w who h how mine e so

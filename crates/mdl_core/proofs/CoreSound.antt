@@ -36,6 +36,7 @@ use Rattle.mdl_system.proofs.RunLemmas.{same_system, Leads, leads-run, leads-the
 abbrev IsOf : {C : Type 0} → KeyName → Bool → Event C → Type 0
 IsOf key room event = ((other : KeyName) → IsAbout event other → other ≡ key) × (room ≡ false → FreesNothing event)
 
+-- so is the event of a change, of its place's key
 change-of : {C : Type 0} (a : Core) (who place : ℕ) (change : Change) (event : Event C) → May who place change a → IsChangeEvent who place change a event
     → IsOf (key_at place a) (makes_room change) event
 change-of {C} a who place change event may = by change may
@@ -78,6 +79,7 @@ module _ {C : Type 0} (apply : KeyName → C → Option Definition → Option (O
         × Happens apply event (system_of a) between × GrantsInOrder apply key grants between (system_of b))
 
   module _ (a : Core) (call : Call) (answer : Answer) (sound : IsSound a) where
+    -- nothing has changed in the system
     follows-calm : (b : Core) → IsTied b → system_of a ≡ system_of b → is_change call answer ≡ false → Follows a call answer b
     follows-calm b tied same calm = record {
       sound = record { tied = tied; lawful = subst IsLawful same sound.lawful; none_forgotten = subst NoneForgotten same sound.none_forgotten };
@@ -85,6 +87,7 @@ module _ {C : Type 0} (apply : KeyName → C → Option Definition → Option (O
       how = inl (calm, subst (SameSystem (system_of a)) same (same_system (system_of a)));
     }
 
+    -- a change was made, and where it made room waiters were granted
     follows-made : (who place : ℕ) (change : Change) → IsMade C a call answer who place change
         → Follows a call answer (served_if (makes_room change) place (changing who place change a))
     follows-made who place change made = by (makes_room change) refl
@@ -134,6 +137,7 @@ module _ {C : Type 0} (apply : KeyName → C → Option Definition → Option (O
               how = inr (made.event, served.events, system_of mid, key_at place mid, made.call_is, about, happens, served.in_order);
             }
 
+    -- any way
     follows-way : (way : Way) → Made C a call answer way → Follows a call answer (space_by way a)
     follows-way Stay made = follows-calm a sound.tied refl made.is_way
     follows-way (Open key) made =
@@ -141,6 +145,7 @@ module _ {C : Type 0} (apply : KeyName → C → Option Definition → Option (O
     follows-way (Settle_wait who place how) made = follows-made who place (Settle how) made.is_way
     follows-way (Make who place change) made = follows-made who place change made.is_way.0
 
+  -- any call
   calls-follow : (a b : Core) (call : Call) (answer : Answer) → IsSound a → Joins a call answer b → Follows a call answer b
   calls-follow a b call answer sound joins =
       let h = joins-comes C a b call answer sound.tied joins in
@@ -184,6 +189,7 @@ none_unended : (n who : ℕ) → unended_from who (replicate n empty_seat) ≡ [
 none_unended zero who = refl
 none_unended (suc n) who = none_unended n (who + 1)
 
+-- it is the empty system
 empty-same : (places sessions : ℕ) → empty_system {D = Definition} ≡ system_of (empty_core places sessions)
 empty-same places sessions = λ i. record {
   granted = [];
@@ -206,6 +212,7 @@ module _ {C : Type 0} (apply : KeyName → C → Option Definition → Option (O
   abbrev IsReached : Core → Type 0
   IsReached core = IsSound core × ((events : List (Event C)) × Leads apply events empty_system (system_of core))
 
+  -- one call after another
   all-reached : (calls : List (Call × Answer)) (a b : Core) → IsReached a → Joined calls a b → IsReached b
   all-reached [] a b reached same = subst IsReached same reached
   all-reached ((call, answer) ∷ calls) a b (sound, (events, early)) (between, joins, rest) =

@@ -9,10 +9,10 @@ use Rattle.mdl_key.specs.Modes.{kind_of, is_mode_of}
 use Rattle.mdl_calls.specs.declared.answers.Held.{Held}
 use Rattle.mdl_calls.specs.declared.answers.Settled.{Settled}
 use Rattle.mdl_calls.specs.declared.answers.Settled.TheVariants as settled_as
-use Rattle.mdl_calls.specs.declared.answers.TimedOut.TheVariants.{ByThisCall, Already}
+use Rattle.mdl_calls.specs.declared.answers.TimedOut.TheVariants.{Already}
 use Rattle.mdl_calls.specs.declared.space_error.SpaceError.{SpaceError}
 use Rattle.mdl_calls.specs.declared.space_error.SpaceError.TheVariants.{NoPlace, NotHeld, AlreadyWaiting, BadMode, NoWait, Unsettled as Not_settled, CounterFull, Full}
-use Rattle.mdl_calls.specs.Answers.{Answer, Refused, Done, At_place, Granted, Would_wait, Pending as Is_pending, Is_settled, Timed_out, Lost, Has_killed, No_cycle, Victim_is, is_answer_of}
+use Rattle.mdl_calls.specs.Answers.{Answer, Refused, Granted, Is_settled, Timed_out, Lost, is_answer_of}
 use Rattle.mdl_calls.specs.Calls.{Call, Resolve, Try_now, Begin_wait, Search, Poll_wait, Settle_timeout, End_wait, Wait_of, Kill, Release, Clone_ticket, List_held, caller}
 use Rattle.mdl_calls.specs.Causes.{OfHeld, IsFit, IsUnfit, IsUnknown, MayClone, MayNotClone, IsCause, IsExplained}
 use Rattle.mdl_calls.specs.Own.{Own, Numbers, is_number, is_waiting, wait_number, own_after, winning, cloning as cloning_own, giving_up, Draws}
@@ -20,7 +20,7 @@ use Rattle.mdl_calls.specs.Waits.{IsEndOf, IsToldOf}
 use Rattle.mdl_core.specs.declared.pending.Pending.{Pending}
 use Rattle.mdl_core.specs.ChangeEvents.{holding_of, waiting_ticket, IsChangeEvent}
 use Rattle.mdl_core.specs.Changes.{Change, Gain, Lose, Queue, Leave, Take_up, May, next_ticket, losing, leaving, serving}
-use Rattle.mdl_core.specs.CoreCalls.{has_call, outcome, refused_or, first_cause, placing, request_causes, clone_causes, cloning_of, held_ticket, releasing_of, standing, polling_of, timing_out_at, timing_out_of, ending_at, ending_of, wait_at, is_open_wait, victim_at, searching_of, looking_after, listing}
+use Rattle.mdl_core.specs.CoreCalls.{has_call, outcome, refused_or, first_cause, placing, request_causes, clone_causes, cloning_of, held_ticket, releasing_of, standing, polling_of, timing_out_at, timing_out_of, ending_at, ending_of, wait_at, is_open_wait, victim_at, searching_of}
 use Rattle.mdl_core.specs.CoreJoins.{own_at, numbers_at, Knows}
 use Rattle.mdl_core.specs.CoreLaws.{is_change, IsEventOf}
 use Rattle.mdl_core.specs.Cores.{Core, book_at, seat_at, key_at, has_key, has_session, index_of, is_free}
@@ -44,13 +44,16 @@ use Rattle.mdl_system.proofs.StrengthLemmas.{covers-at_least}
 
 -- ---- tests
 
+-- what a test of numbers says
 at_least : (m n : ℕ) → nat_le m n ≡ true → m ≤ n
 at_least m n e = grind (arith, nat_tests)
 
+-- where it is said that there is none, there is none
 none_there : {T : Type 0} (value : Option T) → is_some value ≡ false → value ≡ None
 none_there None e = refl
 none_there (Some x) e = cc
 
+-- a session waits where its seat has a wait
 waiting-same : (seat : SeatView) → is_waiting (own_of seat) ≡ is_some seat.wait
 waiting-same seat = elim seat.wait as (λ o. is_waiting (own_of (record seat { wait = o })) ≡ is_some o) [ None ↦ refl | Some wait ↦ refl ]
 
@@ -96,24 +99,29 @@ module _ (C : Type 0) (a : Core) where
   -- ---- what a session knows, and has
 
   module _ (who : ℕ) where
+    -- whether it waits
     waits_so : (answer : Bool) → is_some (seat_at who a).wait ≡ answer → is_waiting (own_at a who) ≡ answer
     waits_so answer e = waiting-same (seat_at who a) ∙ e
 
+    -- whether a mode is of the kind of the key that it knows at a place
     fit : (place : ℕ) (mode : Mode) → is_mode_of (lock_kind (book_at place a)) mode ≡ true → IsFit (Knows a who) place mode
     fit place mode e key knows = subst (λ (k : KeyName). is_mode_of (kind_of k.namespace) mode ≡ true) knows.1 e
 
     unfit : (place : ℕ) (mode : Mode) → is_mode_of (lock_kind (book_at place a)) mode ≡ false → IsUnfit (Knows a who) place mode
     unfit place mode e key knows = subst (λ (k : KeyName). is_mode_of (kind_of k.namespace) mode ≡ false) knows.1 e
 
+    -- it knows no key where there is none
     unknown : (place : ℕ) → has_key place a ≡ false → IsUnknown (Knows a who) place
     unknown place e key knows = let f = knows.0 in cc
 
+    -- a ticket that it holds
     of_held : (id : ℕ) (ticket : Held) (P : Held → Type 0) → held_ticket who id a ≡ Some ticket → P ticket → OfHeld id (own_at a who) P
     of_held id ticket P e p = subst (λ (o : Option Held). MatchOption o ⊥ P) (sym e) p
 
     in_hand : (id : ℕ) (ticket : Held) → held_ticket who id a ≡ Some ticket → Contains (seat_at who a).held ticket × (ticket.id ≡ id)
     in_hand id ticket e = let h = found-first (is_number id) (seat_at who a).held ticket e in (h.0, eqb-true _ _ h.1)
 
+    -- one that can't serve for a second one
     not_clonable : (mode : Mode) (ticket : Held) → (covers ticket.mode mode && is_mode_of (lock_kind (book_at ticket.place a)) mode) ≡ false
         → MayNotClone (Knows a who) mode ticket
     not_clonable mode ticket cannot covered = elim (and_cases (covers ticket.mode mode) (is_mode_of (lock_kind (book_at ticket.place a)) mode) cannot) [
@@ -140,31 +148,36 @@ module _ (C : Type 0) (a : Core) where
   abbrev F : Call → Answer × Core → Type 0
   F = Comes C a
 
+  -- what a call does to its caller, and tells it
   tells : {call : Call} {answer : Answer} {way : Way} {who : ℕ} → own_of (seat_by way who a) ≡ own_after call answer (own_at a who)
       → Draws call answer (numbers_at a who) (numbers_of (seat_by way who a)) → IsExplained (Knows a who) call answer (own_at a who)
       → ((how : Settled) → HasSettled (seat_at who a) how → IsToldOf how call answer) → ServesCaller a call answer way who
   tells own draws explained agrees = record { own = own; draws = draws; explained = explained; agrees = agrees }
 
+  -- by a test that the call makes
+  tested : {call : Call} {test : Bool} {x y : Answer × Core} → (test ≡ true → F call x) → (test ≡ false → F call y) → F call (if test then x else y)
+  tested {call} {test} {x} {y} met unmet = test_cases (F call) test x y met unmet
+
   -- answered, and nothing changes
-  stays : (call : Call) (answer : Answer) → is_answer_of call answer ≡ true → is_change call answer ≡ false → IsSo a call answer a
+  stays : {call : Call} {answer : Answer} → is_answer_of call answer ≡ true → is_change call answer ≡ false → IsSo a call answer a
       → IfSome (caller call) (ServesCaller a call answer Stay) → F call (answer, a)
-  stays call answer fits calm so caller = record { way = Stay; is = record { fits = fits; is_way = calm; so = so; caller = caller }; leads = refl }
+  stays fits calm so caller = record { way = Stay; is = record { fits = fits; is_way = calm; so = so; caller = caller }; leads = refl }
 
   -- refused by this cause
-  pub refused : (call : Call) (who : ℕ) (refusal : SpaceError) → caller call ≡ Some who → IsCause (Knows a who) call refusal (own_at a who)
+  pub refused : {call : Call} (who : ℕ) (refusal : SpaceError) → caller call ≡ Some who → IsCause (Knows a who) call refusal (own_at a who)
       → ((how : Settled) → HasSettled (seat_at who a) how → IsToldOf how call (Refused refusal)) → MeetsLimit a call refusal → F call (Refused refusal, a)
-  refused call who refusal mine cause agrees limit =
+  refused {call} who refusal mine cause agrees limit =
       let plain = refusal-plain call who refusal mine in
-      stays call (Refused refusal) plain.0 plain.1 limit
+      stays plain.0 plain.1 limit
       (subst (λ o. IfSome o (ServesCaller a call (Refused refusal) Stay)) (sym mine) (tells (plain.2 (own_at a who)) (plain.3 (numbers_at a who)) cause agrees))
 
   -- the caller makes a change
-  makes : (call : Call) (answer : Answer) (who place : ℕ) (change : Change) → May who place change a → (event : Event C)
+  makes : {call : Call} {answer : Answer} (who place : ℕ) (change : Change) → May who place change a → (event : Event C)
       → IsChangeEvent who place change a event × IsEventOf a call answer event × WaitsForCause event (system_of a)
       → (caller call ≡ Some who) × (is_end change ≡ true → call ≡ End_wait who) → is_answer_of call answer ≡ true
       → IsSo a call answer (space_by (Make who place change) a) → IfSome (caller call) (ServesCaller a call answer (Make who place change))
       → F call (answer, space_by (Make who place change) a)
-  makes call answer who place change may event is mine fits so caller = record {
+  makes who place change may event is mine fits so caller = record {
     way = Make who place change;
     is = record {
       fits = fits;
@@ -176,12 +189,12 @@ module _ (C : Type 0) (a : Core) where
   }
 
   -- a wait is lost, and is settled so then
-  loses : (call : Call) (answer : Answer) (who : ℕ) (how : Settled) (wait : Pending) → has_key wait.place a ≡ true → has_session who a ≡ true
+  loses : {call : Call} {answer : Answer} (who : ℕ) (how : Settled) (wait : Pending) → has_key wait.place a ≡ true → has_session who a ≡ true
       → (seat_at who a).wait ≡ Some wait → wait.settled ≡ None → how ≢ settled_as.Granted
       → IsEventOf {C = C} a call answer (SettleLost (key_at wait.place a) (waiter_of (waiting_ticket who wait) (Some wait)) (state_of (Some how)))
       → is_answer_of call answer ≡ true → (HasSettled (seat_at who (losing who how a)) how → IsSo a call answer (losing who how a))
       → IfSome (caller call) (ServesCaller a call answer (Settle_wait who wait.place how)) → F call (answer, losing who how a)
-  loses call answer who how wait key is its free other call_is fits so caller = record {
+  loses who how wait key is its free other call_is fits so caller = record {
     way = Settle_wait who wait.place how;
     is = record {
       fits = fits;
@@ -209,11 +222,11 @@ module _ (C : Type 0) (a : Core) where
       busy : not (is_free who place mode a) ≡ true → IsGrantable (system_of a) who (key_at place a) mode → ⊥
 
     -- it is asked for by a call that is refused as trying is
-    asked : (call : Call) (who place : ℕ) (mode : Mode) (outcome : Answer × Core) → has_session who a ≡ true
+    asked : {call : Call} {outcome : Answer × Core} (who place : ℕ) (mode : Mode) → has_session who a ≡ true
         → ((refusal : SpaceError) → IsCause (Knows a who) (Try_now who place mode) refusal (own_at a who) → MeetsLimit a (Try_now who place mode) refusal
         → F call (Refused refusal, a))
         → (IsAskable who place mode → F call outcome) → F call (refused_or (first_cause (request_causes who place mode a)) a outcome)
-    asked call who place mode outcome is refuse other =
+    asked {call} {outcome} who place mode is refuse other =
         cause_cases (F call) a outcome (request_causes who place mode a) ((λ e. refuse NoPlace (unknown who place (not_true _ e)) (not_true _ e)), by)
       where
         clear : is_some (seat_at who a).wait ≡ false → not (is_mode_of (lock_kind (book_at place a)) mode) ≡ false
@@ -241,84 +254,73 @@ module _ (C : Type 0) (a : Core) where
     pub made : (call : Call) → has_call call ≡ true → IfSome (caller call) (λ who. has_session who a ≡ true) → F call (outcome call a)
     made (Resolve who key) has is =
         option_cases (λ o. F (Resolve who key) (placing key o a)) (index_of key a.books)
-        (λ none. test_cases (F (Resolve who key)) _ _ _
-        (λ full. refused (Resolve who key) who NoPlace refl (λ place knows. unplaced a who place key none knows) (λ _ _. tt)
+        (λ none. tested (λ full. refused who NoPlace refl (λ place knows. unplaced a who place key none knows) (λ _ _. tt)
         (at_least a.places (length a.books) full, λ place key_there same. unplaced a who place key none (key_there, same)))
         (λ _. record {
           way = Open key;
           is = record { fits = refl; is_way = (refl, none); so = new-known a key who; caller = tells refl refl tt (λ _ _. tt) };
           leads = refl;
         }))
-        (λ index e. stays (Resolve who key) (At_place (index + 1)) refl refl (found a key index e) (tells refl refl tt (λ _ _. tt)))
+        (λ index e. stays refl refl (found a key index e) (tells refl refl tt (λ _ _. tt)))
     made (Try_now who place mode) has is =
-        asked (Try_now who place mode) who place mode _ is refuse
-        (λ ask. test_cases (F (Try_now who place mode)) _ _ _
-        (λ busy. stays (Try_now who place mode) Would_wait refl refl (ask.busy busy) (tells refl refl ask.clear (λ _ _. tt)))
-        (λ free. test_cases (F (Try_now who place mode)) _ _ _ (λ full. refuse Full ask.clear (at_least _ _ full))
-        (λ _. makes (Try_now who place mode) _ who place (Gain mode) ask.may (Grant (record { session = who; number = _; key = key_at place a; mode = mode }))
+        asked who place mode is (λ refusal cause limit. refused who refusal refl cause (λ _ _. tt) limit)
+        (λ ask. tested (λ busy. stays refl refl (ask.busy busy) (tells refl refl ask.clear (λ _ _. tt)))
+        (λ free. tested (λ full. refused who Full refl ask.clear (λ _ _. tt) (at_least _ _ full))
+        (λ _. makes who place (Gain mode) ask.may (Grant (record { session = who; number = _; key = key_at place a; mode = mode }))
         (inl (refl, ask.free (not_false _ free)), refl, tt) (refl, λ e. cc) refl tt (tells refl (refl, refl) ask.clear (λ _ _. tt)))))
-      where
-        refuse : (refusal : SpaceError) → IsCause (Knows a who) (Try_now who place mode) refusal (own_at a who) → MeetsLimit a (Try_now who place mode) refusal
-            → F (Try_now who place mode) (Refused refusal, a)
-        refuse refusal cause limit = refused (Try_now who place mode) who refusal refl cause (λ _ _. tt) limit
     made (Begin_wait who place mode) has is =
-        asked (Begin_wait who place mode) who place mode _ is refuse
-        (λ ask. test_cases (F (Begin_wait who place mode)) _ _ _
-        (λ busy. test_cases (F (Begin_wait who place mode)) _ _ _ (λ full. refuse Full ask.clear (at_least _ _ full))
-        (λ _. makes (Begin_wait who place mode) _ who place (Queue mode) (record { session = is; key = ask.may.key; allows = ask.may.allows })
+        asked who place mode is refuse
+        (λ ask. tested (λ busy. tested (λ full. refused who Full refl ask.clear (λ _ _. tt) (at_least _ _ full))
+        (λ _. makes who place (Queue mode) (record { session = is; key = ask.may.key; allows = ask.may.allows })
         (BeginWait (key_at place a) (record { ticket = next_ticket who mode a; wait = (seat_at who a).last_wait + 1; state = Unsettled }))
         (refl, (_, refl), ask.busy busy) (refl, λ e. cc) refl (ask.busy busy) (tells refl (refl, refl) ask.clear (λ _ _. tt))))
-        (λ free. test_cases (F (Begin_wait who place mode)) _ _ _ (λ full. refuse Full ask.clear (at_least _ _ full))
-        (λ _. makes (Begin_wait who place mode) _ who place (Gain mode) ask.may (Grant (record { session = who; number = _; key = key_at place a; mode = mode }))
+        (λ free. tested (λ full. refused who Full refl ask.clear (λ _ _. tt) (at_least _ _ full))
+        (λ _. makes who place (Gain mode) ask.may (Grant (record { session = who; number = _; key = key_at place a; mode = mode }))
         (inl (refl, ask.free (not_false _ free)), refl, tt) (refl, λ e. cc) refl tt (tells refl (refl, refl) ask.clear (λ _ _. tt)))))
       where
-        by : (refusal : SpaceError) → IsCause (Knows a who) (Try_now who place mode) refusal (own_at a who) → MeetsLimit a (Try_now who place mode) refusal
-            → IsCause (Knows a who) (Begin_wait who place mode) refusal (own_at a who) × MeetsLimit a (Begin_wait who place mode) refusal
-        by NoPlace cause limit = (cause, limit)
-        by _ cause limit = (cause, limit)
-
         refuse : (refusal : SpaceError) → IsCause (Knows a who) (Try_now who place mode) refusal (own_at a who) → MeetsLimit a (Try_now who place mode) refusal
             → F (Begin_wait who place mode) (Refused refusal, a)
-        refuse refusal cause limit = let h = by refusal cause limit in refused (Begin_wait who place mode) who refusal refl h.0 (λ _ _. tt) h.1
+        refuse NoPlace cause limit = refused who NoPlace refl cause (λ _ _. tt) limit
+        refuse _ cause limit = refused who _ refl cause (λ _ _. tt) limit
     made (Search who) has is =
         option_cases (λ o. F (Search who) (searching_of o a)) (victim_at who a)
-        (λ none. stays (Search who) No_cycle refl refl tt (tells refl refl tt (λ _ _. tt)))
+        (λ none. stays refl refl tt (tells refl refl tt (λ _ _. tt)))
         (λ victim e. (let h = victim-waits a who victim tied e in
-        loses (Search who) (Victim_is victim) victim settled_as.Victim h.0 (wait_placed a victim h.0 tied h.1 h.2) h.1 h.2 h.3 (λ x. cc)
+        loses victim settled_as.Victim h.0 (wait_placed a victim h.0 tied h.1 h.2) h.1 h.2 h.3 (λ x. cc)
         (_, _, refl, refl) refl (λ lost. lost) (tells refl refl tt (λ _ _. tt))))
     made (Poll_wait who) has is =
         option_cases (λ o. F (Poll_wait who) (polling_of o a)) (seat_at who a).wait
-        (λ none. (let idle = idle_so who none in refused (Poll_wait who) who NoWait refl idle.0 (λ how has. absurd (idle.1 how has)) tt))
+        (λ none. (let idle = idle_so who none in refused who NoWait refl idle.0 (λ how has. absurd (idle.1 how has)) tt))
         (λ wait its. option_cases (λ s. F (Poll_wait who) (standing s, a)) wait.settled
-        (λ free. stays (Poll_wait who) Is_pending refl refl tt (tells refl refl (waiting_so who wait its) (λ how has. absurd (not_so who wait its free how has))))
-        (λ how settled. stays (Poll_wait who) (Is_settled how) refl refl (settled_at (seat_at who a) wait how its settled)
+        (λ free. stays refl refl tt (tells refl refl (waiting_so who wait its) (λ how has. absurd (not_so who wait its free how has))))
+        (λ how settled. stays refl refl (settled_at (seat_at who a) wait how its settled)
         (tells refl refl (waiting_so who wait its) (λ other has. ap (λ h. Is_settled h) (same_settled who wait its how other settled has)))))
     made (Settle_timeout who) has is =
         option_cases (λ o. F (Settle_timeout who) (timing_out_of who o a)) (seat_at who a).wait
-        (λ none. (let idle = idle_so who none in refused (Settle_timeout who) who NoWait refl idle.0 (λ how has. absurd (idle.1 how has)) tt))
+        (λ none. (let idle = idle_so who none in refused who NoWait refl idle.0 (λ how has. absurd (idle.1 how has)) tt))
         (λ wait its. option_cases (λ s. F (Settle_timeout who) (timing_out_at who s a)) wait.settled
-        (λ free. loses (Settle_timeout who) (Timed_out ByThisCall) who settled_as.Timeout wait (wait_placed a who wait tied is its) is its free (λ x. cc)
+        (λ free. loses who settled_as.Timeout wait (wait_placed a who wait tied is its) is its free (λ x. cc)
         (_, _, refl, refl) refl (λ lost. lost) (tells refl refl (waiting_so who wait its) (λ how has. absurd (not_so who wait its free how has))))
-        (λ how settled. stays (Settle_timeout who) (Timed_out (Already how)) refl refl (settled_at (seat_at who a) wait how its settled)
+        (λ how settled. stays refl refl (settled_at (seat_at who a) wait how its settled)
         (tells refl refl (waiting_so who wait its) (λ other has. ap (λ h. Timed_out (Already h)) (same_settled who wait its how other settled has)))))
     made (End_wait who) has is =
         option_cases (λ o. F (End_wait who) (ending_of who o a)) (seat_at who a).wait
-        (λ none. (let idle = idle_so who none in refused (End_wait who) who NoWait refl idle.0 (λ how has. absurd (idle.1 how has)) tt))
+        (λ none. (let idle = idle_so who none in refused who NoWait refl idle.0 (λ how has. absurd (idle.1 how has)) tt))
         (λ wait its. at wait its wait.settled refl)
       where
         left : (wait : Pending) → (seat_at who a).wait ≡ Some wait → (how : Settled) → wait.settled ≡ Some how → how ≢ settled_as.Granted
             → is_answer_of (End_wait who) (Lost how) ≡ true → IsEndOf how (Lost how) → F (End_wait who) (Lost how, serving wait.place (leaving who wait a))
         left wait its how settled other fits end =
-            makes (End_wait who) (Lost how) who wait.place (Leave wait)
+            makes who wait.place (Leave wait)
             (record { session = is; key = wait_placed a who wait tied is its; allows = (its, (λ e. other (let f = sym settled ∙ e in cc)), refl) })
             (EndLostWait (key_at wait.place a) (waiter_of (waiting_ticket who wait) (Some wait)))
             ((refl, λ e. (let f = sym settled ∙ e in cc)), (_, _, refl, ap state_of settled, refl), tt) (refl, λ e. refl) fits tt
             (tells refl refl (waiting_so who wait its) (λ h has. subst (λ g. IsEndOf g (Lost how)) (same_settled who wait its how h settled has) end))
 
         at : (wait : Pending) → (seat_at who a).wait ≡ Some wait → (s : Option Settled) → wait.settled ≡ s → F (End_wait who) (ending_at who wait s a)
-        at wait its None free = refused (End_wait who) who Not_settled refl (waiting_so who wait its) (λ how has. absurd (not_so who wait its free how has)) tt
+        at wait its None free = refused who Not_settled refl (waiting_so who wait its) (λ how has. absurd (not_so who wait its free how has)) tt
         at wait its (Some settled_as.Granted) won =
-            makes (End_wait who) (Granted wait.id) who wait.place (Take_up wait)
+            makes who wait.place (Take_up wait)
             (record { session = is; key = wait_placed a who wait tied is its; allows = (its, won, refl) })
             (EndGrantedWait (record { session = who; wait = wait.number; ticket = wait.id })) (refl, (wait.number, refl), tt) (refl, λ e. refl) refl tt
             (tells (subst (λ (o : Option Pending). own_of (with_ticket_of wait (seat_at who a)) ≡ winning wait.id (option_map as_wait o) (own_at a who)) (sym its) refl)
@@ -327,27 +329,26 @@ module _ (C : Type 0) (a : Core) where
         at wait its (Some settled_as.Victim) e = left wait its settled_as.Victim e (λ x. cc) refl refl
         at wait its (Some settled_as.Timeout) e = left wait its settled_as.Timeout e (λ x. cc) refl refl
         at wait its (Some settled_as.Killed) e = left wait its settled_as.Killed e (λ x. cc) refl refl
-    made (Wait_of target) has is = stays (Wait_of target) (looking_after target a).0 refl refl refl tt
+    made (Wait_of target) has is = stays refl refl refl tt
     made (Kill target number) has is =
-        test_cases (F (Kill target number)) _ _ _
-        (λ e. (let h = killed_wait a target number e in
-        loses (Kill target number) (Has_killed true) target settled_as.Killed h.0 (wait_placed a target h.0 tied h.1 h.2) h.1 h.2 h.4 (λ x. cc)
+        tested (λ e. (let h = killed_wait a target number e in
+        loses target settled_as.Killed h.0 (wait_placed a target h.0 tied h.1 h.2) h.1 h.2 h.4 (λ x. cc)
         (_, _, refl, h.3, refl) refl (λ lost. (sym (number-same (seat_at target a)) ∙ ap (option_map (λ (x : Pending). x.number)) h.2 ∙ ap Some h.3, lost)) tt))
-        (λ shut. stays (Kill target number) (Has_killed false) refl refl (shut, refl) tt)
+        (λ shut. stays refl refl (shut, refl) tt)
     made (Release who id) has is =
         option_cases (λ o. F (Release who id) (releasing_of who o a)) (held_ticket who id a)
-        (λ none. refused (Release who id) who NotHeld refl (ap is_some none) (λ _ _. tt) tt)
+        (λ none. refused who NotHeld refl (ap is_some none) (λ _ _. tt) tt)
         (λ ticket e. (let mine = in_hand who id ticket e in
-        makes (Release who id) Done who ticket.place (Lose ticket)
+        makes who ticket.place (Lose ticket)
         (record { session = is; key = tied.placed who ticket is (inl (inl mine.0)); allows = (mine.0, refl) }) (Give_up (holding_of who ticket a))
         (refl, (_, refl, mine.1, refl), tt) (refl, λ f. cc) refl tt (tells (ap (λ n. giving_up n (own_at a who)) mine.1) refl (ap is_some e) (λ _ _. tt))))
     made (Clone_ticket who id mode) has is =
         option_cases (λ o. F (Clone_ticket who id mode) (cloning_of who mode o a)) (held_ticket who id a)
-        (λ none. refuse NotHeld (ap is_some none) tt)
+        (λ none. refused who NotHeld refl (ap is_some none) (λ _ _. tt) tt)
         (λ ticket e. cause_cases (F (Clone_ticket who id mode)) a _ (clone_causes who mode ticket a) (
-          (λ f. refuse AlreadyWaiting (ap is_some e, waits_so who true f) tt),
+          (λ f. refused who AlreadyWaiting refl (ap is_some e, waits_so who true f) (λ _ _. tt) tt),
           λ idle. (
-            (λ f. refuse BadMode (waits_so who false idle, of_held who id ticket (MayNotClone (Knows a who) mode) e (not_clonable who mode ticket (not_true _ f))) tt),
+            (λ f. refused who BadMode refl (waits_so who false idle, of_held who id ticket (MayNotClone (Knows a who) mode) e (not_clonable who mode ticket (not_true _ f))) (λ _ _. tt) tt),
             λ may. (
                 let able = and_parts (covers ticket.mode mode) (is_mode_of (lock_kind (book_at ticket.place a)) mode) (not_false _ may) in
                 let clear : (is_waiting (own_at a who) ≡ false) × OfHeld id (own_at a who) (MayClone (Knows a who) mode) =
@@ -355,10 +356,9 @@ module _ (C : Type 0) (a : Core) where
                 let mine = in_hand who id ticket e in
                 let key : has_key ticket.place a ≡ true = tied.placed who ticket is (inl (inl mine.0)) in
                 let legal = (tied.granted_by ticket.place key (in_book_of who ticket) ((tied.granted who ticket is key).1 (inl mine.0))).1 in (
-                  (λ f. refuse CounterFull clear (at_least _ _ f)),
-                  λ _. test_cases (F (Clone_ticket who id mode)) _ _ _
-                      (λ full. refuse Full clear (ticket, e, at_least _ _ full))
-                      (λ _. makes (Clone_ticket who id mode) _ who ticket.place (Gain mode) (record { session = is; key = key; allows = (none_there _ idle, able.1) })
+                  (λ f. refused who CounterFull refl clear (λ _ _. tt) (at_least _ _ f)),
+                  λ _. tested (λ full. refused who Full refl clear (λ _ _. tt) (ticket, e, at_least _ _ full))
+                      (λ _. makes who ticket.place (Gain mode) (record { session = is; key = key; allows = (none_there _ idle, able.1) })
                       (Clone (holding_of who ticket a) (record { session = who; number = _; key = key_at ticket.place a; mode = mode }))
                       (inr (ticket, mine.0, refl, covers-at_least (lock_kind (book_at ticket.place a)) ticket.mode mode legal able.1 able.0, refl), (_, refl, mine.1, refl), tt)
                       (refl, λ f. cc) refl tt
@@ -366,9 +366,5 @@ module _ (C : Type 0) (a : Core) where
                 )),
           ),
         ))
-      where
-        refuse : (refusal : SpaceError) → IsCause (Knows a who) (Clone_ticket who id mode) refusal (own_at a who) → MeetsLimit a (Clone_ticket who id mode) refusal
-            → F (Clone_ticket who id mode) (Refused refusal, a)
-        refuse refusal cause limit = refused (Clone_ticket who id mode) who refusal refl cause (λ _ _. tt) limit
-    made (List_held who) has is = stays (List_held who) (listing who a).0 refl refl refl (tells refl refl tt (λ _ _. tt))
+    made (List_held who) has is = stays refl refl refl (tells refl refl tt (λ _ _. tt))
     made _ has is = cc

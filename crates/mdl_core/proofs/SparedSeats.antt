@@ -70,6 +70,7 @@ pub record Spares (a b : Core) : Type 0 where
   pub keys : (w place : ℕ) (key : KeyName) → Knows a w place key → Knows b w place key
   pub seats : (w : ℕ) → has_session w a ≡ true → IsLike (seat_at w a) (seat_at w b)
 
+-- where nothing happened, and from one space to a third
 pub spares-same : (a : Core) → Spares a a
 spares-same a = record {
   sessions = λ w. refl;
@@ -120,6 +121,7 @@ module _ (a : Core) (who place : ℕ) (change : Change) (may : May who place cha
   abbrev book : Lists
   book = book_after who (seat_at who a) change (book_at place a)
 
+  -- the one seat is written
   seats-changed : b.seats ≡ slice_set a.seats (who - 1) seat
   seats-changed = by (is_of_book change)
     where
@@ -136,6 +138,7 @@ module _ (a : Core) (who place : ℕ) (change : Change) (may : May who place cha
   pub seat-other : (w : ℕ) → has_session w a ≡ true → w ≢ who → seat_at w b ≡ seat_at w a
   seat-other w is apart = ap (λ seats. slice_index_or seats (w - 1) empty_seat) seats-changed ∙ seated-other a who w seat may.session is apart
 
+  -- each place keeps its key
   same_key : (c : Change) → (book_after who (seat_at who a) c (book_at place a)).key ≡ key_at place a
   same_key (Gain mode) = refl
   same_key _ = refl
