@@ -1,5 +1,5 @@
 -- Lists any two members of which are in a relation, the one member that passes a test, and lists of rising numbers.
-use Rattle.std.proofs.Common.{◌≡◌, ℕ, suc, ◌<◌, Bool, true, false, cond, inl, inr, List, [], ◌∷◌, ◌++◌, get_or, map, refl, sym, ap, subst, ◌∙◌, arith}
+use Rattle.std.proofs.Common.{◌≡◌, ◌⊎◌, ℕ, suc, ◌<◌, Bool, true, false, cond, inl, inr, List, [], ◌∷◌, ◌++◌, get_or, map, refl, sym, ap, subst, ◌∙◌, arith}
 use Rattle.std.specs.Prelude.{All, AllPairs, Contains, IsTrue, filter, nat_lt}
 use Rattle.std.specs.List.{list_all, before_first, after_first, position_or_len}
 use Rattle.std.proofs.lemmas.Bool.Decides.{nat_tests}
@@ -120,3 +120,14 @@ rising-from_pairs (x ∷ xs) pairs =
     let head = all-less x.id xs (pairs-head below x xs pairs) in
     let tail = rising-from_pairs xs (pairs-tail below x xs pairs) in
     grind (arith, nat_tests)
+
+-- two of one number are one
+pub same-number : (xs : List Held) → AllPairs below xs → (t u : Held) → Contains xs t → Contains xs u → t.id ≡ u.id → t ≡ u
+same-number [] pairs t u one other e = absurd (none-in t one)
+same-number (x ∷ xs) pairs t u one other e = go (Contains-cons_cases x xs t one) (Contains-cons_cases x xs u other) (λ a b. same-number xs (pairs-tail below x xs pairs) t u a b e)
+  where
+    go : Contains xs t ⊎ (t ≡ x) → Contains xs u ⊎ (u ≡ x) → (Contains xs t → Contains xs u → t ≡ u) → t ≡ u
+    go (inl a) (inl b) rest = rest a b
+    go (inl a) (inr f) rest = let lt = pairs-head below x xs pairs t a in let same : u.id ≡ x.id = ap (λ (h : Held). h.id) f in absurd (omega arith)
+    go (inr f) (inl b) rest = let lt = pairs-head below x xs pairs u b in let same : t.id ≡ x.id = ap (λ (h : Held). h.id) f in absurd (omega arith)
+    go (inr f) (inr g) rest = f ∙ sym g
