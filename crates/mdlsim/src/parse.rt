@@ -1,49 +1,62 @@
 //! Reads lock scripts.
-ghost use Rattle.std.specs.Prelude.{◌≡◌, ◌≤◌, Ok, IfOk, IfErr};
+ghost use Rattle.std.specs.Prelude.{◌≡◌, ◌≤◌, ◌++◌, ◌∷◌, [], true, Ok, IfOk, IfErr};
 ghost use Rattle.std.specs.List.{All};
 ghost use Rattle.mdlsim.specs.Faults.{IsFaultOf};
 ghost use Rattle.mdlsim.specs.Scripts.{parsed};
 
 use crate::fault::Fault;
 use crate::lines::{line_says, strip_carriage_return};
-use crate::lock_command::LockCommand;
+use crate::script_command::ScriptCommand;
 use mdl_key::Kind;
 use std::alloc::Global;
 
-/// The commands of a script, or the number and the error of its first bad line.
-pub fn parse(alloc: Global, kind: Kind, text: &[u8]) -> Result<Vec<LockCommand>, Fault>
+/// The commands of a script, or the number and the error of its first bad line, which is told also where memory ran out
+/// before it.
+pub fn parse(alloc: Global, kind: Kind, text: &[u8]) -> Result<Vec<ScriptCommand>, Fault>
     ensures parsed { IfOk result (λ commands. parsed kind text.now ≡ Ok commands.items) }
     ensures refused { IfErr result (λ fault. IsFaultOf kind text.now fault) }
     ensures sessions { IfOk result (λ commands. All (λ command. (1 ≤ command.session) × (command.session ≤ 64)) commands.items) }
 {
     let mut commands = Vec::new(alloc);
     let mut number = 0;
+    let mut has_room = true;
     for line in text.split(|byte| *byte == b'\n') {
         number += 1;
         match line_says(kind, strip_carriage_return(line)) {
-            Ok(Some(command)) => commands.push(command).map_err(|_| Fault::Memory)?,
+            Ok(Some(command)) => has_room = push_in_room(&mut commands, has_room, command),
             Ok(None) => {}
             Err(error) => return Err(Fault::Refused(number, error)),
         }
     }
-    Ok(commands)
+    if has_room {
+        Ok(commands)
+    } else {
+        Err(Fault::Memory)
+    }
+}
+
+// Adds a command to those that had room, and says whether it has room too.
+fn push_in_room(commands: &mut Vec<ScriptCommand>, has_room: bool, command: ScriptCommand) -> bool
+    ensures { result ≡ true → (has_room ≡ true) × (commands.new.items ≡ commands.old.items ++ command ∷ []) }
+{
+    has_room && commands.push(command).is_ok()
 }
 
 #[cfg(test)]
 mod tests {
     use super::*;
     use crate::fault::LineError;
-    use crate::lock_command::Action;
+    use crate::script_command::Action;
     use mdl_key::Mode;
     use std::test::Fail;
 
-    fn parsed(rt: &HostRuntime, text: &[u8]) -> Result<Vec<LockCommand>, Fault> {
+    fn parsed(rt: &HostRuntime, text: &[u8]) -> Result<Vec<ScriptCommand>, Fault> {
         parse(rt.alloc(), Kind::Object, text)
     }
 
     #[test]
     fn reads_commands(rt: HostRuntime) -> Result<(), Fail> {
-        let shared_read = LockCommand {
+        let shared_read = ScriptCommand {
             session: 1,
             action: Action::Ask(Mode::SR),
         };
@@ -62,15 +75,15 @@ mod tests {
         }
         let script = "64 X\n7 RELEASE\n10 TIMEOUT";
         let commands = [
-            LockCommand {
+            ScriptCommand {
                 session: 64,
                 action: Action::Ask(Mode::X),
             },
-            LockCommand {
+            ScriptCommand {
                 session: 7,
                 action: Action::Release,
             },
-            LockCommand {
+            ScriptCommand {
                 session: 10,
                 action: Action::Timeout,
             },
@@ -138,7 +151,7 @@ mod tests {
                 let read = parse(rt.alloc(), kind, line.as_bytes());
                 if is_taken {
                     let action = Action::Ask(mode);
-                    let command = LockCommand { session: 1, action };
+                    let command = ScriptCommand { session: 1, action };
                     assert_eq!(rt; read?.as_slice(), [command].as_slice(), "{kind:?} {line}");
                 } else {
                     let refusal = Fault::Refused(1, LineError::BadWord);

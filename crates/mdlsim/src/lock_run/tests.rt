@@ -191,6 +191,33 @@ fn refused_scripts_write_nothing(rt: HostRuntime) -> Result<(), Fail> {
     Ok(())
 }
 
+// A writer that takes all is never said to have refused something, however long the output is: a line of 13 bytes or none,
+// and then lines of 10 and of 11 bytes.
+#[test]
+fn outputs_of_each_length_are_written(rt: HostRuntime) -> Result<(), Fail> {
+    for (first, answer) in [
+        (b"".as_slice(), b"".as_slice()),
+        (b"1 SR\n", b"1 GRANTED SR\n"),
+    ] {
+        for longer in 0..10 {
+            let mut script = Vec::from_slice(rt.alloc(), first)?;
+            let mut answers = Vec::from_slice(rt.alloc(), answer)?;
+            for _ in 0..longer {
+                script.extend_from_slice(b"10 TIMEOUT\n")?;
+                answers.extend_from_slice(b"10 REFUSED\n")?;
+            }
+            for _ in 0..120 {
+                let (result, written) = ran(rt.alloc(), script.as_slice());
+                assert_eq!(rt; result, Ok(()));
+                assert_eq!(rt; written.as_slice(), answers.as_slice());
+                script.extend_from_slice(b"1 TIMEOUT\n")?;
+                answers.extend_from_slice(b"1 REFUSED\n")?;
+            }
+        }
+    }
+    Ok(())
+}
+
 #[test]
 fn a_read_that_fails_is_told(rt: HostRuntime) -> Result<(), Fail> {
     let script = lines(rt.alloc(), SCRIPT)?;

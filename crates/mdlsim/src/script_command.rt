@@ -14,7 +14,7 @@ pub enum Action {
 
 /// A line of a script: a session and what it wants.
 #[derive(Clone, Copy, Debug, PartialEq, Eq)]
-pub struct LockCommand {
+pub struct ScriptCommand {
     /// The session, from 1 to 64.
     pub session: u16,
     /// What it wants.
