@@ -47,7 +47,6 @@ fn statuses_and_lines_of_a_run(rt: HostRuntime) {
     let both = "1 GRANTED SR\n2 WAITS X\n";
     for (words, script, input, output, status, answers, line) in [
         (LOCK, "1 SR\n2 X\n", sound, sound, 0, both, ""),
-        (LOCK, "", sound, sound, 0, "", ""),
         (
             SCOPED,
             "1 IX\n2 S\n",
@@ -74,9 +73,9 @@ fn statuses_and_lines_of_a_run(rt: HostRuntime) {
     ] {
         let mut source = Source::new(script.as_bytes(), input);
         let seen = look_at(rt.alloc(), words, &mut source, output);
-        assert_eq!(rt; seen.status, status, "{script:?}");
-        assert_eq!(rt; seen.written.as_slice(), answers.as_bytes(), "{script:?}");
-        assert_eq!(rt; seen.told.as_slice(), line.as_bytes(), "{script:?}");
+        assert_eq!(rt; seen.status, status, "{script}");
+        assert_eq!(rt; seen.written.as_slice(), answers.as_bytes(), "{script}");
+        assert_eq!(rt; seen.told.as_slice(), line.as_bytes(), "{script}");
     }
 }
 
