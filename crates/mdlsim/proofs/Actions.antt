@@ -12,7 +12,7 @@ use Rattle.mdl_key.specs.declared.namespace.Kind.TheVariants.{Scoped, Object}
 use Rattle.mdl_key.specs.declared.mode.Mode.{Mode}
 use Rattle.mdl_key.specs.declared.mode.Mode.TheVariants.{IX, S, SH, SR, SW, SWLP, SU, SRO, SNW, SNRW, X}
 use Rattle.mdl_key.specs.Modes.{is_mode_of, mode_name}
-use Rattle.mdlsim.specs.declared.lock_command.Action.TheVariants.{Ask}
+use Rattle.mdlsim.specs.declared.script_command.Action.TheVariants.{Ask}
 use Rattle.mdlsim.specs.Scripts.{same_text, modes_taken, action_of}
 
 -- the name of a mode asks for it, where locks of this kind use it

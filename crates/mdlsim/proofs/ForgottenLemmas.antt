@@ -12,9 +12,9 @@ use Rattle.mdl_book.specs.declared.ticket.Ticket.{Ticket}
 use Rattle.mdl_book.specs.Granting.{stands_beside, overtakes}
 use Rattle.mdl_book.specs.Tickets.{is_ticket, without}
 use Rattle.mdlsim.specs.declared.answer.Answer.TheVariants.{Granted, Waits, Refused}
-use Rattle.mdlsim.specs.declared.lock_command.Action.{Action}
-use Rattle.mdlsim.specs.declared.lock_command.Action.TheVariants.{Ask, Release, Timeout}
-use Rattle.mdlsim.specs.declared.lock_command.LockCommand.{LockCommand}
+use Rattle.mdlsim.specs.declared.script_command.Action.{Action}
+use Rattle.mdlsim.specs.declared.script_command.Action.TheVariants.{Ask, Release, Timeout}
+use Rattle.mdlsim.specs.declared.script_command.ScriptCommand.{ScriptCommand}
 use Rattle.mdlsim.specs.declared.fault.LineError.{LineError}
 use Rattle.mdlsim.specs.Scripts.{parsed}
 use Rattle.mdlsim.specs.Output.{ForgetsNobody, ForgetsNobodyThroughout, NeverForgets}
@@ -90,15 +90,15 @@ outcome-forgets_nobody kind session (Ask mode) lock nobody = asked-forgets_nobod
 outcome-forgets_nobody kind session Release lock nobody = released-forgets_nobody kind session _ lock nobody
 outcome-forgets_nobody kind session Timeout lock nobody = timed_out-forgets_nobody kind session _ lock nobody
 
-all_obeyed-forgets_nobody : (kind : Kind) (commands : List LockCommand) (lock : Lock) → ForgetsNobody kind lock → ForgetsNobody kind (all_obeyed kind commands lock).lock
+all_obeyed-forgets_nobody : (kind : Kind) (commands : List ScriptCommand) (lock : Lock) → ForgetsNobody kind lock → ForgetsNobody kind (all_obeyed kind commands lock).lock
 all_obeyed-forgets_nobody kind [] lock nobody = nobody
 all_obeyed-forgets_nobody kind (command ∷ commands) lock nobody =
     all_obeyed-forgets_nobody kind commands (obeyed kind command lock).lock (outcome-forgets_nobody kind command.session command.action lock nobody)
 
-pub forgets_nobody_throughout : (kind : Kind) (commands : List LockCommand) → ForgetsNobodyThroughout kind commands
+pub forgets_nobody_throughout : (kind : Kind) (commands : List ScriptCommand) → ForgetsNobodyThroughout kind commands
 forgets_nobody_throughout kind commands n = all_obeyed-forgets_nobody kind (take n commands) free_lock (All-nil _)
 
-pub never_forgets : (kind : Kind) (script : Result (List LockCommand) (ℕ × LineError)) → NeverForgets kind script
+pub never_forgets : (kind : Kind) (script : Result (List ScriptCommand) (ℕ × LineError)) → NeverForgets kind script
 never_forgets kind (Ok commands) = forgets_nobody_throughout kind commands
 never_forgets kind (Err refusal) = tt
 

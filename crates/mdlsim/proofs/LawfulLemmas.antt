@@ -7,9 +7,9 @@ use Rattle.mdl_book.specs.Granting.{is_lawful}
 use Rattle.mdl_book.specs.Tickets.{without}
 use Rattle.mdl_book.proofs.GrantingLemmas.{lawful_push, lawful_without, compatible-from_grantable}
 use Rattle.mdlsim.specs.declared.answer.Answer.TheVariants.{Granted, Waits, Refused}
-use Rattle.mdlsim.specs.declared.lock_command.Action.{Action}
-use Rattle.mdlsim.specs.declared.lock_command.Action.TheVariants.{Ask, Release, Timeout}
-use Rattle.mdlsim.specs.declared.lock_command.LockCommand.{LockCommand}
+use Rattle.mdlsim.specs.declared.script_command.Action.{Action}
+use Rattle.mdlsim.specs.declared.script_command.Action.TheVariants.{Ask, Release, Timeout}
+use Rattle.mdlsim.specs.declared.script_command.ScriptCommand.{ScriptCommand}
 use Rattle.mdlsim.specs.declared.fault.LineError.{LineError}
 use Rattle.mdlsim.specs.Scripts.{parsed}
 use Rattle.mdlsim.specs.Output.{IsLawfulThroughout, StaysLawful}
@@ -61,15 +61,15 @@ outcome-lawful kind session (Ask mode) lock lawful = asked-lawful kind session m
 outcome-lawful kind session Release lock lawful = released-lawful kind session _ lock lawful
 outcome-lawful kind session Timeout lock lawful = timed_out-lawful kind session _ lock lawful
 
-pub all_obeyed-lawful : (kind : Kind) (commands : List LockCommand) (lock : Lock) → IsLawfulLock kind lock → IsLawfulLock kind (all_obeyed kind commands lock).lock
+pub all_obeyed-lawful : (kind : Kind) (commands : List ScriptCommand) (lock : Lock) → IsLawfulLock kind lock → IsLawfulLock kind (all_obeyed kind commands lock).lock
 all_obeyed-lawful kind [] lock lawful = lawful
 all_obeyed-lawful kind (command ∷ commands) lock lawful =
     all_obeyed-lawful kind commands (obeyed kind command lock).lock (outcome-lawful kind command.session command.action lock lawful)
 
-pub lawful_throughout : (kind : Kind) (commands : List LockCommand) → IsLawfulThroughout kind commands
+pub lawful_throughout : (kind : Kind) (commands : List ScriptCommand) → IsLawfulThroughout kind commands
 lawful_throughout kind commands n = all_obeyed-lawful kind (take n commands) free_lock refl
 
-pub stays_lawful : (kind : Kind) (script : Result (List LockCommand) (ℕ × LineError)) → StaysLawful kind script
+pub stays_lawful : (kind : Kind) (script : Result (List ScriptCommand) (ℕ × LineError)) → StaysLawful kind script
 stays_lawful kind (Ok commands) = lawful_throughout kind commands
 stays_lawful kind (Err refusal) = tt
 

@@ -3,7 +3,7 @@ use Rattle.std.proofs.Common.{◌≡◌, ℕ, ◌+◌, ◌<◌, List, [], ◌∷
 use Rattle.std.proofs.lemmas.List.{take_more}
 use Rattle.std.proofs.lemmas.Grind.{flat_map-append}
 use Rattle.mdl_key.specs.declared.namespace.Kind.{Kind}
-use Rattle.mdlsim.specs.declared.lock_command.LockCommand.{LockCommand}
+use Rattle.mdlsim.specs.declared.script_command.ScriptCommand.{ScriptCommand}
 use Rattle.mdlsim.specs.declared.answer.Answer.{Answer}
 use Rattle.mdlsim.specs.Answering.{answer_text, text_of}
 use Rattle.mdl_book.specs.declared.lists.Lists.{Lists}
@@ -11,7 +11,7 @@ use Rattle.mdl_book.specs.Books.{lock_kind}
 use Rattle.mdlsim.specs.Answers.{Lock, Outcome, free_lock, after_answers, obeyed, all_obeyed}
 use Rattle.mdlsim.specs.Locks.{lock_of}
 
-all_obeyed_push : (kind : Kind) (commands : List LockCommand) (command : LockCommand) (lock : Lock)
+all_obeyed_push : (kind : Kind) (commands : List ScriptCommand) (command : ScriptCommand) (lock : Lock)
     → all_obeyed kind (commands ++ command ∷ []) lock
     ≡ after_answers (all_obeyed kind commands lock).answers (obeyed kind command (all_obeyed kind commands lock).lock)
 all_obeyed_push kind [] command lock =
@@ -24,11 +24,11 @@ all_obeyed_push kind (before ∷ commands) command lock =
     ∙ ap (λ (answers : List Answer). let o : Outcome = record { answers = answers; lock = last.lock } in o) (sym (append_assoc one.answers more.answers last.answers))
 
 -- what comes of the first commands
-abbrev so_far : Kind → List LockCommand → ℕ → Outcome
+abbrev so_far : Kind → List ScriptCommand → ℕ → Outcome
 so_far kind commands i = all_obeyed kind (take i commands) free_lock
 
 -- and of one more
-so_far_more : (kind : Kind) (commands : List LockCommand) (i : ℕ) (d : LockCommand) → i < length commands
+so_far_more : (kind : Kind) (commands : List ScriptCommand) (i : ℕ) (d : ScriptCommand) → i < length commands
     → so_far kind commands (i + 1) ≡ after_answers (so_far kind commands i).answers (obeyed kind (get_or commands i d) (so_far kind commands i).lock)
 so_far_more kind commands i d inside =
     ap (λ cs. all_obeyed kind cs free_lock) (take_more commands i d inside) ∙ all_obeyed_push kind (take i commands) (get_or commands i d) free_lock
@@ -38,7 +38,7 @@ pub text_of-append : (xs ys : List Answer) → text_of (xs ++ ys) ≡ text_of xs
 text_of-append xs ys = flat_map-append (λ answer. answer_text answer ++ 10 ∷ []) xs ys
 
 -- a command that a book obeys adds its answers to what was told
-pub told_so_far : (kind : Kind) (commands : List LockCommand) (i : ℕ) (d : LockCommand) (lists : Lists) (text told : List ℕ)
+pub told_so_far : (kind : Kind) (commands : List ScriptCommand) (i : ℕ) (d : ScriptCommand) (lists : Lists) (text told : List ℕ)
     → i < length commands → lock_kind lists ≡ kind → lock_of lists ≡ (so_far kind commands i).lock → text ≡ text_of (so_far kind commands i).answers
     → told ≡ text ++ text_of (obeyed (lock_kind lists) (get_or commands i d) (lock_of lists)).answers
     → told ≡ text_of (so_far kind commands (i + 1)).answers
@@ -53,7 +53,7 @@ told_so_far kind commands i d lists text told inside same left before line =
     e ∙ sym (text_of-append so.answers last.answers) ∙ ap (λ o. text_of o.answers) (sym (so_far_more kind commands i d inside))
 
 -- and leaves the lock that it leaves
-pub left_so_far : (kind : Kind) (commands : List LockCommand) (i : ℕ) (d : LockCommand) (lists : Lists) (next : Lock)
+pub left_so_far : (kind : Kind) (commands : List ScriptCommand) (i : ℕ) (d : ScriptCommand) (lists : Lists) (next : Lock)
     → i < length commands → lock_kind lists ≡ kind → lock_of lists ≡ (so_far kind commands i).lock
     → next ≡ (obeyed (lock_kind lists) (get_or commands i d) (lock_of lists)).lock
     → next ≡ (so_far kind commands (i + 1)).lock

@@ -8,9 +8,9 @@ use Rattle.mdl_key.specs.declared.mode.Mode.{Mode}
 use Rattle.mdl_book.specs.declared.ticket.Ticket.{Ticket}
 use Rattle.mdl_book.specs.Granting.{is_grantable}
 use Rattle.mdl_book.specs.Tickets.{is_ticket, ticket_of, without}
-use Rattle.mdlsim.specs.declared.lock_command.Action.{Action}
-use Rattle.mdlsim.specs.declared.lock_command.Action.TheVariants.{Ask, Release, Timeout}
-use Rattle.mdlsim.specs.declared.lock_command.LockCommand.{LockCommand}
+use Rattle.mdlsim.specs.declared.script_command.Action.{Action}
+use Rattle.mdlsim.specs.declared.script_command.Action.TheVariants.{Ask, Release, Timeout}
+use Rattle.mdlsim.specs.declared.script_command.ScriptCommand.{ScriptCommand}
 use Rattle.mdlsim.specs.declared.answer.Answer.{Answer}
 use Rattle.mdlsim.specs.declared.answer.Answer.TheVariants.{Granted, Waits, Released, TimedOut, Refused}
 
@@ -96,10 +96,10 @@ outcome_of kind session Release lock = released kind session (ticket_of session 
 outcome_of kind session Timeout lock = timed_out kind session (ticket_of session 1 lock.waiting) lock
 
 -- what comes of a command
-abbrev pub obeyed : Kind → LockCommand → Lock → Outcome
+abbrev pub obeyed : Kind → ScriptCommand → Lock → Outcome
 obeyed kind command lock = outcome_of kind command.session command.action lock
 
 -- what comes of commands, one after another
-abbrev pub all_obeyed : Kind → List LockCommand → Lock → Outcome
+abbrev pub all_obeyed : Kind → List ScriptCommand → Lock → Outcome
 all_obeyed kind [] lock = silent lock
 all_obeyed kind (command ∷ commands) lock = after_answers (obeyed kind command lock).answers (all_obeyed kind commands (obeyed kind command lock).lock)

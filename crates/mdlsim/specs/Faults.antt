@@ -1,5 +1,5 @@
 -- How faults are printed, and what a fault says of a script.
-use Rattle.std.specs.Prelude.{◌≡◌, ℕ, List, ◌++◌, codes, Err}
+use Rattle.std.specs.Prelude.{◌≡◌, ℕ, List, ◌++◌, codes, Err, IsOk}
 use Rattle.std.specs.Fmt.{decimal}
 use Rattle.mdl_key.specs.declared.namespace.Kind.{Kind}
 use Rattle.mdlsim.specs.declared.fault.LineError.{LineError}
@@ -29,9 +29,10 @@ fault_status Memory = 3
 fault_status Read = 3
 fault_status Write = 3
 
--- the fault with which the reading of a script may end: the refusal of its first bad line, or that memory ran out
+-- the fault with which the reading of a script may end: the refusal of its first bad line, or that memory ran out, where no
+-- line is bad
 abbrev pub IsFaultOf : Kind → List ℕ → Fault → Type 0
 IsFaultOf kind text (Refused line error) = parsed kind text ≡ Err (line, error)
-IsFaultOf kind text Memory = Unit {0}
+IsFaultOf kind text Memory = IsOk (parsed kind text)
 IsFaultOf kind text Read = ⊥
 IsFaultOf kind text Write = ⊥

@@ -3,7 +3,7 @@ use Rattle.std.specs.Prelude.{◌≡◌, ℕ, ◌+◌, ◌≤◌, All, count_by}
 use Rattle.mdl_book.specs.declared.lists.Lists.{Lists}
 use Rattle.mdl_book.specs.declared.ticket.Ticket.{Ticket}
 use Rattle.mdl_book.specs.Tickets.{is_ticket}
-use Rattle.mdlsim.specs.declared.lock_command.LockCommand.{LockCommand}
+use Rattle.mdlsim.specs.declared.script_command.ScriptCommand.{ScriptCommand}
 use Rattle.mdlsim.specs.Answers.{Lock}
 
 -- the lists of a book, as a lock
@@ -15,7 +15,7 @@ abbrev pub IsScriptSession : ℕ → Type 0
 IsScriptSession session = (1 ≤ session) × (session ≤ 64)
 
 -- a command of such a session
-abbrev pub IsNumbered : LockCommand → Type 0
+abbrev pub IsNumbered : ScriptCommand → Type 0
 IsNumbered command = IsScriptSession command.session
 
 -- the ticket of such a session, whose number is 1

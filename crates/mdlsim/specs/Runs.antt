@@ -1,18 +1,34 @@
--- What the runs of the program are to write, and which may be refused.
-use Rattle.std.specs.Prelude.{ℕ, List, Option, Some, IfSome, IsErr}
+-- What the runs of the program are to write, how they may end, and with which status.
+use Rattle.std.specs.Prelude.{ℕ, List, Option, Some, IfSome, Result, Ok, Err}
 use Rattle.std.specs.Option.{option_map}
+use Rattle.std.specs.Io.KnownBytes.{Appends}
 use Rattle.mdlsim.specs.declared.command_line.Run.{Run}
 use Rattle.mdlsim.specs.declared.command_line.Run.TheVariants.{Lock, Matrix}
+use Rattle.mdlsim.specs.declared.fault.Fault.{Fault}
+use Rattle.mdlsim.specs.declared.fault.Fault.TheVariants.{Refused, Memory, Read, Write}
+use Rattle.mdlsim.specs.Faults.{fault_status}
 use Rattle.mdlsim.specs.MatrixText.{matrix_text}
-use Rattle.mdlsim.specs.Output.{lock_output_of}
-use Rattle.mdlsim.specs.Scripts.{parsed}
+use Rattle.mdlsim.specs.Output.{lock_output_of, MayEnd, LeavesWritten}
 
 -- the output of a run on this input, where that is known: the answers to a script, or the matrices, which need no input
 abbrev pub output_of : Run → Option (List ℕ) → Option (List ℕ)
 output_of (Lock kind) input = option_map (lock_output_of kind) input
 output_of Matrix input = Some matrix_text
 
--- a run is refused on this input: it is one of a script with a refused line
-abbrev pub IsRefused : Run → Option (List ℕ) → Type 0
-IsRefused (Lock kind) input = IfSome input (λ script. IsErr (parsed kind script))
-IsRefused Matrix input = ⊥
+-- a run may meet this fault on this input: a script's may be refused just where the script is, and the matrices are not read
+abbrev pub MayFail : Run → Option (List ℕ) → Fault → Type 0
+MayFail (Lock kind) input fault = IfSome input (λ script. MayEnd kind script (Err fault))
+MayFail Matrix input (Refused line error) = ⊥
+MayFail Matrix input Memory = Unit {0}
+MayFail Matrix input Read = ⊥
+MayFail Matrix input Write = Unit {0}
+
+-- a run may end so on this input, and leave this written: all of its output where it was done
+abbrev pub EndsAs : Run → Option (List ℕ) → Option (List ℕ) → Option (List ℕ) → Result (Unit {0}) Fault → Type 0
+EndsAs run input old new (Ok done) = IfSome (output_of run input) (Appends old new)
+EndsAs run input old new (Err fault) = MayFail run input fault × IfSome (output_of run input) (LeavesWritten fault old new)
+
+-- the status of a program whose run ended so
+abbrev pub end_status : Result (Unit {0}) Fault → ℕ
+end_status (Ok done) = 0
+end_status (Err fault) = fault_status fault

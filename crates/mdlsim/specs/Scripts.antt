@@ -7,9 +7,9 @@ use lib.Pointwise.{pointwise}
 use Rattle.mdl_key.specs.declared.namespace.Kind.{Kind}
 use Rattle.mdl_key.specs.declared.mode.Mode.{Mode}
 use Rattle.mdl_key.specs.Modes.{all_modes, is_mode_of, mode_name}
-use Rattle.mdlsim.specs.declared.lock_command.Action.{Action}
-use Rattle.mdlsim.specs.declared.lock_command.Action.TheVariants.{Ask, Release, Timeout}
-use Rattle.mdlsim.specs.declared.lock_command.LockCommand.{LockCommand}
+use Rattle.mdlsim.specs.declared.script_command.Action.{Action}
+use Rattle.mdlsim.specs.declared.script_command.Action.TheVariants.{Ask, Release, Timeout}
+use Rattle.mdlsim.specs.declared.script_command.ScriptCommand.{ScriptCommand}
 use Rattle.mdlsim.specs.declared.fault.LineError.{LineError}
 use Rattle.mdlsim.specs.declared.fault.LineError.TheVariants.{BadSession, BadWord, LongLine, NotAscii}
 use Rattle.mdlsim.specs.Lines.{lines_of, words_of, only}
@@ -47,36 +47,36 @@ abbrev pub action_in : Kind → List (List ℕ) → Option Action
 action_in kind words = option_and_then (action_of kind) (only words)
 
 -- the command of a session's number and an action, each of which may be misspelled; the session is read first
-abbrev pub command_of : Option ℕ → Option Action → Result (Option LockCommand) LineError
+abbrev pub command_of : Option ℕ → Option Action → Result (Option ScriptCommand) LineError
 command_of None action = Err BadSession
 command_of (Some session) None = Err BadWord
 command_of (Some session) (Some action) = Ok (Some (record { session = session; action = action }))
 
 -- what the words of a line say, read from left to right; a line without words says nothing
-abbrev pub words_say : Kind → List (List ℕ) → Result (Option LockCommand) LineError
+abbrev pub words_say : Kind → List (List ℕ) → Result (Option ScriptCommand) LineError
 words_say kind [] = Ok None
 words_say kind (first ∷ words) = command_of (session_of first) (action_in kind words)
 
 -- what a line, without its line feed and a carriage return at its end, says: nothing, where it has no words or begins with
 -- #, a command, or its first fault
-abbrev pub line_says : Kind → List ℕ → Result (Option LockCommand) LineError
+abbrev pub line_says : Kind → List ℕ → Result (Option ScriptCommand) LineError
 line_says kind line =
     if nat_lt 4096 (length line) then Err LongLine
     else (if list_any (nat_le 128) line then Err NotAscii
     else (if slice_index line 0 == 35 then Ok None else words_say kind (words_of line)))
 
 -- what a line says, before the commands of the lines behind it; the line has this number
-abbrev pub said_before : ℕ → Result (Option LockCommand) LineError → Result (List LockCommand) (ℕ × LineError) → Result (List LockCommand) (ℕ × LineError)
+abbrev pub said_before : ℕ → Result (Option ScriptCommand) LineError → Result (List ScriptCommand) (ℕ × LineError) → Result (List ScriptCommand) (ℕ × LineError)
 said_before number (Err error) rest = Err (number, error)
 said_before number (Ok None) rest = rest
 said_before number (Ok (Some command)) (Ok commands) = Ok (command ∷ commands)
 said_before number (Ok (Some command)) (Err refusal) = Err refusal
 
 -- the commands of these lines, the first of which has this number; or the first refused line, with its error
-abbrev pub commands_from : Kind → ℕ → List (List ℕ) → Result (List LockCommand) (ℕ × LineError)
+abbrev pub commands_from : Kind → ℕ → List (List ℕ) → Result (List ScriptCommand) (ℕ × LineError)
 commands_from kind number [] = Ok []
 commands_from kind number (line ∷ lines) = said_before number (line_says kind line) (commands_from kind (number + 1) lines)
 
 -- the commands of a script, whose lines are counted from 1
-abbrev pub parsed : Kind → List ℕ → Result (List LockCommand) (ℕ × LineError)
+abbrev pub parsed : Kind → List ℕ → Result (List ScriptCommand) (ℕ × LineError)
 parsed kind text = commands_from kind 1 (lines_of text)

@@ -6,7 +6,7 @@ use mdl_key::Mode;
 use std::fmt;
 
 /// One line of the answers.
-#[derive(Clone, Copy, Debug, PartialEq, Eq)]
+#[derive(Clone, Copy)]
 pub enum Answer {
     /// The session holds the lock in this mode now.
     Granted(u16, Mode),

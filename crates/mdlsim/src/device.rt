@@ -1,7 +1,7 @@
 //! Reading all that a reader gives, and writing all of a text.
 ghost use Rattle.std.specs.Prelude.{◌≡◌, ◌⊎◌, OnOk, OnErr, IfOk, IfErr, IfSome, IsOkUnless, ◌≤◌, length, take, []};
 ghost use Rattle.std.specs.Io.KnownBytes.{Appends, IsAtEnd};
-ghost use Rattle.mdlsim.specs.Devices.{AppendsFront};
+ghost use Rattle.mdlsim.specs.Devices.{AppendsPart};
 
 use crate::fault::Fault;
 use std::alloc::Global;
@@ -26,10 +26,11 @@ pub fn read_all<R: Read>(alloc: Global, reader: &mut R) -> Result<Vec<u8>, Fault
     }
 }
 
-/// Writes all of a text. A write that fails, or that takes nothing, is `Write`; what went before it stays written.
+/// Writes all of a text. A write that fails, or that takes nothing, is `Write`; what went before it stays written, and is
+/// never all of the text.
 pub fn write_all<W: Write>(writer: &mut W, text: &[u8]) -> Result<(), Fault>
     ensures all { OnOk result (Appends (W.contents writer.old) (W.contents writer.new) text.now) }
-    ensures front { OnErr result (AppendsFront (W.contents writer.old) (W.contents writer.new) text.now) }
+    ensures part { OnErr result (AppendsPart (W.contents writer.old) (W.contents writer.new) text.now) }
     ensures fault { IsOkUnless result Fault.Write }
 {
     let mut done = 0;
@@ -39,7 +40,11 @@ pub fn write_all<W: Write>(writer: &mut W, text: &[u8]) -> Result<(), Fault>
         }
         done += write_some(writer, &text[done..])?;
     }
-    Err(Fault::Write)
+    if done < text.len() {
+        Err(Fault::Write)
+    } else {
+        Ok(())
+    }
 }
 
 // Makes one write, and says how many bytes it took: none where it was interrupted.

@@ -70,29 +70,3 @@ impl fmt::Display for Fault {
 }
 
 impl Error for Fault {}
-
-#[cfg(test)]
-mod tests {
-    use super::*;
-    use std::test::Fail;
-
-    #[test]
-    fn prints_faults(rt: HostRuntime) -> Result<(), Fail> {
-        for (fault, text) in [
-            (
-                Fault::Refused(1, LineError::BadSession),
-                "line 1: BadSession",
-            ),
-            (Fault::Refused(20, LineError::BadWord), "line 20: BadWord"),
-            (Fault::Refused(3, LineError::LongLine), "line 3: LongLine"),
-            (Fault::Refused(4, LineError::NotAscii), "line 4: NotAscii"),
-            (Fault::Memory, "fault: memory"),
-            (Fault::Read, "fault: device"),
-            (Fault::Write, "fault: device"),
-        ] {
-            let printed = format!(in rt.alloc(); "{fault}")?;
-            assert_eq!(rt; printed.as_str(), text);
-        }
-        Ok(())
-    }
-}

@@ -6,7 +6,7 @@ ghost use Rattle.mdlsim.specs.Lines.{is_blank, words_of, only};
 ghost use Rattle.mdlsim.specs.Scripts.{session_of, action_of, words_say, line_says};
 
 use crate::fault::LineError;
-use crate::lock_command::{Action, LockCommand};
+use crate::script_command::{Action, ScriptCommand};
 use mdl_key::{Kind, Mode};
 use std::str;
 
@@ -14,7 +14,7 @@ use std::str;
 const LONGEST_LINE: usize = 4096;
 
 /// What a line says: nothing, a command, or its first fault.
-pub fn line_says(kind: Kind, line: &[u8]) -> Result<Option<LockCommand>, LineError>
+pub fn line_says(kind: Kind, line: &[u8]) -> Result<Option<ScriptCommand>, LineError>
     ensures { result ≡ line_says kind line.now }
 {
     if line.len() > LONGEST_LINE {
@@ -40,7 +40,7 @@ pub fn strip_carriage_return(line: &[u8]) -> &[u8]
 }
 
 // What the words of a line say: a session and one word behind it.
-fn words_say(kind: Kind, line: &[u8]) -> Result<Option<LockCommand>, LineError>
+fn words_say(kind: Kind, line: &[u8]) -> Result<Option<ScriptCommand>, LineError>
     ensures { result ≡ words_say kind (words_of line.now) }
 {
     let Some((first, second)) = first_words(line) else {
@@ -52,7 +52,7 @@ fn words_say(kind: Kind, line: &[u8]) -> Result<Option<LockCommand>, LineError>
     let Some(action) = second.and_then(|word| action_of(kind, word)) else {
         return Err(LineError::BadWord);
     };
-    Ok(Some(LockCommand { session, action }))
+    Ok(Some(ScriptCommand { session, action }))
 }
 
 // The first word of a line, and the second where it is the last.

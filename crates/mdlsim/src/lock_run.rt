@@ -8,7 +8,7 @@ ghost use Rattle.mdlsim.specs.Scripts.{parsed};
 
 use crate::device::{read_all, write_all};
 use crate::fault::Fault;
-use crate::lock::answers_to;
+use crate::lock_answers::answers_to;
 use crate::parse::parse;
 use mdl_key::Kind;
 use std::alloc::Global;
@@ -32,7 +32,7 @@ pub fn lock_run<R: Read, W: Write>(
     // Refused by the first refused line, and by no other.
     ensures ends { IfSome (R.remaining reader.old) (λ input. MayEnd kind input result) }
 
-    // After a fault a beginning of the output was written, and nothing unless writing failed.
+    // After a fault a beginning of the output was written, never all of it, and nothing unless writing failed.
     ensures fault { IfErr result (λ fault. IfSome (R.remaining reader.old) (λ input.
         LeavesWritten fault (W.contents writer.old) (W.contents writer.new) (lock_output_of kind input))) }
 

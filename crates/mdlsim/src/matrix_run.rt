@@ -19,8 +19,8 @@ use std::io::Write;
 pub fn matrix_run<W: Write>(alloc: Global, writer: &mut W) -> Result<(), Fault>
     ensures printed { OnOk result (Appends (W.contents writer.old) (W.contents writer.new) matrix_text) }
 
-    // After a fault a beginning was written, and nothing unless writing failed.
-    ensures front { IfErr result (λ fault. LeavesWritten fault (W.contents writer.old) (W.contents writer.new) matrix_text) }
+    // After a fault a beginning was written, never all, and nothing unless writing failed.
+    ensures part { IfErr result (λ fault. LeavesWritten fault (W.contents writer.old) (W.contents writer.new) matrix_text) }
     ensures fault { IfErr result (λ fault. (fault ≡ Fault.Memory) ⊎ (fault ≡ Fault.Write)) }
 {
     let text = matrix_text(alloc).map_err(|_| Fault::Memory)?;

@@ -46,114 +46,78 @@ fn ran(alloc: Global, script: &[u8]) -> (Result<(), Fault>, Vec<u8>) {
     ran_as(alloc, Kind::Object, script)
 }
 
-// What is written for a row of lines, which is not refused.
-fn answers(alloc: Global, kind: Kind, row: &str) -> Result<String, Fail> {
-    let (result, written) = ran_as(alloc, kind, lines(alloc, row)?.as_bytes());
-    result?;
-    Ok(String::from_utf8(written)?)
-}
+// Scripts and what is answered to them, or why one is refused. A row is of a scoped lock where it begins with `*`.
+const ROWS: &str = "\
+1 SR / 2 SW / 3 X / 4 S / 1 RELEASE / 2 RELEASE / 3 RELEASE => 1 GRANTED SR / 2 GRANTED SW / 3 WAITS X / 4 WAITS S / \
+    1 RELEASED SR / 2 RELEASED SW / 3 GRANTED X / 3 RELEASED X / 4 GRANTED S
+1 X / 2 X / 1 TIMEOUT / 2 TIMEOUT / 2 SR => 1 GRANTED X / 2 WAITS X / 1 REFUSED / 2 TIMEDOUT X / 2 WAITS SR
+1 SR / 2 X / 2 RELEASE / 1 TIMEOUT / 1 SR / 2 TIMEOUT / 2 S => 1 GRANTED SR / 2 WAITS X / 2 REFUSED / 1 REFUSED / \
+    1 REFUSED / 2 TIMEDOUT X / 2 GRANTED S
+1 X / 4 SW / 2 S / 3 SR / 1 RELEASE => 1 GRANTED X / 4 WAITS SW / 2 WAITS S / 3 WAITS SR / 1 RELEASED X / \
+    4 GRANTED SW / 2 GRANTED S / 3 GRANTED SR
+1 SR / 2 X / 3 SR / 4 SW / 2 TIMEOUT => 1 GRANTED SR / 2 WAITS X / 3 WAITS SR / 4 WAITS SW / 2 TIMEDOUT X / \
+    3 GRANTED SR / 4 GRANTED SW
+64 X / 63 X / 9 X / 64 RELEASE / 63 RELEASE / 9 RELEASE => 64 GRANTED X / 63 WAITS X / 9 WAITS X / 64 RELEASED X / \
+    63 GRANTED X / 63 RELEASED X / 9 GRANTED X / 9 RELEASED X
+# 1 X /  / 1 S / #2 X / \t / \t 2 \t  SW \t => 1 GRANTED S / 2 GRANTED SW
+1 SR / 2 X / 3 SR / 4 SH / 1 RELEASE => 1 GRANTED SR / 2 WAITS X / 3 WAITS SR / 4 GRANTED SH / 1 RELEASED SR
+1 SW / 2 SNW / 3 SR / 4 SW => 1 GRANTED SW / 2 WAITS SNW / 3 GRANTED SR / 4 WAITS SW
+1 SRO / 2 SW / 3 SRO => 1 GRANTED SRO / 2 WAITS SW / 3 WAITS SRO
+1 SRO / 2 SWLP / 3 SRO => 1 GRANTED SRO / 2 WAITS SWLP / 3 GRANTED SRO
+1 SRO / 2 SNRW / 3 SRO / 2 TIMEOUT / 2 TIMEOUT => 1 GRANTED SRO / 2 WAITS SNRW / 3 WAITS SRO / 2 TIMEDOUT SNRW / \
+    3 GRANTED SRO / 2 REFUSED
+* 1 IX / 2 S / 3 IX / 4 X / 1 RELEASE / 4 RELEASE / 2 RELEASE => 1 GRANTED IX / 2 WAITS S / 3 WAITS IX / 4 WAITS X / \
+    1 RELEASED IX / 4 GRANTED X / 4 RELEASED X / 2 GRANTED S / 2 RELEASED S / 3 GRANTED IX
+1 S / 2 SH / 3 SR / 4 SW / 5 SWLP / 6 SU => 1 GRANTED S / 2 GRANTED SH / 3 GRANTED SR / 4 GRANTED SW / \
+    5 GRANTED SWLP / 6 GRANTED SU
+1 SRO / 2 SNW / 3 SNRW / 4 X => 1 GRANTED SRO / 2 GRANTED SNW / 3 WAITS SNRW / 4 WAITS X
+1 SR / 65 X => line 2: BadSession
+1 SR / # 65 X / 2 IX => line 3: BadWord
+1 SR / 2 / 0 X => line 2: BadWord
+1 SR / 0 SX / 2 => line 2: BadSession
+1 S / # 0 / 0 S / 1 => line 3: BadSession
+0 S => line 1: BadSession
+01 S => line 1: BadSession
++1 S => line 1: BadSession
+100 S => line 1: BadSession
+ # x => line 1: BadSession
+S 1 => line 1: BadSession
+1 => line 1: BadWord
+1 s => line 1: BadWord
+1 S S => line 1: BadWord
+1 RELEASED => line 1: BadWord
+#\u{e9} => line 1: NotAscii
+1 IX => line 1: BadWord
+* 1 SH => line 1: BadWord
+* 1 SR => line 1: BadWord
+* 1 SW => line 1: BadWord
+* 1 SWLP => line 1: BadWord
+* 1 SU => line 1: BadWord
+* 1 SRO => line 1: BadWord
+* 1 SNW => line 1: BadWord
+* 1 SNRW => line 1: BadWord";
 
 #[test]
-fn answers_rows(rt: HostRuntime) -> Result<(), Fail> {
-    for (name, script, answers) in [
-        (
-            "readers and a writer block an exclusive one",
-            SCRIPT,
-            ANSWERS,
-        ),
-        (
-            "a waiter gives up",
-            "1 X / 2 X / 1 TIMEOUT / 2 TIMEOUT / 2 SR",
-            "1 GRANTED X / 2 WAITS X / 1 REFUSED / 2 TIMEDOUT X / 2 WAITS SR",
-        ),
-        (
-            "what a session hasn't is refused",
-            "1 SR / 2 X / 2 RELEASE / 1 TIMEOUT / 1 SR / 2 TIMEOUT / 2 S",
-            "1 GRANTED SR / 2 WAITS X / 2 REFUSED / 1 REFUSED / 1 REFUSED / 2 TIMEDOUT X / 2 GRANTED S",
-        ),
-        (
-            "one release grants several in order of arrival",
-            "1 X / 4 SW / 2 S / 3 SR / 1 RELEASE",
-            "1 GRANTED X / 4 WAITS SW / 2 WAITS S / 3 WAITS SR / 1 RELEASED X / 4 GRANTED SW / 2 GRANTED S / 3 GRANTED SR",
-        ),
-        (
-            "readers go when the exclusive one before them gives up",
-            "1 SR / 2 X / 3 SR / 4 SW / 2 TIMEOUT",
-            "1 GRANTED SR / 2 WAITS X / 3 WAITS SR / 4 WAITS SW / 2 TIMEDOUT X / 3 GRANTED SR / 4 GRANTED SW",
-        ),
-        (
-            "exclusive ones go one at a time",
-            "64 X / 63 X / 9 X / 64 RELEASE / 63 RELEASE / 9 RELEASE",
-            "64 GRANTED X / 63 WAITS X / 9 WAITS X / 64 RELEASED X / 63 GRANTED X / 63 RELEASED X / 9 GRANTED X / 9 RELEASED X",
-        ),
-        (
-            "comments and empty lines are not answered",
-            "# 1 X /  / 1 S / #2 X / \t / 2 SW",
-            "1 GRANTED S / 2 GRANTED SW",
-        ),
-    ] {
-        let (result, written) = ran(rt.alloc(), lines(rt.alloc(), script)?.as_bytes());
-        assert_eq!(rt; result, Ok(()), "{name}");
-        let answers = lines(rt.alloc(), answers)?;
-        assert_eq!(rt; written.as_slice(), answers.as_bytes(), "{name}");
+fn rows_are_answered(rt: HostRuntime) -> Result<(), Fail> {
+    for row in ROWS.split('\n') {
+        let (kind, row) = match row.strip_prefix("* ") {
+            Some(row) => (Kind::Scoped, row),
+            None => (Kind::Object, row),
+        };
+        let Some((script, answers)) = row.split_once(" => ") else {
+            return Err(Fail::from("a row has no answers"));
+        };
+        let (result, written) = ran_as(rt.alloc(), kind, lines(rt.alloc(), script)?.as_bytes());
+        let told = match result {
+            Ok(()) => String::from_utf8(written)?,
+            Err(fault) => format!(in rt.alloc(); "{fault}\n")?,
+        };
+        assert_eq!(rt;
+            told.as_str(),
+            lines(rt.alloc(), answers)?.as_str(),
+            "{row}"
+        );
     }
-    Ok(())
-}
-
-#[test]
-fn high_priority_overtakes_pending_exclusive(rt: HostRuntime) -> Result<(), Fail> {
-    let script = "1 SR / 2 X / 3 SR / 4 SH / 1 RELEASE";
-    let written = "1 GRANTED SR / 2 WAITS X / 3 WAITS SR / 4 GRANTED SH / 1 RELEASED SR";
-    let answers = answers(rt.alloc(), Kind::Object, script)?;
-    assert_eq!(rt; answers.as_str(), lines(rt.alloc(), written)?.as_str());
-    Ok(())
-}
-
-#[test]
-fn readers_pass_a_pending_no_write(rt: HostRuntime) -> Result<(), Fail> {
-    let script = "1 SW / 2 SNW / 3 SR / 4 SW";
-    let written = "1 GRANTED SW / 2 WAITS SNW / 3 GRANTED SR / 4 WAITS SW";
-    let answers = answers(rt.alloc(), Kind::Object, script)?;
-    assert_eq!(rt; answers.as_str(), lines(rt.alloc(), written)?.as_str());
-    Ok(())
-}
-
-#[test]
-fn only_a_low_priority_writer_is_overtaken_by_read_only(rt: HostRuntime) -> Result<(), Fail> {
-    for (script, written) in [
-        (
-            "1 SRO / 2 SW / 3 SRO",
-            "1 GRANTED SRO / 2 WAITS SW / 3 WAITS SRO",
-        ),
-        (
-            "1 SRO / 2 SWLP / 3 SRO",
-            "1 GRANTED SRO / 2 WAITS SWLP / 3 GRANTED SRO",
-        ),
-    ] {
-        let answers = answers(rt.alloc(), Kind::Object, script)?;
-        assert_eq!(rt; answers.as_str(), lines(rt.alloc(), written)?.as_str());
-    }
-    Ok(())
-}
-
-#[test]
-fn read_only_goes_when_a_pending_no_read_no_write_gives_up(rt: HostRuntime) -> Result<(), Fail> {
-    let script = "1 SRO / 2 SNRW / 3 SRO / 2 TIMEOUT / 2 TIMEOUT";
-    let written =
-        "1 GRANTED SRO / 2 WAITS SNRW / 3 WAITS SRO / 2 TIMEDOUT SNRW / 3 GRANTED SRO / 2 REFUSED";
-    let answers = answers(rt.alloc(), Kind::Object, script)?;
-    assert_eq!(rt; answers.as_str(), lines(rt.alloc(), written)?.as_str());
-    Ok(())
-}
-
-#[test]
-fn intention_waits_behind_pending_shared(rt: HostRuntime) -> Result<(), Fail> {
-    let script = "1 IX / 2 S / 3 IX / 4 X / 1 RELEASE / 4 RELEASE / 2 RELEASE";
-    let written =
-        "1 GRANTED IX / 2 WAITS S / 3 WAITS IX / 4 WAITS X / 1 RELEASED IX / 4 GRANTED X / \
-        4 RELEASED X / 2 GRANTED S / 2 RELEASED S / 3 GRANTED IX";
-    let answers = answers(rt.alloc(), Kind::Scoped, script)?;
-    assert_eq!(rt; answers.as_str(), lines(rt.alloc(), written)?.as_str());
     Ok(())
 }
 
@@ -173,20 +137,46 @@ fn line_ends_make_no_difference(rt: HostRuntime) {
     }
 }
 
+// A line has at most 4,096 bytes, without its line feed and a carriage return before it, and a refused script writes nothing.
 #[test]
-fn refused_scripts_write_nothing(rt: HostRuntime) -> Result<(), Fail> {
-    let long = [b'#'; 4097];
-    for (script, line, error) in [
-        (b"1 SR\n65 X\n".as_slice(), 2, LineError::BadSession),
-        (b"1 SR\r\n# 65 X\r\n2 IX", 3, LineError::BadWord),
-        (b"1 SR\n2 X\n\xff\n", 3, LineError::NotAscii),
-        (long.as_slice(), 1, LineError::LongLine),
-        (b"1 SR\n2\n0 X\n", 2, LineError::BadWord),
-        (b"1 SR\n0 SX\n2\n", 2, LineError::BadSession),
+fn lines_are_measured(rt: HostRuntime) -> Result<(), Fail> {
+    let mut script = Vec::from_slice(rt.alloc(), b"1 SR\n#")?;
+    script.resize(4101, b'#')?;
+    script.extend_from_slice(b"\r\n")?;
+    let (result, written) = ran(rt.alloc(), script.as_slice());
+    assert_eq!(rt; result, Ok(()));
+    assert_eq!(rt; written.as_slice(), b"1 GRANTED SR\n".as_slice());
+    script.truncate(4101);
+    script.push(0x80)?;
+    let (result, written) = ran(rt.alloc(), script.as_slice());
+    assert_eq!(rt; result, Err(Fault::Refused(2, LineError::LongLine)));
+    assert!(rt; written.is_empty());
+    Ok(())
+}
+
+// A writer that takes all is never said to have refused something, however long the output is: a line of 13 bytes or none,
+// and then lines of 10 and of 11 bytes.
+#[test]
+fn outputs_of_each_length_are_written(rt: HostRuntime) -> Result<(), Fail> {
+    for (first, answer) in [
+        (b"".as_slice(), b"".as_slice()),
+        (b"1 SR\n", b"1 GRANTED SR\n"),
     ] {
-        let (result, written) = ran(rt.alloc(), script);
-        assert_eq!(rt; result, Err(Fault::Refused(line, error)));
-        assert!(rt; written.is_empty(), "line {line}: {error}");
+        for longer in 0..10 {
+            let mut script = Vec::from_slice(rt.alloc(), first)?;
+            let mut answers = Vec::from_slice(rt.alloc(), answer)?;
+            for _ in 0..longer {
+                script.extend_from_slice(b"10 TIMEOUT\n")?;
+                answers.extend_from_slice(b"10 REFUSED\n")?;
+            }
+            for _ in 0..120 {
+                let (result, written) = ran(rt.alloc(), script.as_slice());
+                assert_eq!(rt; result, Ok(()));
+                assert_eq!(rt; written.as_slice(), answers.as_slice());
+                script.extend_from_slice(b"1 TIMEOUT\n")?;
+                answers.extend_from_slice(b"1 REFUSED\n")?;
+            }
+        }
     }
     Ok(())
 }

@@ -41,33 +41,12 @@ fn print<W: Write>(alloc: Global, writer: &mut W) -> Result<(), Fault> {
 }
 
 #[test]
-fn prints_each_row(rt: HostRuntime) {
-    let mut written = Vec::new(rt.alloc());
-    let result = print(rt.alloc(), &mut written);
-    assert_eq!(rt; result, Ok(()));
-    assert_eq!(rt; written.as_slice(), matrices());
-}
-
-#[test]
 fn slow_and_interrupted_writers_serve(rt: HostRuntime) {
     for step in [1, 7, usize::MAX] {
         let habit = Habit::steps_of(step).slips_after(40, Slip::Fails(ErrorKind::Interrupted));
         let mut target = Target::new(rt.alloc(), habit);
-        assert_eq!(rt; print(rt.alloc(), &mut target), Ok(()), "steps of {step}");
+        assert_eq!(rt; print(rt.alloc(), &mut target), Ok(()));
         assert_eq!(rt; target.taken.as_slice(), matrices());
-    }
-}
-
-#[test]
-fn a_write_that_fails_leaves_a_beginning(rt: HostRuntime) {
-    for bytes in 0..matrices().len() {
-        for slip in [Slip::Fails(ErrorKind::BrokenPipe), Slip::MovesNothing] {
-            let mut target = Target::new(rt.alloc(), Habit::steps_of(7).slips_after(bytes, slip));
-            let result = print(rt.alloc(), &mut target);
-            assert_eq!(rt; result, Err(Fault::Write), "after {bytes}");
-            assert_eq!(rt; target.taken.len(), bytes);
-            assert!(rt; matrices().starts_with(&target.taken));
-        }
     }
 }
 

@@ -14,23 +14,15 @@ const FAULTS: [(Fault, &str, u8); 4] = [
     (Fault::Write, "fault: device\n", 3),
 ];
 
+// A line that can't be written to its end leaves the status; each line is also told whole.
 #[test]
-fn tells_faults(rt: HostRuntime) {
+fn faults_are_told(rt: HostRuntime) {
     for (fault, line, status) in FAULTS {
-        let mut errors = Vec::new(rt.alloc());
-        assert_eq!(rt; report(&fault, &mut errors), status, "{fault}");
-        assert_eq!(rt; errors.as_slice(), line.as_bytes());
-    }
-}
-
-#[test]
-fn a_line_that_is_lost_leaves_the_status(rt: HostRuntime) {
-    for (fault, line, status) in FAULTS {
-        for bytes in 0..line.len() {
+        for bytes in 0..=line.len() {
             let slip = Slip::Fails(ErrorKind::BrokenPipe);
             let habit = Habit::steps_of(3).slips_after(bytes, slip);
             let mut errors = Target::new(rt.alloc(), habit);
-            assert_eq!(rt; report(&fault, &mut errors), status, "{fault}");
+            assert_eq!(rt; report(&fault, &mut errors), status);
             assert_eq!(rt; errors.taken.len(), bytes);
             assert!(rt; line.as_bytes().starts_with(&errors.taken));
         }

@@ -1,12 +1,15 @@
-use Rattle.std.proofs.Common.{◌≡◌, ◌+◌, length, drop}
+use Rattle.std.proofs.Common.{◌≡◌, ◌+◌, true, List, length, drop}
+use Rattle.mdlsim.specs.declared.script_command.ScriptCommand.{ScriptCommand}
 use Rattle.mdlsim.specs.Lines.{lines_of}
 use Rattle.mdlsim.specs.Scripts.{parsed, commands_from}
 use Rattle.mdlsim.proofs.Reading.{joined}
 use Rattle.mdlsim.proofs.parse.parse.Given as goal
 
--- the commands so far, before those of the lines that are left, are the script's
+-- the commands so far, which were kept while there was room, before those of the lines that are left, are the script's
 abbrev pub invariant-loop-line : goal.invariant-loop-line
 invariant-loop-line l = record {
   counted : l.number ≡ length l.yielded;
-  read : parsed l.kind l.text ≡ joined l.commands.items (commands_from l.kind (l.number + 1) (drop l.number (lines_of l.text)));
+  so_far : List ScriptCommand;
+  read : parsed l.kind l.text ≡ joined so_far (commands_from l.kind (l.number + 1) (drop l.number (lines_of l.text)));
+  kept : l.has_room ≡ true → so_far ≡ l.commands.items;
 }

@@ -8,7 +8,7 @@ use Rattle.mdlsim.specs.Answers.{next_waiter, admitted}
 use Rattle.mdlsim.specs.Locks.{lock_of}
 use Rattle.mdlsim.proofs.LockLemmas.{named-next, none-next, told_end, left_end, told_more, left_more}
 use Rattle.mdlsim.proofs.OrderLemmas.{orderly_admit}
-use Rattle.mdlsim.proofs.lock.grant_waiters.Goals as goal
+use Rattle.mdlsim.proofs.lock_answers.grant_waiters.Goals as goal
 
 pub returns-in_default-clause-told : goal.returns-in_default-clause-told
 returns-in_default-clause-told c =

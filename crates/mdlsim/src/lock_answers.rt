@@ -14,7 +14,7 @@ ghost use Rattle.mdlsim.specs.Output.{IsLawfulThroughout, ForgetsNobodyThroughou
 
 use crate::answer::Answer;
 use crate::fault::Fault;
-use crate::lock_command::{Action, LockCommand};
+use crate::script_command::{Action, ScriptCommand};
 use mdl_book::{Book, BookError, Sessions, Ticket};
 use mdl_key::{Key, Kind, Mode};
 use mdl_word::Word;
@@ -27,7 +27,7 @@ const THE_ONE: u64 = 1;
 const NO_FAST: Word = Word(0);
 
 /// Drives a lock that nobody holds by commands, and gives the text of the answers, a line each.
-pub fn answers_to(alloc: Global, kind: Kind, commands: &[LockCommand]) -> Result<String, Fault>
+pub fn answers_to(alloc: Global, kind: Kind, commands: &[ScriptCommand]) -> Result<String, Fault>
     requires { All IsNumbered commands.now }
     ensures text { IfOk result (λ text. string_bytes text ≡ text_of (all_obeyed kind commands.now free_lock).answers) }
     ensures lawful { IsLawfulThroughout kind commands.now }
@@ -47,7 +47,7 @@ pub fn answers_to(alloc: Global, kind: Kind, commands: &[LockCommand]) -> Result
 fn obey(
     book: &mut Book,
     everyone: &Sessions,
-    command: LockCommand,
+    command: ScriptCommand,
     out: &mut String,
 ) -> Result<(), Fault>
     requires every { IsEverySession everyone.now }

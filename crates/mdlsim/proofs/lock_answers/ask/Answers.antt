@@ -6,7 +6,7 @@ use Rattle.mdl_book.proofs.GrantingLemmas.{compatible-from_grantable}
 use Rattle.mdlsim.specs.Answers.{new_ticket, holds_or_waits}
 use Rattle.mdlsim.specs.Locks.{lock_of}
 use Rattle.mdlsim.proofs.OrderLemmas.{orderly_grant, orderly_wait, never_full, never_refused, only_memory}
-use Rattle.mdlsim.proofs.lock.ask.Goals as goal
+use Rattle.mdlsim.proofs.lock_answers.ask.Goals as goal
 
 pub map_err-requires : goal.map_err-requires
 map_err-requires c =

@@ -5,7 +5,7 @@ use Rattle.mdl_book.specs.Books.{lock_kind}
 use Rattle.mdlsim.specs.Answering.{text_of}
 use Rattle.mdlsim.specs.Answers.{grants_at_most, grants_until_none}
 use Rattle.mdlsim.specs.Locks.{lock_of, IsOrderly}
-use Rattle.mdlsim.proofs.lock.grant_waiters.Given as goal
+use Rattle.mdlsim.proofs.lock_answers.grant_waiters.Given as goal
 
 abbrev pub invariant-loop-turn : goal.invariant-loop-turn
 invariant-loop-turn l =

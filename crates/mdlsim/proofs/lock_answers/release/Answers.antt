@@ -1,7 +1,7 @@
 -- The ticket that is given up leaves the lock orderly.
 use Rattle.mdlsim.specs.Locks.{lock_of}
 use Rattle.mdlsim.proofs.OrderLemmas.{orderly_release}
-use Rattle.mdlsim.proofs.lock.release.Goals as goal
+use Rattle.mdlsim.proofs.lock_answers.release.Goals as goal
 
 pub grant_waiters-requires-clause-orderly : goal.grant_waiters-requires-clause-orderly
 grant_waiters-requires-clause-orderly c =

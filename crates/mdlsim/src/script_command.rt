@@ -2,7 +2,7 @@
 use mdl_key::Mode;
 
 /// What a session wants of the lock.
-#[derive(Clone, Copy, Debug, PartialEq, Eq)]
+#[derive(Clone, Copy)]
 pub enum Action {
     /// To be granted the mode, or to wait for it.
     Ask(Mode),
@@ -13,8 +13,8 @@ pub enum Action {
 }
 
 /// A line of a script: a session and what it wants.
-#[derive(Clone, Copy, Debug, PartialEq, Eq)]
-pub struct LockCommand {
+#[derive(Clone, Copy)]
+pub struct ScriptCommand {
     /// The session, from 1 to 64.
     pub session: u16,
     /// What it wants.

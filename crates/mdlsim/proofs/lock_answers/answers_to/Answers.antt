@@ -8,7 +8,7 @@ use Rattle.mdlsim.proofs.ForgottenLemmas.{forgets_nobody_throughout}
 use Rattle.mdlsim.proofs.LawfulLemmas.{lawful_throughout}
 use Rattle.mdlsim.proofs.OrderLemmas.{orderly_free}
 use Rattle.mdlsim.proofs.RunLemmas.{told_so_far, left_so_far}
-use Rattle.mdlsim.proofs.lock.answers_to.Goals as goal
+use Rattle.mdlsim.proofs.lock_answers.answers_to.Goals as goal
 
 pub returns-in_err-key_of-clause-lawful : goal.returns-in_err-key_of-clause-lawful
 returns-in_err-key_of-clause-lawful c = lawful_throughout _ _

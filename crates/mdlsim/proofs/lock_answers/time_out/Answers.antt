@@ -1,7 +1,7 @@
 -- The wait that is given up leaves the lock orderly.
 use Rattle.mdlsim.specs.Locks.{lock_of}
 use Rattle.mdlsim.proofs.OrderLemmas.{orderly_cancel}
-use Rattle.mdlsim.proofs.lock.time_out.Goals as goal
+use Rattle.mdlsim.proofs.lock_answers.time_out.Goals as goal
 
 pub grant_waiters-requires-clause-orderly : goal.grant_waiters-requires-clause-orderly
 grant_waiters-requires-clause-orderly c =

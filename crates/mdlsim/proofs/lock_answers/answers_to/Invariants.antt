@@ -6,7 +6,7 @@ use Rattle.mdl_book.specs.Granting.{IsLawful}
 use Rattle.mdlsim.specs.Answering.{text_of}
 use Rattle.mdlsim.specs.Answers.{all_obeyed, free_lock}
 use Rattle.mdlsim.specs.Locks.{lock_of, IsOrderly}
-use Rattle.mdlsim.proofs.lock.answers_to.Given as goal
+use Rattle.mdlsim.proofs.lock_answers.answers_to.Given as goal
 
 abbrev pub invariant-loop-command : goal.invariant-loop-command
 invariant-loop-command l =

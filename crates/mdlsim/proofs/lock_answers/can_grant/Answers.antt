@@ -2,7 +2,7 @@
 use Rattle.std.proofs.Common.{◌∙◌}
 use Rattle.mdl_book.specs.Books.{lock_kind}
 use Rattle.mdl_book.proofs.FastLemmas.{can_be_granted-none}
-use Rattle.mdlsim.proofs.lock.can_grant.Goals as goal
+use Rattle.mdlsim.proofs.lock_answers.can_grant.Goals as goal
 
 pub returns : goal.returns
 returns c =
