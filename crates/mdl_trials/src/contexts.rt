@@ -139,7 +139,11 @@ fn contexts_stand_where_the_plain_ones_do(rt: HostRuntime) -> Result<(), Fail> {
             plain: Plain::new(rt.alloc(), usize::from(PLACES), SESSIONS)?,
             chance: Chance(seed),
         };
-        assert_eq!(rt; first_apart(&mut hall, &mut trial), None, "with seed {seed}");
+        assert_eq!(rt;
+            first_apart(&mut hall, &mut trial),
+            None,
+            "with seed {seed}"
+        );
         // Each was met in earnest.
         let seen = trial.plain.seen;
         assert!(rt; seen.granted >= 100, "{} waits granted", seen.granted);

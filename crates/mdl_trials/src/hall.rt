@@ -1,5 +1,5 @@
 //! A lock space with the contexts of all its sessions.
-ghost use Rattle.std.specs.Prelude.{ℕ, ◌≤◌, length};
+ghost use Rattle.std.specs.Prelude.{◌≡◌, ◌≤◌, length};
 ghost use Rattle.mdl_context.specs.Halls.{AreServed};
 
 use crate::chance::SESSIONS;
@@ -72,10 +72,11 @@ fn one_acts(
 
 // Whether each session holds in the space what the plain program has, and keeps as many of each duration in its context.
 fn hold_the_same(space: &CoreSpace, contexts: &[Context<CoreSpace>], plain: &Plain) -> bool
-    requires { AreServed space.now 1 contexts.now }
+    requires served { AreServed space.now 1 contexts.now }
+    requires all { length contexts.now ≡ 5 }
 {
-    for (index, context) in contexts.iter().enumerate() {
-        let who = index as u16 + 1;
+    for who in 1..SESSIONS + 1 {
+        let context = &contexts[usize::from(who) - 1];
         let (Ok(held), Ok(wanted)) = (space.held(who), plain.held(who)) else {
             return false;
         };

@@ -6,7 +6,9 @@ mod granting;
 mod lists;
 
 use mdl_key::{Duration, Key, Mode, at_least};
-use mdl_space::{Attempt, Begun, Ended, Place, Poll, Search, Settled, SpaceError, TicketId, TimedOut};
+use mdl_space::{
+    Attempt, Begun, Ended, Place, Poll, Search, Settled, SpaceError, TicketId, TimedOut,
+};
 use std::alloc::{AllocError, Global};
 
 /// A ticket, granted or waiting. A granted one is held, unless the wait for it isn't ended. A space keeps it until it is given up;
@@ -113,7 +115,12 @@ impl Plain {
     }
 
     /// A lock, if it can be had now.
-    pub(crate) fn try_now(&mut self, who: u16, place: Place, mode: Mode) -> Result<Attempt, SpaceError> {
+    pub(crate) fn try_now(
+        &mut self,
+        who: u16,
+        place: Place,
+        mode: Mode,
+    ) -> Result<Attempt, SpaceError> {
         self.check_request(who, place, mode)?;
         if !self.is_grantable(who, place, mode) {
             return Ok(Attempt::WouldWait);
@@ -122,7 +129,12 @@ impl Plain {
     }
 
     /// A lock, or a wait for it.
-    pub(crate) fn begin_wait(&mut self, who: u16, place: Place, mode: Mode) -> Result<Begun, SpaceError> {
+    pub(crate) fn begin_wait(
+        &mut self,
+        who: u16,
+        place: Place,
+        mode: Mode,
+    ) -> Result<Begun, SpaceError> {
         self.check_request(who, place, mode)?;
         let is_granted = self.is_grantable(who, place, mode);
         let ticket = self.add(who, place, mode, is_granted)?;
@@ -133,7 +145,12 @@ impl Plain {
     }
 
     /// A second ticket beside a held one that is at least as strong, whoever waits.
-    pub(crate) fn clone_ticket(&mut self, who: u16, id: TicketId, mode: Mode) -> Result<TicketId, SpaceError> {
+    pub(crate) fn clone_ticket(
+        &mut self,
+        who: u16,
+        id: TicketId,
+        mode: Mode,
+    ) -> Result<TicketId, SpaceError> {
         let Some(held) = self.held_ticket(who, id) else {
             return Err(SpaceError::NotHeld);
         };

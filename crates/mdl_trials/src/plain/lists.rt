@@ -19,7 +19,12 @@ impl Plain {
     }
 
     // Why a lock can't be asked for.
-    pub(super) fn check_request(&self, who: u16, place: Place, mode: Mode) -> Result<(), SpaceError> {
+    pub(super) fn check_request(
+        &self,
+        who: u16,
+        place: Place,
+        mode: Mode,
+    ) -> Result<(), SpaceError> {
         let Some(kind) = self.kind_of(place) else {
             return Err(SpaceError::NoPlace);
         };
