@@ -1,7 +1,6 @@
 pub mod CauseLemmas
 pub mod DeadlockLemmas
 pub mod KnownKeyLemmas
-pub mod LoneProofs
 pub mod SearchLemmas
 pub mod ServingLemmas
 pub mod SpeakingLemmas

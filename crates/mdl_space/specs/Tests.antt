@@ -1,2 +1,3 @@
+pub mod LoneProofs
 pub mod LoneSessions
 pub mod Visits

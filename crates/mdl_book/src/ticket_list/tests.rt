@@ -1,7 +1,6 @@
 ghost use Rattle.std.specs.Prelude.{◌<◌};
 
 use super::*;
-use std::test::Fail;
 
 fn ticket(session: u16, number: u64, mode: Mode) -> Ticket {
     Ticket {
@@ -11,33 +10,42 @@ fn ticket(session: u16, number: u64, mode: Mode) -> Ticket {
     }
 }
 
-// Puts a ticket at the end of a list that isn't full.
-fn add(list: &mut TicketList, ticket: Ticket) -> Result<(), AllocError> {
+// Puts a ticket at the end of a list, where there is room.
+fn add(list: &mut TicketList, ticket: Ticket) {
     if list.len() < 65_535 {
-        list.push(ticket)?;
+        let _ = list.push(ticket);
     }
-    Ok(())
+}
+
+// A list of tickets.
+fn list_with(alloc: Global, tickets: &[Ticket]) -> TicketList {
+    let mut list = TicketList::new(alloc);
+    for ticket in tickets {
+        add(&mut list, *ticket);
+    }
+    list
 }
 
 // A list of tickets of the sessions 1, 2, .. with the number 1.
-fn list_of(alloc: Global, modes: &[Mode]) -> Result<TicketList, Fail> {
+fn list_of(alloc: Global, modes: &[Mode]) -> TicketList {
     let mut list = TicketList::new(alloc);
+    let mut session: u16 = 1;
     for mode in modes {
-        if list.len() < 65_535 {
-            let session = list.len() as u16 + 1;
-            list.push(ticket(session, 1, *mode))?;
-        }
+        add(&mut list, ticket(session, 1, *mode));
+        session = session.wrapping_add(1);
     }
-    Ok(list)
+    list
 }
 
 #[test]
-fn lives_an_ordinary_life(rt: HostRuntime) -> Result<(), Fail> {
-    let mut list = TicketList::new(rt.alloc());
-    assert!(rt; list.is_empty());
-    add(&mut list, ticket(1, 7, Mode::SR))?;
-    add(&mut list, ticket(2, 1, Mode::SW))?;
-    add(&mut list, ticket(1, 8, Mode::SH))?;
+fn lives_an_ordinary_life(rt: HostRuntime) {
+    assert!(rt; TicketList::new(rt.alloc()).is_empty());
+    let tickets = [
+        ticket(1, 7, Mode::SR),
+        ticket(2, 1, Mode::SW),
+        ticket(1, 8, Mode::SH),
+    ];
+    let mut list = list_with(rt.alloc(), &tickets);
     assert_eq!(rt; list.len(), 3);
     assert!(rt; !list.is_empty());
     assert!(rt; list.contains(2, 1));
@@ -56,38 +64,33 @@ fn lives_an_ordinary_life(rt: HostRuntime) -> Result<(), Fail> {
     assert_eq!(rt; list.take(2, 1), Some(ticket(2, 1, Mode::X)));
     assert_eq!(rt; list.take(2, 1), None);
     assert!(rt; list.is_empty());
-    Ok(())
 }
 
 #[test]
-fn twins_go_one_by_one(rt: HostRuntime) -> Result<(), Fail> {
-    let mut list = TicketList::new(rt.alloc());
-    add(&mut list, ticket(1, 1, Mode::S))?;
-    add(&mut list, ticket(1, 1, Mode::X))?;
+fn twins_go_one_by_one(rt: HostRuntime) {
+    let mut list = list_with(rt.alloc(), &[ticket(1, 1, Mode::S), ticket(1, 1, Mode::X)]);
     assert_eq!(rt; list.set_mode(1, 1, Mode::SR), Some(Mode::S));
     assert_eq!(rt; list.take(1, 1), Some(ticket(1, 1, Mode::SR)));
     assert_eq!(rt; list.take(1, 1), Some(ticket(1, 1, Mode::X)));
-    Ok(())
 }
 
 #[test]
-fn own_tickets_never_stand_in_the_way(rt: HostRuntime) -> Result<(), Fail> {
-    let list = list_of(rt.alloc(), &[Mode::SR, Mode::SR, Mode::SW])?;
+fn own_tickets_never_stand_in_the_way(rt: HostRuntime) {
+    let list = list_of(rt.alloc(), &[Mode::SR, Mode::SR, Mode::SW]);
     assert!(rt; list.all_stand_beside(Kind::Object, 9, Mode::SU));
     assert!(rt; list.all_stand_beside(Kind::Object, 3, Mode::SNW));
     assert!(rt; !list.all_stand_beside(Kind::Object, 1, Mode::SNW));
     assert!(rt; !list.all_stand_beside(Kind::Object, 3, Mode::X));
-    let waiting = list_of(rt.alloc(), &[Mode::X, Mode::SNW])?;
+    let waiting = list_of(rt.alloc(), &[Mode::X, Mode::SNW]);
     assert!(rt; waiting.all_overtaken(Kind::Object, 9, Mode::SH));
     assert!(rt; waiting.all_overtaken(Kind::Object, 1, Mode::SR));
     assert!(rt; !waiting.all_overtaken(Kind::Object, 2, Mode::SR));
     assert!(rt; !waiting.all_overtaken(Kind::Object, 1, Mode::SW));
-    Ok(())
 }
 
 #[test]
-fn a_mode_that_is_left_no_longer_counts(rt: HostRuntime) -> Result<(), Fail> {
-    let mut list = list_of(rt.alloc(), &[Mode::X, Mode::IX])?;
+fn a_mode_that_is_left_no_longer_counts(rt: HostRuntime) {
+    let mut list = list_of(rt.alloc(), &[Mode::X, Mode::IX]);
     assert!(rt; !list.all_stand_beside(Kind::Scoped, 9, Mode::IX));
     list.set_mode(1, 1, Mode::IX);
     assert!(rt; list.all_stand_beside(Kind::Scoped, 9, Mode::IX));
@@ -95,36 +98,39 @@ fn a_mode_that_is_left_no_longer_counts(rt: HostRuntime) -> Result<(), Fail> {
     list.take(1, 1);
     list.take(2, 1);
     assert!(rt; list.all_stand_beside(Kind::Scoped, 9, Mode::X));
-    Ok(())
 }
 
 #[test]
-fn knows_obtrusive_modes(rt: HostRuntime) -> Result<(), Fail> {
-    let mut list = list_of(rt.alloc(), &[Mode::SR, Mode::SH, Mode::SW])?;
+fn knows_obtrusive_modes(rt: HostRuntime) {
+    let mut list = list_of(rt.alloc(), &[Mode::SR, Mode::SH, Mode::SW]);
     assert!(rt; !list.has_obtrusive(Kind::Object));
     assert!(rt; list.has_obtrusive(Kind::Scoped));
     list.set_mode(2, 1, Mode::SU);
     assert!(rt; list.has_obtrusive(Kind::Object));
     list.take(2, 1);
     assert!(rt; !list.has_obtrusive(Kind::Object));
-    Ok(())
 }
 
-#[test]
-fn reserved_room_is_kept(rt: HostRuntime) -> Result<(), Fail> {
-    let mut list = TicketList::new(rt.alloc());
-    list.reserve(100)?;
-    for number in 0..1_000 {
-        if list.len() < 65_535 {
-            list.reserve(1)?;
+// Reserves room, and puts so many tickets into it, of which the last 99 stay. How many there are.
+fn kept_in_reserved_room(list: &mut TicketList, most: u64) -> usize {
+    if list.reserve(100).is_err() {
+        return 0;
+    }
+    for number in 0..most {
+        if list.len() < 65_535 && list.reserve(1).is_ok() {
             list.push_reserved(ticket(1, number, Mode::SR));
         }
         if number >= 99 {
             list.take(1, number - 99);
         }
     }
-    assert_eq!(rt; list.len(), 99);
-    Ok(())
+    list.len()
+}
+
+#[test]
+fn reserved_room_is_kept(rt: HostRuntime) {
+    let mut list = TicketList::new(rt.alloc());
+    assert_eq!(rt; kept_in_reserved_room(&mut list, 1_000), 99);
 }
 
 // The next of a run of numbers that look drawn by lot.
@@ -190,25 +196,30 @@ fn answers_alike(list: &TicketList, plain: &[Ticket], kind: Kind, wish: Ticket) 
         && list.all_overtaken(kind, wish.session, wish.mode) == overtaken
 }
 
+// Does something by lot with both lists: whether they answer the same, and are the same then.
+fn does_alike(list: &mut TicketList, plain: &mut Vec<Ticket>, seed: &mut u64) -> bool {
+    let drawn = draw_ticket(seed);
+    let is_alike = match draw(seed, 5) {
+        0 | 1 => {
+            add(list, drawn);
+            plain.push(drawn).is_ok()
+        }
+        2 => takes_alike(list, plain, drawn.session, drawn.number),
+        3 => takes_first_alike(list, plain),
+        _ => sets_alike(list, plain, drawn),
+    };
+    is_alike
+        && list.as_slice() == plain.as_slice()
+        && answers_alike(list, plain, Kind::Scoped, drawn)
+        && answers_alike(list, plain, Kind::Object, drawn)
+}
+
 #[test]
-fn does_as_a_plain_list_does(rt: HostRuntime) -> Result<(), Fail> {
+fn does_as_a_plain_list_does(rt: HostRuntime) {
     let mut seed = 20_261_122;
     let mut list = TicketList::new(rt.alloc());
     let mut plain: Vec<Ticket> = Vec::new(rt.alloc());
-    for _ in 0..2_000 {
-        let drawn = draw_ticket(&mut seed);
-        match draw(&mut seed, 5) {
-            0 | 1 => {
-                plain.push(drawn)?;
-                add(&mut list, drawn)?;
-            }
-            2 => assert!(rt; takes_alike(&mut list, &mut plain, drawn.session, drawn.number)),
-            3 => assert!(rt; takes_first_alike(&mut list, &mut plain)),
-            _ => assert!(rt; sets_alike(&mut list, &mut plain, drawn)),
-        }
-        assert!(rt; list.as_slice() == plain.as_slice());
-        assert!(rt; answers_alike(&list, &plain, Kind::Scoped, drawn));
-        assert!(rt; answers_alike(&list, &plain, Kind::Object, drawn));
+    for turn in 0..2_000 {
+        assert!(rt; does_alike(&mut list, &mut plain, &mut seed), "turn {turn}");
     }
-    Ok(())
 }

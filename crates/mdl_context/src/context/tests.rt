@@ -5,7 +5,5 @@ mod hall;
 mod marks;
 mod memory;
 mod order;
-mod plain;
 mod rows;
-mod seeded;
 mod waits;

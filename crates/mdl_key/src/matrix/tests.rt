@@ -1,5 +1,4 @@
 use super::*;
-use std::test::Fail;
 
 // The matrices of MySQL 5.7, sql/mdl.cc: the mode asked for, and the modes that clash with it (GRANTED) or that it waits
 // behind (WAITING).
@@ -34,26 +33,45 @@ const MODES: [&str; 11] = [
     "IX", "S", "SH", "SR", "SW", "SWLP", "SU", "SRO", "SNW", "SNRW", "X",
 ];
 
-#[test]
-fn each_entry_is_as_in_the_table(rt: HostRuntime) -> Result<(), Fail> {
-    let mut lines = 0usize;
-    for line in MATRICES.lines() {
-        let (asked, row) = line.split_once(": ").ok_or("no colon")?;
-        let (matrix, name) = asked.rsplit_once(' ').ok_or("no mode")?;
-        let ask = name.parse::<Mode>()?;
-        for other in MODES {
-            let mode = other.parse::<Mode>()?;
-            let answer = match matrix {
-                "SCOPED GRANTED" => conflicts_granted(Kind::Scoped, ask, mode),
-                "SCOPED WAITING" => conflicts_waiting(Kind::Scoped, ask, mode),
-                "OBJECT GRANTED" => conflicts_granted(Kind::Object, ask, mode),
-                _ => conflicts_waiting(Kind::Object, ask, mode),
-            };
-            let want = row.split(' ').any(|word| word == other);
-            assert_eq!(rt; answer, want, "{line}: {other}");
+// Whether a matrix has this row for this mode.
+fn has_row(matrix: &str, ask: Mode, row: &str) -> bool {
+    for name in MODES {
+        let Ok(mode) = name.parse::<Mode>() else {
+            return false;
+        };
+        let answer = match matrix {
+            "SCOPED GRANTED" => conflicts_granted(Kind::Scoped, ask, mode),
+            "SCOPED WAITING" => conflicts_waiting(Kind::Scoped, ask, mode),
+            "OBJECT GRANTED" => conflicts_granted(Kind::Object, ask, mode),
+            _ => conflicts_waiting(Kind::Object, ask, mode),
+        };
+        if answer != row.split(' ').any(|word| word == name) {
+            return false;
         }
+    }
+    true
+}
+
+// Whether a line tells what is so.
+fn is_so(line: &str) -> bool {
+    let Some((asked, row)) = line.split_once(": ") else {
+        return false;
+    };
+    let Some((matrix, name)) = asked.rsplit_once(' ') else {
+        return false;
+    };
+    match name.parse::<Mode>() {
+        Ok(ask) => has_row(matrix, ask, row),
+        Err(_) => false,
+    }
+}
+
+#[test]
+fn each_entry_is_as_in_the_table(rt: HostRuntime) {
+    let mut lines = 0u32;
+    for line in MATRICES.lines() {
+        assert!(rt; is_so(line), "{line}");
         lines = lines.saturating_add(1);
     }
     assert_eq!(rt; lines, 26);
-    Ok(())
 }

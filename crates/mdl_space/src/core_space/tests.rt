@@ -5,9 +5,7 @@ mod fixture;
 mod full;
 mod life;
 mod memory;
-mod plain;
 mod refusals;
-mod seeded;
 
 use super::*;
 use crate::LockSpace;

@@ -4,7 +4,7 @@ ghost use Rattle.std.proofs.Common.{rules, refl, sym, ◌∙◌};
 ghost use Rattle.mdl_calls.specs.Calls.{Begin_wait};
 ghost use Rattle.mdl_calls.specs.Causes.{IsClear, IsCause};
 ghost use Rattle.mdl_space.specs.Tests.LoneSessions.{Lone, SpeaksFor, Knows, IsSettled, Joins, alone, numbering};
-ghost use Rattle.mdl_space.proofs.LoneProofs.{held-at_one, wait-at_one, settled-how};
+ghost use Rattle.mdl_space.specs.Tests.LoneProofs.{held-at_one, wait-at_one, settled-how};
 ghost use Rattle.mdl_calls.specs.Own.{ticket_drawn, is_waiting};
 
 use super::{LockSpace, Place, TicketId};

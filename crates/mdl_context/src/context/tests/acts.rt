@@ -3,12 +3,12 @@ ghost use Rattle.std.specs.Prelude.{◌≡◌};
 ghost use Rattle.mdl_context.specs.Contexts.{Attends, LeavesOthers};
 
 use crate::{Acquire, Context, ContextError, Mark, Request, Resume};
-use mdl_key::{Duration, Key, KeyError, Kind, Mode};
+use mdl_key::{Duration, Key, KeyError, Mode};
 use mdl_space::{LockSpace, SpaceError, TicketId};
 use std::alloc::Global;
 
 /// What may be locked.
-#[derive(Clone, Copy, Debug, PartialEq, Eq)]
+#[derive(Clone, Copy)]
 pub(super) enum Lock {
     A,
     B,
@@ -28,24 +28,17 @@ impl Lock {
             Lock::Commit => Ok(Key::commit(alloc)),
         }
     }
-
-    /// How it is locked.
-    pub(super) fn kind(self) -> Kind {
-        match self {
-            Lock::A | Lock::B => Kind::Object,
-            Lock::Schema | Lock::Global | Lock::Commit => Kind::Scoped,
-        }
-    }
 }
 
 /// What a session may do, or anyone to the wait of a session.
-#[derive(Clone, Copy, Debug, PartialEq, Eq)]
+#[derive(Clone, Copy)]
 pub(super) enum Act {
     Acquire(Lock, Mode, Duration),
     Release(TicketId),
     ReleaseName(Lock),
     Mark,
-    GoBack(Mark),
+    // To a mark of so many tickets of the statement and of the transaction.
+    GoBack(usize, usize),
     EndStatement,
     EndTransaction,
     MakeExplicit,
@@ -56,23 +49,15 @@ pub(super) enum Act {
 }
 
 /// What comes of it.
-#[derive(Clone, Copy, Debug, PartialEq, Eq)]
+#[derive(Clone, Copy, PartialEq, Eq)]
 pub(super) enum Reply {
     Acquired(TicketId),
     MustWait(u64),
     Resumed(Resume),
-    Stands(Mark),
+    Stands(usize, usize),
     Done,
     Killed(bool),
     Refused(ContextError),
-}
-
-/// A mark of so many tickets of the statement and of the transaction.
-pub(super) const fn mark(statement: usize, transaction: usize) -> Mark {
-    Mark {
-        statement,
-        transaction,
-    }
 }
 
 // What an answer without a value says.
@@ -129,8 +114,17 @@ pub(super) fn make<S: LockSpace>(
             done(context.release_name(space, &key))
         }
         Act::Release(id) => done(context.release(space, id)),
-        Act::Mark => Reply::Stands(context.savepoint()),
-        Act::GoBack(mark) => done(context.rollback_to(space, mark)),
+        Act::Mark => {
+            let mark = context.savepoint();
+            Reply::Stands(mark.statement, mark.transaction)
+        }
+        Act::GoBack(statement, transaction) => {
+            let mark = Mark {
+                statement,
+                transaction,
+            };
+            done(context.rollback_to(space, mark))
+        }
         Act::EndStatement => done(context.end_statement(space)),
         Act::EndTransaction => done(context.end_transaction(space)),
         Act::MakeExplicit => done(context.make_explicit()),

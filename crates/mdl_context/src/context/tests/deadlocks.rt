@@ -7,12 +7,11 @@ ghost use Rattle.mdl_context.specs.Tests.Halls.{AreServed};
 
 use super::acts::{Act, Lock, Reply};
 use super::hall::Hall;
-use super::rows::{first_wrong, is_about};
+use super::rows::{Row, first_wrong, is_about};
 use crate::Resume;
 use mdl_key::{Duration, Mode};
 use mdl_space::Settled;
 use std::alloc::Global;
-use std::test::Fail;
 
 const READ_A: Act = Act::Acquire(Lock::A, Mode::SR, Duration::Transaction);
 
@@ -42,58 +41,60 @@ fn make_at_last(hall: &mut Hall, who: u16, act: Act) -> Option<Reply>
 }
 
 // Two sessions do this one after another: the first row whose reply isn't the wanted one.
-fn first_lost(alloc: Global, rows: &[(u16, Act, Reply)]) -> Result<Option<usize>, Fail> {
-    let mut hall = Hall::new(alloc)?;
+fn first_lost(alloc: Global, rows: &[Row]) -> Option<usize> {
+    let Ok(mut hall) = Hall::new(alloc) else {
+        return Some(rows.len());
+    };
     for (index, (who, act, wanted)) in rows.iter().enumerate() {
         if *who == 0 || *who > 2 {
-            return Ok(Some(index));
+            return Some(index);
         }
         let reply = make_at_last(&mut hall, *who, *act);
         if !is_about(reply, *wanted) {
-            return Ok(Some(index));
+            return Some(index);
         }
     }
-    Ok(None)
+    None
+}
+
+const EQUALS: &[Row] = &[
+    (1, READ_A, Reply::Acquired(1)),
+    (2, READ_B, Reply::Acquired(1)),
+    (1, LOCK_B, Reply::MustWait(1)),
+    (1, Act::Resume, STILL_WAITING),
+    (2, LOCK_A, Reply::MustWait(1)),
+    (2, Act::Resume, VICTIM),
+    // It keeps what it has.
+    (2, READ_B, Reply::Acquired(1)),
+    (1, Act::Resume, STILL_WAITING),
+    (2, Act::EndTransaction, Reply::Done),
+    (1, Act::Resume, HAS_SECOND),
+    (1, Act::EndTransaction, Reply::Done),
+];
+
+#[test]
+fn of_equals_the_greater_number_is_the_victim(rt: HostRuntime) {
+    assert_eq!(rt; first_lost(rt.alloc(), EQUALS), None);
+}
+
+const LIGHTER: &[Row] = &[
+    (2, LOCK_A, Reply::Acquired(1)),
+    (1, READ_B, Reply::Acquired(1)),
+    (1, READ_A, Reply::MustWait(1)),
+    (2, LOCK_B, Reply::MustWait(1)),
+    (2, Act::Resume, STILL_WAITING),
+    (1, Act::Resume, VICTIM),
+    (1, Act::EndTransaction, Reply::Done),
+    (2, Act::Resume, HAS_SECOND),
+];
+
+#[test]
+fn whoever_weighs_less_is_the_victim(rt: HostRuntime) {
+    assert_eq!(rt; first_lost(rt.alloc(), LIGHTER), None);
 }
 
 #[test]
-fn of_equals_the_greater_number_is_the_victim(rt: HostRuntime) -> Result<(), Fail> {
-    let rows = [
-        (1, READ_A, Reply::Acquired(1)),
-        (2, READ_B, Reply::Acquired(1)),
-        (1, LOCK_B, Reply::MustWait(1)),
-        (1, Act::Resume, STILL_WAITING),
-        (2, LOCK_A, Reply::MustWait(1)),
-        (2, Act::Resume, VICTIM),
-        // It keeps what it has.
-        (2, READ_B, Reply::Acquired(1)),
-        (1, Act::Resume, STILL_WAITING),
-        (2, Act::EndTransaction, Reply::Done),
-        (1, Act::Resume, HAS_SECOND),
-        (1, Act::EndTransaction, Reply::Done),
-    ];
-    assert_eq!(rt; first_lost(rt.alloc(), &rows)?, None);
-    Ok(())
-}
-
-#[test]
-fn whoever_weighs_less_is_the_victim(rt: HostRuntime) -> Result<(), Fail> {
-    let rows = [
-        (2, LOCK_A, Reply::Acquired(1)),
-        (1, READ_B, Reply::Acquired(1)),
-        (1, READ_A, Reply::MustWait(1)),
-        (2, LOCK_B, Reply::MustWait(1)),
-        (2, Act::Resume, STILL_WAITING),
-        (1, Act::Resume, VICTIM),
-        (1, Act::EndTransaction, Reply::Done),
-        (2, Act::Resume, HAS_SECOND),
-    ];
-    assert_eq!(rt; first_lost(rt.alloc(), &rows)?, None);
-    Ok(())
-}
-
-#[test]
-fn wishes_in_global_weigh_as_much_as_the_strong(rt: HostRuntime) -> Result<(), Fail> {
+fn wishes_in_global_weigh_as_much_as_the_strong(rt: HostRuntime) {
     // Two sessions whose wishes are weak: the first, which closes the circle, is the victim only where the second wishes in
     // GLOBAL.
     for (lock, first, second) in [
@@ -116,58 +117,57 @@ fn wishes_in_global_weigh_as_much_as_the_strong(rt: HostRuntime) -> Result<(), F
             (1, Act::Resume, first),
             (2, Act::Resume, second),
         ];
-        assert_eq!(rt; first_wrong(rt.alloc(), &rows)?, None);
+        assert_eq!(rt; first_wrong(rt.alloc(), &rows), None);
     }
-    Ok(())
 }
 
-#[test]
-fn three_in_a_circle_have_one_victim(rt: HostRuntime) -> Result<(), Fail> {
-    let rows = [
-        (1, LOCK_A, Reply::Acquired(1)),
-        (3, LOCK_B, Reply::Acquired(1)),
-        (
-            2,
-            Act::Acquire(Lock::Commit, Mode::X, Duration::Transaction),
-            Reply::Acquired(1),
-        ),
-        (1, LOCK_B, Reply::MustWait(1)),
-        (
-            3,
-            Act::Acquire(Lock::Commit, Mode::X, Duration::Transaction),
-            Reply::MustWait(1),
-        ),
-        (2, LOCK_A, Reply::MustWait(1)),
-        (2, Act::Resume, STILL_WAITING),
-        (1, Act::Resume, STILL_WAITING),
-        (3, Act::Resume, VICTIM),
-        (3, Act::EndTransaction, Reply::Done),
-        (1, Act::Resume, HAS_SECOND),
-        (1, Act::EndTransaction, Reply::Done),
-        (2, Act::Resume, HAS_SECOND),
-    ];
-    assert_eq!(rt; first_wrong(rt.alloc(), &rows)?, None);
-    Ok(())
-}
+const THREE: &[Row] = &[
+    (1, LOCK_A, Reply::Acquired(1)),
+    (3, LOCK_B, Reply::Acquired(1)),
+    (
+        2,
+        Act::Acquire(Lock::Commit, Mode::X, Duration::Transaction),
+        Reply::Acquired(1),
+    ),
+    (1, LOCK_B, Reply::MustWait(1)),
+    (
+        3,
+        Act::Acquire(Lock::Commit, Mode::X, Duration::Transaction),
+        Reply::MustWait(1),
+    ),
+    (2, LOCK_A, Reply::MustWait(1)),
+    (2, Act::Resume, STILL_WAITING),
+    (1, Act::Resume, STILL_WAITING),
+    (3, Act::Resume, VICTIM),
+    (3, Act::EndTransaction, Reply::Done),
+    (1, Act::Resume, HAS_SECOND),
+    (1, Act::EndTransaction, Reply::Done),
+    (2, Act::Resume, HAS_SECOND),
+];
 
 #[test]
-fn one_wait_closes_two_circles(rt: HostRuntime) -> Result<(), Fail> {
-    let rows = [
-        (1, READ_A, Reply::Acquired(1)),
-        (2, READ_A, Reply::Acquired(1)),
-        (3, LOCK_B, Reply::Acquired(1)),
-        (1, READ_B, Reply::MustWait(1)),
-        (2, READ_B, Reply::MustWait(1)),
-        (3, LOCK_A, Reply::MustWait(1)),
-        // Each has its victim, and neither is the third session.
-        (1, Act::Resume, VICTIM),
-        (2, Act::Resume, VICTIM),
-        (3, Act::Resume, STILL_WAITING),
-        (1, Act::EndTransaction, Reply::Done),
-        (3, Act::Resume, STILL_WAITING),
-        (2, Act::EndTransaction, Reply::Done),
-        (3, Act::Resume, HAS_SECOND),
-    ];
-    assert_eq!(rt; first_wrong(rt.alloc(), &rows)?, None);
-    Ok(())
+fn three_in_a_circle_have_one_victim(rt: HostRuntime) {
+    assert_eq!(rt; first_wrong(rt.alloc(), THREE), None);
+}
+
+const TWO_CIRCLES: &[Row] = &[
+    (1, READ_A, Reply::Acquired(1)),
+    (2, READ_A, Reply::Acquired(1)),
+    (3, LOCK_B, Reply::Acquired(1)),
+    (1, READ_B, Reply::MustWait(1)),
+    (2, READ_B, Reply::MustWait(1)),
+    (3, LOCK_A, Reply::MustWait(1)),
+    // Each has its victim, and neither is the third session.
+    (1, Act::Resume, VICTIM),
+    (2, Act::Resume, VICTIM),
+    (3, Act::Resume, STILL_WAITING),
+    (1, Act::EndTransaction, Reply::Done),
+    (3, Act::Resume, STILL_WAITING),
+    (2, Act::EndTransaction, Reply::Done),
+    (3, Act::Resume, HAS_SECOND),
+];
+
+#[test]
+fn one_wait_closes_two_circles(rt: HostRuntime) {
+    assert_eq!(rt; first_wrong(rt.alloc(), TWO_CIRCLES), None);
 }

@@ -6,7 +6,7 @@ ghost use Rattle.std.specs.Prelude.{◌≡◌, ◌≢◌, IfOk};
 ghost use Rattle.mdl_core.specs.CoreJoins.{SpeaksFor, own_at, Knows};
 ghost use Rattle.mdl_context.specs.Contexts.{Attends};
 
-use super::acts::{Act, Lock, Reply, make, mark};
+use super::acts::{Act, Lock, Reply, make};
 use super::hall::new_space;
 use super::rows::is_about;
 use crate::{Context, Kept, Mark, Resume};
@@ -220,75 +220,79 @@ fn clones(alloc: Global, space: &mut CoreSpace, context: &mut Context<CoreSpace>
     true
 }
 
+const GAINS: &[(Act, Reply)] = &[
+    (
+        Act::Acquire(Lock::A, Mode::SR, Duration::Transaction),
+        Reply::Acquired(1),
+    ),
+    (
+        Act::Acquire(Lock::Global, Mode::IX, Duration::Statement),
+        Reply::Acquired(2),
+    ),
+    (
+        Act::Acquire(Lock::A, Mode::SW, Duration::Transaction),
+        Reply::Acquired(3),
+    ),
+    (
+        Act::Acquire(Lock::A, Mode::SH, Duration::Statement),
+        Reply::Acquired(4),
+    ),
+    (
+        Act::Acquire(Lock::A, Mode::SR, Duration::Transaction),
+        Reply::Acquired(1),
+    ),
+];
+
+const WAITS: &[(Act, Reply)] = &[
+    (
+        Act::Acquire(Lock::B, Mode::X, Duration::Transaction),
+        Reply::MustWait(1),
+    ),
+    (Act::Resume, Reply::Resumed(Resume::Waiting)),
+    (Act::GiveUp, Reply::Resumed(Resume::Lost(Settled::Timeout))),
+    (
+        Act::Acquire(Lock::B, Mode::X, Duration::Transaction),
+        Reply::MustWait(2),
+    ),
+];
+
+const LAST_WAIT: &[(Act, Reply)] = &[
+    (Act::Resume, Reply::Resumed(Resume::Lost(Settled::Killed))),
+    (
+        Act::Acquire(Lock::B, Mode::X, Duration::Statement),
+        Reply::MustWait(3),
+    ),
+];
+
+const ENDS: &[(Act, Reply)] = &[
+    (Act::Resume, Reply::Resumed(Resume::Acquired(42))),
+    (Act::Mark, Reply::Stands(3, 2)),
+    (Act::GoBack(2, 2), Reply::Done),
+    (Act::EndStatement, Reply::Done),
+    (Act::Release(39), Reply::Done),
+    (Act::MakeTransactional, Reply::Done),
+    (Act::Mark, Reply::Stands(0, 36)),
+    (Act::GoBack(0, 30), Reply::Done),
+    (Act::MakeExplicit, Reply::Done),
+    (Act::ReleaseName(Lock::Global), Reply::Done),
+    (Act::MakeTransactional, Reply::Done),
+    (Act::EndTransaction, Reply::Done),
+    (Act::Mark, Reply::Stands(0, 0)),
+];
+
 #[test]
 fn outlives_want_of_memory(rt: HostRuntime) -> Result<(), Fail> {
     let alloc = rt.alloc();
     let (mut space, mut context) = start(alloc)?;
     let key = key_of(alloc, Lock::B)?;
-    let rows = [
-        (
-            Act::Acquire(Lock::A, Mode::SR, Duration::Transaction),
-            Reply::Acquired(1),
-        ),
-        (
-            Act::Acquire(Lock::Global, Mode::IX, Duration::Statement),
-            Reply::Acquired(2),
-        ),
-        (
-            Act::Acquire(Lock::A, Mode::SW, Duration::Transaction),
-            Reply::Acquired(3),
-        ),
-        (
-            Act::Acquire(Lock::A, Mode::SH, Duration::Statement),
-            Reply::Acquired(4),
-        ),
-        (
-            Act::Acquire(Lock::A, Mode::SR, Duration::Transaction),
-            Reply::Acquired(1),
-        ),
-    ];
-    assert!(rt; all_outlive(alloc, &mut space, &mut context, &rows));
+    assert!(rt; all_outlive(alloc, &mut space, &mut context, GAINS));
     assert!(rt; clones(alloc, &mut space, &mut context, 40));
     // Waits that are given up, killed and granted.
     assert!(rt; stand_in_the_way(&mut space, &context, &key));
-    let rows = [
-        (
-            Act::Acquire(Lock::B, Mode::X, Duration::Transaction),
-            Reply::MustWait(1),
-        ),
-        (Act::Resume, Reply::Resumed(Resume::Waiting)),
-        (Act::GiveUp, Reply::Resumed(Resume::Lost(Settled::Timeout))),
-        (
-            Act::Acquire(Lock::B, Mode::X, Duration::Transaction),
-            Reply::MustWait(2),
-        ),
-    ];
-    assert!(rt; all_outlive(alloc, &mut space, &mut context, &rows));
+    assert!(rt; all_outlive(alloc, &mut space, &mut context, WAITS));
     assert!(rt; kill_the_wait(&mut space, &context, WHO));
-    let rows = [
-        (Act::Resume, Reply::Resumed(Resume::Lost(Settled::Killed))),
-        (
-            Act::Acquire(Lock::B, Mode::X, Duration::Statement),
-            Reply::MustWait(3),
-        ),
-    ];
-    assert!(rt; all_outlive(alloc, &mut space, &mut context, &rows));
+    assert!(rt; all_outlive(alloc, &mut space, &mut context, LAST_WAIT));
     assert!(rt; get_out_of_the_way(&mut space, &context));
-    let rows = [
-        (Act::Resume, Reply::Resumed(Resume::Acquired(42))),
-        (Act::Mark, Reply::Stands(mark(3, 2))),
-        (Act::GoBack(mark(2, 2)), Reply::Done),
-        (Act::EndStatement, Reply::Done),
-        (Act::Release(39), Reply::Done),
-        (Act::MakeTransactional, Reply::Done),
-        (Act::Mark, Reply::Stands(mark(0, 36))),
-        (Act::GoBack(mark(0, 30)), Reply::Done),
-        (Act::MakeExplicit, Reply::Done),
-        (Act::ReleaseName(Lock::Global), Reply::Done),
-        (Act::MakeTransactional, Reply::Done),
-        (Act::EndTransaction, Reply::Done),
-        (Act::Mark, Reply::Stands(mark(0, 0))),
-    ];
-    assert!(rt; all_outlive(alloc, &mut space, &mut context, &rows));
+    assert!(rt; all_outlive(alloc, &mut space, &mut context, ENDS));
     Ok(())
 }

@@ -6,7 +6,6 @@ use super::hall::{Hall, SESSIONS};
 use crate::{ContextError, Resume};
 use mdl_space::SpaceError;
 use std::alloc::Global;
-use std::test::Fail;
 
 pub(super) const STALE: Reply = Reply::Refused(ContextError::StaleSavepoint);
 
@@ -36,20 +35,21 @@ fn is_or_follows(number: u64, least: u64) -> bool {
     number == least || number == least.saturating_add(1)
 }
 
+/// What a session does, and what comes of it.
+pub(super) type Row = (u16, Act, Reply);
+
 /// Where nobody has asked for anything, sessions do this one after another: the first row whose reply isn't the wanted one.
-pub(super) fn first_wrong(
-    alloc: Global,
-    rows: &[(u16, Act, Reply)],
-) -> Result<Option<(usize, Option<Reply>)>, Fail> {
-    let mut hall = Hall::new(alloc)?;
+pub(super) fn first_wrong(alloc: Global, rows: &[Row]) -> Option<usize> {
+    let Ok(mut hall) = Hall::new(alloc) else {
+        return Some(rows.len());
+    };
     for (index, (who, act, wanted)) in rows.iter().enumerate() {
         if *who == 0 || *who > SESSIONS {
-            return Err(Fail::from("no such session"));
+            return Some(index);
         }
-        match hall.make(*who, *act) {
-            Some(reply) if reply == *wanted => {}
-            reply => return Ok(Some((index, reply))),
+        if hall.make(*who, *act) != Some(*wanted) {
+            return Some(index);
         }
     }
-    Ok(None)
+    None
 }

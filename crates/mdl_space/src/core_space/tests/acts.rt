@@ -1,11 +1,13 @@
 //! Acts and replies: by these all tests of the space call it.
 ghost use Rattle.mdl_core.specs.Ties.{IsSound};
 
+use super::fixture::{space_of_four, space_of_three};
 use crate::core_space::CoreSpace;
 use crate::{
     Attempt, Begun, Ended, LockSpace, Place, Poll, Search, Settled, SpaceError, TicketId, TimedOut,
 };
 use mdl_key::Mode;
+use std::alloc::Global;
 
 /// A call of the space, which a session makes, or anyone of a session.
 #[derive(Clone, Copy, PartialEq, Eq)]
@@ -86,7 +88,7 @@ pub(super) fn make(space: &mut CoreSpace, act: Act) -> Reply
 }
 
 /// Makes calls one after another, and gives the place of the first that answers something else than it should.
-pub(super) fn first_wrong(space: &mut CoreSpace, rows: &[(Act, Reply)]) -> Option<usize>
+pub(super) fn first_wrong_of(space: &mut CoreSpace, rows: &[(Act, Reply)]) -> Option<usize>
     requires { IsSound space.old }
     ensures { IsSound space.new }
 {
@@ -96,6 +98,22 @@ pub(super) fn first_wrong(space: &mut CoreSpace, rows: &[(Act, Reply)]) -> Optio
         }
     }
     None
+}
+
+/// The same in a space of three places, where nobody has anything.
+pub(super) fn first_wrong(alloc: Global, rows: &[(Act, Reply)]) -> Option<usize> {
+    match space_of_three(alloc) {
+        Some(mut space) => first_wrong_of(&mut space, rows),
+        None => Some(rows.len()),
+    }
+}
+
+/// And in one of four.
+pub(super) fn first_wrong_of_four(alloc: Global, rows: &[(Act, Reply)]) -> Option<usize> {
+    match space_of_four(alloc) {
+        Some(mut space) => first_wrong_of(&mut space, rows),
+        None => Some(rows.len()),
+    }
 }
 
 fn attempted(outcome: Result<Attempt, SpaceError>) -> Reply {

@@ -1,12 +1,11 @@
 //! A lock that has as many tickets as it can have.
 ghost use Rattle.mdl_core.specs.Ties.{IsSound};
 
-use super::acts::{Act, Reply, first_wrong, make};
+use super::acts::{Act, Reply, first_wrong_of, make};
 use super::fixture::{SCHEMA, TABLE, space_of_three};
 use crate::SpaceError;
 use crate::core_space::CoreSpace;
 use mdl_key::Mode;
-use std::test::Fail;
 
 const MOST_TICKETS: u64 = 65_535;
 
@@ -25,35 +24,45 @@ fn clone_until_refused(space: &mut CoreSpace, who: u16, most: u64) -> u64
     last
 }
 
+const FULL: Reply = Reply::Refused(SpaceError::Full);
+
+const BAD_MODE: Reply = Reply::Refused(SpaceError::BadMode);
+
+const TWO_LOCKS: &[(Act, Reply)] = &[
+    (Act::TryNow(1, SCHEMA, Mode::IX), Reply::Granted(1)),
+    (Act::TryNow(2, TABLE, Mode::SR), Reply::Granted(1)),
+];
+
+const FULL_UP: &[(Act, Reply)] = &[
+    (Act::Clone(2, 1, Mode::SR), FULL),
+    (Act::TryNow(1, TABLE, Mode::S), FULL),
+    (Act::BeginWait(1, TABLE, Mode::S), FULL),
+    (Act::BeginWait(1, TABLE, Mode::X), FULL),
+    // A lock that can't be had now isn't looked at any further.
+    (Act::TryNow(1, TABLE, Mode::X), Reply::WouldWait),
+    (Act::TryNow(1, TABLE, Mode::IX), BAD_MODE),
+    (Act::Clone(2, 1, Mode::X), BAD_MODE),
+    (Act::Clone(1, 1, Mode::IX), Reply::Granted(2)),
+    (Act::WaitOf(1), Reply::HasNone),
+    (Act::Release(2, MOST_TICKETS), Reply::Done),
+    (Act::BeginWait(1, TABLE, Mode::X), Reply::Waiting(1)),
+    (Act::Clone(2, 1, Mode::SR), FULL),
+];
+
+// Whether a lock is full at so many tickets.
+fn is_full_at_last(space: &mut CoreSpace) -> bool
+    requires { IsSound space.old }
+{
+    first_wrong_of(space, TWO_LOCKS).is_none()
+        && clone_until_refused(space, 2, MOST_TICKETS + 9) == MOST_TICKETS
+        && first_wrong_of(space, FULL_UP).is_none()
+}
+
 #[test]
-fn a_lock_is_full(rt: HostRuntime) -> Result<(), Fail> {
-    let mut space = space_of_three(rt.alloc())?;
-    let full = Reply::Refused(SpaceError::Full);
-    let bad_mode = Reply::Refused(SpaceError::BadMode);
-    let rows = [
-        (Act::TryNow(1, SCHEMA, Mode::IX), Reply::Granted(1)),
-        (Act::TryNow(2, TABLE, Mode::SR), Reply::Granted(1)),
-    ];
-    assert_eq!(rt; first_wrong(&mut space, &rows), None);
-    assert_eq!(rt;
-        clone_until_refused(&mut space, 2, MOST_TICKETS + 9),
-        MOST_TICKETS
-    );
-    let rows = [
-        (Act::Clone(2, 1, Mode::SR), full),
-        (Act::TryNow(1, TABLE, Mode::S), full),
-        (Act::BeginWait(1, TABLE, Mode::S), full),
-        (Act::BeginWait(1, TABLE, Mode::X), full),
-        // A lock that can't be had now isn't looked at any further.
-        (Act::TryNow(1, TABLE, Mode::X), Reply::WouldWait),
-        (Act::TryNow(1, TABLE, Mode::IX), bad_mode),
-        (Act::Clone(2, 1, Mode::X), bad_mode),
-        (Act::Clone(1, 1, Mode::IX), Reply::Granted(2)),
-        (Act::WaitOf(1), Reply::HasNone),
-        (Act::Release(2, MOST_TICKETS), Reply::Done),
-        (Act::BeginWait(1, TABLE, Mode::X), Reply::Waiting(1)),
-        (Act::Clone(2, 1, Mode::SR), full),
-    ];
-    assert_eq!(rt; first_wrong(&mut space, &rows), None);
-    Ok(())
+fn a_lock_is_full(rt: HostRuntime) {
+    let full = match space_of_three(rt.alloc()) {
+        Some(mut space) => is_full_at_last(&mut space),
+        None => false,
+    };
+    assert!(rt; full);
 }

@@ -1,194 +1,171 @@
 //! The ordinary life of locks, as rows of calls.
 use super::acts::{Act, Reply, first_wrong};
-use super::fixture::{GLOBAL, SCHEMA, TABLE, space_of_three};
+use super::fixture::{GLOBAL, SCHEMA, TABLE};
 use crate::{Settled, SpaceError};
 use mdl_key::Mode;
-use std::test::Fail;
+
+const READERS_AND_A_WRITER: &[(Act, Reply)] = &[
+    (Act::TryNow(1, TABLE, Mode::SR), Reply::Granted(1)),
+    (Act::BeginWait(2, TABLE, Mode::SR), Reply::Granted(1)),
+    (Act::TryNow(3, TABLE, Mode::X), Reply::WouldWait),
+    (Act::BeginWait(3, TABLE, Mode::X), Reply::Waiting(1)),
+    (Act::Poll(3), Reply::Pending),
+    (Act::WaitOf(3), Reply::HasWait(1)),
+    (Act::WaitOf(1), Reply::HasNone),
+    (Act::Release(1, 1), Reply::Done),
+    (Act::Poll(3), Reply::Pending),
+    (Act::Release(2, 1), Reply::Done),
+    (Act::Poll(3), Reply::Settled(Settled::Granted)),
+    (Act::EndWait(3), Reply::Granted(1)),
+    (Act::WaitOf(3), Reply::HasNone),
+    (Act::TryNow(1, TABLE, Mode::S), Reply::WouldWait),
+    (Act::Release(3, 1), Reply::Done),
+    (Act::TryNow(1, TABLE, Mode::S), Reply::Granted(2)),
+];
 
 #[test]
-fn a_writer_waits_for_readers(rt: HostRuntime) -> Result<(), Fail> {
-    let mut space = space_of_three(rt.alloc())?;
-    let rows = [
-        (Act::TryNow(1, TABLE, Mode::SR), Reply::Granted(1)),
-        (Act::BeginWait(2, TABLE, Mode::SR), Reply::Granted(1)),
-        (Act::TryNow(3, TABLE, Mode::X), Reply::WouldWait),
-        (Act::BeginWait(3, TABLE, Mode::X), Reply::Waiting(1)),
-        (Act::Poll(3), Reply::Pending),
-        (Act::WaitOf(3), Reply::HasWait(1)),
-        (Act::WaitOf(1), Reply::HasNone),
-        (Act::Release(1, 1), Reply::Done),
-        (Act::Poll(3), Reply::Pending),
-        (Act::Release(2, 1), Reply::Done),
-        (Act::Poll(3), Reply::Settled(Settled::Granted)),
-        (Act::EndWait(3), Reply::Granted(1)),
-    ];
-    assert_eq!(rt; first_wrong(&mut space, &rows), None);
-    let rows = [
-        (Act::WaitOf(3), Reply::HasNone),
-        (Act::TryNow(1, TABLE, Mode::S), Reply::WouldWait),
-        (Act::Release(3, 1), Reply::Done),
-        (Act::TryNow(1, TABLE, Mode::S), Reply::Granted(2)),
-    ];
-    assert_eq!(rt; first_wrong(&mut space, &rows), None);
-    Ok(())
+fn a_writer_waits_for_readers(rt: HostRuntime) {
+    assert_eq!(rt; first_wrong(rt.alloc(), READERS_AND_A_WRITER), None);
 }
 
-#[test]
-fn a_granted_wait_holds_its_lock(rt: HostRuntime) -> Result<(), Fail> {
-    let mut space = space_of_three(rt.alloc())?;
-    let rows = [
-        (Act::TryNow(1, TABLE, Mode::SW), Reply::Granted(1)),
-        (Act::BeginWait(2, TABLE, Mode::SNRW), Reply::Waiting(1)),
-        (Act::Release(1, 1), Reply::Done),
-        // Nobody has ended the wait, and the lock is had all the same.
-        (Act::TryNow(1, TABLE, Mode::SR), Reply::WouldWait),
-        (Act::TimeOut(2), Reply::Settled(Settled::Granted)),
-        (Act::Kill(2, 1), Reply::Killed(false)),
-        (Act::Release(2, 1), Reply::Refused(SpaceError::NotHeld)),
-        (Act::EndWait(2), Reply::Granted(1)),
-        (Act::TryNow(1, TABLE, Mode::SR), Reply::WouldWait),
-        (Act::Release(2, 1), Reply::Done),
-        (Act::TryNow(1, TABLE, Mode::SR), Reply::Granted(2)),
-    ];
-    assert_eq!(rt; first_wrong(&mut space, &rows), None);
-    Ok(())
-}
+const GRANTED_UNENDED: &[(Act, Reply)] = &[
+    (Act::TryNow(1, TABLE, Mode::SW), Reply::Granted(1)),
+    (Act::BeginWait(2, TABLE, Mode::SNRW), Reply::Waiting(1)),
+    (Act::Release(1, 1), Reply::Done),
+    // Nobody has ended the wait, and the lock is had all the same.
+    (Act::TryNow(1, TABLE, Mode::SR), Reply::WouldWait),
+    (Act::TimeOut(2), Reply::Settled(Settled::Granted)),
+    (Act::Kill(2, 1), Reply::Killed(false)),
+    (Act::Release(2, 1), Reply::Refused(SpaceError::NotHeld)),
+    (Act::EndWait(2), Reply::Granted(1)),
+    (Act::TryNow(1, TABLE, Mode::SR), Reply::WouldWait),
+    (Act::Release(2, 1), Reply::Done),
+    (Act::TryNow(1, TABLE, Mode::SR), Reply::Granted(2)),
+];
 
 #[test]
-fn those_behind_wait_until_a_lost_wait_is_ended(rt: HostRuntime) -> Result<(), Fail> {
-    let mut space = space_of_three(rt.alloc())?;
-    let rows = [
-        (Act::TryNow(1, TABLE, Mode::SR), Reply::Granted(1)),
-        (Act::BeginWait(2, TABLE, Mode::X), Reply::Waiting(1)),
-        (Act::BeginWait(3, TABLE, Mode::SR), Reply::Waiting(1)),
-        (Act::BeginWait(4, TABLE, Mode::SR), Reply::Waiting(1)),
-        (Act::TimeOut(2), Reply::TimedOut),
-        (Act::TimeOut(2), Reply::Settled(Settled::Timeout)),
-        (Act::Poll(2), Reply::Settled(Settled::Timeout)),
-        (Act::Poll(3), Reply::Pending),
-        (Act::TryNow(5, TABLE, Mode::SR), Reply::WouldWait),
-        (Act::EndWait(2), Reply::Lost(Settled::Timeout)),
-        (Act::Poll(3), Reply::Settled(Settled::Granted)),
-        (Act::Poll(4), Reply::Settled(Settled::Granted)),
-    ];
-    assert_eq!(rt; first_wrong(&mut space, &rows), None);
-    let rows = [
-        (Act::TryNow(5, TABLE, Mode::SR), Reply::Granted(1)),
-        (Act::EndWait(3), Reply::Granted(1)),
-        (Act::EndWait(4), Reply::Granted(1)),
-        // The number of the lost ticket isn't given again.
-        (Act::TryNow(2, TABLE, Mode::SR), Reply::Granted(2)),
-        (Act::BeginWait(2, TABLE, Mode::X), Reply::Waiting(2)),
-    ];
-    assert_eq!(rt; first_wrong(&mut space, &rows), None);
-    Ok(())
+fn a_granted_wait_holds_its_lock(rt: HostRuntime) {
+    assert_eq!(rt; first_wrong(rt.alloc(), GRANTED_UNENDED), None);
 }
 
-#[test]
-fn a_kill_hits_one_wait(rt: HostRuntime) -> Result<(), Fail> {
-    let mut space = space_of_three(rt.alloc())?;
-    let rows = [
-        (Act::TryNow(1, TABLE, Mode::X), Reply::Granted(1)),
-        (Act::BeginWait(2, TABLE, Mode::SR), Reply::Waiting(1)),
-        (Act::Kill(2, 2), Reply::Killed(false)),
-        (Act::Kill(1, 1), Reply::Killed(false)),
-        (Act::Kill(2, 1), Reply::Killed(true)),
-        (Act::Kill(2, 1), Reply::Killed(false)),
-        (Act::TimeOut(2), Reply::Settled(Settled::Killed)),
-        (Act::Release(1, 1), Reply::Done),
-        (Act::Poll(2), Reply::Settled(Settled::Killed)),
-        (Act::EndWait(2), Reply::Lost(Settled::Killed)),
-    ];
-    assert_eq!(rt; first_wrong(&mut space, &rows), None);
-    let rows = [
-        (Act::TryNow(1, TABLE, Mode::X), Reply::Granted(2)),
-        (Act::BeginWait(2, TABLE, Mode::SR), Reply::Waiting(2)),
-        // Meant for the wait before.
-        (Act::Kill(2, 1), Reply::Killed(false)),
-        (Act::Poll(2), Reply::Pending),
-        (Act::Kill(2, 2), Reply::Killed(true)),
-        (Act::EndWait(2), Reply::Lost(Settled::Killed)),
-    ];
-    assert_eq!(rt; first_wrong(&mut space, &rows), None);
-    Ok(())
-}
+const BEHIND_A_LOST_WAIT: &[(Act, Reply)] = &[
+    (Act::TryNow(1, TABLE, Mode::SR), Reply::Granted(1)),
+    (Act::BeginWait(2, TABLE, Mode::X), Reply::Waiting(1)),
+    (Act::BeginWait(3, TABLE, Mode::SR), Reply::Waiting(1)),
+    (Act::BeginWait(4, TABLE, Mode::SR), Reply::Waiting(1)),
+    (Act::TimeOut(2), Reply::TimedOut),
+    (Act::TimeOut(2), Reply::Settled(Settled::Timeout)),
+    (Act::Poll(2), Reply::Settled(Settled::Timeout)),
+    (Act::Poll(3), Reply::Pending),
+    (Act::TryNow(5, TABLE, Mode::SR), Reply::WouldWait),
+    (Act::EndWait(2), Reply::Lost(Settled::Timeout)),
+    (Act::Poll(3), Reply::Settled(Settled::Granted)),
+    (Act::Poll(4), Reply::Settled(Settled::Granted)),
+    (Act::TryNow(5, TABLE, Mode::SR), Reply::Granted(1)),
+    (Act::EndWait(3), Reply::Granted(1)),
+    (Act::EndWait(4), Reply::Granted(1)),
+    // The number of the lost ticket isn't given again.
+    (Act::TryNow(2, TABLE, Mode::SR), Reply::Granted(2)),
+    (Act::BeginWait(2, TABLE, Mode::X), Reply::Waiting(2)),
+];
 
 #[test]
-fn a_clone_overtakes(rt: HostRuntime) -> Result<(), Fail> {
-    let mut space = space_of_three(rt.alloc())?;
-    let rows = [
-        (Act::TryNow(1, TABLE, Mode::SW), Reply::Granted(1)),
-        (Act::BeginWait(2, TABLE, Mode::X), Reply::Waiting(1)),
-        (Act::TryNow(1, TABLE, Mode::SR), Reply::WouldWait),
-        (Act::Clone(1, 1, Mode::SR), Reply::Granted(2)),
-        (Act::Clone(1, 2, Mode::S), Reply::Granted(3)),
-        (Act::Release(1, 1), Reply::Done),
-        (Act::Release(1, 2), Reply::Done),
-        (Act::Poll(2), Reply::Pending),
-        (Act::Release(1, 3), Reply::Done),
-        (Act::Poll(2), Reply::Settled(Settled::Granted)),
-        (Act::EndWait(2), Reply::Granted(1)),
-        (Act::Clone(2, 1, Mode::X), Reply::Granted(2)),
-    ];
-    assert_eq!(rt; first_wrong(&mut space, &rows), None);
-    Ok(())
+fn those_behind_wait_until_a_lost_wait_is_ended(rt: HostRuntime) {
+    assert_eq!(rt; first_wrong(rt.alloc(), BEHIND_A_LOST_WAIT), None);
 }
 
-#[test]
-fn one_release_grants_all_that_can_be(rt: HostRuntime) -> Result<(), Fail> {
-    let mut space = space_of_three(rt.alloc())?;
-    let rows = [
-        (Act::TryNow(1, SCHEMA, Mode::X), Reply::Granted(1)),
-        (Act::BeginWait(2, SCHEMA, Mode::IX), Reply::Waiting(1)),
-        (Act::BeginWait(3, SCHEMA, Mode::S), Reply::Waiting(1)),
-        (Act::BeginWait(4, SCHEMA, Mode::IX), Reply::Waiting(1)),
-        (Act::BeginWait(5, SCHEMA, Mode::S), Reply::Waiting(1)),
-        (Act::Release(1, 1), Reply::Done),
-        // IX stands behind a pending S, and the first S comes before the other.
-        (Act::Poll(2), Reply::Pending),
-        (Act::Poll(3), Reply::Settled(Settled::Granted)),
-        (Act::Poll(4), Reply::Pending),
-        (Act::Poll(5), Reply::Settled(Settled::Granted)),
-        (Act::EndWait(3), Reply::Granted(1)),
-        (Act::EndWait(5), Reply::Granted(1)),
-    ];
-    assert_eq!(rt; first_wrong(&mut space, &rows), None);
-    let rows = [
-        (Act::Release(3, 1), Reply::Done),
-        (Act::Poll(2), Reply::Pending),
-        (Act::Release(5, 1), Reply::Done),
-        (Act::EndWait(2), Reply::Granted(1)),
-        (Act::EndWait(4), Reply::Granted(1)),
-    ];
-    assert_eq!(rt; first_wrong(&mut space, &rows), None);
-    Ok(())
-}
+const KILLS: &[(Act, Reply)] = &[
+    (Act::TryNow(1, TABLE, Mode::X), Reply::Granted(1)),
+    (Act::BeginWait(2, TABLE, Mode::SR), Reply::Waiting(1)),
+    (Act::Kill(2, 2), Reply::Killed(false)),
+    (Act::Kill(1, 1), Reply::Killed(false)),
+    (Act::Kill(2, 1), Reply::Killed(true)),
+    (Act::Kill(2, 1), Reply::Killed(false)),
+    (Act::TimeOut(2), Reply::Settled(Settled::Killed)),
+    (Act::Release(1, 1), Reply::Done),
+    (Act::Poll(2), Reply::Settled(Settled::Killed)),
+    (Act::EndWait(2), Reply::Lost(Settled::Killed)),
+    (Act::TryNow(1, TABLE, Mode::X), Reply::Granted(2)),
+    (Act::BeginWait(2, TABLE, Mode::SR), Reply::Waiting(2)),
+    // Meant for the wait before.
+    (Act::Kill(2, 1), Reply::Killed(false)),
+    (Act::Poll(2), Reply::Pending),
+    (Act::Kill(2, 2), Reply::Killed(true)),
+    (Act::EndWait(2), Reply::Lost(Settled::Killed)),
+];
 
 #[test]
-fn places_and_tickets_stand_apart(rt: HostRuntime) -> Result<(), Fail> {
-    let mut space = space_of_three(rt.alloc())?;
-    let rows = [
-        (Act::TryNow(1, GLOBAL, Mode::S), Reply::Granted(1)),
-        (Act::TryNow(1, TABLE, Mode::SNRW), Reply::Granted(2)),
-        (Act::TryNow(2, SCHEMA, Mode::X), Reply::Granted(1)),
-        (Act::BeginWait(3, GLOBAL, Mode::IX), Reply::Waiting(1)),
-        (Act::BeginWait(4, TABLE, Mode::SR), Reply::Waiting(1)),
-        (Act::BeginWait(5, SCHEMA, Mode::IX), Reply::Waiting(1)),
-        (Act::Release(1, 2), Reply::Done),
-        (Act::Poll(3), Reply::Pending),
-        (Act::Poll(4), Reply::Settled(Settled::Granted)),
-        (Act::Poll(5), Reply::Pending),
-        (Act::BeginWait(1, SCHEMA, Mode::IX), Reply::Waiting(1)),
-        // A session gives up what it holds while it waits.
-        (Act::Release(1, 1), Reply::Done),
-    ];
-    assert_eq!(rt; first_wrong(&mut space, &rows), None);
-    let rows = [
-        (Act::EndWait(3), Reply::Granted(1)),
-        (Act::Release(2, 1), Reply::Done),
-        (Act::EndWait(5), Reply::Granted(1)),
-        (Act::EndWait(1), Reply::Granted(3)),
-    ];
-    assert_eq!(rt; first_wrong(&mut space, &rows), None);
-    Ok(())
+fn a_kill_hits_one_wait(rt: HostRuntime) {
+    assert_eq!(rt; first_wrong(rt.alloc(), KILLS), None);
+}
+
+const CLONES: &[(Act, Reply)] = &[
+    (Act::TryNow(1, TABLE, Mode::SW), Reply::Granted(1)),
+    (Act::BeginWait(2, TABLE, Mode::X), Reply::Waiting(1)),
+    (Act::TryNow(1, TABLE, Mode::SR), Reply::WouldWait),
+    (Act::Clone(1, 1, Mode::SR), Reply::Granted(2)),
+    (Act::Clone(1, 2, Mode::S), Reply::Granted(3)),
+    (Act::Release(1, 1), Reply::Done),
+    (Act::Release(1, 2), Reply::Done),
+    (Act::Poll(2), Reply::Pending),
+    (Act::Release(1, 3), Reply::Done),
+    (Act::Poll(2), Reply::Settled(Settled::Granted)),
+    (Act::EndWait(2), Reply::Granted(1)),
+    (Act::Clone(2, 1, Mode::X), Reply::Granted(2)),
+];
+
+#[test]
+fn a_clone_overtakes(rt: HostRuntime) {
+    assert_eq!(rt; first_wrong(rt.alloc(), CLONES), None);
+}
+
+const ONE_RELEASE: &[(Act, Reply)] = &[
+    (Act::TryNow(1, SCHEMA, Mode::X), Reply::Granted(1)),
+    (Act::BeginWait(2, SCHEMA, Mode::IX), Reply::Waiting(1)),
+    (Act::BeginWait(3, SCHEMA, Mode::S), Reply::Waiting(1)),
+    (Act::BeginWait(4, SCHEMA, Mode::IX), Reply::Waiting(1)),
+    (Act::BeginWait(5, SCHEMA, Mode::S), Reply::Waiting(1)),
+    (Act::Release(1, 1), Reply::Done),
+    // IX stands behind a pending S, and the first S comes before the other.
+    (Act::Poll(2), Reply::Pending),
+    (Act::Poll(3), Reply::Settled(Settled::Granted)),
+    (Act::Poll(4), Reply::Pending),
+    (Act::Poll(5), Reply::Settled(Settled::Granted)),
+    (Act::EndWait(3), Reply::Granted(1)),
+    (Act::EndWait(5), Reply::Granted(1)),
+    (Act::Release(3, 1), Reply::Done),
+    (Act::Poll(2), Reply::Pending),
+    (Act::Release(5, 1), Reply::Done),
+    (Act::EndWait(2), Reply::Granted(1)),
+    (Act::EndWait(4), Reply::Granted(1)),
+];
+
+#[test]
+fn one_release_grants_all_that_can_be(rt: HostRuntime) {
+    assert_eq!(rt; first_wrong(rt.alloc(), ONE_RELEASE), None);
+}
+
+const APART: &[(Act, Reply)] = &[
+    (Act::TryNow(1, GLOBAL, Mode::S), Reply::Granted(1)),
+    (Act::TryNow(1, TABLE, Mode::SNRW), Reply::Granted(2)),
+    (Act::TryNow(2, SCHEMA, Mode::X), Reply::Granted(1)),
+    (Act::BeginWait(3, GLOBAL, Mode::IX), Reply::Waiting(1)),
+    (Act::BeginWait(4, TABLE, Mode::SR), Reply::Waiting(1)),
+    (Act::BeginWait(5, SCHEMA, Mode::IX), Reply::Waiting(1)),
+    (Act::Release(1, 2), Reply::Done),
+    (Act::Poll(3), Reply::Pending),
+    (Act::Poll(4), Reply::Settled(Settled::Granted)),
+    (Act::Poll(5), Reply::Pending),
+    (Act::BeginWait(1, SCHEMA, Mode::IX), Reply::Waiting(1)),
+    // A session gives up what it holds while it waits.
+    (Act::Release(1, 1), Reply::Done),
+    (Act::EndWait(3), Reply::Granted(1)),
+    (Act::Release(2, 1), Reply::Done),
+    (Act::EndWait(5), Reply::Granted(1)),
+    (Act::EndWait(1), Reply::Granted(3)),
+];
+
+#[test]
+fn places_and_tickets_stand_apart(rt: HostRuntime) {
+    assert_eq!(rt; first_wrong(rt.alloc(), APART), None);
 }

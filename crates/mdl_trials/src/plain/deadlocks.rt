@@ -1,9 +1,8 @@
-//! Deadlocks of the plain space, by trying all paths.
+//! Deadlocks of the plain program, by trying all paths.
 ghost use Rattle.std.specs.Prelude.{◌≤◌};
 
-use super::super::fixture::GLOBAL;
 use super::{Plain, Ticket};
-use mdl_key::{Mode, conflicts_granted, conflicts_waiting};
+use mdl_key::{Mode, Namespace};
 use std::alloc::AllocError;
 
 // Distinct sessions each of which waits for the next, with room for one more than there are. Where its length is known, so
@@ -61,49 +60,38 @@ impl Plain {
 
     // What a session's wish weighs.
     fn weight(&self, who: u16) -> u8 {
-        match self.wish(who) {
-            Some(wish) if wish.place == GLOBAL => 100,
-            Some(wish) => match wish.mode {
-                Mode::SU | Mode::SRO | Mode::SNW | Mode::SNRW | Mode::X => 100,
-                _ => 0,
-            },
-            None => 0,
+        let Some(wish) = self.wish(who) else {
+            return 0;
+        };
+        match (self.key_at(wish.place), wish.mode) {
+            (Some(key), _) if key.namespace() == Namespace::Global => 100,
+            (_, Mode::SU | Mode::SRO | Mode::SNW | Mode::SNRW | Mode::X) => 100,
+            _ => 0,
         }
     }
 
     // The ticket that a session waits for, unsettled.
     fn wish(&self, who: u16) -> Option<Ticket> {
-        match self.wait_of(who) {
+        match self.wait(who) {
             Some(wait) if wait.settled.is_none() => self.ticket(who, wait.ticket),
             _ => None,
         }
     }
 
-    // Whether one session waits for another.
+    // Whether one session waits for another. A waiting ticket stands in nobody's way once its wait is settled.
     fn waits_for(&self, waiter: u16, other: u16) -> bool {
         let Some(wish) = self.wish(waiter) else {
             return false;
         };
         for ticket in &self.tickets {
-            if ticket.session == other && waiter != other && self.bars(ticket, wish) {
+            if ticket.session == other
+                && waiter != other
+                && (ticket.is_granted || self.is_unsettled(other))
+                && self.is_in_the_way(ticket, wish.place, wish.mode)
+            {
                 return true;
             }
         }
         false
-    }
-
-    // Whether a ticket of another session bars a wish.
-    fn bars(&self, ticket: &Ticket, wish: Ticket) -> bool {
-        match self.kind_of(wish.place) {
-            Some(kind) if ticket.place == wish.place => {
-                if ticket.is_granted {
-                    conflicts_granted(kind, wish.mode, ticket.mode)
-                } else {
-                    self.is_unsettled(ticket.session)
-                        && conflicts_waiting(kind, wish.mode, ticket.mode)
-                }
-            }
-            _ => false,
-        }
     }
 }

@@ -1,0 +1,158 @@
+//! Ten thousand calls by chance and more, after each of which contexts stand where the plain program does.
+ghost use Rattle.std.specs.Prelude.{◌≡◌};
+ghost use Rattle.mdl_context.specs.Contexts.{Attends, LeavesOthers};
+
+use crate::chance::{Chance, SESSIONS};
+use crate::hall::{Hall, PLACES};
+use crate::plain::Plain;
+use mdl_context::{Context, Mark, Request};
+use mdl_space::LockSpace;
+use std::alloc::Global;
+use std::test::Fail;
+
+/// The plain program beside which contexts are tried, and what is drawn for them.
+#[derive(Drop)]
+pub(crate) struct Trial {
+    alloc: Global,
+    pub(crate) plain: Plain,
+    pub(crate) chance: Chance,
+}
+
+// The number of some call. Whoever waits mostly sees to its wait.
+fn draw_call(trial: &mut Trial, who: u16) -> u16 {
+    if trial.plain.wait_of(who).is_some() {
+        match trial.chance.draw(8) {
+            0..=3 => return 60,
+            4 => return 61,
+            _ => {}
+        }
+    }
+    trial.chance.draw(64)
+}
+
+// A mark of where the session stood, or at times where it never was.
+fn draw_mark(trial: &mut Trial, who: u16) -> Mark {
+    let stands = trial.plain.mark_of(who);
+    Mark {
+        statement: trial.chance.draw_up_to(stands.statement),
+        transaction: trial.chance.draw_up_to(stands.transaction),
+    }
+}
+
+// Acquires some lock: whether it comes to the same.
+fn acquires_alike<S: LockSpace>(
+    space: &mut S,
+    context: &mut Context<S>,
+    trial: &mut Trial,
+    who: u16,
+) -> bool
+    requires { Attends S.speaks_for S.own S.knows space.old context.old }
+    ensures attends { Attends S.speaks_for S.own S.knows space.new context.new }
+    ensures who { context.new.who ≡ context.old.who }
+    ensures others { LeavesOthers S.speaks_for S.own S.knows context.old.who space.old space.new }
+{
+    let Ok(key) = trial.chance.draw_key(trial.alloc) else {
+        return false;
+    };
+    let mode = trial.chance.draw_mode(key.kind());
+    let duration = trial.chance.draw_duration();
+    let wanted = trial.plain.acquire(who, &key, mode, duration);
+    let request = Request {
+        key,
+        mode,
+        duration,
+    };
+    context.acquire(space, request) == wanted
+}
+
+// Releases all tickets of some key, likewise.
+fn releases_name_alike<S: LockSpace>(
+    space: &mut S,
+    context: &mut Context<S>,
+    trial: &mut Trial,
+    who: u16,
+) -> bool
+    requires { Attends S.speaks_for S.own S.knows space.old context.old }
+    ensures attends { Attends S.speaks_for S.own S.knows space.new context.new }
+    ensures who { context.new.who ≡ context.old.who }
+    ensures others { LeavesOthers S.speaks_for S.own S.knows context.old.who space.old space.new }
+{
+    let Ok(key) = trial.chance.draw_key(trial.alloc) else {
+        return false;
+    };
+    context.release_name(space, &key) == trial.plain.give_back_name(who, &key)
+}
+
+/// A context makes some call: whether the plain one answers the same.
+pub(crate) fn acts_alike<S: LockSpace>(
+    space: &mut S,
+    context: &mut Context<S>,
+    trial: &mut Trial,
+    who: u16,
+) -> bool
+    requires { Attends S.speaks_for S.own S.knows space.old context.old }
+    ensures attends { Attends S.speaks_for S.own S.knows space.new context.new }
+    ensures who { context.new.who ≡ context.old.who }
+    ensures others { LeavesOthers S.speaks_for S.own S.knows context.old.who space.old space.new }
+{
+    let call = draw_call(trial, who);
+    match call {
+        0..=33 => acquires_alike(space, context, trial, who),
+        34..=42 => {
+            let id = trial.chance.draw_id(&trial.plain, who);
+            context.release(space, id) == trial.plain.give_back(who, id)
+        }
+        43..=45 => releases_name_alike(space, context, trial, who),
+        46..=49 => {
+            let mark = draw_mark(trial, who);
+            context.rollback_to(space, mark) == trial.plain.go_back(who, mark)
+        }
+        50..=54 => context.end_statement(space) == trial.plain.end_statement(who),
+        55..=57 => context.end_transaction(space) == trial.plain.end_transaction(who),
+        58 => context.make_explicit() == trial.plain.make_explicit(who),
+        59 => context.make_transactional() == trial.plain.make_transactional(who),
+        60 => context.resume(space) == trial.plain.resume(who),
+        61 => context.give_up(space) == trial.plain.give_up(who),
+        _ => {
+            let (target, number) = trial.chance.draw_wait(&trial.plain);
+            space.kill(target, number) == trial.plain.kill(target, number)
+        }
+    }
+}
+
+// The first of ten thousand calls that contexts and the plain program answer apart, or after which they don't stand alike.
+fn first_apart(hall: &mut Hall, trial: &mut Trial) -> Option<u32> {
+    for call in 0..10_000 {
+        if !hall.acts_alike(trial) {
+            return Some(call);
+        }
+    }
+    None
+}
+
+#[test]
+fn contexts_stand_where_the_plain_ones_do(rt: HostRuntime) -> Result<(), Fail> {
+    for seed in [1, 2, 3] {
+        let mut hall = Hall::new(rt.alloc())?;
+        let mut trial = Trial {
+            alloc: rt.alloc(),
+            plain: Plain::new(rt.alloc(), usize::from(PLACES), SESSIONS)?,
+            chance: Chance(seed),
+        };
+        assert_eq!(rt;
+            first_apart(&mut hall, &mut trial),
+            None,
+            "with seed {seed}"
+        );
+        // Each was met in earnest.
+        let seen = trial.plain.seen;
+        assert!(rt; seen.granted >= 100, "{} waits granted", seen.granted);
+        assert!(rt; seen.timed_out >= 100, "{} waits given up", seen.timed_out);
+        assert!(rt; seen.killed >= 20, "{} waits killed", seen.killed);
+        assert!(rt; seen.victims >= 20, "{} waits of victims", seen.victims);
+        assert!(rt; seen.stale >= 20, "{} marks stale", seen.stale);
+        assert!(rt; seen.reused >= 100, "{} tickets used again", seen.reused);
+        assert!(rt; seen.cloned >= 100, "{} tickets cloned", seen.cloned);
+    }
+    Ok(())
+}

@@ -1,0 +1,114 @@
+//! Ten thousand calls by chance, which a lock space answers as the plain one does.
+ghost use Rattle.mdl_trials.specs.Serving.{SpeaksForAll};
+
+use crate::chance::{Chance, SESSIONS};
+use crate::plain::Plain;
+use mdl_key::Kind;
+use mdl_space::{CoreSpace, LockSpace, Place};
+use std::alloc::Global;
+use std::test::Fail;
+
+// Fewer than there are keys.
+const PLACES: u16 = 3;
+
+// Some place, at times one that has no key.
+fn draw_place(chance: &mut Chance) -> Place {
+    match chance.draw(32) {
+        0 => 0,
+        1 => PLACES + 1,
+        _ => chance.draw(PLACES) + 1,
+    }
+}
+
+// Makes some call of both: whether they answer alike.
+fn answers_alike<S: LockSpace>(
+    alloc: Global,
+    space: &mut S,
+    plain: &mut Plain,
+    chance: &mut Chance,
+) -> bool
+    requires { SpeaksForAll S.speaks_for 5 space.old }
+    ensures { SpeaksForAll S.speaks_for 5 space.new }
+{
+    let who = chance.draw(SESSIONS) + 1;
+    let place = draw_place(chance);
+    let mode = chance.draw_mode(plain.kind_of(place).unwrap_or(Kind::Scoped));
+    match chance.draw(66) {
+        0..=2 => space.try_now(who, place, mode) == plain.try_now(who, place, mode),
+        3..=19 => space.begin_wait(who, place, mode) == plain.begin_wait(who, place, mode),
+        20..=39 => {
+            let id = chance.draw_id(plain, who);
+            space.release(who, id) == plain.release(who, id)
+        }
+        40..=49 => space.end_wait(who) == plain.end_wait(who),
+        50 | 51 => space.settle_timeout(who) == plain.settle_timeout(who),
+        52 => {
+            let (target, number) = chance.draw_wait(plain);
+            space.kill(target, number) == plain.kill(target, number)
+        }
+        53 => space.poll_wait(who) == plain.poll_wait(who),
+        54 => space.wait_of(who) == plain.wait_of(who),
+        55..=58 => space.search(who) == plain.search(who),
+        59..=63 => {
+            let id = chance.draw_id(plain, who);
+            let mode = match plain.mode_of(who, id) {
+                Some(held) if chance.draw(4) > 0 => held,
+                _ => mode,
+            };
+            space.clone_ticket(who, id, mode) == plain.clone_ticket(who, id, mode)
+        }
+        _ => match chance.draw_key(alloc) {
+            Ok(key) => space.resolve(who, &key) == plain.resolve(&key),
+            Err(_) => false,
+        },
+    }
+}
+
+// Whether each session holds the same in both.
+fn hold_the_same<S: LockSpace>(space: &S, plain: &Plain) -> bool
+    requires { SpeaksForAll S.speaks_for 5 space.now }
+{
+    for who in 1..SESSIONS + 1 {
+        let (Ok(held), Ok(wanted)) = (space.held(who), plain.held(who)) else {
+            return false;
+        };
+        if held.as_slice() != wanted.as_slice() {
+            return false;
+        }
+    }
+    true
+}
+
+// The first of ten thousand calls that both answer apart, or after which a session doesn't hold the same in both.
+fn first_apart<S: LockSpace>(alloc: Global, space: &mut S, plain: &mut Plain) -> Option<u32>
+    requires { SpeaksForAll S.speaks_for 5 space.old }
+{
+    let mut chance = Chance(1);
+    for call in 0..10_000 {
+        if !answers_alike(alloc, space, plain, &mut chance) || !hold_the_same(space, plain) {
+            return Some(call);
+        }
+    }
+    None
+}
+
+// The same of the space of one thread.
+fn first_apart_of_core(alloc: Global, plain: &mut Plain) -> Option<u32> {
+    match CoreSpace::new(alloc, PLACES, SESSIONS) {
+        Ok(mut space) => first_apart(alloc, &mut space, plain),
+        Err(_) => Some(0),
+    }
+}
+
+#[test]
+fn a_space_answers_as_the_plain_one(rt: HostRuntime) -> Result<(), Fail> {
+    let mut plain = Plain::new(rt.alloc(), usize::from(PLACES), SESSIONS)?;
+    assert_eq!(rt; first_apart_of_core(rt.alloc(), &mut plain), None);
+    // Locks were waited for in earnest.
+    let seen = plain.seen;
+    assert!(rt; seen.granted >= 100, "{} waits granted", seen.granted);
+    assert!(rt; seen.lost >= 100, "{} waits lost", seen.lost);
+    assert!(rt; seen.cloned >= 100, "{} clones", seen.cloned);
+    assert!(rt; seen.victims >= 15, "{} victims", seen.victims);
+    Ok(())
+}
