@@ -29,6 +29,7 @@ use Rattle.mdl_core.proofs.TiedWrites.{held_at}
 pub same_members : {T : Type 0} (xs : List T) → SameMembers xs xs
 same_members xs x = (λ p. p, λ p. p)
 
+-- a system is the same as itself
 pub same_system : {D : Type 0} (a : System D) → SameSystem a a
 same_system a = record {
   granted = same_members a.granted;
@@ -146,6 +147,7 @@ module _ {C : Type 0} (apply : KeyName → C → Option Definition → Option (O
     definitions = λ _. refl;
   })
 
+-- a change that may be made happens in the system as its event
 pub change-happens : {C : Type 0} (apply : KeyName → C → Option Definition → Option (Option Definition)) (core : Core) (who place : ℕ) (change : Change) (event : Event C)
     → IsTied core → May who place change core → IsChangeEvent who place change core event → Happens apply event (system_of core) (system_of (changing who place change core))
 change-happens apply core who place change event tied may is =

@@ -357,6 +357,7 @@ module _ (core : Core) (who place : ℕ) (tied : IsTied core) where
   abbrev kind : Kind
   kind = lock_kind (book_at place core)
 
+  -- a change that may be made does that to the seat
   pub seat-made : (change : Change) → May who place change core → SeatMade who place kind change seat
   seat-made change may = made change may.allows
     where

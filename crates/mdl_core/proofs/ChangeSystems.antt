@@ -137,6 +137,7 @@ module _ (core : Core) (who place : ℕ) (seat : SeatView) (book : Lists) (tied 
 
 -- ---- all of it
 
+-- what a change makes of the system, by its effects
 pub record SystemMade (core : Core) (who place : ℕ) (change : Change) (seat : SeatView) (new : Core) : Type 0 where
   pub granted : Becomes (mapped (of_lock (key_at place core)) (mapped (in_book_of who) (has_effect place change seat))) (Contains (system_of core).granted) (Contains (system_of new).granted)
   pub waiting : InOrder (turned (waits_as who seat.wait) (waits_as who (seat_after place change seat).wait) (wait_effect place change seat))
@@ -144,6 +145,7 @@ pub record SystemMade (core : Core) (who place : ℕ) (change : Change) (seat : 
   pub elsewhere : SameElsewhere (key_at place core) (system_of core).waiting (system_of new).waiting
   pub unended : Becomes (unended_effect who place change seat) (Contains (system_of core).unended) (Contains (system_of new).unended)
 
+-- a change that may be made does that to the system
 pub system-made : (core : Core) (who place : ℕ) (change : Change) → IsTied core → May who place change core
     → SystemMade core who place change (seat_at who core) (changing who place change core)
 system-made core who place change tied may =

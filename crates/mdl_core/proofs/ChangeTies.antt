@@ -182,6 +182,7 @@ pub record Made (core : Core) (who place : ℕ) (change : Change) (seat : SeatVi
   pub granted : ListMade ticket_id who place (Fitting (lock_kind old) seat) (has_effect place change seat) old.granted new.granted (Has seat) (Has (seat_after place change seat))
   pub waiting : ListMade session_of who place (Fitting (lock_kind old) seat) (wait_effect place change seat) old.waiting new.waiting (Awaits seat) (Awaits (seat_after place change seat))
 
+-- a change that may be made does all that
 pub made : (core : Core) (who place : ℕ) (change : Change) → IsTied core → May who place change core
     → Made core who place change (seat_at who core) (book_at place core) (book_after who (seat_at who core) change (book_at place core))
 made core who place change tied may =
@@ -196,6 +197,7 @@ made core who place change tied may =
           (waiting-here core who place tied may.session may.key) (wait_effect place change (seat_at who core)) seats.waits books.waiting;
     }
 
+-- what is tied stays so
 pub tied-changing : (core : Core) (who place : ℕ) (change : Change) → IsTied core → May who place change core → IsTied (changing who place change core)
 tied-changing core who place change tied may =
     let is = made core who place change tied may in

@@ -49,6 +49,7 @@ turned before after (Turns old new) = Turns (before old) (after new)
 abbrev pub mapped : {A B : Type 0} → (A → B) → Effect A → Effect B
 mapped f effect = turned f f effect
 
+-- of what is made of others, it is made of those at once
 pub turned-mapped : {A B C : Type 0} (h : A → B) (f g : B → C) (effect : Effect A) → turned f g (mapped h effect) ≡ turned (λ x. f (h x)) (λ x. g (h x)) effect
 turned-mapped h f g Stays = refl
 turned-mapped h f g (Comes new) = refl

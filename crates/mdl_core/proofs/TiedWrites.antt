@@ -158,6 +158,7 @@ module _ (core : Core) (who place : ℕ) (book : Lists) (seat : SeatView) (sessi
           subst (λ k. IsTrue (is_mode_of (kind_of k.namespace) ticket.mode)) (sym (key-same fits.same_key at had)) old.1,
         )
 
+    -- all of it
     pub tied-written : IsTied written
     tied-written = record {
       keys = λ one other has_one has_other same.
