@@ -24,7 +24,10 @@ fn ticket((session, number, mode): Row) -> Ticket {
 // Whether a list has these tickets.
 fn are_listed(tickets: &[Ticket], rows: &[Row]) -> bool {
     tickets.len() == rows.len()
-        && tickets.iter().zip(rows.iter()).all(|(held, row)| *held == ticket(*row))
+        && tickets
+            .iter()
+            .zip(rows.iter())
+            .all(|(held, row)| *held == ticket(*row))
 }
 
 // The book of a table or of a schema, which nobody has locked.
@@ -235,7 +238,10 @@ const OVERTAKEN: &[(Step, Answer)] = &[
     (Step::CanGrant(1, Mode::SR, NO_FAST), NO),
     (Step::Grant(1, 2, Mode::SR, NO_FAST), Answer::Done),
     (Step::Grant(2, 2, Mode::X, NO_FAST), CONFLICT),
-    (Step::Lists(&[(1, 1, Mode::SR), (1, 2, Mode::SR)], &[(2, 1, Mode::X)]), YES),
+    (
+        Step::Lists(&[(1, 1, Mode::SR), (1, 2, Mode::SR)], &[(2, 1, Mode::X)]),
+        YES,
+    ),
 ];
 
 #[test]
@@ -263,7 +269,10 @@ const LATER_AND_SETTLED: &[(Step, Answer)] = &[
 
 #[test]
 fn counts_later_and_settled_waiters(rt: HostRuntime) {
-    assert_eq!(rt; first_wrong(rt.alloc(), Kind::Object, LATER_AND_SETTLED), None);
+    assert_eq!(rt;
+        first_wrong(rt.alloc(), Kind::Object, LATER_AND_SETTLED),
+        None
+    );
 }
 
 // Three granted tickets, two of which have one number, and three waiting ones, likewise.
@@ -283,12 +292,24 @@ const TWINS: &[(Step, Answer)] = &[
     (Step::Remove(1, 3), NOT_HERE),
     (Step::Remove(3, 1), NOT_HERE),
     (Step::Grant(3, 1, Mode::X, NO_FAST), CONFLICT),
-    (Step::Lists(&[(1, 1, Mode::S), (1, 2, Mode::SH), (1, 2, Mode::SR)], &[(2, 1, Mode::X), (2, 2, Mode::SU), (2, 2, Mode::SW)]), YES),
+    (
+        Step::Lists(
+            &[(1, 1, Mode::S), (1, 2, Mode::SH), (1, 2, Mode::SR)],
+            &[(2, 1, Mode::X), (2, 2, Mode::SU), (2, 2, Mode::SW)],
+        ),
+        YES,
+    ),
     // Of twins the first is taken.
     (Step::Remove(1, 2), Answer::Gives(1, 2, Mode::SH)),
     (Step::Admit(2, 2), Answer::Gives(2, 2, Mode::SU)),
     (Step::Cancel(2, 1), Answer::Gives(2, 1, Mode::X)),
-    (Step::Lists(&[(1, 1, Mode::S), (1, 2, Mode::SR), (2, 2, Mode::SU)], &[(2, 2, Mode::SW)]), YES),
+    (
+        Step::Lists(
+            &[(1, 1, Mode::S), (1, 2, Mode::SR), (2, 2, Mode::SU)],
+            &[(2, 2, Mode::SW)],
+        ),
+        YES,
+    ),
 ];
 
 #[test]
@@ -300,10 +321,7 @@ const FULL_UP: &[(Step, Answer)] = &[
     (Step::Enqueue(2, 0, Mode::S), FULL),
     (Step::Grant(1, 1, Mode::S, NO_FAST), FULL),
     (Step::Grant(2, 0, Mode::S, NO_FAST), CONFLICT),
-    (
-        Step::Admit(2, 65_534),
-        Answer::Gives(2, 65_534, Mode::S),
-    ),
+    (Step::Admit(2, 65_534), Answer::Gives(2, 65_534, Mode::S)),
     (Step::Grant(1, 1, Mode::SH, NO_FAST), FULL),
     (Step::Cancel(2, 1), Answer::Gives(2, 1, Mode::S)),
     (Step::Enqueue(3, 1, Mode::X), Answer::Done),
@@ -323,8 +341,7 @@ fn enqueued(book: &mut Book, most: u64) -> u64 {
 // Whether a book is full, and goes on, with so many tickets.
 fn fills_up(alloc: Global, most: u64) -> bool {
     match new_book(alloc, Kind::Object) {
-        Some(mut book) => make(&mut book, Step::Grant(1, 0, Mode::X, NO_FAST))
-            == Answer::Done
+        Some(mut book) => make(&mut book, Step::Grant(1, 0, Mode::X, NO_FAST)) == Answer::Done
             && enqueued(&mut book, most) == most
             && first_wrong_of(&mut book, FULL_UP).is_none()
             && book.granted().len() == 2
@@ -425,7 +442,10 @@ const FAST_IN_A_SCHEMA: &[(Step, Answer)] = &[
 
 #[test]
 fn minds_fast_tickets_of_a_schema(rt: HostRuntime) {
-    assert_eq!(rt; first_wrong(rt.alloc(), Kind::Scoped, FAST_IN_A_SCHEMA), None);
+    assert_eq!(rt;
+        first_wrong(rt.alloc(), Kind::Scoped, FAST_IN_A_SCHEMA),
+        None
+    );
 }
 
 // Session 1 has SU between the S of session 2 and the SH of session 3.
@@ -442,16 +462,41 @@ const CHANGED: &[(Step, Answer)] = &[
     (Step::SetMode(1, 2, Mode::X, NO_FAST), CONFLICT),
     (Step::SetMode(1, 2, Mode::SNW, FAST_SW), CONFLICT),
     (Step::SetMode(2, 1, Mode::SNW, NO_FAST), CONFLICT),
-    (Step::Lists(&[(2, 1, Mode::S), (1, 1, Mode::SR), (1, 2, Mode::SU), (3, 1, Mode::SH)], &[(4, 1, Mode::X)]), YES),
+    (
+        Step::Lists(
+            &[
+                (2, 1, Mode::S),
+                (1, 1, Mode::SR),
+                (1, 2, Mode::SU),
+                (3, 1, Mode::SH),
+            ],
+            &[(4, 1, Mode::X)],
+        ),
+        YES,
+    ),
     // Neither the session's own SR nor the waiting X stands in the way.
     (Step::SetMode(1, 2, Mode::SNRW, FAST_S), Answer::Done),
-    (Step::Lists(&[(2, 1, Mode::S), (1, 1, Mode::SR), (1, 2, Mode::SNRW), (3, 1, Mode::SH)], &[(4, 1, Mode::X)]), YES),
+    (
+        Step::Lists(
+            &[
+                (2, 1, Mode::S),
+                (1, 1, Mode::SR),
+                (1, 2, Mode::SNRW),
+                (3, 1, Mode::SH),
+            ],
+            &[(4, 1, Mode::X)],
+        ),
+        YES,
+    ),
     (Step::SetMode(1, 2, Mode::X, NO_FAST), CONFLICT),
     (Step::Remove(2, 1), Answer::Gives(2, 1, Mode::S)),
     (Step::Remove(3, 1), Answer::Gives(3, 1, Mode::SH)),
     (Step::SetMode(1, 2, Mode::X, NO_FAST), Answer::Done),
     (Step::SetMode(1, 2, Mode::SU, NO_FAST), Answer::Done),
-    (Step::Lists(&[(1, 1, Mode::SR), (1, 2, Mode::SU)], &[(4, 1, Mode::X)]), YES),
+    (
+        Step::Lists(&[(1, 1, Mode::SR), (1, 2, Mode::SU)], &[(4, 1, Mode::X)]),
+        YES,
+    ),
 ];
 
 #[test]

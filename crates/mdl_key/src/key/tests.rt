@@ -5,8 +5,7 @@ const LONGEST: &str = "0123456789_abcdefghijklmnopqrstuvwxyz_0123456789_abcdefgh
 
 const TOO_LONG: &str = "0123456789_abcdefghijklmnopqrstuvwxyz_0123456789_abcdefghijklmnoz";
 
-const TOO_LONG_AND_BAD: &str =
-    "0123456789_abcdefghijklmnopqrstuvwxyz_0123456789_abcdefghijklmnoZ";
+const TOO_LONG_AND_BAD: &str = "0123456789_abcdefghijklmnopqrstuvwxyz_0123456789_abcdefghijklmnoZ";
 
 // A lock's namespace and the names that its key has there.
 type Name = (Namespace, &'static str, &'static str);

@@ -43,8 +43,16 @@ fn first_wrong_turn(alloc: Global, (first, second, act): Turn, is_x_first: bool)
         (X_IS_GRANTED, SH_WAITS)
     };
     let rows = [
-        (1, Act::Acquire(Lock::A, first.0, first.1), Reply::Acquired(1)),
-        (1, Act::Acquire(Lock::A, second.0, second.1), Reply::Acquired(2)),
+        (
+            1,
+            Act::Acquire(Lock::A, first.0, first.1),
+            Reply::Acquired(1),
+        ),
+        (
+            1,
+            Act::Acquire(Lock::A, second.0, second.1),
+            Reply::Acquired(2),
+        ),
         WAIT_FOR_X,
         WAIT_FOR_SH,
         (1, act, Reply::Done),
@@ -55,10 +63,38 @@ fn first_wrong_turn(alloc: Global, (first, second, act): Turn, is_x_first: bool)
 }
 
 const TWO_DURATIONS: [(Turn, bool); 4] = [
-    (((Mode::S, Duration::Transaction), (Mode::X, Duration::Statement), Act::EndTransaction), true),
-    (((Mode::S, Duration::Transaction), (Mode::X, Duration::Statement), Act::GoBack(0, 0)), true),
-    (((Mode::S, Duration::Statement), (Mode::X, Duration::Transaction), Act::EndTransaction), false),
-    (((Mode::S, Duration::Statement), (Mode::X, Duration::Transaction), Act::GoBack(0, 0)), false),
+    (
+        (
+            (Mode::S, Duration::Transaction),
+            (Mode::X, Duration::Statement),
+            Act::EndTransaction,
+        ),
+        true,
+    ),
+    (
+        (
+            (Mode::S, Duration::Transaction),
+            (Mode::X, Duration::Statement),
+            Act::GoBack(0, 0),
+        ),
+        true,
+    ),
+    (
+        (
+            (Mode::S, Duration::Statement),
+            (Mode::X, Duration::Transaction),
+            Act::EndTransaction,
+        ),
+        false,
+    ),
+    (
+        (
+            (Mode::S, Duration::Statement),
+            (Mode::X, Duration::Transaction),
+            Act::GoBack(0, 0),
+        ),
+        false,
+    ),
 ];
 
 #[test]
