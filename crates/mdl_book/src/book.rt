@@ -88,6 +88,7 @@ impl Book {
     }
 
     /// Grants a ticket, the lock's word being `word`. What waits doesn't count here.
+    #[inline]
     pub fn grant(&mut self, ticket: Ticket, word: Word) -> Result<(), BookError>
         ensures granted { OnOk result (self.new ≡ granting ticket self.old) }
         ensures unchanged { OnErr result (self.new ≡ self.old) }
@@ -106,6 +107,7 @@ impl Book {
     }
 
     /// Puts a ticket at the end of the waiting list, and makes the room that granting it will need.
+    #[inline]
     pub fn enqueue(&mut self, ticket: Ticket) -> Result<(), BookError>
         ensures enqueued { OnOk result (self.new ≡ enqueueing ticket self.old) }
         ensures unchanged { OnErr result (self.new ≡ self.old) }
@@ -120,6 +122,7 @@ impl Book {
 
     /// Grants a waiting ticket, which goes to the end of the granted list. It takes no memory. Whether the wish can be
     /// granted is the caller's to know.
+    #[inline]
     pub fn admit(&mut self, session: u16, number: u64) -> Result<Ticket, BookError>
         ensures answer { result ≡ ok_or (ticket_of session number self.old.waiting) BookError.NotHere }
         ensures admitted { self.new ≡ admitting session number self.old }
@@ -136,6 +139,7 @@ impl Book {
     }
 
     /// Takes a waiting ticket away. It takes no memory.
+    #[inline]
     pub fn cancel(&mut self, session: u16, number: u64) -> Result<Ticket, BookError>
         ensures answer { result ≡ ok_or (ticket_of session number self.old.waiting) BookError.NotHere }
         ensures cancelled { self.new ≡ cancelling session number self.old }
@@ -145,6 +149,7 @@ impl Book {
     }
 
     /// Takes a granted ticket away. It takes no memory.
+    #[inline]
     pub fn remove(&mut self, session: u16, number: u64) -> Result<Ticket, BookError>
         ensures answer { result ≡ ok_or (ticket_of session number self.old.granted) BookError.NotHere }
         ensures removed { self.new ≡ removing session number self.old }
@@ -213,6 +218,7 @@ impl Book {
 }
 
 // Makes room among the granted tickets for one more ticket than there are, granted and waiting.
+#[inline]
 fn make_room(granted: &mut TicketList, waiting: usize) -> Result<(), BookError>
     requires { length granted.old.tickets + waiting ≤ 65535 }
     ensures kept { granted.new.tickets ≡ granted.old.tickets }
@@ -231,6 +237,7 @@ fn make_room(granted: &mut TicketList, waiting: usize) -> Result<(), BookError>
 
 // Whether a session's wish for a mode clashes with no granted ticket of another session and with no fast ticket that the
 // word counts.
+#[inline]
 fn may_stand(kind: Kind, granted: &TicketList, word: Word, session: u16, mode: Mode) -> bool
     ensures { result ≡ may_stand kind granted.now.tickets word.0 session mode }
 {
@@ -238,6 +245,7 @@ fn may_stand(kind: Kind, granted: &TicketList, word: Word, session: u16, mode: M
 }
 
 // Takes the first ticket of this session and number out of a list.
+#[inline]
 fn take_ticket(tickets: &mut TicketList, session: u16, number: u64) -> Result<Ticket, BookError>
     ensures answer { result ≡ ok_or (ticket_of session number tickets.old.tickets) BookError.NotHere }
     ensures taken { tickets.new.tickets ≡ without session number tickets.old.tickets }

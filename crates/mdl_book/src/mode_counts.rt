@@ -22,6 +22,7 @@ impl ModeCounts {
     }
 
     /// Counts one ticket more.
+    #[inline]
     pub(crate) fn add(&mut self, mode: Mode)
         requires { slice_index self.old.counts (mode_rank mode) < 65535 }
         ensures { self.new.counts ≡ slice_set self.old.counts (mode_rank mode) (slice_index self.old.counts (mode_rank mode) + 1) }
@@ -30,6 +31,7 @@ impl ModeCounts {
     }
 
     /// Counts one ticket less.
+    #[inline]
     pub(crate) fn subtract(&mut self, mode: Mode)
         requires { 0 < slice_index self.old.counts (mode_rank mode) }
         ensures { self.new.counts ≡ slice_set self.old.counts (mode_rank mode) (slice_index self.old.counts (mode_rank mode) - 1) }
