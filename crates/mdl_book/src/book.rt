@@ -1,9 +1,9 @@
 //! The book of one lock.
-ghost use Rattle.std.specs.Prelude.{◌≡◌, ◌++◌, [], ◌∷◌, OnOk, OnErr, IfOk, ◌+◌, length, is_ok, if◌then◌else◌, ◌≤◌, nat_le, Some, None, List};
+ghost use Rattle.std.specs.Prelude.{◌≡◌, ◌++◌, [], ◌∷◌, OnOk, OnErr, IfOk, ◌+◌, length, is_ok, if◌then◌else◌, ◌≤◌, nat_le, Some, None, List, IsTrue};
 ghost use Rattle.std.specs.Option.{ok_or, option_map};
 ghost use Rattle.mdl_key.specs.Refusals.{Refuses, RefusesJust};
 ghost use Rattle.mdl_book.specs.Tickets.{ticket_id, ticket_of, without};
-ghost use Rattle.mdl_book.specs.FastTickets.{CountsFastTickets, AreOfOthers, may_stand, can_be_granted};
+ghost use Rattle.mdl_book.specs.FastTickets.{CountsFastTickets, CoversFastTickets, AreOfOthers, may_stand, can_be_granted};
 ghost use Rattle.mdl_book.specs.Granting.{is_grantable, is_compatible, goes_first, IsGrantable, IsLawful};
 ghost use Rattle.mdl_book.specs.Books.{lock_kind, empty_book, grant_fault, change_fault, full_fault, ticket_count, granting, enqueueing, admitting, cancelling, removing, changing, next_grantable, AreOfNoWaiter, next_grantable_beside, has_obtrusive, has_tickets};
 
@@ -81,6 +81,8 @@ impl Book {
         ensures exact { result ≡ can_be_granted (lock_kind self.now) self.now.granted self.now.waiting word.0 session mode }
         ensures counted { (fast : List Ticket) → CountsFastTickets (lock_kind self.now) word.0 fast → AreOfOthers session fast
             → result ≡ is_grantable (lock_kind self.now) (fast ++ self.now.granted) self.now.waiting session mode }
+        ensures covered { (fast : List Ticket) → CoversFastTickets (lock_kind self.now) word.0 fast → IsTrue result
+            → IsGrantable (lock_kind self.now) (fast ++ self.now.granted) self.now.waiting session mode }
     {
         let kind = self.key.kind();
         may_stand(kind, &self.granted, word, session, mode)
@@ -95,6 +97,8 @@ impl Book {
         ensures refused { Refuses (grant_fault ticket word.0 self.old) BookError.OutOfMemory result }
         ensures lawful { IsLawful (lock_kind self.old) self.old.granted → IsLawful (lock_kind self.new) self.new.granted }
         ensures lawful_with_fast { (fast : List Ticket) → CountsFastTickets (lock_kind self.old) word.0 fast → AreOfOthers ticket.session fast
+            → IsLawful (lock_kind self.old) (fast ++ self.old.granted) → IsLawful (lock_kind self.new) (fast ++ self.new.granted) }
+        ensures lawful_covered { (fast : List Ticket) → CoversFastTickets (lock_kind self.old) word.0 fast
             → IsLawful (lock_kind self.old) (fast ++ self.old.granted) → IsLawful (lock_kind self.new) (fast ++ self.new.granted) }
     {
         let kind = self.key.kind();
@@ -175,6 +179,8 @@ impl Book {
         ensures refused { RefusesJust (change_fault session number mode word.0 self.old) result }
         ensures lawful { IsLawful (lock_kind self.old) self.old.granted → IsLawful (lock_kind self.new) self.new.granted }
         ensures lawful_with_fast { (fast : List Ticket) → CountsFastTickets (lock_kind self.old) word.0 fast → AreOfOthers session fast
+            → IsLawful (lock_kind self.old) (fast ++ self.old.granted) → IsLawful (lock_kind self.new) (fast ++ self.new.granted) }
+        ensures lawful_covered { (fast : List Ticket) → CoversFastTickets (lock_kind self.old) word.0 fast
             → IsLawful (lock_kind self.old) (fast ++ self.old.granted) → IsLawful (lock_kind self.new) (fast ++ self.new.granted) }
     {
         if !self.granted.contains(session, number) {
