@@ -25,7 +25,7 @@ pub(crate) struct TicketList {
 
 impl Model for TicketList {
     ghost use Rattle.std.specs.Prelude.{◌≤◌, length};
-    ghost use Rattle.mdl_book.specs.TicketLists.{Roll, CountsModes};
+    ghost use Rattle.mdl_book.specs.TicketLists.{Roll, CountsModes, MarksModes};
 
     ghost Value = { Roll };
 
@@ -34,6 +34,7 @@ impl Model for TicketList {
     ghost invariant = { λ list. record {
       limit : length list.tickets.tickets ≤ 65535;
       counted : CountsModes list.counts.counts list.tickets.tickets;
+      marked : MarksModes list.counts.present list.counts.counts;
     } };
 }
 
