@@ -52,7 +52,7 @@ lowered counts r s before after inside was is =
 -- ---- the counts of a list of tickets
 
 -- there are eleven modes
-rank-lt : (mode : Mode) → mode_rank mode < 11
+pub rank-lt : (mode : Mode) → mode_rank mode < 11
 rank-lt mode = ltb-true _ _ (each_mode (λ m. nat_lt (mode_rank m) 11) refl mode)
 
 -- how often a ticket is counted at a mode
@@ -144,7 +144,7 @@ none_at : (count : ℕ) (passed : Bool) → (passed ≡ true → count ≡ 0) �
 none_at count true none = or_left _ _ (eq-eqb count 0 (none refl))
 none_at count false none = or_right _ _ refl
 
-both_ways : (a b : Bool) → (a ≡ true → b ≡ true) → (b ≡ true → a ≡ true) → a ≡ b
+pub both_ways : (a b : Bool) → (a ≡ true → b ≡ true) → (b ≡ true → a ≡ true) → a ≡ b
 both_ways true b to from = sym (to refl)
 both_ways false true to from = from refl
 both_ways false false to from = refl

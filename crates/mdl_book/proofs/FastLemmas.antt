@@ -1,10 +1,11 @@
 -- The counts of a word tell of its fast tickets just what a list of them would.
 use Rattle.std.proofs.Common.{◌≡◌, ◌≢◌, ℕ, ◌+◌, ◌<◌, ◌≤◌, Bool, true, false, cond, not, ◌&&◌, ◌||◌, ◌==◌, List, [], ◌∷◌, ◌++◌, length, get_or, Some, None, refl, sym, ◌∙◌, ap, subst, append_assoc, arith, rules, zero, suc}
 use Rattle.std.specs.Prelude.{slice_index, count_by}
-use Rattle.std.specs.List.{list_any, find, All}
+use Rattle.std.specs.List.{list_any, find, All, Contains}
 use Rattle.std.specs.FinSet as set
 use Rattle.std.specs.Ordering.{nat_cmp}
 use Rattle.std.proofs.lemmas.List.Elements.{All-nil, All-head, All-tail}
+use Rattle.std.proofs.lemmas.Bool.{and_parts, and_from}
 use Rattle.std.proofs.lemmas.Bool.Decides.{nat_tests}
 use Rattle.std.proofs.lemmas.List.Folds.{list_all-append, list_all_at, Any-from_list_any}
 use Rattle.std.proofs.lemmas.List.Sums.{sum_by-cons, get_or-le-sum_by, list_all-from_AllPass}
@@ -17,10 +18,11 @@ use Rattle.mdl_word.proofs.BlockLemmas.{blocks_by-from_clash, clash_from_blocks_
 use Rattle.mdl_book.specs.declared.ticket.Ticket.{Ticket}
 use Rattle.mdl_book.specs.declared.lists.Lists.{Lists}
 use Rattle.mdl_book.specs.Books.{lock_kind, AreOfNoWaiter, is_ready, is_ready_beside, next_grantable, next_grantable_beside}
-use Rattle.mdl_book.specs.FastTickets.{is_of_class, CountsFastTickets, AreOfOthers, may_stand, can_be_granted}
+use Rattle.mdl_book.specs.FastTickets.{is_of_class, CountsFastTickets, CoversFastTickets, AreOfOthers, may_stand, can_be_granted}
 use Rattle.mdl_book.specs.Granting.{stands_beside, is_compatible, goes_first, is_grantable, is_lawful}
 use Rattle.mdl_book.specs.Tickets.{with_mode}
 use Rattle.mdl_book.proofs.GrantingLemmas.{lawful_push, lawful_changed-beside}
+use Rattle.mdl_book.proofs.TicketLemmas.{find-passes, find-contains}
 
 -- ---- classes
 
@@ -75,9 +77,13 @@ find-same : {X : Type 0} (p q : X → Bool) (xs : List X) → All (λ x. p x ≡
 find-same p q [] same = refl
 find-same p q (x ∷ xs) same = rw (All-head (λ y. p y ≡ q y) x xs same, find-same p q xs (All-tail (λ y. p y ≡ q y) x xs same))
 
+not-true : (b : Bool) → not b ≡ true → b ≡ false
+not-true true e = cc
+not-true false e = refl
+
 -- ---- what fast tickets clash with
 
-module _ {kind : Kind} {word : ℕ} {fast : List Ticket} (counts : CountsFastTickets kind word fast) where
+module _ {kind : Kind} {word : ℕ} {fast : List Ticket} (covers : CoversFastTickets kind word fast) where
   -- a fast ticket that clashes with a request blocks it
   clash_blocks : (ask : Mode) (i : ℕ) (d : Ticket) → i < length fast → clashes kind ask (get_or fast i d).mode ≡ true → blocks_by (counts_of word) kind ask ≡ true
   clash_blocks ask i d inside clash =
@@ -85,12 +91,59 @@ module _ {kind : Kind} {word : ℕ} {fast : List Ticket} (counts : CountsFastTic
       elim (class_of kind ticket.mode) as (λ o. class_of kind ticket.mode ≡ o → blocks_by (counts_of word) kind ask ≡ true) [
         | Some class ↦ λ is.
             let some : 0 < count_by (is_of_class kind class) fast = count-positive (is_of_class kind class) fast i d inside (of_class kind ticket class is) in
-            let counted : 0 < slice_index (counts_of word) class = subst (λ n. 0 < n) (counts.counted class (class-lt kind ticket.mode class is)) some in
+            let counted : 0 < slice_index (counts_of word) class = omega (arith, covers.covered class (class-lt kind ticket.mode class is)) in
             let counted_with : 0 < count_with (counts_of word) kind ticket.mode = rw is counted in
             blocks_by-from_clash (counts_of word) kind ask ticket.mode counted_with clash
-        | None ↦ λ is. let unobtrusive = counts.unobtrusive i d inside in absurd (cc)
+        | None ↦ λ is. let unobtrusive = covers.unobtrusive i d inside in absurd (cc)
       ] refl
 
+  -- a request that isn't blocked stands beside them, whosever they are
+  free-covered : (session : ℕ) (mode : Mode) → blocks_by (counts_of word) kind mode ≡ false → is_compatible kind fast session mode ≡ true
+  free-covered session mode free =
+      list_all-from_AllPass (stands_beside kind session mode) fast (λ i d inside.
+      let ticket : Ticket = get_or fast i d in
+      elim (clashes kind mode ticket.mode) as (λ b. clashes kind mode ticket.mode ≡ b → (ticket.session == session || not b) ≡ true) [
+        | true ↦ λ clash. let blocks = clash_blocks mode i d inside clash in absurd (cc)
+        | false ↦ λ _. or_true _
+      ] refl)
+
+  pub may_stand-covered : (granted : List Ticket) (session : ℕ) (mode : Mode) → may_stand kind granted word session mode ≡ true → is_compatible kind (fast ++ granted) session mode ≡ true
+  may_stand-covered granted session mode stands =
+      let parts = and_parts (is_compatible kind granted session mode) (not (blocks_by (counts_of word) kind mode)) stands in
+      list_all-append (stands_beside kind session mode) fast granted ∙ and_from _ _ (free-covered session mode (not-true _ parts.1)) parts.0
+
+  pub can_be_granted-covered : (granted waiting : List Ticket) (session : ℕ) (mode : Mode) → can_be_granted kind granted waiting word session mode ≡ true
+      → is_grantable kind (fast ++ granted) waiting session mode ≡ true
+  can_be_granted-covered granted waiting session mode grantable =
+      let parts = and_parts (may_stand kind granted word session mode) (goes_first kind waiting session mode) grantable in
+      and_from _ _ (may_stand-covered granted session mode parts.0) parts.1
+
+  -- ---- what stays lawful beside fast tickets
+
+  pub lawful_push-covered : (granted : List Ticket) (ticket : Ticket) → may_stand kind granted word ticket.session ticket.mode ≡ true
+      → is_lawful kind (fast ++ granted) ≡ true → is_lawful kind (fast ++ (granted ++ ticket ∷ [])) ≡ true
+  lawful_push-covered granted ticket stands lawful =
+      subst (λ tickets. is_lawful kind tickets ≡ true) (append_assoc fast granted (ticket ∷ []))
+      (lawful_push kind (fast ++ granted) ticket (may_stand-covered granted ticket.session ticket.mode stands) lawful)
+
+  pub lawful_changed-covered : (granted : List Ticket) (session number : ℕ) (mode : Mode) → may_stand kind granted word session mode ≡ true
+      → is_lawful kind (fast ++ granted) ≡ true → is_lawful kind (fast ++ with_mode session number mode granted) ≡ true
+  lawful_changed-covered granted session number mode stands lawful =
+      lawful_changed-beside kind session number mode fast granted (may_stand-covered granted session mode stands) lawful
+
+  -- whoever is next waits, is unsettled and grantable
+  pub next_grantable-covered : (unsettled : set.FinSet nat_cmp) (lists : Lists) (ticket : Ticket) → lock_kind lists ≡ kind → next_grantable word unsettled lists ≡ Some ticket
+      → Contains lists.waiting ticket × (set.contains unsettled ticket.session ≡ true) × (is_grantable kind (fast ++ lists.granted) lists.waiting ticket.session ticket.mode ≡ true)
+  next_grantable-covered unsettled lists ticket same next =
+      let ready = find-passes (is_ready word unsettled lists) lists.waiting ticket next in
+      let parts = and_parts (set.contains unsettled ticket.session) (can_be_granted (lock_kind lists) lists.granted lists.waiting word ticket.session ticket.mode) ready in
+      (find-contains (is_ready word unsettled lists) lists.waiting ticket next, parts.0, can_be_granted-covered lists.granted lists.waiting ticket.session ticket.mode (rw same at parts.1))
+
+-- the word that counts just these counts at least these
+pub covers_of : {kind : Kind} {word : ℕ} {fast : List Ticket} → CountsFastTickets kind word fast → CoversFastTickets kind word fast
+covers_of counts = record { unobtrusive = counts.unobtrusive; covered = λ class lt. omega (arith, counts.counted class lt) }
+
+module _ {kind : Kind} {word : ℕ} {fast : List Ticket} (counts : CountsFastTickets kind word fast) where
   -- a request that is blocked clashes with a fast ticket
   blocks_clash : (ask : Mode) → blocks_by (counts_of word) kind ask ≡ true → (i : ℕ) × (ticket : Ticket) × (i < length fast) × (get_or fast i ticket ≡ ticket) × (clashes kind ask ticket.mode ≡ true)
   blocks_clash ask blocks =
@@ -116,12 +169,7 @@ module _ {kind : Kind} {word : ℕ} {fast : List Ticket} (counts : CountsFastTic
             let clash : clashes kind mode ticket.mode ≡ true = at.4 in
             let stands_not : stands_beside kind session mode (get_or fast at.0 ticket) ≡ false = rw (at.3, clash) (other_alone ticket session (subst (λ t. (t.session ≡ session) → ⊥) at.3 other)) in
             sym (list_all_at (stands_beside kind session mode) fast at.0 ticket at.2 stands_not)
-        | false ↦ λ free. sym (list_all-from_AllPass (stands_beside kind session mode) fast (λ i d inside.
-            let ticket : Ticket = get_or fast i d in
-            elim (clashes kind mode ticket.mode) as (λ b. clashes kind mode ticket.mode ≡ b → (ticket.session == session || not b) ≡ true) [
-              | true ↦ λ clash. let blocks = clash_blocks mode i d inside clash in absurd (cc)
-              | false ↦ λ _. or_true _
-            ] refl))
+        | false ↦ λ free. sym (free-covered (covers_of counts) session mode free)
       ] refl
 
   pub may_stand-fast : (granted : List Ticket) (session : ℕ) (mode : Mode) → AreOfOthers session fast → may_stand kind granted word session mode ≡ is_compatible kind (fast ++ granted) session mode
@@ -140,20 +188,6 @@ module _ {kind : Kind} {word : ℕ} {fast : List Ticket} (counts : CountsFastTic
       find-same (is_ready word unsettled lists) (is_ready_beside fast unsettled lists) lists.waiting (λ i d inside.
       let ticket : Ticket = get_or lists.waiting i d in
       ap (λ b. set.contains unsettled ticket.session && b) (rw same (can_be_granted-fast lists.granted lists.waiting ticket.session ticket.mode (others i d inside))))
-
-  -- ---- what stays lawful beside fast tickets
-
-  pub lawful_push-fast : (granted : List Ticket) (ticket : Ticket) → AreOfOthers ticket.session fast → may_stand kind granted word ticket.session ticket.mode ≡ true
-      → is_lawful kind (fast ++ granted) ≡ true → is_lawful kind (fast ++ (granted ++ ticket ∷ [])) ≡ true
-  lawful_push-fast granted ticket others stands lawful =
-      let compatible : is_compatible kind (fast ++ granted) ticket.session ticket.mode ≡ true = sym (may_stand-fast granted ticket.session ticket.mode others) ∙ stands in
-      subst (λ tickets. is_lawful kind tickets ≡ true) (append_assoc fast granted (ticket ∷ [])) (lawful_push kind (fast ++ granted) ticket compatible lawful)
-
-  pub lawful_changed-fast : (granted : List Ticket) (session number : ℕ) (mode : Mode) → AreOfOthers session fast → may_stand kind granted word session mode ≡ true
-      → is_lawful kind (fast ++ granted) ≡ true → is_lawful kind (fast ++ with_mode session number mode granted) ≡ true
-  lawful_changed-fast granted session number mode others stands lawful =
-      let compatible : is_compatible kind (fast ++ granted) session mode ≡ true = sym (may_stand-fast granted session mode others) ∙ stands in
-      lawful_changed-beside kind session number mode fast granted compatible lawful
 
 -- ---- a lock without fast tickets, whose word is 0
 

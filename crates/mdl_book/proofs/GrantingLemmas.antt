@@ -49,7 +49,7 @@ lawful_push kind granted ticket compatible lawful =
     last)
 
 -- where each test that all of a list pass is passed by all of another, that one is lawful too
-lawful_part : (kind : Kind) (granted part : List Ticket) → ((test : Ticket → Bool) → list_all test granted ≡ true → list_all test part ≡ true)
+pub lawful_part : (kind : Kind) (granted part : List Ticket) → ((test : Ticket → Bool) → list_all test granted ≡ true → list_all test part ≡ true)
     → is_lawful kind granted ≡ true → is_lawful kind part ≡ true
 lawful_part kind granted part passed lawful =
     let each = AllPass-from_list_all (λ a. list_all (beside kind a) granted) granted lawful in

@@ -1,10 +1,11 @@
 -- The first ticket that passes a test: its place, the list without it, and the list with it in another mode.
 use Rattle.std.proofs.Common.{◌≡◌, ℕ, suc, ◌+◌, ◌<◌, ◌≤◌, Bool, true, false, cond, List, [], ◌∷◌, ◌++◌, length, get_or, Option, Some, None, refl, sym, ◌∙◌, ap, subst, inl, inr, ltb, arith, add-one, take, drop}
 use Rattle.std.specs.Prelude.{is_some, slice_set}
-use Rattle.std.specs.List.{position, position_or_len, find, before_first, after_first, All, remove}
+use Rattle.std.specs.List.{position, position_or_len, find, before_first, after_first, All, Contains, remove}
 use Rattle.std.specs.Option.{option_map, option_to_list}
 use Rattle.std.proofs.lemmas.List.{append-nil, take_all, drop_all}
 use Rattle.std.proofs.lemmas.List.Folds.{find_at}
+use Rattle.std.proofs.lemmas.List.Sums.{split_at_first}
 use Rattle.std.proofs.lemmas.List.Elements.{All-append, All-take, All-drop}
 use Rattle.std.proofs.lemmas.Option.{slice_get-get_or, slice_get_cases}
 use Rattle.std.proofs.lemmas.List.{set_split}
@@ -76,6 +77,27 @@ find-passes p (y ∷ ys) x found =
       | true ↦ λ passes e. let same : y ≡ x = cc in subst (λ z. p z ≡ true) same passes
       | false ↦ λ _ e. find-passes p ys x e
     ] refl found
+
+-- what is found is among them
+pub find-contains : {X : Type 0} (p : X → Bool) (xs : List X) (x : X) → find p xs ≡ Some x → Contains xs x
+find-contains p xs x found =
+    elim (slice_get_cases xs (position_or_len p xs)).1 [
+      | inl w ↦ let same : w.0 ≡ x = cc (find_at p xs) in subst (λ y. Contains xs y) same (position_or_len p xs, w.1, w.3)
+      | inr w ↦ absurd (cc (find_at p xs))
+    ]
+
+-- a list is what stands before the first that passes, that one, and what stands after it
+pub parted : {X : Type 0} (p : X → Bool) (xs : List X) → xs ≡ before_first p xs ++ (option_to_list (find p xs) ++ after_first p xs)
+parted p xs =
+    elim (slice_get_cases xs (position_or_len p xs)).1 [
+      | inl w ↦
+          let found : w.0 ∷ [] ≡ option_to_list (find p xs) = sym (ap option_to_list (find_at p xs ∙ w.2)) in
+          split_at_first p xs w.0 w.1 ∙ ap (λ ys. before_first p xs ++ (ys ++ after_first p xs)) (ap (λ y. y ∷ []) w.3 ∙ found)
+      | inr w ↦
+          let none : option_to_list (find p xs) ≡ [] = ap option_to_list (find_at p xs ∙ w.1) in
+          let past = w.0 in
+          sym (rw (none, take_all (position_or_len p xs) xs past, drop_all (position_or_len p xs + 1) xs (omega arith)) (append-nil xs))
+    ]
 
 -- a write of the ticket in another mode, at its place
 pub with_mode_at : (session number : ℕ) (mode : Mode) (tickets : List Ticket) (i : ℕ) (ticket : Ticket) → Some i ≡ position (is_ticket session number) tickets

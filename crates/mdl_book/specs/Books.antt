@@ -1,5 +1,5 @@
 -- One lock's book: its two lists of tickets, after MySQL 5.7: `MDL_lock` of sql/mdl.cc.
-use Rattle.std.specs.Prelude.{ℕ, ◌+◌, Bool, not, ◌&&◌, ◌||◌, nat_lt, nat_le, List, [], ◌∷◌, ◌++◌, length, Option, Some, None, find, All, if◌then◌else◌, is_some}
+use Rattle.std.specs.Prelude.{ℕ, ◌+◌, Bool, not, ◌&&◌, ◌||◌, nat_lt, nat_le, List, [], ◌∷◌, ◌++◌, length, Option, Some, None, find, All, Contains, IsTrue, if◌then◌else◌, is_some}
 use Rattle.std.specs.List.{list_any}
 use Rattle.std.specs.Option.{option_to_list}
 use Rattle.std.specs.Ordering.{nat_cmp}
@@ -14,7 +14,7 @@ use Rattle.mdl_book.specs.declared.book_error.BookError.TheVariants.{NotHere, Wo
 use Rattle.mdl_book.specs.declared.lists.Lists.{Lists}
 use Rattle.mdl_book.specs.declared.ticket.Ticket.{Ticket}
 use Rattle.mdl_book.specs.FastTickets.{AreOfOthers, may_stand, can_be_granted}
-use Rattle.mdl_book.specs.Granting.{is_grantable}
+use Rattle.mdl_book.specs.Granting.{is_grantable, IsGrantable}
 use Rattle.mdl_book.specs.Tickets.{ticket_of, without, with_mode}
 
 -- the kind of the lock whose lists these are
@@ -95,6 +95,13 @@ is_ready_beside fast unsettled lists ticket =
 -- the first such ticket, in order of arrival
 abbrev pub next_grantable_beside : List Ticket → set.FinSet nat_cmp → Lists → Option Ticket
 next_grantable_beside fast unsettled lists = find (is_ready_beside fast unsettled lists) lists.waiting
+
+-- nobody is forgotten: no waiting ticket of an unsettled session is grantable, these fast tickets being granted beside the
+-- others
+abbrev pub NoneForgotten : List Ticket → set.FinSet nat_cmp → Lists → Type 0
+NoneForgotten fast unsettled lists =
+    (ticket : Ticket) → Contains lists.waiting ticket → IsTrue (set.contains unsettled ticket.session) →
+    IsGrantable (lock_kind lists) (fast ++ lists.granted) lists.waiting ticket.session ticket.mode → ⊥
 
 -- whether one of these tickets is obtrusive
 abbrev pub any_obtrusive : Kind → List Ticket → Bool

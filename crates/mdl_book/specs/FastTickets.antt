@@ -1,6 +1,6 @@
 -- Fast tickets: those that stand in no list of a lock and are only counted by its packed word, after MySQL 5.7: the fast
 -- path of `MDL_context::try_acquire_lock_impl` in sql/mdl.cc.
-use Rattle.std.specs.Prelude.{◌≡◌, ◌≢◌, ℕ, ◌<◌, Bool, false, not, ◌&&◌, ◌==◌, List, slice_index, All, count_by, IsTrue}
+use Rattle.std.specs.Prelude.{◌≡◌, ◌≢◌, ℕ, ◌<◌, ◌≤◌, Bool, false, not, ◌&&◌, ◌==◌, List, slice_index, All, count_by, IsTrue}
 use Rattle.std.specs.Option.{option_map_or}
 use Rattle.mdl_key.specs.declared.namespace.Kind.{Kind}
 use Rattle.mdl_key.specs.declared.mode.Mode.{Mode}
@@ -18,6 +18,12 @@ is_of_class kind class ticket = option_map_or (λ own. own == class) (class_of k
 pub record CountsFastTickets (kind : Kind) (word : ℕ) (fast : List Ticket) : Type 0 where
   pub unobtrusive : All (λ ticket. IsTrue (not (is_obtrusive kind ticket.mode))) fast
   pub counted : (class : ℕ) → class < 3 → count_by (is_of_class kind class) fast ≡ slice_index (counts_of word) class
+
+-- the word counts at least these fast tickets: each is in a mode that is counted, and for each class their number is at most
+-- the word's count
+pub record CoversFastTickets (kind : Kind) (word : ℕ) (fast : List Ticket) : Type 0 where
+  pub unobtrusive : All (λ ticket. IsTrue (not (is_obtrusive kind ticket.mode))) fast
+  pub covered : (class : ℕ) → class < 3 → count_by (is_of_class kind class) fast ≤ slice_index (counts_of word) class
 
 -- none of these tickets is of the session
 abbrev pub AreOfOthers : ℕ → List Ticket → Type 0

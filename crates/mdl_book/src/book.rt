@@ -1,9 +1,9 @@
 //! The book of one lock.
-ghost use Rattle.std.specs.Prelude.{◌≡◌, ◌++◌, [], ◌∷◌, OnOk, OnErr, IfOk, ◌+◌, length, is_ok, if◌then◌else◌, ◌≤◌, nat_le, Some, None, List};
+ghost use Rattle.std.specs.Prelude.{◌≡◌, ◌++◌, [], ◌∷◌, OnOk, OnErr, IfOk, ◌+◌, length, is_ok, if◌then◌else◌, ◌≤◌, nat_le, Some, None, List, IsTrue};
 ghost use Rattle.std.specs.Option.{ok_or, option_map};
 ghost use Rattle.mdl_key.specs.Refusals.{Refuses, RefusesJust};
 ghost use Rattle.mdl_book.specs.Tickets.{ticket_id, ticket_of, without};
-ghost use Rattle.mdl_book.specs.FastTickets.{CountsFastTickets, AreOfOthers, may_stand, can_be_granted};
+ghost use Rattle.mdl_book.specs.FastTickets.{CountsFastTickets, CoversFastTickets, AreOfOthers, may_stand, can_be_granted};
 ghost use Rattle.mdl_book.specs.Granting.{is_grantable, is_compatible, goes_first, IsGrantable, IsLawful};
 ghost use Rattle.mdl_book.specs.Books.{lock_kind, empty_book, grant_fault, change_fault, full_fault, ticket_count, granting, enqueueing, admitting, cancelling, removing, changing, next_grantable, AreOfNoWaiter, next_grantable_beside, has_obtrusive, has_tickets};
 
@@ -81,6 +81,8 @@ impl Book {
         ensures exact { result ≡ can_be_granted (lock_kind self.now) self.now.granted self.now.waiting word.0 session mode }
         ensures counted { (fast : List Ticket) → CountsFastTickets (lock_kind self.now) word.0 fast → AreOfOthers session fast
             → result ≡ is_grantable (lock_kind self.now) (fast ++ self.now.granted) self.now.waiting session mode }
+        ensures covered { (fast : List Ticket) → CoversFastTickets (lock_kind self.now) word.0 fast → IsTrue result
+            → IsGrantable (lock_kind self.now) (fast ++ self.now.granted) self.now.waiting session mode }
     {
         let kind = self.key.kind();
         may_stand(kind, &self.granted, word, session, mode)
@@ -88,12 +90,15 @@ impl Book {
     }
 
     /// Grants a ticket, the lock's word being `word`. What waits doesn't count here.
+    #[inline]
     pub fn grant(&mut self, ticket: Ticket, word: Word) -> Result<(), BookError>
         ensures granted { OnOk result (self.new ≡ granting ticket self.old) }
         ensures unchanged { OnErr result (self.new ≡ self.old) }
         ensures refused { Refuses (grant_fault ticket word.0 self.old) BookError.OutOfMemory result }
         ensures lawful { IsLawful (lock_kind self.old) self.old.granted → IsLawful (lock_kind self.new) self.new.granted }
         ensures lawful_with_fast { (fast : List Ticket) → CountsFastTickets (lock_kind self.old) word.0 fast → AreOfOthers ticket.session fast
+            → IsLawful (lock_kind self.old) (fast ++ self.old.granted) → IsLawful (lock_kind self.new) (fast ++ self.new.granted) }
+        ensures lawful_covered { (fast : List Ticket) → CoversFastTickets (lock_kind self.old) word.0 fast
             → IsLawful (lock_kind self.old) (fast ++ self.old.granted) → IsLawful (lock_kind self.new) (fast ++ self.new.granted) }
     {
         let kind = self.key.kind();
@@ -106,6 +111,7 @@ impl Book {
     }
 
     /// Puts a ticket at the end of the waiting list, and makes the room that granting it will need.
+    #[inline]
     pub fn enqueue(&mut self, ticket: Ticket) -> Result<(), BookError>
         ensures enqueued { OnOk result (self.new ≡ enqueueing ticket self.old) }
         ensures unchanged { OnErr result (self.new ≡ self.old) }
@@ -120,6 +126,7 @@ impl Book {
 
     /// Grants a waiting ticket, which goes to the end of the granted list. It takes no memory. Whether the wish can be
     /// granted is the caller's to know.
+    #[inline]
     pub fn admit(&mut self, session: u16, number: u64) -> Result<Ticket, BookError>
         ensures answer { result ≡ ok_or (ticket_of session number self.old.waiting) BookError.NotHere }
         ensures admitted { self.new ≡ admitting session number self.old }
@@ -136,6 +143,7 @@ impl Book {
     }
 
     /// Takes a waiting ticket away. It takes no memory.
+    #[inline]
     pub fn cancel(&mut self, session: u16, number: u64) -> Result<Ticket, BookError>
         ensures answer { result ≡ ok_or (ticket_of session number self.old.waiting) BookError.NotHere }
         ensures cancelled { self.new ≡ cancelling session number self.old }
@@ -145,6 +153,7 @@ impl Book {
     }
 
     /// Takes a granted ticket away. It takes no memory.
+    #[inline]
     pub fn remove(&mut self, session: u16, number: u64) -> Result<Ticket, BookError>
         ensures answer { result ≡ ok_or (ticket_of session number self.old.granted) BookError.NotHere }
         ensures removed { self.new ≡ removing session number self.old }
@@ -170,6 +179,8 @@ impl Book {
         ensures refused { RefusesJust (change_fault session number mode word.0 self.old) result }
         ensures lawful { IsLawful (lock_kind self.old) self.old.granted → IsLawful (lock_kind self.new) self.new.granted }
         ensures lawful_with_fast { (fast : List Ticket) → CountsFastTickets (lock_kind self.old) word.0 fast → AreOfOthers session fast
+            → IsLawful (lock_kind self.old) (fast ++ self.old.granted) → IsLawful (lock_kind self.new) (fast ++ self.new.granted) }
+        ensures lawful_covered { (fast : List Ticket) → CoversFastTickets (lock_kind self.old) word.0 fast
             → IsLawful (lock_kind self.old) (fast ++ self.old.granted) → IsLawful (lock_kind self.new) (fast ++ self.new.granted) }
     {
         if !self.granted.contains(session, number) {
@@ -213,6 +224,7 @@ impl Book {
 }
 
 // Makes room among the granted tickets for one more ticket than there are, granted and waiting.
+#[inline]
 fn make_room(granted: &mut TicketList, waiting: usize) -> Result<(), BookError>
     requires { length granted.old.tickets + waiting ≤ 65535 }
     ensures kept { granted.new.tickets ≡ granted.old.tickets }
@@ -231,6 +243,7 @@ fn make_room(granted: &mut TicketList, waiting: usize) -> Result<(), BookError>
 
 // Whether a session's wish for a mode clashes with no granted ticket of another session and with no fast ticket that the
 // word counts.
+#[inline]
 fn may_stand(kind: Kind, granted: &TicketList, word: Word, session: u16, mode: Mode) -> bool
     ensures { result ≡ may_stand kind granted.now.tickets word.0 session mode }
 {
@@ -238,6 +251,7 @@ fn may_stand(kind: Kind, granted: &TicketList, word: Word, session: u16, mode: M
 }
 
 // Takes the first ticket of this session and number out of a list.
+#[inline]
 fn take_ticket(tickets: &mut TicketList, session: u16, number: u64) -> Result<Ticket, BookError>
     ensures answer { result ≡ ok_or (ticket_of session number tickets.old.tickets) BookError.NotHere }
     ensures taken { tickets.new.tickets ≡ without session number tickets.old.tickets }

@@ -10,6 +10,7 @@
 
 mod book;
 mod book_error;
+mod laws;
 mod lists;
 mod mode_counts;
 mod needs;
@@ -20,6 +21,11 @@ mod ticket_queue;
 
 pub use book::Book;
 pub use book_error::BookError;
+pub use laws::{
+    admitting_forgets_nobody, enqueueing_forgets_nobody, grantable_by_members,
+    granting_forgets_nobody, lawful_by_members, nobody_is_next_where_none_is_forgotten,
+    settling_forgets_nobody, who_is_next_is_grantable,
+};
 pub use lists::Lists;
 pub use needs::Needs;
 pub use sessions::Sessions;

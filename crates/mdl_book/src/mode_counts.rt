@@ -3,68 +3,87 @@ ghost use Rattle.std.specs.Prelude.{◌≡◌, ◌+◌, ◌-◌, ◌<◌, slice_
 ghost use Rattle.mdl_key.specs.Classes.{is_obtrusive};
 ghost use Rattle.mdl_key.specs.Matrices.{clashes, waits_behind};
 ghost use Rattle.mdl_key.specs.Modes.{mode_rank};
-ghost use Rattle.mdl_book.specs.TicketLists.{none_counted};
+ghost use Rattle.mdl_book.specs.TicketLists.{MarksModes, none_counted};
 
-use mdl_key::{Kind, Mode, conflicts_granted, conflicts_waiting, is_obtrusive};
+use mdl_key::{Kind, Mode, granted_row, obtrusive_row, waiting_row};
 
-/// How many tickets there are in each mode, in the order of modes.
+/// How many tickets there are in each mode, in the order of modes, and in which modes there are any.
 #[derive(Drop)]
 pub(crate) struct ModeCounts {
     pub(crate) counts: [u16; 11],
+    // Bit n stands for the mode at place n, as in the rows of the matrices: one `&` tells whether a counted mode is in a row.
+    pub(crate) present: u16,
 }
 
 impl ModeCounts {
     /// The counts where there are no tickets.
     pub(crate) fn new() -> ModeCounts
-        ensures { result.counts ≡ replicate 11 0 }
+        ensures counts { result.counts ≡ replicate 11 0 }
+        ensures marked { MarksModes result.present result.counts }
     {
-        ModeCounts { counts: [0; 11] }
+        ModeCounts {
+            counts: [0; 11],
+            present: 0,
+        }
     }
 
     /// Counts one ticket more.
+    #[inline]
     pub(crate) fn add(&mut self, mode: Mode)
         requires { slice_index self.old.counts (mode_rank mode) < 65535 }
-        ensures { self.new.counts ≡ slice_set self.old.counts (mode_rank mode) (slice_index self.old.counts (mode_rank mode) + 1) }
+        ensures counts { self.new.counts ≡ slice_set self.old.counts (mode_rank mode) (slice_index self.old.counts (mode_rank mode) + 1) }
+        ensures marked { MarksModes self.old.present self.old.counts → MarksModes self.new.present self.new.counts }
     {
-        self.counts[mode as usize] += 1;
+        let place = place_of(mode);
+        self.counts[place] += 1;
+        self.present |= 1 << place;
     }
 
     /// Counts one ticket less.
+    #[inline]
     pub(crate) fn subtract(&mut self, mode: Mode)
         requires { 0 < slice_index self.old.counts (mode_rank mode) }
-        ensures { self.new.counts ≡ slice_set self.old.counts (mode_rank mode) (slice_index self.old.counts (mode_rank mode) - 1) }
+        ensures counts { self.new.counts ≡ slice_set self.old.counts (mode_rank mode) (slice_index self.old.counts (mode_rank mode) - 1) }
+        ensures marked { MarksModes self.old.present self.old.counts → MarksModes self.new.present self.new.counts }
     {
-        self.counts[mode as usize] -= 1;
+        let place = place_of(mode);
+        let left = self.counts[place] - 1;
+        self.counts[place] = left;
+        if left == 0 {
+            self.present &= !(1 << place);
+        }
     }
 
     /// Whether no mode that has tickets clashes with a wish for `mode`.
     pub(crate) fn none_clashes(&self, kind: Kind, mode: Mode) -> bool
+        requires { MarksModes self.now.present self.now.counts }
         ensures { result ≡ none_counted (clashes kind mode) self.now.counts }
     {
-        Mode::ALL.iter().all(|held| self.of(*held) == 0 || !conflicts_granted(kind, mode, *held))
+        self.present & granted_row(kind, mode) == 0
     }
 
     /// Whether a wish for `mode` waits behind no mode that has tickets.
     pub(crate) fn none_goes_before(&self, kind: Kind, mode: Mode) -> bool
+        requires { MarksModes self.now.present self.now.counts }
         ensures { result ≡ none_counted (waits_behind kind mode) self.now.counts }
     {
-        Mode::ALL.iter().all(|pending| self.of(*pending) == 0
-            || !conflicts_waiting(kind, mode, *pending))
+        self.present & waiting_row(kind, mode) == 0
     }
 
     /// Whether no mode that has tickets is obtrusive.
     pub(crate) fn none_obtrusive(&self, kind: Kind) -> bool
+        requires { MarksModes self.now.present self.now.counts }
         ensures { result ≡ none_counted (is_obtrusive kind) self.now.counts }
     {
-        Mode::ALL
-            .iter()
-            .all(|mode| self.of(*mode) == 0 || !is_obtrusive(kind, *mode))
+        self.present & obtrusive_row(kind) == 0
     }
+}
 
-    // How many tickets there are in a mode.
-    fn of(&self, mode: Mode) -> u16
-        ensures { result ≡ slice_index self.now.counts (mode_rank mode) }
-    {
-        self.counts[mode as usize]
-    }
+// The place of a mode in the order of modes.
+#[inline]
+fn place_of(mode: Mode) -> usize
+    ensures value { result ≡ mode_rank mode }
+    ensures limit { result < 11 }
+{
+    mode as usize
 }

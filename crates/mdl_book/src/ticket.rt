@@ -8,12 +8,12 @@ use mdl_key::Mode;
 /// After MySQL 5.7, `MDL_ticket` of `sql/mdl.h`.
 #[derive(Clone, Copy, Debug, PartialEq, Eq)]
 pub struct Ticket {
+    /// The number that the session gave this ticket.
+    pub number: u64,
     /// The session, numbered from 1.
     pub session: u16,
     /// The mode that is held or wished for.
     pub mode: Mode,
-    /// The number that the session gave this ticket.
-    pub number: u64,
 }
 
 /// What an unused place of a list holds: a ticket of no session.
@@ -22,9 +22,9 @@ impl Default for Ticket {
 
     fn default() -> Ticket {
         Ticket {
+            number: 0,
             session: 0,
             mode: Mode::IX,
-            number: 0,
         }
     }
 }

@@ -25,7 +25,7 @@ pub(crate) struct TicketList {
 
 impl Model for TicketList {
     ghost use Rattle.std.specs.Prelude.{◌≤◌, length};
-    ghost use Rattle.mdl_book.specs.TicketLists.{Roll, CountsModes};
+    ghost use Rattle.mdl_book.specs.TicketLists.{Roll, CountsModes, MarksModes};
 
     ghost Value = { Roll };
 
@@ -34,6 +34,7 @@ impl Model for TicketList {
     ghost invariant = { λ list. record {
       limit : length list.tickets.tickets ≤ 65535;
       counted : CountsModes list.counts.counts list.tickets.tickets;
+      marked : MarksModes list.counts.present list.counts.counts;
     } };
 }
 
@@ -79,6 +80,7 @@ impl TicketList {
     }
 
     /// Makes room for so many tickets more.
+    #[inline]
     pub(crate) fn reserve(&mut self, more: usize) -> Result<(), AllocError>
         ensures tickets { self.new.tickets ≡ self.old.tickets }
         ensures ok { OnOk result (length self.new.tickets + more ≤ self.new.room) }
@@ -90,6 +92,7 @@ impl TicketList {
     }
 
     /// Puts a ticket at the end.
+    #[inline]
     pub(crate) fn push(&mut self, ticket: Ticket) -> Result<(), AllocError>
         requires { length self.old.tickets < 65535 }
         ensures ok { OnOk result (self.new.tickets ≡ self.old.tickets ++ ticket ∷ []) }
@@ -103,6 +106,7 @@ impl TicketList {
     }
 
     /// Puts a ticket at the end, where there is room. It takes no memory.
+    #[inline]
     pub(crate) fn push_reserved(&mut self, ticket: Ticket)
         requires limit { length self.old.tickets < 65535 }
         requires room { length self.old.tickets < self.old.room }
@@ -114,6 +118,7 @@ impl TicketList {
     }
 
     /// Takes the first ticket of this session and number away.
+    #[inline]
     pub(crate) fn take(&mut self, session: u16, number: u64) -> Option<Ticket>
         ensures answer { result ≡ ticket_of session number self.old.tickets }
         ensures tickets { self.new.tickets ≡ without session number self.old.tickets }
@@ -143,6 +148,7 @@ impl TicketList {
     }
 
     /// Whether no ticket of another session clashes with a session's wish for a mode.
+    #[inline]
     pub(crate) fn all_stand_beside(&self, kind: Kind, session: u16, mode: Mode) -> bool
         ensures { result ≡ is_compatible kind self.now.tickets session mode }
     {
@@ -152,6 +158,7 @@ impl TicketList {
     }
 
     /// Whether no ticket of another session makes a session's wish for a mode wait.
+    #[inline]
     pub(crate) fn all_overtaken(&self, kind: Kind, session: u16, mode: Mode) -> bool
         ensures { result ≡ goes_first kind self.now.tickets session mode }
     {
@@ -169,6 +176,7 @@ impl TicketList {
 }
 
 // The place of the first ticket of this session and number.
+#[inline]
 fn place_of(tickets: &[Ticket], session: u16, number: u64) -> Option<usize>
     ensures { result ≡ position (is_ticket session number) tickets.now }
 {

@@ -43,6 +43,7 @@ impl TicketQueue {
     }
 
     /// The tickets, in order.
+    #[inline]
     pub(crate) fn as_slice(&self) -> &[Ticket]
         ensures { result.now ≡ self.now.tickets }
     {
@@ -50,6 +51,7 @@ impl TicketQueue {
     }
 
     /// How many tickets there are.
+    #[inline]
     pub(crate) fn len(&self) -> usize
         ensures value { result ≡ length self.now.tickets }
         ensures fits { result ≤ self.now.room }
@@ -66,6 +68,7 @@ impl TicketQueue {
     }
 
     /// Makes room for so many tickets more.
+    #[inline]
     pub(crate) fn reserve(&mut self, more: usize) -> Result<(), AllocError>
         ensures tickets { self.new.tickets ≡ self.old.tickets }
         ensures ok { OnOk result (length self.new.tickets + more ≤ self.new.room) }
@@ -80,6 +83,7 @@ impl TicketQueue {
     }
 
     /// Puts a ticket at the end, where there is room. It takes no memory.
+    #[inline]
     pub(crate) fn push_reserved(&mut self, ticket: Ticket)
         requires { length self.old.tickets < self.old.room }
         ensures tickets { self.new.tickets ≡ self.old.tickets ++ ticket ∷ [] }
@@ -92,6 +96,7 @@ impl TicketQueue {
     }
 
     /// Takes the ticket at a place away.
+    #[inline]
     pub(crate) fn remove(&mut self, at: usize) -> Ticket
         requires { at < length self.old.tickets }
         ensures value { result ≡ slice_index_or self.old.tickets at result }

@@ -1,5 +1,7 @@
 //! How strong modes are, which of them are looked at by all, and what a wish for one weighs.
-ghost use Rattle.std.specs.Prelude.{◌≡◌, ◌↔◌, IsTrue};
+ghost use Rattle.std.specs.Prelude.{◌≡◌, ◌↔◌, IsTrue, filter};
+ghost use Rattle.mdl_key.specs.BitMaps.{bit_map};
+ghost use Rattle.mdl_key.specs.Modes.{all_modes};
 ghost use Rattle.mdl_key.specs.Classes.{is_obtrusive, is_at_least, IsAtLeast, weight_of};
 
 use crate::matrix::granted_row;
@@ -19,6 +21,16 @@ pub fn is_obtrusive(kind: Kind, mode: Mode) -> bool
     match kind {
         Kind::Scoped => mode != Mode::IX,
         Kind::Object => !matches!(mode, Mode::S | Mode::SH | Mode::SR | Mode::SW | Mode::SWLP),
+    }
+}
+
+/// The modes that are obtrusive, as a bit map: bit n stands for the mode at place n of [`Mode::ALL`].
+pub fn obtrusive_row(kind: Kind) -> u16
+    ensures { result ≡ bit_map (filter (is_obtrusive kind) all_modes) }
+{
+    match kind {
+        Kind::Scoped => 0b111_1111_1110,
+        Kind::Object => 0b111_1100_0001,
     }
 }
 
@@ -84,6 +96,8 @@ mod tests {
                 "{mode} of an object"
             );
         }
+        assert_eq!(rt; obtrusive_row(Kind::Scoped), 0b111_1111_1110);
+        assert_eq!(rt; obtrusive_row(Kind::Object), 0b111_1100_0001);
     }
 
     #[test]

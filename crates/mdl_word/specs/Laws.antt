@@ -1,11 +1,12 @@
 -- Laws of the packed word, after MySQL 5.7, sql/mdl.cc: the fast path adds a ticket's increment to the word, and subtracts
 -- it as the ticket is given up. The layout, and so the laws of its numbers, are this project's own.
-use Rattle.std.specs.Prelude.{◌≡◌, ℕ, ◌+◌, ◌-◌, ◌^◌, ◌<◌, ◌≤◌, Bool, true, false, List, [], ◌∷◌, length, sum, All, Some, bit_and, bit_or, slice_index, IsTrue, ◌↔◌}
+use Rattle.std.specs.Prelude.{◌≡◌, ◌≢◌, ℕ, ◌+◌, ◌-◌, ◌^◌, ◌<◌, ◌≤◌, Bool, true, false, ◌&&◌, ◌||◌, List, [], ◌∷◌, length, sum, All, Some, bit_and, bit_or, slice_index, IsTrue, ◌↔◌}
+use Rattle.std.specs.Int.{bit_at}
 use Rattle.mdl_key.specs.declared.namespace.Kind.{Kind}
 use Rattle.mdl_key.specs.declared.mode.Mode.{Mode}
 use Rattle.mdl_key.specs.Matrices.{clashes, Clashes}
 use Rattle.mdl_key.specs.Classes.{class_of}
-use Rattle.mdl_word.specs.Words.{encode, Encodes, counts_of, slow_flag, obtrusive_flag, increment_of, one_in, count_with, blocks_by}
+use Rattle.mdl_word.specs.Words.{encode, flags_alone, all_but_flags, Encodes, counts_of, slow_flag, obtrusive_flag, increment_of, one_in, count_with, blocks_by, CountAtMost}
 
 -- a lawful word is below 2^62, and any such number is the lawful word of what is read off it
 abbrev pub LawfulWords : Type 0
@@ -60,6 +61,29 @@ FlagsAreRaisedAndLowered =
     × Encodes (bit_and word (2 ^ 64 - 1 - 2 ^ 60)) a b c false obtrusive
     × Encodes (bit_and word (2 ^ 64 - 1 - 2 ^ 61)) a b c slow false
 
+-- a number is that of another, but for its flags: it counts the same, and every bit but the two flags' is the other's
+pub record HasFlags (word new : ℕ) (slow obtrusive : Bool) : Type 0 where
+  pub same_counts : counts_of new ≡ counts_of word
+  pub same_bits : (place : ℕ) → place < 64 → place ≢ 60 → place ≢ 61 → bit_at new place ≡ bit_at word place
+  pub has_slow : slow_flag new ≡ slow
+  pub has_obtrusive : obtrusive_flag new ≡ obtrusive
+
+-- `|` with the number of some flags raises just these, of any number and of a lawful word
+abbrev pub FlagsAreRaisedAtOnce : Type 0
+FlagsAreRaisedAtOnce =
+    (word : ℕ) (raise_slow raise_obtrusive : Bool) →
+    let new = bit_or word (flags_alone raise_slow raise_obtrusive) in
+    HasFlags word new (raise_slow || slow_flag word) (raise_obtrusive || obtrusive_flag word)
+    × ((a b c : ℕ) (slow obtrusive : Bool) → Encodes word a b c slow obtrusive → Encodes new a b c (raise_slow || slow) (raise_obtrusive || obtrusive))
+
+-- `&` with the number of all bits but some flags lowers just these, of any number and of a lawful word
+abbrev pub FlagsAreLoweredAtOnce : Type 0
+FlagsAreLoweredAtOnce =
+    (word : ℕ) (keep_slow keep_obtrusive : Bool) →
+    let new = bit_and word (all_but_flags keep_slow keep_obtrusive) in
+    HasFlags word new (keep_slow && slow_flag word) (keep_obtrusive && obtrusive_flag word)
+    × ((a b c : ℕ) (slow obtrusive : Bool) → Encodes word a b c slow obtrusive → Encodes new a b c (keep_slow && slow) (keep_obtrusive && obtrusive))
+
 -- up to 1,024 sessions with up to 1,023 tickets each have at most 1,047,552, and 64 sessions 65,472: a count of 20 bits has
 -- room for them
 abbrev pub CountsFit : Type 0
@@ -70,6 +94,18 @@ abbrev pub ClassesClashAsOne : Type 0
 ClassesClashAsOne =
     (kind : Kind) (ask a b : Mode) (class : ℕ) →
     class_of kind a ≡ Some class → class_of kind b ≡ Some class → clashes kind ask a ≡ clashes kind ask b
+
+-- modes that are counted never clash with one another, in locks of one kind
+abbrev pub CountedModesDontClash : Type 0
+CountedModesDontClash =
+    (kind : Kind) (a b : Mode) (m n : ℕ) →
+    increment_of kind a ≡ Some m → increment_of kind b ≡ Some n → Clashes kind a b → ⊥
+
+-- what some counts block is blocked by counts that have at least as many tickets in each class
+abbrev pub LargerCountsBlockMore : Type 0
+LargerCountsBlockMore =
+    (few many : List ℕ) (kind : Kind) (ask : Mode) →
+    CountAtMost few many → IsTrue (blocks_by few kind ask) → IsTrue (blocks_by many kind ask)
 
 -- a word's counts block a request exactly where there is a mode that clashes with it, in whose class there are tickets
 abbrev pub BlocksWhereCountedTicketsClash : Type 0

@@ -1,6 +1,6 @@
 -- The packed word of one lock, after MySQL 5.7, sql/mdl.h and sql/mdl.cc: the fast path state of a lock,
 -- `MDL_lock::m_fast_path_state`. The layout is this project's own.
-use Rattle.std.specs.Prelude.{◌≡◌, ℕ, ◌+◌, ◌*◌, ◌/◌, ◌%◌, ◌^◌, ◌<◌, Bool, true, false, ◌==◌, ◌&&◌, nat_lt, List, [], ◌∷◌, Option, slice_index}
+use Rattle.std.specs.Prelude.{◌≡◌, ℕ, ◌+◌, ◌-◌, ◌*◌, ◌/◌, ◌%◌, ◌^◌, ◌<◌, ◌≤◌, Bool, true, false, not, ◌==◌, ◌&&◌, nat_lt, List, [], ◌∷◌, Option, slice_index}
 use Rattle.std.specs.List.{list_any}
 use Rattle.std.specs.Int.{bit_at}
 use Rattle.std.specs.Option.{option_map, option_map_or}
@@ -19,6 +19,14 @@ bit true = 1
 abbrev pub encode : ℕ → ℕ → ℕ → Bool → Bool → ℕ
 encode a b c slow obtrusive =
     a + b * 1048576 + c * 1099511627776 + bit slow * 1152921504606846976 + bit obtrusive * 2305843009213693952
+
+-- the number that has just these flags and counts nobody
+abbrev pub flags_alone : Bool → Bool → ℕ
+flags_alone slow obtrusive = bit slow * 2 ^ 60 + bit obtrusive * 2 ^ 61
+
+-- the number of 64 bits that has all bits but the flags that don't stay
+abbrev pub all_but_flags : Bool → Bool → ℕ
+all_but_flags slow obtrusive = 2 ^ 64 - 1 - flags_alone (not slow) (not obtrusive)
 
 -- the word is lawful: it counts a, b and c tickets in the classes 0, 1 and 2, and has these flags
 pub record Encodes (word a b c : ℕ) (slow obtrusive : Bool) : Type 0 where
@@ -54,3 +62,7 @@ count_with counts kind mode = option_map_or (λ class. slice_index counts class)
 -- whether a class that has tickets stands in the way of a request: a mode of that class clashes with it
 abbrev pub blocks_by : List ℕ → Kind → Mode → Bool
 blocks_by counts kind ask = list_any (λ held. nat_lt 0 (count_with counts kind held) && clashes kind ask held) all_modes
+
+-- each class has at most as many tickets by the first counts as by the second
+abbrev pub CountAtMost : List ℕ → List ℕ → Type 0
+CountAtMost few many = (class : ℕ) → class < 3 → slice_index few class ≤ slice_index many class

@@ -1,5 +1,14 @@
 //! Laws of the words. Each is proved as the contract of a function that does nothing.
-ghost use Rattle.mdl_word.specs.Laws.{LawfulWords, WordsAreReadOneWay, AddingCountsOneMore, SubtractingCountsOneLess, ManyAreCountedAtOnce, FlagsAreRaisedAndLowered, CountsFit, ClassesClashAsOne, BlocksWhereCountedTicketsClash};
+ghost use Rattle.std.specs.Prelude.{◌≡◌, ◌^◌};
+ghost use Rattle.mdl_word.specs.Laws.{LawfulWords, WordsAreReadOneWay, AddingCountsOneMore, SubtractingCountsOneLess, ManyAreCountedAtOnce, FlagsAreRaisedAndLowered, FlagsAreRaisedAtOnce, FlagsAreLoweredAtOnce, CountsFit, ClassesClashAsOne, CountedModesDontClash, LargerCountsBlockMore, BlocksWhereCountedTicketsClash};
+
+use crate::Word;
+
+/// [`Word::SLOW`] is bit 60 and [`Word::OBTRUSIVE`] bit 61.
+pub fn flags_are_bits()
+    ensures slow { Word.SLOW ≡ 2 ^ 60 }
+    ensures obtrusive { Word.OBTRUSIVE ≡ 2 ^ 61 }
+{}
 
 /// The lawful words are the numbers below 2^62.
 pub fn lawful_words()
@@ -32,6 +41,16 @@ pub fn flags_are_raised_and_lowered()
     ensures { FlagsAreRaisedAndLowered }
 {}
 
+/// `|` with [`Word::raising`] raises just those flags: in a lawful word, and in any other number.
+pub fn flags_are_raised_at_once()
+    ensures { FlagsAreRaisedAtOnce }
+{}
+
+/// `&` with [`Word::keeping`] lowers just the other flags: in a lawful word, and in any other number.
+pub fn flags_are_lowered_at_once()
+    ensures { FlagsAreLoweredAtOnce }
+{}
+
 /// The tickets of up to 1,024 sessions, up to 1,023 of each, never fill a count, so that none runs into the next.
 pub fn counts_fit()
     ensures { CountsFit }
@@ -42,7 +61,17 @@ pub fn classes_clash_as_one()
     ensures { ClassesClashAsOne }
 {}
 
-/// [`Word::blocks`](crate::Word::blocks) is true exactly where a mode clashes with the request and tickets are counted in
+/// Tickets that are counted stand beside one another, whosever they are.
+pub fn counted_modes_dont_clash()
+    ensures { CountedModesDontClash }
+{}
+
+/// What a word blocks is blocked by every word that counts at least as many tickets in each class.
+pub fn larger_counts_block_more()
+    ensures { LargerCountsBlockMore }
+{}
+
+/// [`Word::blocks`] is true exactly where a mode clashes with the request and tickets are counted in
 /// its class.
 pub fn blocks_where_counted_tickets_clash()
     ensures { BlocksWhereCountedTicketsClash }

@@ -9,8 +9,9 @@ mod laws;
 mod word;
 
 pub use laws::{
-    adding_counts_one_more, blocks_where_counted_tickets_clash, classes_clash_as_one, counts_fit,
-    flags_are_raised_and_lowered, lawful_words, many_are_counted_at_once,
-    subtracting_counts_one_less, words_are_read_one_way,
+    adding_counts_one_more, blocks_where_counted_tickets_clash, classes_clash_as_one,
+    counted_modes_dont_clash, counts_fit, flags_are_bits, flags_are_lowered_at_once,
+    flags_are_raised_and_lowered, flags_are_raised_at_once, larger_counts_block_more, lawful_words,
+    many_are_counted_at_once, subtracting_counts_one_less, words_are_read_one_way,
 };
 pub use word::Word;

@@ -1,7 +1,7 @@
 //! The word, and what is read off it.
 ghost use Rattle.std.specs.Prelude.{◌≡◌, ℕ, Bool, ◌&&◌, nat_lt, List, [], ◌∷◌};
 ghost use Rattle.mdl_key.specs.Matrices.{clashes};
-ghost use Rattle.mdl_word.specs.Words.{Encodes, counts_of, slow_flag, obtrusive_flag, increment_of, blocks_by};
+ghost use Rattle.mdl_word.specs.Words.{Encodes, flags_alone, all_but_flags, counts_of, slow_flag, obtrusive_flag, increment_of, blocks_by};
 
 use mdl_key::{Kind, Mode, conflicts_granted};
 
@@ -45,6 +45,26 @@ impl Word {
             (Kind::Object, Mode::SW | Mode::SWLP) => Some(THIRD),
             _ => None,
         }
+    }
+
+    /// The number to `|` a word with where these flags are to be raised, and the others left as they are: one atomic step.
+    pub fn raising(slow: bool, obtrusive: bool) -> u64
+        ensures { result ≡ flags_alone slow obtrusive }
+    {
+        match (slow, obtrusive) {
+            (false, false) => 0,
+            (true, false) => Word::SLOW,
+            (false, true) => Word::OBTRUSIVE,
+            (true, true) => Word::SLOW | Word::OBTRUSIVE,
+        }
+    }
+
+    /// The number to `&` a word with where these flags may stay, and the others are to be lowered: one atomic step. It
+    /// raises no flag.
+    pub fn keeping(slow: bool, obtrusive: bool) -> u64
+        ensures { result ≡ all_but_flags slow obtrusive }
+    {
+        !Word::raising(!slow, !obtrusive)
     }
 
     /// Whether [`Word::OBTRUSIVE`] is raised.
@@ -163,6 +183,31 @@ mod tests {
                 obtrusive,
                 "obtrusive flag of {word}"
             );
+        }
+    }
+
+    #[test]
+    fn flags_at_once(rt: HostRuntime) {
+        for (slow, obtrusive, raising, keeping) in [
+            (false, false, 0, 0xcfff_ffff_ffff_ffff),
+            (true, false, 0x1000_0000_0000_0000, 0xdfff_ffff_ffff_ffff),
+            (false, true, 0x2000_0000_0000_0000, 0xefff_ffff_ffff_ffff),
+            (true, true, 0x3000_0000_0000_0000, u64::MAX),
+        ] {
+            assert_eq!(rt;
+                Word::raising(slow, obtrusive),
+                raising,
+                "raising {slow}, {obtrusive}"
+            );
+            assert_eq!(rt;
+                Word::keeping(slow, obtrusive),
+                keeping,
+                "keeping {slow}, {obtrusive}"
+            );
+            let raised = Word(TWO_S_ONE_SR_ONE_SW | Word::raising(slow, obtrusive));
+            assert_eq!(rt; raised.counts(), [2, 1, 1]);
+            assert_eq!(rt; raised.slow(), slow);
+            assert_eq!(rt; raised.obtrusive(), obtrusive);
         }
     }
 

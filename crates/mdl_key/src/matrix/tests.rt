@@ -75,3 +75,11 @@ fn each_entry_is_as_in_the_table(rt: HostRuntime) {
     }
     assert_eq!(rt; lines, 26);
 }
+
+#[test]
+fn rows_are_bit_maps(rt: HostRuntime) {
+    assert_eq!(rt; granted_row(Kind::Scoped, Mode::IX), 0b100_0000_0010);
+    assert_eq!(rt; waiting_row(Kind::Scoped, Mode::S), 0b100_0000_0000);
+    assert_eq!(rt; granted_row(Kind::Object, Mode::SR), 0b110_0000_0000);
+    assert_eq!(rt; waiting_row(Kind::Object, Mode::SRO), 0b110_0001_0000);
+}

@@ -10,7 +10,8 @@ invariant_of-self c =
     let tickets = c.self.inside.tickets.tickets in
     let eleven : length counts ≡ 11 = omega arith in
     let few = rw (← c.self.view_is) at c.requires.limit in
-    rw (c.add.ensures, c.push_reserved.ensures.tickets) (record {
+    rw (c.add.ensures.counts, c.push_reserved.ensures.tickets) (record {
       limit = omega (arith, length-append tickets (c.args.ticket ∷ []), few);
       counted = counts-push counts tickets c.args.ticket eleven c.self.invariant.counted;
+      marked = rw (c.add.ensures.counts) at (c.add.ensures.marked c.self.invariant.marked);
     })

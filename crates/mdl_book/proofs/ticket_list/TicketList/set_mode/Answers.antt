@@ -35,7 +35,7 @@ add-requires c =
     let eleven : length counts ≡ 11 = omega arith in
     let place : Some c.in_ok-at.at ≡ position (is_ticket c.args.session c.args.number) tickets = c.in_ok-at.ensures ∙ ap (position (is_ticket c.args.session c.args.number)) c.as_slice.ensures in
     let within = first-lt (is_ticket c.args.session c.args.number) tickets c.in_ok-at.at place in
-    rw (c.subtract.ensures) (counts-room counts tickets c.get-ticket.result eleven c.self.invariant.counted c.in_ok-at.at within c.get-ticket.ensures c.args.mode c.self.invariant.limit)
+    rw (c.subtract.ensures.counts) (counts-room counts tickets c.get-ticket.result eleven c.self.invariant.counted c.in_ok-at.at within c.get-ticket.ensures c.args.mode c.self.invariant.limit)
 
 pub invariant_of-self : goal.invariant_of-self
 invariant_of-self c =
@@ -44,9 +44,10 @@ invariant_of-self c =
     let eleven : length counts ≡ 11 = omega arith in
     let place : Some c.in_ok-at.at ≡ position (is_ticket c.args.session c.args.number) tickets = c.in_ok-at.ensures ∙ ap (position (is_ticket c.args.session c.args.number)) c.as_slice.ensures in
     let within = first-lt (is_ticket c.args.session c.args.number) tickets c.in_ok-at.at place in
-    rw (c.add.ensures, c.subtract.ensures, c.replace.ensures.tickets) (record {
+    rw (c.add.ensures.counts, c.subtract.ensures.counts, c.replace.ensures.tickets) (record {
       limit = rw length-set c.self.invariant.limit;
       counted = counts-set counts tickets c.get-ticket.result eleven c.self.invariant.counted c.in_ok-at.at within c.get-ticket.ensures c.args.mode;
+      marked = rw (c.add.ensures.counts, c.subtract.ensures.counts) at (c.add.ensures.marked (c.subtract.ensures.marked c.self.invariant.marked));
     })
 
 pub returns-clause-answer : goal.returns-clause-answer

@@ -28,9 +28,10 @@ invariant_of-self c =
     let eleven : length counts ≡ 11 = omega arith in
     let place : Some c.in_ok-at.at ≡ position (is_ticket c.args.session c.args.number) tickets = c.in_ok-at.ensures ∙ ap (position (is_ticket c.args.session c.args.number)) c.as_slice.ensures in
     let within = first-lt (is_ticket c.args.session c.args.number) tickets c.in_ok-at.at place in
-    rw (c.subtract.ensures, c.remove-ticket.ensures.tickets) (record {
+    rw (c.subtract.ensures.counts, c.remove-ticket.ensures.tickets) (record {
       limit = omega (arith, length-remove tickets c.in_ok-at.at within, c.self.invariant.limit);
       counted = counts-remove counts tickets c.remove-ticket.result eleven c.self.invariant.counted c.in_ok-at.at within c.remove-ticket.ensures.value;
+      marked = rw (c.subtract.ensures.counts) at (c.subtract.ensures.marked c.self.invariant.marked);
     })
 
 pub returns-clause-answer : goal.returns-clause-answer
