@@ -6,6 +6,7 @@ pub mod OrderLemmas
 pub mod RoundLemmas
 pub mod RowLemmas
 pub mod SearchLemmas
+pub mod SeenLemmas
 pub mod StepLemmas
 pub mod TieLemmas
 pub mod VictimLemmas

@@ -1,5 +1,7 @@
 -- Ways from the sessions back to one of them, as a search keeps them by session number.
 use Rattle.std.specs.Prelude.{◌≡◌, ℕ, zero, suc, ◌<◌, ◌≤◌, min, Bool, true, false, ◌&&◌, ◌||◌, ◌==◌, nat_lt, List, [], ◌∷◌, length, map, slice_index_or, filter, Option, Some, None, if◌then◌else◌, ◌⊎◌}
+use Rattle.std.specs.FinSet as set
+use Rattle.std.specs.Ordering.{nat_cmp}
 use Rattle.std.specs.List.{list_any, list_all, count_by, Contains}
 use Rattle.std.specs.Option.{is_none, option_map, unwrap_or}
 use Rattle.mdl_graph.specs.declared.cycle.Member.{Member}
@@ -9,6 +11,10 @@ use Rattle.mdl_graph.specs.declared.ways.Way.{Way}
 -- whether one of these ties says that a session waits for another
 abbrev pub are_tied : List Tie → ℕ → ℕ → Bool
 are_tied ties waiter other = list_any (λ tie. tie.waiter == waiter && tie.other == other) ties
+
+-- to each of these sessions a waiter has a tie
+abbrev pub AreSeen : set.FinSet nat_cmp → ℕ → List Tie → Type 0
+AreSeen seen waiter ties = (other : ℕ) → set.contains seen other ≡ true → are_tied ties waiter other ≡ true
 
 -- each session that waits has a wish, and none waits for itself
 pub record AreWished (wishes : List Member) (ties : List Tie) : Type 0 where

@@ -1,8 +1,8 @@
 //! That sessions wait for others at a lock.
-ghost use Rattle.std.specs.Prelude.{◌≡◌, ℕ, ◌≤◌, ◌||◌, ◌&&◌, ◌==◌, ◌++◌, not, length, take, OnOk};
+ghost use Rattle.std.specs.Prelude.{◌≡◌, ℕ, ◌≤◌, true, ◌||◌, ◌&&◌, ◌==◌, ◌++◌, not, length, take, OnOk};
 ghost use Rattle.std.specs.FinSet as set;
 ghost use Rattle.mdl_graph.specs.WaitsFor.{holds_against, waits_ahead, is_tied, waits_at, wishes_at};
-ghost use Rattle.mdl_graph.specs.Searches.{are_tied};
+ghost use Rattle.mdl_graph.specs.Searches.{are_tied, AreSeen};
 
 use crate::Member;
 use mdl_book::{Book, Sessions, Ticket};
@@ -52,15 +52,44 @@ fn tie_to_holders(ties: &mut Vec<Tie>, book: &Book, wish: Ticket) -> Result<(), 
         || (wish.session == waiter && (not (wish.session == other) && holds_against book.now wish.mode other)))) }
 {
     let kind = book.key().kind();
+    let mut seen = Sessions::new();
     for held in book.granted() {
         if held.session != wish.session && conflicts_granted(kind, wish.mode, held.mode) {
-            ties.push(Tie {
-                waiter: wish.session,
-                other: held.session,
-            })?;
+            tie_once(ties, &mut seen, wish.session, held.session)?;
         }
     }
     Ok(())
+}
+
+// Ties a session to another one, unless that is known to be done: to a session that has many tickets there is one tie.
+fn tie_once(
+    ties: &mut Vec<Tie>,
+    seen: &mut Sessions,
+    waiter: u16,
+    other: u16,
+) -> Result<(), AllocError>
+    requires { AreSeen seen.old waiter ties.old.items }
+    ensures len { length ties.old.items ≤ length ties.new.items }
+    ensures kept { take (length ties.old.items) ties.new.items ≡ ties.old.items }
+    ensures seen { OnOk result (AreSeen seen.new waiter ties.new.items) }
+    ensures ties { OnOk result ((one two : ℕ) → are_tied ties.new.items one two
+        ≡ (are_tied ties.old.items one two || (waiter == one && other == two))) }
+{
+    if seen.contains(other) {
+        return Ok(());
+    }
+    ties.push(Tie { waiter, other })?;
+    note(seen, other);
+    Ok(())
+}
+
+// Notes that a session was seen, where the set has room for its number.
+fn note(seen: &mut Sessions, session: u16)
+    ensures { (other : ℕ) → set.contains seen.new other ≡ true → (set.contains seen.old other || session == other) ≡ true }
+{
+    if session >= 1 && session <= 1024 {
+        seen.insert(session);
+    }
 }
 
 // Ties it to those that wait ahead of it.
