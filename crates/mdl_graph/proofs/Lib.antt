@@ -2,12 +2,13 @@ pub mod AnyLemmas
 pub mod CountLemmas
 pub mod DeadlockLemmas
 pub mod FoundLemmas
+pub mod JoinLemmas
+pub mod LevelLemmas
+pub mod LinkLemmas
 pub mod OrderLemmas
 pub mod RoundLemmas
-pub mod RowLemmas
 pub mod SearchLemmas
 pub mod SeenLemmas
-pub mod StepLemmas
 pub mod TieLemmas
 pub mod VictimLemmas
 pub mod WaitingLemmas
