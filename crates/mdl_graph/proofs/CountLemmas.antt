@@ -3,12 +3,6 @@ use Rattle.std.proofs.Common.{◌≡◌, ℕ, ◌≤◌, Bool, true, List, [], �
 use Rattle.std.specs.List.{list_all}
 use Rattle.std.proofs.lemmas.Bool.Decides.{nat_tests}
 use Rattle.mdl_graph.specs.declared.cycle.Member.{Member}
-use Rattle.mdl_graph.specs.declared.ties.Tie.{Tie}
-use Rattle.mdl_graph.specs.Searches.{are_within}
-
-pub within-more : (ties : List Tie) (count more : ℕ) → count ≤ more → are_within count ties ≡ true → are_within more ties ≡ true
-within-more [] count more great within = refl
-within-more (tie ∷ ties) count more great within = grind (arith, nat_tests, within-more ties count more)
 
 -- whether the sessions of some wishes are below a number
 abbrev pub are_wishes_within : ℕ → List Member → Bool

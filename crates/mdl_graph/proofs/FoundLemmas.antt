@@ -1,15 +1,15 @@
 -- What a search finds is the chosen cycle of its graph.
-use Rattle.std.proofs.Common.{◌≡◌, ℕ, Bool, true, List, [], ◌∷◌, map, Some, None, refl, ap, sym, ◌∙◌}
+use Rattle.std.proofs.Common.{◌≡◌, ◌<◌, ℕ, Bool, true, List, [], ◌∷◌, map, Some, None, refl, ap, sym, ◌∙◌}
 use Rattle.std.specs.Prelude.{◌==◌, find, Option}
 use Rattle.std.specs.List.{Contains}
 use Rattle.std.specs.Option.{option_map, unwrap_or}
 use Rattle.mdl_graph.specs.declared.cycle.Member.{Member}
-use Rattle.mdl_graph.specs.declared.ways.Way.{Way}
 use Rattle.mdl_graph.proofs.CycleLaws.{chosen_is, none_chosen, chosen_same}
 use Rattle.mdl_graph.specs.Cycles.{chosen_cycle}
 use Rattle.mdl_graph.specs.Graphs.{GraphView, waits, weight_found, member_of, deadlock}
-use Rattle.mdl_graph.specs.Searches.{IsOver, way_of, walk, weight_at, weighed}
-use Rattle.mdl_graph.proofs.WalkLemmas.{IsChosen, walk_is_chosen, no_cycle}
+use Rattle.mdl_graph.specs.Searches.{Pairs, are_joined, waits_by, IsOver, level_of, walk, weight_at, weighed}
+use Rattle.mdl_graph.proofs.JoinLemmas.{joined_by}
+use Rattle.mdl_graph.proofs.WalkLemmas.{over-same, IsChosen, walk_is_chosen, no_cycle}
 
 -- the weight of a wish that is found
 found_weight : (wish : Option Member) → weight_found wish ≡ unwrap_or (option_map (λ wish. wish.weight) wish) 0
@@ -33,22 +33,29 @@ members_same weights wishes weighs (session ∷ rest) =
     ∙ ap (λ (members : List Member). weighed weights session ∷ members) (members_same weights wishes weighs rest)
 
 module _ (graph : GraphView) (by_rows : ℕ → ℕ → Bool) (same : (waiter other : ℕ) → by_rows waiter other ≡ waits graph waiter other)
-    (from : ℕ) (ways : List (Option Way)) (over : IsOver by_rows from ways) where
-  pub found_cycle : (weights : List (Option ℕ)) (way : Way) → ((waiter other : ℕ) → waits graph waiter other ≡ true → Contains (sessions_of graph) waiter)
-      → AreWeighed weights graph.wishes → way_of ways from ≡ Some way → Some (map (weighed weights) (walk ways way.steps from)) ≡ deadlock graph from
-  found_cycle weights way wished weighs is =
+    (from : ℕ) (levels : List ℕ) (over : IsOver by_rows from levels) where
+  pub found_cycle : (weights : List (Option ℕ)) → ((waiter other : ℕ) → waits graph waiter other ≡ true → Contains (sessions_of graph) waiter)
+      → AreWeighed weights graph.wishes → 0 < level_of levels from
+      → Some (map (weighed weights) (walk by_rows from levels (level_of levels from) from)) ≡ deadlock graph from
+  found_cycle weights wished weighs some =
       let sessions = sessions_of graph in
-      let walked = walk ways way.steps from in
-      let chosen : IsChosen by_rows from walked = walk_is_chosen by_rows from ways way over is in
+      let walked = walk by_rows from levels (level_of levels from) from in
+      let chosen : IsChosen by_rows from walked = walk_is_chosen by_rows from levels over some in
       let found : chosen_cycle (waits graph) sessions from ≡ Some walked =
       chosen_same (waits graph) by_rows sessions from (λ waiter other. sym (same waiter other))
       ∙ chosen_is by_rows sessions from walked (λ waiter other e. wished waiter other (sym (same waiter other) ∙ e)) chosen.is chosen.first in
       sym (ap (option_map (map (member_of graph.wishes))) found ∙ ap Some (members_same weights graph.wishes weighs walked))
 
-  pub found_none : way_of ways from ≡ None → None ≡ deadlock graph from
+  pub found_none : level_of levels from ≡ 0 → None ≡ deadlock graph from
   found_none none =
       let sessions = sessions_of graph in
       let found : chosen_cycle (waits graph) sessions from ≡ None =
       chosen_same (waits graph) by_rows sessions from (λ waiter other. sym (same waiter other))
-      ∙ none_chosen by_rows sessions from (no_cycle by_rows from ways over none) in
+      ∙ none_chosen by_rows sessions from (no_cycle by_rows from levels over none) in
       sym (ap (option_map (map (member_of graph.wishes))) found)
+
+-- a search that goes by links is one by rows
+pub over_by : (waits stands links_of_waits links_of_stands : Pairs) (from at : ℕ) (levels : List ℕ) → links_of_waits ≡ waits → links_of_stands ≡ stands → at ≡ from
+    → IsOver (waits_by links_of_waits links_of_stands) at levels → IsOver (are_joined waits stands) from levels
+over_by waits stands links_of_waits links_of_stands from at levels waits_are stands_are same over =
+    over-same (waits_by waits stands) (are_joined waits stands) from levels (λ a b. sym (joined_by waits stands a b)) (rw (← waits_are, ← stands_are, ← same) over)

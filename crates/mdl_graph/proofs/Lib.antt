@@ -4,12 +4,14 @@ pub mod CycleLaws
 pub mod CycleOrder
 pub mod DeadlockLemmas
 pub mod FoundLemmas
+pub mod JoinLemmas
+pub mod LevelLemmas
+pub mod LinkLemmas
 pub mod MemberLemmas
 pub mod OrderLemmas
 pub mod RoundLemmas
-pub mod RowLemmas
 pub mod SearchLemmas
-pub mod StepLemmas
+pub mod SeenLemmas
 pub mod TieLemmas
 pub mod VictimLemmas
 pub mod WaitingLemmas

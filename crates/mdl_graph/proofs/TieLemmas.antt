@@ -1,5 +1,5 @@
 -- What a graph's sessions wait for, where a lock is added.
-use Rattle.std.proofs.Common.{◌≡◌, ℕ, Bool, true, false, List, [], ◌∷◌, ◌++◌, map, cond, refl, ap, sym, ◌∙◌, inl, inr}
+use Rattle.std.proofs.Common.{◌≡◌, ◌≤◌, ℕ, Bool, true, false, List, [], ◌∷◌, ◌++◌, map, cond, refl, ap, sym, ◌∙◌, inl, inr}
 use Rattle.std.specs.Prelude.{not, ◌&&◌, ◌||◌, ◌==◌, filter}
 use Rattle.std.specs.FinSet as set
 use Rattle.std.specs.List.{list_any}
@@ -12,21 +12,15 @@ use Rattle.std.proofs.lemmas.List.Folds.{list_any-append}
 use Rattle.mdl_book.specs.declared.lists.Lists.{Lists}
 use Rattle.mdl_book.specs.declared.ticket.Ticket.{Ticket}
 use Rattle.mdl_graph.specs.declared.cycle.Member.{Member}
-use Rattle.mdl_graph.specs.declared.ties.Tie.{Tie}
 use Rattle.mdl_graph.specs.Graphs.{GraphView, IsGraphOf, is_settled, waits}
 use Rattle.mdl_graph.proofs.MemberLemmas.{contained}
 use Rattle.mdl_graph.specs.Members.{Among}
 use Rattle.mdl_graph.specs.WaitsFor.{SessionTest, is_unsettled, is_tied, waits_at, waits_for, wish_of, wishes_at, wishes_in}
-use Rattle.mdl_graph.specs.Searches.{are_tied, pair_of, AreWished}
+use Rattle.mdl_graph.specs.Searches.{Pairs, holds, are_joined, AreWished}
 
 or_false : (b : Bool) → (b || false) ≡ b
 or_false true = refl
 or_false false = refl
-
--- a graph's pairs say what its ties do
-pub pairs_tie : (ties : List Tie) (waiter other : ℕ) → list_any (λ (tie : ℕ × ℕ). tie.0 == waiter && tie.1 == other) (map pair_of ties) ≡ are_tied ties waiter other
-pairs_tie [] waiter other = refl
-pairs_tie (tie ∷ ties) waiter other = ap (λ (b : Bool). (tie.waiter == waiter && tie.other == other) || b) (pairs_tie ties waiter other)
 
 -- the sessions of some wishes
 abbrev sessions_of : List Member → List ℕ
@@ -57,37 +51,26 @@ has_wish settled book other waiter open_still (ticket ∷ tickets) tied =
           ]
     ] refl
 
-same_and_not : (same blocked : Bool) → (same && (not same && blocked)) ≡ false
-same_and_not true blocked = refl
-same_and_not false blocked = refl
-
--- nobody waits for itself
-not_itself : (settled : SessionTest) (book : Lists) (session : ℕ) (tickets : List Ticket)
-    → list_any (λ wish. wish.session == session && is_tied settled book session wish) tickets ≡ false
-not_itself settled book session [] = refl
-not_itself settled book session (ticket ∷ tickets) =
-    or_from (ticket.session == session && is_tied settled book session ticket) (list_any (λ wish. wish.session == session && is_tied settled book session wish) tickets)
-    (same_and_not (ticket.session == session) _) (not_itself settled book session tickets)
-
 -- a lock more leaves each waiter with a wish
-pub wished-more : (settled : SessionTest) (book : Lists) (wishes more_wishes : List Member) (ties more_ties : List Tie) → AreWished wishes ties
+pub wished-more : (settled : SessionTest) (book : Lists) (wishes more_wishes : List Member) (rows more_rows : ℕ) (waits stands more_waits more_stands : Pairs)
+    → AreWished wishes rows waits stands
     → more_wishes ≡ wishes ++ wishes_at settled book
-    → ((waiter other : ℕ) → are_tied more_ties waiter other ≡ (are_tied ties waiter other || waits_at settled book waiter other))
-    → AreWished more_wishes more_ties
-wished-more settled book wishes more_wishes ties more_ties were grown tied = record {
+    → ((waiter other : ℕ) → are_joined more_waits more_stands waiter other ≡ (are_joined waits stands waiter other || waits_at settled book waiter other))
+    → ((row session : ℕ) → more_rows ≤ row → holds more_waits row session ≡ false)
+    → ((row session : ℕ) → more_rows ≤ row → holds more_stands session row ≡ false)
+    → AreWished more_wishes more_rows more_waits more_stands
+wished-more settled book wishes more_wishes rows more_rows waits stands more_waits more_stands were grown tied known fresh = record {
   wished = λ waiter other e.
       rw (grown, map-append (λ (wish : Member). wish.session) wishes (wishes_at settled book))
-      (elim (or_cases (are_tied ties waiter other) (waits_at settled book waiter other) (sym (tied waiter other) ∙ e)) [
+      (elim (or_cases (are_joined waits stands waiter other) (waits_at settled book waiter other) (sym (tied waiter other) ∙ e)) [
         | inl before ↦ Contains-append_left (sessions_of wishes) (sessions_of (wishes_at settled book)) waiter (were.wished waiter other before)
         | inr now ↦
             let parts = and_parts (is_unsettled settled waiter) (list_any (λ wish. wish.session == waiter && is_tied settled book other wish) book.waiting) now in
             Contains-append_right (sessions_of wishes) (sessions_of (wishes_at settled book)) waiter
             (contained (sessions_of (wishes_at settled book)) waiter (has_wish settled book other waiter parts.0 book.waiting parts.1))
       ]);
-  apart = λ session.
-      tied session session
-      ∙ or_from (are_tied ties session session) (waits_at settled book session session) (were.apart session)
-      (and_right (is_unsettled settled session) _ (not_itself settled book session book.waiting));
+  known = known;
+  fresh = fresh;
 }
 
 same_tests : (one two : SessionTest) → ((session : ℕ) → one session ≡ two session) → one ≡ two

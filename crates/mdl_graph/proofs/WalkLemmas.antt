@@ -1,151 +1,209 @@
--- The walk along the ways that a search found is the chosen cycle.
-use Rattle.std.proofs.Common.{◌≡◌, ℕ, zero, suc, ◌+◌, ◌-◌, ◌≤◌, ◌<◌, Bool, true, false, List, [], ◌∷◌, length, Some, None, refl, ap, sym, subst, ◌∙◌, inl, inr, arith}
-use Rattle.std.specs.Prelude.{◌&&◌, ◌||◌, ◌==◌, nat_lt, Option, IsTrue}
+-- The walk from level to level is the chosen cycle.
+use Rattle.std.proofs.Common.{◌≡◌, ℕ, zero, suc, ◌+◌, ◌-◌, ◌≤◌, ◌<◌, Bool, true, false, List, [], ◌∷◌, length, Option, Some, None, refl, ap, sym, subst, ◌∙◌, ◌⊎◌, inl, inr, arith, cond, get_or}
+use Rattle.std.specs.Prelude.{◌&&◌, ◌||◌, ◌==◌, nat_lt, IsTrue}
 use Rattle.std.specs.List.{list_any}
-use Rattle.std.proofs.lemmas.Bool.{cases_lt, cases_eq, false≢true, eqb-true, and_parts, and_from, or_from}
+use Rattle.std.specs.Option.{option_or, unwrap_or}
+use Rattle.std.proofs.lemmas.Bool.{cases_lt, cases_eq, false≢true, eqb-true, eq-eqb, and_parts, and_from, or_from}
 use Rattle.std.proofs.lemmas.Bool.Decides.{nat_tests}
-use Rattle.mdl_graph.specs.declared.ways.Way.{Way}
 use Rattle.mdl_graph.specs.Cycles.{leads, are_distinct, IsCycleThrough, in_order, is_chosen_before}
-use Rattle.mdl_graph.specs.Searches.{way_of, is_at, IsNoWorse, IsSearched, IsOver, next_of, walk}
-use Rattle.mdl_graph.proofs.SearchLemmas.{has_way, has_way_back}
+use Rattle.mdl_graph.specs.Searches.{level_of, is_at, IsSearched, IsOver, first_below, next_of, walk}
 
-pub length_walk : (ways : List (Option Way)) (n session : ℕ) → length (walk ways n session) ≡ n
-length_walk ways zero session = refl
-length_walk ways (suc n) session = ap suc (length_walk ways n (next_of (way_of ways session) session))
+-- ---- the first number that passes
 
--- the walk from a session that has a way
-walk_on : (ways : List (Option Way)) (n session : ℕ) (way : Way) → way_of ways session ≡ Some way → walk ways (suc n) session ≡ session ∷ walk ways n way.next
-walk_on ways n session way is = ap (λ (o : Option Way). session ∷ walk ways n (next_of o session)) is
+first_is : (test : ℕ → Bool) (n found : ℕ) → first_below test n ≡ Some found → (test found ≡ true) × (found < n)
+first_is test zero found is = absurd (grind (arith, is))
+first_is test (suc n) found is =
+    elim (first_below test n) as (λ o. first_below test n ≡ o → option_or o (cond (test n) (Some n) None) ≡ Some found → (test found ≡ true) × (found < suc n)) [
+      | Some other ↦ λ e same. let before = first_is test n found (e ∙ same) in (before.0, omega (arith, before.1))
+      | None ↦ λ e same. elim (test n) as (λ b. test n ≡ b → cond b (Some n) None ≡ Some found → (test found ≡ true) × (found < suc n)) [
+        | true ↦ λ passes here. let at : n ≡ found = grind (arith, here) in (ap test (sym at) ∙ passes, omega (arith, at))
+        | false ↦ λ _ bad. absurd (grind (arith, bad))
+      ] refl same
+    ] refl is
+
+first_least : (test : ℕ → Bool) (n number : ℕ) → test number ≡ true → number < n
+    → (found : ℕ) × (first_below test n ≡ Some found) × (found ≤ number)
+first_least test zero number passes inside = absurd (omega (arith, inside))
+first_least test (suc n) number passes inside =
+    elim (first_below test n) as (λ o. first_below test n ≡ o → (found : ℕ) × (option_or o (cond (test n) (Some n) None) ≡ Some found) × (found ≤ number)) [
+      | Some other ↦ λ e. (
+        other,
+        refl,
+        elim (cases_lt number n) [
+          | inl less ↦ let before = first_least test n number passes less in let same : other ≡ before.0 = grind (arith, e, before.1) in omega (arith, same, before.2)
+          | inr last ↦ omega (arith, (first_is test n other e).1, last)
+        ],
+      )
+      | None ↦ λ e. elim (cases_lt number n) [
+        | inl less ↦ absurd (let before = first_least test n number passes less in grind (arith, e, before.1))
+        | inr last ↦ let same : number ≡ n = omega (arith, last, inside) in
+            (n, rw (sym (ap test same) ∙ passes) refl, omega (arith, same))
+      ]
+    ] refl
+
+-- where none of the first ones passes, the next one that does is the first
+pub first_found : (test : ℕ → Bool) (i more : ℕ) → first_below test i ≡ None → test i ≡ true → first_below test (suc i + more) ≡ Some i
+first_found test i zero none passes = let end : suc i + 0 ≡ suc i = omega arith in rw (end, none, passes) refl
+first_found test i (suc more) none passes =
+    let end : suc i + suc more ≡ suc (suc i + more) = omega arith in rw (end, first_found test i more none passes) refl
+
+pub next_found : (test : ℕ → Bool) (i n session : ℕ) → i < n → first_below test i ≡ None → test i ≡ true → i ≡ unwrap_or (first_below test n) session
+next_found test i n session inside none passes =
+    let more : ℕ = n - suc i in
+    let whole : suc i + more ≡ n = omega (arith, inside) in
+    let found : first_below test n ≡ Some i = subst (λ (k : ℕ). first_below test k ≡ Some i) whole (first_found test i more none passes) in
+    sym (ap (λ (o : Option ℕ). unwrap_or o session) found)
+
+pub first_none : (test : ℕ → Bool) (i : ℕ) → first_below test i ≡ None → test i ≡ false → first_below test (suc i) ≡ None
+first_none test i none fails = rw (none, fails) refl
+
+pub length_walk : (waits : ℕ → ℕ → Bool) (from : ℕ) (levels : List ℕ) (n session : ℕ) → length (walk waits from levels n session) ≡ n
+length_walk waits from levels zero session = refl
+length_walk waits from levels (suc n) session = ap suc (length_walk waits from levels n (next_of waits from levels n session))
 
 -- one step of a walk
-pub walk_more : (ways : List (Option Way)) (steps done session : ℕ) → done < steps
-    → walk ways (steps - done) session ≡ session ∷ walk ways (steps - (done + 1)) (next_of (way_of ways session) session)
-walk_more ways steps done session inside = let one : steps - done ≡ suc (steps - (done + 1)) = omega arith in ap (λ (n : ℕ). walk ways n session) one
+pub walk_more : (waits : ℕ → ℕ → Bool) (from : ℕ) (levels : List ℕ) (steps done session : ℕ) → done < steps
+    → walk waits from levels (steps - done) session
+    ≡ session ∷ walk waits from levels (steps - (done + 1)) (next_of waits from levels (steps - (done + 1)) session)
+walk_more waits from levels steps done session inside =
+    let one : steps - done ≡ suc (steps - (done + 1)) = omega arith in ap (λ (n : ℕ). walk waits from levels n session) one
 
-module _ (waits : ℕ → ℕ → Bool) (from : ℕ) (ways : List (Option Way)) (reach : ℕ) (searched : IsSearched waits from ways reach) where
-  -- a way of so many steps goes to a session that is one step nearer
-  onward : (m session : ℕ) (way : Way) → way_of ways session ≡ Some way → way.steps ≡ suc m → (waits session way.next ≡ true) × (is_at ways from m way.next ≡ true)
-  onward m session way is steps =
-      let back = searched.sound session way is in
-      let same : back.0 ≡ m = omega (arith, back.1, steps) in
-      (back.2, subst (λ (k : ℕ). is_at ways from k way.next ≡ true) same back.3)
+-- a session that has a level is kept
+pub level_inside : (levels : List ℕ) (session : ℕ) → 0 < level_of levels session → session < length levels
+level_inside [] session some = absurd (omega (arith, some))
+level_inside (level ∷ levels) zero some = omega arith
+level_inside (level ∷ levels) (suc session) some = omega (arith, level_inside levels session some)
 
-  -- ---- the walk is a cycle
-
-  walk_leads : (m session : ℕ) (way : Way) → way_of ways session ≡ Some way → way.steps ≡ suc m → leads waits from session (walk ways m way.next) ≡ true
-  walk_leads zero session way is steps =
-      let on = onward zero session way is steps in
-      rw (← eqb-true way.next from on.1) on.0
-  walk_leads (suc m) session way is steps =
-      let on = onward (suc m) session way is steps in
-      let next = has_way (suc m) (way_of ways way.next) on.1 in
-      let rest = walk ways m next.0.next in
-      subst (λ (walked : List ℕ). leads waits from session walked ≡ true) (sym (walk_on ways m way.next next.0 next.1))
-      (and_from (waits session way.next) (leads waits from way.next rest) on.0 (walk_leads m way.next next.0 next.1 next.2))
-
-  -- nobody who is farther away stands on it
-  not_on_it : (m session : ℕ) → is_at ways from m session ≡ true → (far : ℕ) (way : Way) → way_of ways far ≡ Some way → m < way.steps
-      → list_any (λ other. far == other) (walk ways m session) ≡ false
-  not_on_it zero session at far way is farther = refl
-  not_on_it (suc m) session at far way is farther =
-      let here = has_way (suc m) (way_of ways session) at in
-      let on = onward m session here.0 here.1 here.2 in
-      let apart : (far == session) ≡ false = elim (cases_eq far session) [
-        | inl same ↦
-            let both : Some way ≡ Some here.0 = sym is ∙ ap (way_of ways) same ∙ here.1 in
-            let one : way ≡ here.0 = cc in
-            absurd (omega (arith, ap (λ (w : Way). w.steps) one, here.2, farther))
-        | inr differ ↦ grind (arith, nat_tests, differ)
-      ] in
-      subst (λ (walked : List ℕ). list_any (λ other. far == other) walked ≡ false) (sym (walk_on ways m session here.0 here.1))
-      (or_from (far == session) (list_any (λ other. far == other) (walk ways m here.0.next)) apart (not_on_it m here.0.next on.1 far way is (omega arith)))
-
-  walk_distinct : (m session : ℕ) (way : Way) → way_of ways session ≡ Some way → way.steps ≡ suc m → are_distinct (session ∷ walk ways m way.next) ≡ true
-  walk_distinct zero session way is steps = refl
-  walk_distinct (suc m) session way is steps =
-      let on = onward (suc m) session way is steps in
-      let next = has_way (suc m) (way_of ways way.next) on.1 in
-      let rest : are_distinct (walk ways (suc m) way.next) ≡ true =
-      subst (λ (w : List ℕ). are_distinct w ≡ true) (sym (walk_on ways m way.next next.0 next.1)) (walk_distinct m way.next next.0 next.1 next.2) in
-      rw (not_on_it (suc m) way.next on.1 session way is (omega (arith, steps)), rest) refl
-
-  -- ---- no cycle comes before it
-
-  -- what is no worse than a way of so many steps is a way of no more
-  no_more : (m next : ℕ) (o : Option Way) → IsNoWorse o m next → (way : Way) × (o ≡ Some way) × (way.steps ≤ suc m)
-  no_more m next None bad = absurd bad
-  no_more m next (Some way) (inl shorter) = (way, refl, omega arith)
-  no_more m next (Some way) (inr as_long) = (way, refl, omega (arith, as_long.0))
+module _ (waits : ℕ → ℕ → Bool) (from : ℕ) (levels : List ℕ) (reach : ℕ) (searched : IsSearched waits from levels reach) where
+  -- where a session has a level, it is so many steps away
+  at_level : (session : ℕ) → 0 < level_of levels session → (m : ℕ) × (level_of levels session ≡ suc m) × (is_at levels from (suc m) session ≡ true)
+  at_level session some =
+      let m : ℕ = level_of levels session - 1 in
+      let is : level_of levels session ≡ suc m = omega (arith, some) in
+      (m, is, eq-eqb (level_of levels session) (suc m) is)
 
   -- whoever leads back in so many steps was reached in no more
-  all_reached : (limit : ℕ) → ((m next : ℕ) → is_at ways from m next ≡ true → m ≤ limit → m < reach)
+  all_reached : (limit : ℕ) → ((m next : ℕ) → is_at levels from m next ≡ true → m ≤ limit → m < reach)
       → (rest : List ℕ) (session : ℕ) → leads waits from session rest ≡ true → length rest ≤ limit
-      → (way : Way) × (way_of ways session ≡ Some way) × (way.steps ≤ suc (length rest))
+      → (0 < level_of levels session) × (level_of levels session ≤ suc (length rest))
   all_reached limit near [] session leading short =
-      let at : is_at ways from 0 from ≡ true = grind (arith, nat_tests) in
-      no_more 0 from (way_of ways session) (searched.best 0 from session (near 0 from at (omega arith)) at leading)
+      let at : is_at levels from 0 from ≡ true = grind (arith, nat_tests) in
+      searched.best 0 from session (near 0 from at (omega arith)) at leading
   all_reached limit near (next ∷ rest) session leading short =
       let parts = and_parts (waits session next) (leads waits from next rest) leading in
       let on = all_reached limit near rest next parts.1 (omega (arith, short)) in
-      let back = searched.sound next on.0 on.1 in
-      let at : is_at ways from (suc back.0) next ≡ true = has_way_back (suc back.0) (way_of ways next) on.0 on.1 back.1 in
-      let way = no_more (suc back.0) next (way_of ways session)
-      (searched.best (suc back.0) next session (near (suc back.0) next at (omega (arith, on.2, back.1, short))) at parts.0) in
-      (way.0, way.1, omega (arith, way.2, on.2, back.1))
+      let at = at_level next on.0 in
+      let here = searched.best (suc at.0) next session (near (suc at.0) next at.2 (omega (arith, on.1, at.1, short))) at.2 parts.0 in
+      (here.0, omega (arith, here.1, on.1, at.1))
+
+module _ (waits : ℕ → ℕ → Bool) (from : ℕ) (levels : List ℕ) (reach : ℕ) (searched : IsSearched waits from levels reach) (inside : from < length levels) where
+  abbrev next : ℕ → ℕ → ℕ
+  next n session = next_of waits from levels n session
+
+  abbrev walked : ℕ → ℕ → List ℕ
+  walked n session = walk waits from levels n session
+
+  below : (m session : ℕ) → is_at levels from m session ≡ true → session < length levels
+  below zero session at = let same : session ≡ from = eqb-true session from at in omega (arith, same, inside)
+  below (suc m) session at = level_inside levels session (omega (arith, eqb-true (level_of levels session) (suc m) at))
+
+  -- the next session is waited for, one step nearer, and the least that is
+  record IsNext (m session other found : ℕ) : Type 0 where
+    waiting : waits session found ≡ true
+    at : is_at levels from m found ≡ true
+    lower : found ≤ other
+
+  next_is : (m session other : ℕ) → is_at levels from m other ≡ true → waits session other ≡ true → IsNext m session other (next m session)
+  next_is m session other at waiting =
+      let test : ℕ → Bool = λ x. is_at levels from m x && waits session x in
+      let first = first_least test (length levels) other (and_from (is_at levels from m other) (waits session other) at waiting) (below m other at) in
+      let passes = (first_is test (length levels) first.0 first.1).0 in
+      let parts = and_parts (is_at levels from m first.0) (waits session first.0) passes in
+      let same : next m session ≡ first.0 = ap (λ (o : Option ℕ). unwrap_or o session) first.1 in
+      subst (λ (found : ℕ). IsNext m session other found) (sym same) (record { waiting = parts.1; at = parts.0; lower = first.2 })
+
+  onward : (m session : ℕ) → level_of levels session ≡ suc m → (other : ℕ) × IsNext m session other (next m session)
+  onward m session is = let back = searched.sound session m is in (back.0, next_is m session back.0 back.2 back.1)
+
+  -- ---- the walk is a cycle
+
+  walk_leads : (m session : ℕ) → level_of levels session ≡ suc m → leads waits from session (walked m (next m session)) ≡ true
+  walk_leads zero session is =
+      let on = (onward zero session is).1 in
+      subst (λ (x : ℕ). waits session x ≡ true) (eqb-true (next zero session) from on.at) on.waiting
+  walk_leads (suc m) session is =
+      let on = (onward (suc m) session is).1 in
+      let there : level_of levels (next (suc m) session) ≡ suc m = eqb-true (level_of levels (next (suc m) session)) (suc m) on.at in
+      and_from (waits session (next (suc m) session)) (leads waits from (next (suc m) session) (walked m (next m (next (suc m) session)))) on.waiting
+      (walk_leads m (next (suc m) session) there)
+
+  -- nobody who is farther away stands on it
+  not_on_it : (m session : ℕ) → is_at levels from m session ≡ true → (far : ℕ) → m < level_of levels far
+      → list_any (λ other. far == other) (walked m session) ≡ false
+  not_on_it zero session at far farther = refl
+  not_on_it (suc m) session at far farther =
+      let here : level_of levels session ≡ suc m = eqb-true (level_of levels session) (suc m) at in
+      let apart : (far == session) ≡ false = elim (cases_eq far session) [
+        | inl same ↦ absurd (omega (arith, ap (level_of levels) same, here, farther))
+        | inr differ ↦ grind (arith, nat_tests, differ)
+      ] in
+      or_from (far == session) (list_any (λ other. far == other) (walked m (next m session))) apart
+      (not_on_it m (next m session) (onward m session here).1.at far (omega (arith, farther)))
+
+  walk_distinct : (m session : ℕ) → level_of levels session ≡ suc m → are_distinct (session ∷ walked m (next m session)) ≡ true
+  walk_distinct zero session is = refl
+  walk_distinct (suc m) session is =
+      let on = (onward (suc m) session is).1 in
+      let there : level_of levels (next (suc m) session) ≡ suc m = eqb-true (level_of levels (next (suc m) session)) (suc m) on.at in
+      rw (not_on_it (suc m) (next (suc m) session) on.at session (omega (arith, is)), walk_distinct m (next (suc m) session) there) refl
+
+  -- ---- no cycle comes before it
 
   -- up to the number of steps that were searched
-  near_enough : (limit : ℕ) → limit < reach → (m next : ℕ) → is_at ways from m next ≡ true → m ≤ limit → m < reach
+  near_enough : (limit : ℕ) → limit < reach → (m next : ℕ) → is_at levels from m next ≡ true → m ≤ limit → m < reach
   near_enough limit inside m next at short = omega arith
 
   -- of all lists that lead back in as many steps the walk is the first in order
-  walk_first : (m session : ℕ) (way : Way) → way_of ways session ≡ Some way → way.steps ≡ suc m → m < reach
-      → (other : List ℕ) → leads waits from session other ≡ true → length other ≡ m → in_order (walk ways m way.next) other ≡ true
-  walk_first zero session way is steps inside other leading long = refl
-  walk_first (suc m) session way is steps inside [] leading long = absurd (omega (arith, long))
-  walk_first (suc m) session way is steps inside (next ∷ rest) leading long =
-      let parts = and_parts (waits session next) (leads waits from next rest) leading in
-      let on = onward (suc m) session way is steps in
-      let here = has_way (suc m) (way_of ways way.next) on.1 in
-      let there = all_reached m (near_enough m (omega arith)) rest next parts.1 (omega (arith, long)) in
-      let back = searched.sound next there.0 there.1 in
-      let at : is_at ways from (suc back.0) next ≡ true = has_way_back (suc back.0) (way_of ways next) there.0 there.1 back.1 in
-      let short : suc back.0 < reach = omega (arith, there.2, back.1, long, inside) in
-      let best : IsNoWorse (Some way) (suc back.0) next = subst (λ (o : Option Way). IsNoWorse o (suc back.0) next) is (searched.best (suc back.0) next session short at parts.0) in
-      let lower : way.next ≤ next = elim best [
-        | inl shorter ↦ absurd (omega (arith, shorter, steps, there.2, back.1, long))
-        | inr as_long ↦ as_long.1
-      ] in
-      subst (λ (walked : List ℕ). in_order walked (next ∷ rest) ≡ true) (sym (walk_on ways m way.next here.0 here.1))
-      (elim (cases_eq way.next next) [
+  walk_first : (m session : ℕ) → level_of levels session ≡ suc m → m < reach
+      → (other : List ℕ) → leads waits from session other ≡ true → length other ≡ m → in_order (walked m (next m session)) other ≡ true
+  walk_first zero session is near other leading long = refl
+  walk_first (suc m) session is near [] leading long = absurd (omega (arith, long))
+  walk_first (suc m) session is near (x ∷ rest) leading long =
+      let parts = and_parts (waits session x) (leads waits from x rest) leading in
+      let there = all_reached waits from levels reach searched m (near_enough m (omega arith)) rest x parts.1 (omega (arith, long)) in
+      let at = at_level waits from levels reach searched x there.0 in
+      let best = searched.best (suc at.0) x session (omega (arith, there.1, at.1, long, near)) at.2 parts.0 in
+      let same_level : at.0 ≡ m = omega (arith, best.1, is, there.1, at.1, long) in
+      let on = next_is (suc m) session x (subst (λ (k : ℕ). is_at levels from (suc k) x ≡ true) same_level at.2) parts.0 in
+      let nearer : level_of levels (next (suc m) session) ≡ suc m = eqb-true (level_of levels (next (suc m) session)) (suc m) on.at in
+      elim (cases_eq (next (suc m) session) x) [
         | inl same ↦
-            let later = walk_first m way.next here.0 here.1 here.2 (omega arith) rest (rw same parts.1) (omega (arith, long)) in
-            let equal : (way.next == next) ≡ true = grind (arith, nat_tests, same) in
-            rw (equal, later) (elim (nat_lt way.next next) as (λ b. (b || true) ≡ true) [ true ↦ refl | false ↦ refl ])
+            let later = walk_first m (next (suc m) session) nearer (omega arith) rest (rw same parts.1) (omega (arith, long)) in
+            let equal : (next (suc m) session == x) ≡ true = eq-eqb (next (suc m) session) x same in
+            rw (equal, later) (elim (nat_lt (next (suc m) session) x) as (λ b. (b || true) ≡ true) [ true ↦ refl | false ↦ refl ])
         | inr apart ↦
-            let less : nat_lt way.next next ≡ true = grind (arith, nat_tests, lower, apart) in
+            let less : nat_lt (next (suc m) session) x ≡ true = grind (arith, nat_tests, on.lower, apart) in
             rw less refl
-      ])
+      ]
 
   -- and none is shorter
-  walk_shortest : (m session : ℕ) (way : Way) → way_of ways session ≡ Some way → way.steps ≡ suc m → m < reach
+  walk_shortest : (m session : ℕ) → level_of levels session ≡ suc m → m < reach
       → (other : List ℕ) → leads waits from session other ≡ true → m ≤ length other
-  walk_shortest m session way is steps inside other leading = elim (cases_lt (length other) m) [
+  walk_shortest m session is near other leading = elim (cases_lt (length other) m) [
     | inl shorter ↦
-        let way' = all_reached (length other) (near_enough (length other) (omega arith)) other session leading (omega arith) in
-        let both : Some way ≡ Some way'.0 = sym is ∙ way'.1 in
-        let one : way ≡ way'.0 = cc in
-        absurd (omega (arith, ap (λ (w : Way). w.steps) one, way'.2, steps, shorter))
+        let there = all_reached waits from levels reach searched (length other) (near_enough (length other) (omega arith)) other session leading (omega arith) in
+        absurd (omega (arith, there.1, is, shorter))
     | inr longer ↦ longer
   ]
 
-  walk_chosen : (m session : ℕ) (way : Way) → way_of ways session ≡ Some way → way.steps ≡ suc m → m < reach
-      → (other : List ℕ) → leads waits from session other ≡ true → is_chosen_before (session ∷ walk ways m way.next) (session ∷ other) ≡ true
-  walk_chosen m session way is steps inside other leading =
-      let long = length_walk ways m way.next in
-      let shortest = walk_shortest m session way is steps inside other leading in
+  walk_chosen : (m session : ℕ) → level_of levels session ≡ suc m → m < reach
+      → (other : List ℕ) → leads waits from session other ≡ true → is_chosen_before (session ∷ walked m (next m session)) (session ∷ other) ≡ true
+  walk_chosen m session is near other leading =
+      let long = length_walk waits from levels m (next m session) in
+      let shortest = walk_shortest m session is near other leading in
       elim (cases_eq m (length other)) [
         | inl same ↦
-            let first = walk_first m session way is steps inside other leading (sym same) in
+            let first = walk_first m session is near other leading (sym same) in
             grind (arith, nat_tests, long, same, first)
         | inr apart ↦ grind (arith, nat_tests, long, shortest, apart)
       ]
@@ -161,34 +219,47 @@ cycle_leads waits from (first ∷ rest) is =
     let begins = eqb-true first from (and_parts (first == from) (are_distinct (first ∷ rest)) parts.0).0 in
     (rest, ap (λ (s : ℕ). s ∷ rest) begins, subst (λ (s : ℕ). leads waits from s rest ≡ true) begins parts.1)
 
--- where the session that was asked for has no way, it has no cycle
-pub no_cycle : (waits : ℕ → ℕ → Bool) (from : ℕ) (ways : List (Option Way)) → IsOver waits from ways → way_of ways from ≡ None
+-- where the session that was asked for wasn't reached, it has no cycle
+pub no_cycle : (waits : ℕ → ℕ → Bool) (from : ℕ) (levels : List ℕ) → IsOver waits from levels → level_of levels from ≡ 0
     → (cycle : List ℕ) → IsCycleThrough waits from cycle → ⊥
-no_cycle waits from ways over none cycle is =
+no_cycle waits from levels over none cycle is =
     let back = cycle_leads waits from cycle is in
-    let way = all_reached waits from ways over.reach over.searched (length back.0) (λ m next at short. over.over none m next at) back.0 from back.2 (omega arith) in
-    let bad : None ≡ Some way.0 = sym none ∙ way.1 in
-    cc
+    let there = all_reached waits from levels over.reach over.searched (length back.0) (λ m next at short. over.over none m next at) back.0 from back.2 (omega arith) in
+    absurd (omega (arith, there.0, none))
 
 -- and otherwise the walk is one, and before all others
 pub record IsChosen (waits : ℕ → ℕ → Bool) (from : ℕ) (cycle : List ℕ) : Type 0 where
   pub is : IsCycleThrough waits from cycle
   pub first : (other : List ℕ) → IsCycleThrough waits from other → IsTrue (is_chosen_before cycle other)
 
-pub walk_is_chosen : (waits : ℕ → ℕ → Bool) (from : ℕ) (ways : List (Option Way)) (way : Way) → IsOver waits from ways → way_of ways from ≡ Some way
-    → IsChosen waits from (walk ways way.steps from)
-walk_is_chosen waits from ways way over is =
-    let back = over.searched.sound from way is in
-    let m : ℕ = back.0 in
-    let inside : m < over.reach = omega (arith, back.1, over.searched.within from way is) in
+pub walk_is_chosen : (waits : ℕ → ℕ → Bool) (from : ℕ) (levels : List ℕ) → IsOver waits from levels → 0 < level_of levels from
+    → IsChosen waits from (walk waits from levels (level_of levels from) from)
+walk_is_chosen waits from levels over found =
+    let m : ℕ = level_of levels from - 1 in
+    let is : level_of levels from ≡ suc m = omega (arith, found) in
+    let near : m < over.reach = omega (arith, is, over.searched.within from) in
+    let inside = level_inside levels from found in
     let begins : (from == from) ≡ true = grind (arith, nat_tests) in
-    let distinct = walk_distinct waits from ways over.reach over.searched m from way is back.1 in
-    let leading = walk_leads waits from ways over.reach over.searched m from way is back.1 in
-    let walked : walk ways way.steps from ≡ from ∷ walk ways m way.next = ap (λ (n : ℕ). walk ways n from) back.1 ∙ walk_on ways m from way is in
-    subst (λ (cycle : List ℕ). IsChosen waits from cycle) (sym walked) (record {
+    let distinct = walk_distinct waits from levels over.reach over.searched inside m from is in
+    let leading = walk_leads waits from levels over.reach over.searched inside m from is in
+    subst (λ (n : ℕ). IsChosen waits from (walk waits from levels n from)) (sym is) (record {
       is = rw (begins, distinct, leading) refl;
       first = λ other cycle.
           let other_back = cycle_leads waits from other cycle in
-          subst (λ (o : List ℕ). is_chosen_before (from ∷ walk ways m way.next) o ≡ true) (sym other_back.1)
-          (walk_chosen waits from ways over.reach over.searched m from way is back.1 inside other_back.0 other_back.2);
+          subst (λ (o : List ℕ). is_chosen_before (from ∷ walk waits from levels m (next_of waits from levels m from)) o ≡ true) (sym other_back.1)
+          (walk_chosen waits from levels over.reach over.searched inside m from is near other_back.0 other_back.2);
     })
+
+-- it has two sessions at least, where nobody waits for itself
+pub walk_of_two : (waits : ℕ → ℕ → Bool) (from : ℕ) (levels : List ℕ) → IsOver waits from levels → waits from from ≡ false → 0 < level_of levels from → 2 ≤ level_of levels from
+walk_of_two waits from levels over apart some = elim (cases_lt (level_of levels from) 2) [
+  | inl less ↦
+      let one : level_of levels from ≡ suc 0 = omega (arith, less, some) in
+      let back = over.searched.sound from 0 one in
+      absurd (false≢true (sym apart ∙ subst (λ (x : ℕ). waits from x ≡ true) (eqb-true back.0 from back.2) back.1))
+  | inr more ↦ more
+]
+
+-- the same waits are searched alike
+pub over-same : (one two : ℕ → ℕ → Bool) (from : ℕ) (levels : List ℕ) → ((a b : ℕ) → one a b ≡ two a b) → IsOver one from levels → IsOver two from levels
+over-same one two from levels same over = subst (λ (waits : ℕ → ℕ → Bool). IsOver waits from levels) (λ i a b. same a b i) over

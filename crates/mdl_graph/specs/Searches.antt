@@ -1,78 +1,150 @@
--- Ways from the sessions back to one of them, as a search keeps them by session number.
-use Rattle.std.specs.Prelude.{◌≡◌, ℕ, zero, suc, ◌<◌, ◌≤◌, min, Bool, true, false, ◌&&◌, ◌||◌, ◌==◌, nat_lt, List, [], ◌∷◌, length, map, slice_index_or, filter, Option, Some, None, if◌then◌else◌, ◌⊎◌}
-use Rattle.std.specs.List.{list_any, list_all, count_by, Contains}
-use Rattle.std.specs.Option.{is_none, option_map, unwrap_or}
+-- How a graph keeps who waits for whom, and a search how far the sessions are from the one that was asked for.
+use Rattle.std.specs.Prelude.{◌≡◌, ℕ, zero, suc, ◌<◌, ◌≤◌, ◌-◌, Bool, true, false, not, ◌&&◌, ◌||◌, ◌==◌, List, [], ◌∷◌, length, map, flat_map, slice_index, slice_index_or, filter, Option, Some, None, if◌then◌else◌}
+use Rattle.std.specs.FinSet as set
+use Rattle.std.specs.Ordering.{nat_cmp}
+use Rattle.std.specs.List.{list_any, count_by, Contains}
+use Rattle.std.specs.Option.{option_or, unwrap_or}
+use Rattle.mdl_book.specs.declared.lists.Lists.{Lists}
+use Rattle.mdl_key.specs.declared.mode.Mode.{Mode}
+use Rattle.mdl_key.specs.Modes.{mode_rank}
 use Rattle.mdl_graph.specs.declared.cycle.Member.{Member}
-use Rattle.mdl_graph.specs.declared.ties.Tie.{Tie}
-use Rattle.mdl_graph.specs.declared.ways.Way.{Way}
+use Rattle.mdl_graph.specs.WaitsFor.{SessionTest, holds_against, waits_ahead}
 
--- whether one of these ties says that a session waits for another
-abbrev pub are_tied : List Tie → ℕ → ℕ → Bool
-are_tied ties waiter other = list_any (λ tie. tie.waiter == waiter && tie.other == other) ties
+-- ---- rows: who waits at a lock with wishes for one mode, and who stands against such a wish
 
--- each session that waits has a wish, and none waits for itself
-pub record AreWished (wishes : List Member) (ties : List Tie) : Type 0 where
-  pub wished : (waiter other : ℕ) → are_tied ties waiter other ≡ true → Contains (map (λ wish. wish.session) wishes) waiter
-  pub apart : (session : ℕ) → are_tied ties session session ≡ false
+-- some keys, each with a value
+abbrev pub Pairs : Type 0
+Pairs = List (ℕ × ℕ)
 
--- a tie as a graph has it
-abbrev pub pair_of : Tie → ℕ × ℕ
-pair_of tie = (tie.waiter, tie.other)
+-- whether a value is there under a key
+abbrev pub holds : Pairs → ℕ → ℕ → Bool
+holds pairs key value = list_any (λ pair. pair.0 == key && pair.1 == value) pairs
+
+-- whether one session waits for another, by pairs of a row and who waits in it, and of a session and a row that it stands against
+abbrev pub are_joined : Pairs → Pairs → ℕ → ℕ → Bool
+are_joined waits stands waiter other =
+    list_any (λ wait. wait.1 == waiter && (not (wait.1 == other) && holds stands other wait.0)) waits
+
+-- who waits for whom by such pairs
+abbrev pub ties_of : Pairs → Pairs → Pairs
+ties_of waits stands =
+    flat_map (λ wait. map (λ stand. (wait.1, stand.0)) (filter (λ stand. stand.1 == wait.0 && not (wait.1 == stand.0)) stands)) waits
+
+-- each row has a number below this one
+abbrev pub AreRows : ℕ → Pairs → Type 0
+AreRows count waits = (i : ℕ) → i < length waits → (slice_index_or waits i (0, 0)).0 < count
+
+-- each session that waits has a wish, and all rows are known
+pub record AreWished (wishes : List Member) (rows : ℕ) (waits stands : Pairs) : Type 0 where
+  pub wished : (waiter other : ℕ) → are_joined waits stands waiter other ≡ true → Contains (map (λ wish. wish.session) wishes) waiter
+  pub known : (row session : ℕ) → rows ≤ row → holds waits row session ≡ false
+  pub fresh : (row session : ℕ) → rows ≤ row → holds stands session row ≡ false
+
+-- whether a session stands against a wish at a lock
+abbrev pub stands_against : SessionTest → Lists → Mode → ℕ → Bool
+stands_against settled book mode session = holds_against book mode session || waits_ahead settled book mode session
+
+-- the rows of a lock, from the first one on, have those who stand against a wish for their mode
+abbrev pub AreOfModes : SessionTest → Lists → ℕ → List ℕ → Pairs → Type 0
+AreOfModes settled book first ranks stands =
+    (row : ℕ) → first ≤ row → row < length ranks → (mode : Mode) → mode_rank mode ≡ slice_index ranks row → (session : ℕ)
+    → holds stands session row ≡ stands_against settled book mode session
+
+-- each of these sessions is known to stand against a row
+abbrev pub AreSeen : set.FinSet nat_cmp → ℕ → Pairs → Type 0
+AreSeen seen row stands = (session : ℕ) → set.contains seen session ≡ true → holds stands session row ≡ true
+
+-- ---- pairs with the place of the one before under the same key
+
+-- the key at a place
+abbrev pub key_at : Pairs → ℕ → ℕ
+key_at pairs place = (slice_index_or pairs place (0, 0)).0
+
+-- and the value
+abbrev pub value_at : Pairs → ℕ → ℕ
+value_at pairs place = (slice_index_or pairs place (0, 0)).1
+
+-- this is one more than the place of the last pair under a key, of those before an end; 0 where there is none
+pub record IsLast (pairs : Pairs) (key end at : ℕ) : Type 0 where
+  pub inside : at ≤ end
+  pub here : (place : ℕ) → at ≡ suc place → key_at pairs place ≡ key
+  pub none : (place : ℕ) → at ≤ place → place < end → key_at pairs place ≡ key → ⊥
+
+-- the last place of each key, and that before each place
+pub record AreLinked (lasts : List ℕ) (pairs : Pairs) (befores : List ℕ) : Type 0 where
+  pub same : length befores ≡ length pairs
+  pub last : (key : ℕ) → IsLast pairs key (length pairs) (slice_index lasts key)
+  pub before : (place : ℕ) → place < length pairs → IsLast pairs (key_at pairs place) place (slice_index befores place)
+
+-- each value is below a number
+abbrev pub AreBelow : ℕ → Pairs → Type 0
+AreBelow count pairs = (place : ℕ) → place < length pairs → value_at pairs place < count
+
+-- ---- how far sessions are
+
+-- how many steps a session is away; 0 where it wasn't reached
+abbrev pub level_of : List ℕ → ℕ → ℕ
+level_of levels session = slice_index levels session
+
+-- how many sessions weren't reached
+abbrev pub unreached : List ℕ → ℕ
+unreached levels = count_by (λ level. level == 0) levels
 
 -- whether a session stands in a list
 abbrev pub stands_in : List ℕ → ℕ → Bool
 stands_in sessions session = list_any (λ other. session == other) sessions
 
--- who waits for a session, of lists by session number
-abbrev pub row_of : List (List ℕ) → ℕ → List ℕ
-row_of rows session = slice_index_or rows session []
+-- what is known of a session that a step is open to, or isn't
+abbrev pub opened : ℕ → Bool → ℕ → ℕ
+opened steps is_open known = if (known == 0) && is_open then steps else known
 
--- whether one session waits for another, by such lists
-abbrev pub waits_by : List (List ℕ) → ℕ → ℕ → Bool
-waits_by rows waiter other = stands_in (row_of rows other) waiter
+-- whether a session waits in a row, and isn't another one
+abbrev pub waits_in : Pairs → ℕ → ℕ → ℕ → Bool
+waits_in waits row other session = not (session == other) && holds waits row session
 
--- whether each of these has a list
-abbrev pub have_rows : ℕ → List ℕ → Bool
-have_rows count sessions = list_all (λ session. nat_lt session count) sessions
+-- whether a session waits for another, found from the other one on
+abbrev pub waits_by : Pairs → Pairs → ℕ → ℕ → Bool
+waits_by waits stands waiter other = list_any (λ stand. stand.0 == other && waits_in waits stand.1 other waiter) stands
 
--- each session that waits has a list
-abbrev pub AllHaveRows : List (List ℕ) → Type 0
-AllHaveRows rows = (session : ℕ) → have_rows (length rows) (row_of rows session) ≡ true
+-- all who wait in a row that is done were reached
+abbrev pub AreDone : List Bool → Pairs → List ℕ → Type 0
+AreDone done waits levels =
+    (row session : ℕ) → slice_index_or done row false ≡ true → holds waits row session ≡ true → 0 < level_of levels session
 
--- whether the sessions that these ties name are below a number
-abbrev pub are_within : ℕ → List Tie → Bool
-are_within count ties = list_all (λ tie. nat_lt tie.waiter count && nat_lt tie.other count) ties
+-- whether a session is so many steps from the one that was asked for
+abbrev pub is_at : List ℕ → ℕ → ℕ → ℕ → Bool
+is_at levels from zero session = session == from
+is_at levels from (suc n) session = level_of levels session == suc n
 
--- the way that is kept for a session
-abbrev pub way_of : List (Option Way) → ℕ → Option Way
-way_of ways session = slice_index_or ways session None
+-- the sessions of up to so many steps were reached
+pub record IsSearched (waits : ℕ → ℕ → Bool) (from : ℕ) (levels : List ℕ) (reach : ℕ) : Type 0 where
+  pub sound : (session m : ℕ) → level_of levels session ≡ suc m → (next : ℕ) × (waits session next ≡ true) × (is_at levels from m next ≡ true)
+  pub within : (session : ℕ) → level_of levels session ≤ reach
+  pub best : (m next session : ℕ) → m < reach → is_at levels from m next ≡ true → waits session next ≡ true
+      → (0 < level_of levels session) × (level_of levels session ≤ suc m)
 
--- how many sessions have no way
-abbrev pub unreached : List (Option Way) → ℕ
-unreached ways = count_by is_none ways
+-- the session that was asked for was reached, or can't be
+pub record IsOver (waits : ℕ → ℕ → Bool) (from : ℕ) (levels : List ℕ) : Type 0 where
+  pub reach : ℕ
+  pub searched : IsSearched waits from levels reach
+  pub over : level_of levels from ≡ 0 → (m session : ℕ) → is_at levels from m session ≡ true → m < reach
 
--- whether a way goes before another: it is shorter, or as long, and its next session has the lower number
-abbrev pub goes_before : Way → Way → Bool
-goes_before one other = nat_lt one.steps other.steps || (one.steps == other.steps && nat_lt one.next other.next)
+-- the first number below another one that passes
+abbrev pub first_below : (ℕ → Bool) → ℕ → Option ℕ
+first_below test zero = None
+first_below test (suc n) = option_or (first_below test n) (if test n then Some n else None)
 
--- of a way and the one that is known the better one
-abbrev pub better : Way → Option Way → Way
-better way None = way
-better way (Some known) = if goes_before way known then way else known
+-- the least session that one waits for of those so many steps away, or itself where there is none
+abbrev pub next_of : (ℕ → ℕ → Bool) → ℕ → List ℕ → ℕ → ℕ → ℕ
+next_of waits from levels steps session =
+    unwrap_or (first_below (λ next. is_at levels from steps next && waits session next) (length levels)) session
 
--- what is known of a session that a way is open to, or isn't
-abbrev pub offered : Way → Bool → Option Way → Option Way
-offered way is_open known = if is_open then Some (better way known) else known
+-- the sessions on the way of one that is so many steps away
+abbrev pub walk : (ℕ → ℕ → Bool) → ℕ → List ℕ → ℕ → ℕ → List ℕ
+walk waits from levels zero session = []
+walk waits from levels (suc n) session = session ∷ walk waits from levels n (next_of waits from levels n session)
 
--- the lower one of a number and another, if there is another
-abbrev pub lower : ℕ → Option ℕ → ℕ
-lower one None = one
-lower one (Some other) = min one other
-
--- the least of some numbers
-abbrev pub least : List ℕ → Option ℕ
-least [] = None
-least (one ∷ rest) = Some (lower one (least rest))
+-- ---- weights
 
 -- the weight that is kept for a session
 abbrev pub weight_at : List (Option ℕ) → ℕ → Option ℕ
@@ -81,49 +153,3 @@ weight_at weights session = slice_index_or weights session None
 -- a session with its weight
 abbrev pub weighed : List (Option ℕ) → ℕ → Member
 weighed weights session = record { session = session; weight = unwrap_or (weight_at weights session) 0 }
-
--- the way of so many steps that begins with the least of these sessions that are waited for
-abbrev pub first_step : ℕ → (ℕ → Bool) → List ℕ → Option Way
-first_step steps is_waited sessions = option_map (λ next. record { steps = steps; next = next }) (least (filter is_waited sessions))
-
--- whether a way has so many steps
-abbrev pub has_steps : ℕ → Option Way → Bool
-has_steps steps None = false
-has_steps steps (Some way) = way.steps == steps
-
--- whether a session is so many steps from the one that was asked for
-abbrev pub is_at : List (Option Way) → ℕ → ℕ → ℕ → Bool
-is_at ways from zero session = session == from
-is_at ways from (suc n) session = has_steps (suc n) (way_of ways session)
-
--- a way's first step leads to a session that is waited for and is one step nearer
-abbrev pub LeadsBack : (ℕ → ℕ → Bool) → ℕ → List (Option Way) → ℕ → Way → Type 0
-LeadsBack waits from ways session way =
-    (m : ℕ) × (way.steps ≡ suc m) × (waits session way.next ≡ true) × (is_at ways from m way.next ≡ true)
-
--- what is kept for a session is no worse than to go first to one that is so many steps away
-abbrev pub IsNoWorse : Option Way → ℕ → ℕ → Type 0
-IsNoWorse None m next = ⊥
-IsNoWorse (Some way) m next = (way.steps ≤ m) ⊎ ((way.steps ≡ suc m) × (way.next ≤ next))
-
--- the sessions of up to so many steps were reached, each in the best way
-pub record IsSearched (waits : ℕ → ℕ → Bool) (from : ℕ) (ways : List (Option Way)) (reach : ℕ) : Type 0 where
-  pub sound : (session : ℕ) (way : Way) → way_of ways session ≡ Some way → LeadsBack waits from ways session way
-  pub within : (session : ℕ) (way : Way) → way_of ways session ≡ Some way → way.steps ≤ reach
-  pub best : (m next session : ℕ) → m < reach → is_at ways from m next ≡ true → waits session next ≡ true → IsNoWorse (way_of ways session) m next
-
--- the session that was asked for was reached in the best way, or can't be
-pub record IsOver (waits : ℕ → ℕ → Bool) (from : ℕ) (ways : List (Option Way)) : Type 0 where
-  pub reach : ℕ
-  pub searched : IsSearched waits from ways reach
-  pub over : way_of ways from ≡ None → (m session : ℕ) → is_at ways from m session ≡ true → m < reach
-
--- where the way of a session leads
-abbrev pub next_of : Option Way → ℕ → ℕ
-next_of None session = session
-next_of (Some way) session = way.next
-
--- the sessions on so many steps of the ways
-abbrev pub walk : List (Option Way) → ℕ → ℕ → List ℕ
-walk ways zero session = []
-walk ways (suc n) session = session ∷ walk ways n (next_of (way_of ways session) session)

@@ -4,16 +4,18 @@
 //! ([`WaitGraph::find_cycle`]), and [`victim`] says which member of the cycle has to give up its wish.
 #![tactic(auto)]
 
+mod counts;
 mod cycle;
 mod laws;
+mod levels;
+mod links;
 #[cfg(test)]
 mod plain;
+mod rows;
 #[cfg(test)]
 mod tests;
-mod ties;
 mod wait_graph;
-mod waiters;
-mod ways;
+mod walks;
 mod weights;
 
 pub use cycle::{Cycle, Member, victim};

@@ -4,9 +4,11 @@ ghost use Rattle.mdl_book.specs.declared.lists.Lists.{Lists};
 ghost use Rattle.mdl_graph.specs.Graphs.{empty_graph, is_settled, waits, IsGraphOf, deadlock};
 ghost use Rattle.mdl_graph.specs.WaitsFor.{SessionTest, waits_at, wishes_at};
 
-use crate::ties::{Tie, add_waiters};
-use crate::waiters::Waiters;
-use crate::ways::ways_back;
+use crate::counts::session_count;
+use crate::levels::{level_at, levels_back};
+use crate::links::Links;
+use crate::rows::add_waiters;
+use crate::walks::walk;
 use crate::weights::Weights;
 use crate::{Cycle, Member};
 use mdl_book::{Book, Sessions};
@@ -21,13 +23,18 @@ use std::marker::Model;
 pub struct WaitGraph {
     settled: Sessions,
     wishes: Vec<Member>,
-    ties: Vec<Tie>,
+    // The place of each row's mode in the order of the modes.
+    ranks: Vec<usize>,
+    // Each row with who waits in it.
+    waits: Vec<(usize, u16)>,
+    // Each session with a row that it stands against.
+    stands: Vec<(u16, usize)>,
 }
 
 impl Model for WaitGraph {
-    ghost use Rattle.std.specs.Prelude.{map};
+    ghost use Rattle.std.specs.Prelude.{length};
     ghost use Rattle.mdl_graph.specs.Graphs.{GraphView, graph_code};
-    ghost use Rattle.mdl_graph.specs.Searches.{pair_of, AreWished};
+    ghost use Rattle.mdl_graph.specs.Searches.{ties_of, AreWished};
 
     ghost Value = { GraphView };
 
@@ -36,10 +43,10 @@ impl Model for WaitGraph {
     ghost view = { λ graph. record {
       settled = graph.settled;
       wishes = graph.wishes.items;
-      ties = map pair_of graph.ties.items;
+      ties = ties_of graph.waits.items graph.stands.items;
     } };
 
-    ghost invariant = { λ graph. AreWished graph.wishes.items graph.ties.items };
+    ghost invariant = { λ graph. AreWished graph.wishes.items (length graph.ranks.items) graph.waits.items graph.stands.items };
 }
 
 impl WaitGraph {
@@ -50,7 +57,9 @@ impl WaitGraph {
         WaitGraph {
             settled,
             wishes: Vec::new(alloc),
-            ties: Vec::new(alloc),
+            ranks: Vec::new(alloc),
+            waits: Vec::new(alloc),
+            stands: Vec::new(alloc),
         }
     }
 
@@ -65,33 +74,60 @@ impl WaitGraph {
         ensures unchanged { OnErr result (self.new ≡ self.old) }
     {
         let wishes = self.wishes.len();
-        let ties = self.ties.len();
-        match add_waiters(&mut self.wishes, &mut self.ties, &self.settled, book) {
+        let ranks = self.ranks.len();
+        let waits = self.waits.len();
+        let stands = self.stands.len();
+        match add_waiters(
+            &mut self.wishes,
+            &mut self.ranks,
+            &mut self.waits,
+            &mut self.stands,
+            &self.settled,
+            book,
+        ) {
             Ok(()) => Ok(()),
             Err(refused) => {
                 self.wishes.truncate(wishes);
-                self.ties.truncate(ties);
+                self.ranks.truncate(ranks);
+                self.waits.truncate(waits);
+                self.stands.truncate(stands);
                 Err(refused)
             }
         }
     }
 
     /// The shortest cycle of unsettled sessions through one of them, and of equal length the one whose list of numbers,
-    /// beginning with that session, is least. It takes time by the number of sessions and ties.
+    /// beginning with that session, is least. It takes time by the number of sessions and rows.
     pub fn find_cycle(&self, from: u16) -> Result<Option<Cycle>, AllocError>
         ensures { IfOk result (λ found. found ≡ deadlock self.now from) }
     {
-        let alloc = *self.ties.allocator();
-        let waiters = Waiters::new(alloc, &self.ties)?;
-        let ways = ways_back(alloc, &waiters, from)?;
-        match ways.of(from) {
-            Some(way) => {
-                let weights = Weights::new(alloc, &self.wishes)?;
-                let members = ways.walk(alloc, &weights, from, way.steps)?;
-                Ok(Some(Cycle::new(members)))
-            }
-            None => Ok(None),
+        let alloc = *self.wishes.allocator();
+        let count = session_count(&self.waits, &self.stands);
+        let waits = Links::of_waits(alloc, self.ranks.len(), &self.waits)?;
+        let stands = Links::of_stands(alloc, count, &self.stands)?;
+        let levels = levels_back(
+            alloc,
+            &waits,
+            &stands,
+            count,
+            self.ranks.len(),
+            usize::from(from),
+        )?;
+        let steps = level_at(&levels, usize::from(from));
+        if steps == 0 {
+            return Ok(None);
         }
+        let weights = Weights::new(alloc, &self.wishes)?;
+        let members = walk(
+            alloc,
+            &levels,
+            &self.waits,
+            &self.stands,
+            &weights,
+            from,
+            steps,
+        )?;
+        Ok(Some(Cycle::new(members)))
     }
 }
 

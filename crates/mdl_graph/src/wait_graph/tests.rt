@@ -51,11 +51,17 @@ fn table_book(alloc: Global) -> Option<Book> {
 // Adds a lock. A refused growth has to leave the graph as it was.
 fn adds(graph: &mut WaitGraph, book: &Book) -> bool {
     let wishes = graph.wishes.len();
-    let ties = graph.ties.len();
+    let ranks = graph.ranks.len();
+    let waits = graph.waits.len();
+    let stands = graph.stands.len();
     if graph.add(book).is_ok() {
         return true;
     }
-    graph.wishes.len() == wishes && graph.ties.len() == ties && graph.add(book).is_ok()
+    graph.wishes.len() == wishes
+        && graph.ranks.len() == ranks
+        && graph.waits.len() == waits
+        && graph.stands.len() == stands
+        && graph.add(book).is_ok()
 }
 
 // Adds a table at which these stand.

@@ -1,0 +1,171 @@
+//! Who waits at a lock, and who stands against them: a row for each mode that is wished for there.
+ghost use Rattle.std.specs.Prelude.{◌≡◌, ℕ, ◌≤◌, ◌<◌, true, false, ◌||◌, ◌&&◌, ◌==◌, ◌++◌, length, take, OnOk, IfOk, MatchOption, slice_index};
+ghost use Rattle.std.specs.FinSet as set;
+ghost use Rattle.mdl_key.specs.Modes.{mode_rank};
+ghost use Rattle.mdl_graph.specs.WaitsFor.{holds_against, waits_ahead, waits_at, wishes_at};
+ghost use Rattle.mdl_graph.specs.Searches.{holds, are_joined, AreSeen, AreRows, AreOfModes, stands_against};
+
+use crate::Member;
+use mdl_book::{Book, Sessions};
+use mdl_key::{Mode, conflicts_granted, conflicts_waiting, weight};
+use std::alloc::AllocError;
+
+/// Puts the wishes of the unsettled sessions that wait at a lock, and their rows, behind those that there are.
+pub(crate) fn add_waiters(
+    wishes: &mut Vec<Member>,
+    ranks: &mut Vec<usize>,
+    waits: &mut Vec<(usize, u16)>,
+    stands: &mut Vec<(u16, usize)>,
+    settled: &Sessions,
+    book: &Book,
+) -> Result<(), AllocError>
+    requires known { (row session : ℕ) → length ranks.old.items ≤ row → holds waits.old.items row session ≡ false }
+    requires fresh { (row session : ℕ) → length ranks.old.items ≤ row → holds stands.old.items session row ≡ false }
+    ensures wishes_kept { take (length wishes.old.items) wishes.new.items ≡ wishes.old.items }
+    ensures ranks_kept { take (length ranks.old.items) ranks.new.items ≡ ranks.old.items }
+    ensures waits_kept { take (length waits.old.items) waits.new.items ≡ waits.old.items }
+    ensures stands_kept { take (length stands.old.items) stands.new.items ≡ stands.old.items }
+    ensures known { OnOk result ((row session : ℕ) → length ranks.new.items ≤ row → holds waits.new.items row session ≡ false) }
+    ensures fresh { OnOk result ((row session : ℕ) → length ranks.new.items ≤ row → holds stands.new.items session row ≡ false) }
+    ensures wishes { OnOk result (wishes.new.items ≡ wishes.old.items ++ wishes_at (set.contains settled.now) book.now) }
+    ensures ties { OnOk result ((waiter other : ℕ) → are_joined waits.new.items stands.new.items waiter other
+        ≡ (are_joined waits.old.items stands.old.items waiter other || waits_at (set.contains settled.now) book.now waiter other)) }
+{
+    let namespace = book.key().namespace();
+    let first = ranks.len();
+    for ticket in book.waiting() {
+        if !settled.contains(ticket.session) {
+            let row = row_of(ranks, stands, first, settled, book, ticket.mode)?;
+            wishes.push(Member {
+                session: ticket.session,
+                weight: weight(namespace, ticket.mode),
+            })?;
+            waits.push((row, ticket.session))?;
+        }
+    }
+    Ok(())
+}
+
+// The row of those who wish for a mode, which is made where there is none.
+fn row_of(
+    ranks: &mut Vec<usize>,
+    stands: &mut Vec<(u16, usize)>,
+    first: usize,
+    settled: &Sessions,
+    book: &Book,
+    mode: Mode,
+) -> Result<usize, AllocError>
+    requires begun { first ≤ length ranks.old.items }
+    requires fresh { (row session : ℕ) → length ranks.old.items ≤ row → holds stands.old.items session row ≡ false }
+    requires modes { AreOfModes (set.contains settled.now) book.now first ranks.old.items stands.old.items }
+    ensures ranks_len { length ranks.old.items ≤ length ranks.new.items }
+    ensures stands_len { length stands.old.items ≤ length stands.new.items }
+    ensures ranks_kept { take (length ranks.old.items) ranks.new.items ≡ ranks.old.items }
+    ensures stands_kept { take (length stands.old.items) stands.new.items ≡ stands.old.items }
+    ensures fresh { OnOk result ((row session : ℕ) → length ranks.new.items ≤ row → holds stands.new.items session row ≡ false) }
+    ensures modes { OnOk result (AreOfModes (set.contains settled.now) book.now first ranks.new.items stands.new.items) }
+    ensures same { OnOk result ((row session : ℕ) → row < length ranks.old.items → holds stands.new.items session row ≡ holds stands.old.items session row) }
+    ensures known { IfOk result (λ row. row < length ranks.new.items) }
+    ensures row { IfOk result (λ row. (session : ℕ) → holds stands.new.items session row ≡ stands_against (set.contains settled.now) book.now mode session) }
+{
+    if let Some(row) = known_row(ranks, first, mode) {
+        return Ok(row);
+    }
+    let row = ranks.len();
+    let mut seen = Sessions::new();
+    stand_holders(stands, &mut seen, book, mode, row)?;
+    stand_waiters(stands, &mut seen, settled, book, mode, row)?;
+    ranks.push(mode as usize)?;
+    Ok(row)
+}
+
+// The row of a mode, from the first one on.
+fn known_row(ranks: &[usize], first: usize, mode: Mode) -> Option<usize>
+    ensures { MatchOption result (Unit {0}) (λ row. (first ≤ row) × (row < length ranks.now) × (mode_rank mode ≡ slice_index ranks.now row)) }
+{
+    for row in first..ranks.len() {
+        if ranks[row] == mode as usize {
+            return Some(row);
+        }
+    }
+    None
+}
+
+// Puts those who hold a ticket against a wish for a mode into its row.
+fn stand_holders(
+    stands: &mut Vec<(u16, usize)>,
+    seen: &mut Sessions,
+    book: &Book,
+    mode: Mode,
+    row: usize,
+) -> Result<(), AllocError>
+    requires { AreSeen seen.old row stands.old.items }
+    ensures len { length stands.old.items ≤ length stands.new.items }
+    ensures kept { take (length stands.old.items) stands.new.items ≡ stands.old.items }
+    ensures seen { OnOk result (AreSeen seen.new row stands.new.items) }
+    ensures stands { OnOk result ((session one : ℕ) → holds stands.new.items session one
+        ≡ (holds stands.old.items session one || (row == one && holds_against book.now mode session))) }
+{
+    let kind = book.key().kind();
+    for held in book.granted() {
+        if conflicts_granted(kind, mode, held.mode) {
+            stand_once(stands, seen, held.session, row)?;
+        }
+    }
+    Ok(())
+}
+
+// Puts those who wait ahead of it into the row.
+fn stand_waiters(
+    stands: &mut Vec<(u16, usize)>,
+    seen: &mut Sessions,
+    settled: &Sessions,
+    book: &Book,
+    mode: Mode,
+    row: usize,
+) -> Result<(), AllocError>
+    requires { AreSeen seen.old row stands.old.items }
+    ensures len { length stands.old.items ≤ length stands.new.items }
+    ensures kept { take (length stands.old.items) stands.new.items ≡ stands.old.items }
+    ensures stands { OnOk result ((session one : ℕ) → holds stands.new.items session one
+        ≡ (holds stands.old.items session one || (row == one && waits_ahead (set.contains settled.now) book.now mode session))) }
+{
+    let kind = book.key().kind();
+    for pending in book.waiting() {
+        if !settled.contains(pending.session) && conflicts_waiting(kind, mode, pending.mode) {
+            stand_once(stands, seen, pending.session, row)?;
+        }
+    }
+    Ok(())
+}
+
+// Puts a session into a row, unless it is known to stand there: one that holds many tickets stands there once.
+fn stand_once(
+    stands: &mut Vec<(u16, usize)>,
+    seen: &mut Sessions,
+    session: u16,
+    row: usize,
+) -> Result<(), AllocError>
+    requires { AreSeen seen.old row stands.old.items }
+    ensures len { length stands.old.items ≤ length stands.new.items }
+    ensures kept { take (length stands.old.items) stands.new.items ≡ stands.old.items }
+    ensures seen { OnOk result (AreSeen seen.new row stands.new.items) }
+    ensures stands { OnOk result ((other one : ℕ) → holds stands.new.items other one
+        ≡ (holds stands.old.items other one || (session == other && row == one))) }
+{
+    if seen.contains(session) {
+        return Ok(());
+    }
+    stands.push((session, row))?;
+    note(seen, session);
+    Ok(())
+}
+
+// Notes that a session was seen, where the set has room for its number.
+fn note(seen: &mut Sessions, session: u16)
+    ensures { (other : ℕ) → set.contains seen.new other ≡ true → (set.contains seen.old other || session == other) ≡ true }
+{
+    if session >= 1 && session <= 1024 {
+        seen.insert(session);
+    }
+}
