@@ -11,8 +11,7 @@ use Rattle.std.proofs.lemmas.List.Folds.{list_all-append, list_all_at, Any-from_
 use Rattle.std.proofs.lemmas.List.Sums.{sum_by-cons, get_or-le-sum_by, list_all-from_AllPass}
 use Rattle.mdl_key.specs.declared.namespace.Kind.{Kind}
 use Rattle.mdl_key.specs.declared.mode.Mode.{Mode}
-use Rattle.mdl_key.specs.Classes.{class_of}
-use Rattle.mdl_key.specs.Matrices.{clashes}
+use Rattle.mdl_key.specs.Words.{class_of, clashes}
 use Rattle.mdl_word.specs.Words.{counts_of, count_with, blocks_by}
 use Rattle.mdl_word.proofs.BlockLemmas.{blocks_by-from_clash, clash_from_blocks_by}
 use Rattle.mdl_book.specs.declared.ticket.Ticket.{Ticket}

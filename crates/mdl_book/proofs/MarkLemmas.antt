@@ -12,10 +12,7 @@ use Rattle.std.proofs.lemmas.Nat.Bits.{bit_at-lt, bit_at-zero, bit_at_and, bit_a
 use Rattle.mdl_key.specs.declared.namespace.Kind.{Kind}
 use Rattle.mdl_key.specs.declared.mode.Mode.{Mode}
 use Rattle.mdl_key.specs.declared.mode.Mode.TheVariants.{IX}
-use Rattle.mdl_key.specs.BitMaps.{bit_map, has_bit}
-use Rattle.mdl_key.specs.Classes.{is_obtrusive}
-use Rattle.mdl_key.specs.Matrices.{clashes, waits_behind, granted_conflicts, waiting_conflicts}
-use Rattle.mdl_key.specs.Modes.{mode_rank, all_modes}
+use Rattle.mdl_key.specs.Words.{bit_map, has_bit, is_obtrusive, clashes, waits_behind, granted_conflicts, waiting_conflicts, mode_rank, all_modes}
 use Rattle.mdl_key.proofs.MatrixLemmas.{every}
 use Rattle.mdl_book.specs.TicketLists.{MarksModes, none_counted}
 use Rattle.mdl_book.proofs.CountLemmas.{rank-lt, both_ways}

@@ -6,9 +6,7 @@ use Rattle.std.specs.Ordering.{nat_cmp}
 use Rattle.std.specs.FinSet as set
 use Rattle.mdl_key.specs.declared.namespace.Kind.{Kind}
 use Rattle.mdl_key.specs.declared.mode.Mode.{Mode}
-use Rattle.mdl_key.specs.Classes.{is_obtrusive}
-use Rattle.mdl_key.specs.Keys.{KeyName}
-use Rattle.mdl_key.specs.Modes.{kind_of}
+use Rattle.mdl_key.specs.Words.{is_obtrusive, KeyName, kind_of}
 use Rattle.mdl_book.specs.declared.book_error.BookError.{BookError}
 use Rattle.mdl_book.specs.declared.book_error.BookError.TheVariants.{NotHere, WouldConflict, Full}
 use Rattle.mdl_book.specs.declared.lists.Lists.{Lists}

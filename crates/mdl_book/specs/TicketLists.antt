@@ -2,8 +2,7 @@
 use Rattle.std.specs.Prelude.{◌≡◌, ℕ, ◌<◌, Bool, not, ◌||◌, ◌==◌, nat_lt, List, slice_index}
 use Rattle.std.specs.List.{count_by, list_all}
 use Rattle.mdl_key.specs.declared.mode.Mode.{Mode}
-use Rattle.mdl_key.specs.BitMaps.{has_bit}
-use Rattle.mdl_key.specs.Modes.{mode_rank, same_mode, all_modes}
+use Rattle.mdl_key.specs.Words.{has_bit, mode_rank, same_mode, all_modes}
 use Rattle.mdl_book.specs.declared.ticket.Ticket.{Ticket}
 
 -- what a ticket list is seen as: its tickets, in order, and how many it has room for

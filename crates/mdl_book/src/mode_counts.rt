@@ -1,8 +1,6 @@
 //! How many tickets of each mode a list has.
 ghost use Rattle.std.specs.Prelude.{◌≡◌, ◌+◌, ◌-◌, ◌<◌, slice_index, slice_set, replicate};
-ghost use Rattle.mdl_key.specs.Classes.{is_obtrusive};
-ghost use Rattle.mdl_key.specs.Matrices.{clashes, waits_behind};
-ghost use Rattle.mdl_key.specs.Modes.{mode_rank};
+ghost use Rattle.mdl_key.specs.Words.{is_obtrusive, clashes, waits_behind, mode_rank};
 ghost use Rattle.mdl_book.specs.TicketLists.{MarksModes, none_counted};
 
 use mdl_key::{Kind, Mode, granted_row, obtrusive_row, waiting_row};

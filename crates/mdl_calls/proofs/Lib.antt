@@ -1,2 +1,3 @@
+pub mod LoneLemmas
 pub mod OwnLemmas
 pub mod RunLemmas

@@ -4,4 +4,6 @@ pub mod Causes
 pub mod Own
 pub mod Runs
 pub mod Searches
+pub mod Tests
 pub mod Waits
+pub mod Words

@@ -2,9 +2,7 @@
 use Rattle.std.proofs.Common.{◌≡◌, false, Option, None, sym, ◌∙◌}
 use Rattle.std.specs.Prelude.{is_some}
 use Rattle.mdl_calls.specs.declared.answers.Held.{Held}
-use Rattle.mdl_calls.specs.Answers.{Answer}
-use Rattle.mdl_calls.specs.Calls.{Call}
-use Rattle.mdl_calls.specs.Runs.{Runs}
+use Rattle.mdl_calls.specs.Words.{Answer, Call, Runs}
 use Rattle.mdl_context.specs.declared.request.Request.{Request}
 use Rattle.mdl_context.specs.declared.request.Acquire.{Acquire}
 use Rattle.mdl_context.specs.Contexts.{ContextView}

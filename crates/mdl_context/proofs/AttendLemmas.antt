@@ -7,9 +7,7 @@ use Rattle.std.proofs.lemmas.Option.{IfSome_then}
 use Rattle.mdl_key.specs.Keys.{KeyName}
 use Rattle.mdl_calls.specs.declared.answers.Held.{Held}
 use Rattle.mdl_calls.specs.declared.answers.Settled.{Settled}
-use Rattle.mdl_calls.specs.Answers.{Answer, Done, Granted, Waits, Lost}
-use Rattle.mdl_calls.specs.Calls.{Call, Begin_wait, End_wait, Unpin, caller}
-use Rattle.mdl_calls.specs.Own.{Own, own_after, gaining, ending}
+use Rattle.mdl_calls.specs.Words.{Answer, Done, Granted, Waits, Lost, Call, Begin_wait, End_wait, Unpin, caller, Own, own_after, gaining, ending}
 use Rattle.mdl_system.proofs.Deciding.{key-Decides}
 use Rattle.mdl_context.specs.declared.kept.Kept.{Kept}
 use Rattle.mdl_context.specs.declared.kept.Wanted.{Wanted}

@@ -5,10 +5,7 @@ use Rattle.std.specs.Option.{option_map}
 use Rattle.std.proofs.lemmas.Bool.Decides.{nat_tests}
 use Rattle.mdl_key.specs.declared.mode.Duration.{Duration}
 use Rattle.mdl_key.specs.declared.mode.Duration.TheVariants.{Statement, Transaction}
-use Rattle.mdl_calls.specs.Answers.{Answer}
-use Rattle.mdl_calls.specs.Calls.{Call}
-use Rattle.mdl_calls.specs.Own.{Own, IsRising, is_number, holds, giving_up}
-use Rattle.mdl_calls.specs.Runs.{Program, Runs, Give}
+use Rattle.mdl_calls.specs.Words.{Answer, Call, Own, IsRising, is_number, holds, giving_up, Program, Runs, Give}
 use Rattle.mdl_calls.proofs.RunLemmas.{runs_bind}
 use Rattle.mdl_context.specs.declared.context_error.ContextError.{ContextError}
 use Rattle.mdl_context.specs.declared.kept.Kept.{Kept}

@@ -2,11 +2,8 @@
 use Rattle.std.proofs.Common.{◌≡◌, ◌≢◌, ℕ, zero, suc, ◌<◌, ◌≤◌, ◌+◌, ◌-◌, List, [], ◌∷◌, length, get_or, set, Some, None, refl, sym, ap, ◌∙◌, subst, arith}
 use Rattle.std.proofs.lemmas.List.Elements.{All-nil}
 use Rattle.mdl_key.specs.Keys.{KeyName}
-use Rattle.mdl_core.specs.Cores.{Core}
-use Rattle.mdl_calls.specs.Answers.{Answer, Done}
-use Rattle.mdl_calls.specs.Calls.{Call, Unpin, caller}
-use Rattle.mdl_calls.specs.Own.{Own}
-use Rattle.mdl_core.specs.CoreJoins.{SpeaksFor, own_at, Knows}
+use Rattle.mdl_core.specs.Words.{Core, SpeaksFor, own_at, Knows}
+use Rattle.mdl_calls.specs.Words.{Answer, Done, Call, Unpin, caller, Own}
 use Rattle.mdl_context.specs.Contexts.{ContextView, Attends, LeavesOthers}
 use Rattle.mdl_context.specs.Tests.Halls.{AreServed}
 use Rattle.mdl_context.proofs.AttendLemmas.{attends-same}

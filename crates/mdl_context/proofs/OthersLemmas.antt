@@ -3,11 +3,7 @@ use Rattle.std.proofs.Common.{◌≡◌, ◌≢◌, ℕ, zero, suc, Bool, true, 
 use Rattle.std.specs.Prelude.{◌==◌, is_some, if◌then◌else◌}
 use Rattle.mdl_key.specs.Keys.{KeyName}
 use Rattle.mdl_calls.specs.declared.answers.Held.{Held}
-use Rattle.mdl_calls.specs.Answers.{Answer, Done, Refused, Victim_is, At_place, Granted, Would_wait, Waits, Pending, Is_settled, Lost}
-use Rattle.mdl_calls.specs.Calls.{Call, Clone_ticket, Unpin, caller}
-use Rattle.mdl_calls.specs.Own.{Own}
-use Rattle.mdl_calls.specs.Runs.{Program, Runs, Give, Ask, ◌>>=◌}
-use Rattle.mdl_calls.specs.Searches.{SearchEnd, Over, Cut_off, Failed, after_search, seeking, most_searches}
+use Rattle.mdl_calls.specs.Words.{Answer, Done, Refused, Victim_is, At_place, Granted, Would_wait, Waits, Pending, Is_settled, Lost, Call, Clone_ticket, Unpin, caller, Own, Program, Runs, Give, Ask, ◌>>=◌, SearchEnd, Over, Cut_off, Failed, after_search, seeking, most_searches}
 use Rattle.mdl_context.specs.declared.kept.Kept.{Kept}
 use Rattle.mdl_context.specs.declared.request.Request.{Request}
 use Rattle.mdl_context.specs.Contexts.{ContextView, LeavesOthers}

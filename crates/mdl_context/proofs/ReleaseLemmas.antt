@@ -6,11 +6,7 @@ use Rattle.std.proofs.lemmas.List.{drop_more, take_more}
 use Rattle.std.proofs.lemmas.List.Elements.{filter-append}
 use Rattle.mdl_calls.specs.declared.space_error.SpaceError.{SpaceError}
 use Rattle.mdl_calls.specs.declared.space_error.SpaceError.TheVariants.{NotHeld}
-use Rattle.mdl_calls.specs.Answers.{Answer, Done, done}
-use Rattle.mdl_calls.specs.Calls.{Call, Release}
-use Rattle.mdl_calls.specs.Causes.{Knowledge, IsCause, IsExplained}
-use Rattle.mdl_calls.specs.Own.{Own, IsRising, is_number, holds, giving_up}
-use Rattle.mdl_calls.specs.Runs.{Runs}
+use Rattle.mdl_calls.specs.Words.{Answer, Done, done, Call, Release, Knowledge, IsCause, IsExplained, Own, IsRising, is_number, holds, giving_up, Runs}
 use Rattle.mdl_context.specs.declared.kept.Kept.{Kept}
 use Rattle.mdl_context.specs.Contexts.{AreRising, held_of}
 use Rattle.mdl_context.specs.Releases.{releasing_all}

@@ -10,13 +10,8 @@ use Rattle.mdl_calls.specs.declared.answers.Ended.{Ended}
 use Rattle.mdl_calls.specs.declared.answers.Ended.TheVariants as ended_as
 use Rattle.mdl_calls.specs.declared.answers.Settled.{Settled}
 use Rattle.mdl_calls.specs.declared.answers.Settled.TheVariants as settled_as
-use Rattle.mdl_calls.specs.Answers.{Answer, Refused, No_cycle, Victim_is, Lost, ended}
+use Rattle.mdl_calls.specs.Words.{Answer, Refused, No_cycle, Victim_is, Lost, ended, Knowledge, IsCause, Call, Search, Settle_timeout, End_wait, Own, Wait, IsRising, are_rising, is_number, is_waiting, holds, gaining, ending, winning, giving_up, Runs, SearchEnd, Over, Cut_off, Failed, seeking}
 use Rattle.mdl_calls.specs.declared.space_error.SpaceError.TheVariants.{OutOfMemory}
-use Rattle.mdl_calls.specs.Causes.{Knowledge, IsCause}
-use Rattle.mdl_calls.specs.Calls.{Call, Search, Settle_timeout, End_wait}
-use Rattle.mdl_calls.specs.Own.{Own, Wait, IsRising, are_rising, is_number, is_waiting, holds, gaining, ending, winning, giving_up}
-use Rattle.mdl_calls.specs.Runs.{Runs}
-use Rattle.mdl_calls.specs.Searches.{SearchEnd, Over, Cut_off, Failed, seeking}
 use Rattle.mdl_context.specs.Requests.{abandoning}
 
 -- a search is refused only for memory

@@ -1,11 +1,8 @@
 -- What follows on searches for deadlocks: the session waits on, or its wait is given up.
 use Rattle.std.proofs.Common.{◌≡◌, ℕ, Bool, true, false, Ok, Err, refl, sym, ap, subst}
 use Rattle.mdl_calls.specs.declared.space_error.SpaceError.{SpaceError}
-use Rattle.mdl_calls.specs.Answers.{Answer}
-use Rattle.mdl_calls.specs.Calls.{Call}
-use Rattle.mdl_calls.specs.Runs.{Runs, Give, ◌>>◌}
+use Rattle.mdl_calls.specs.Words.{Answer, Call, Runs, Give, ◌>>◌, Over, Cut_off, Failed, seeking, most_searches}
 use Rattle.mdl_calls.proofs.RunLemmas.{runs_bind}
-use Rattle.mdl_calls.specs.Searches.{Over, Cut_off, Failed, seeking, most_searches}
 use Rattle.mdl_context.specs.declared.context_error.ContextError.TheVariants.{Space}
 use Rattle.mdl_context.specs.declared.request.Acquire.TheVariants.{MustWait}
 use Rattle.mdl_context.specs.declared.request.Request.{Request}

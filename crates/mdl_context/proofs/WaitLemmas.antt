@@ -9,11 +9,7 @@ use Rattle.mdl_calls.specs.declared.answers.TimedOut.TheVariants.{ByThisCall, Al
 use Rattle.mdl_calls.specs.declared.answers.Ended.{Ended}
 use Rattle.mdl_calls.specs.declared.space_error.SpaceError.{SpaceError}
 use Rattle.mdl_calls.specs.declared.space_error.SpaceError.TheVariants.{NoWait}
-use Rattle.mdl_calls.specs.Answers.{polled, timed_out, ended}
-use Rattle.mdl_calls.specs.Calls.{Poll_wait, Settle_timeout}
-use Rattle.mdl_calls.specs.Causes.{Knowledge, IsCause, IsExplained}
-use Rattle.mdl_calls.specs.Own.{Own, is_waiting}
-use Rattle.mdl_calls.specs.Waits.{told, IsEndOf}
+use Rattle.mdl_calls.specs.Words.{polled, timed_out, ended, Poll_wait, Settle_timeout, Knowledge, IsCause, IsExplained, Own, is_waiting, told, IsEndOf}
 
 poll-refused : (knows : Knowledge) (who : ℕ) (refusal : SpaceError) (own : Own) → IsCause knows (Poll_wait who) refusal own → is_waiting own ≡ true → ⊥
 poll-refused knows who NoWait own cause waits = cc

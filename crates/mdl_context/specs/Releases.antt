@@ -5,8 +5,7 @@
 use Rattle.std.specs.Prelude.{ℕ, List, [], ◌∷◌, filter, not, Option, Some, None, is_some, Ok, Err, if◌then◌else◌}
 use Rattle.mdl_key.specs.declared.mode.Duration.TheVariants.{Statement}
 use Rattle.mdl_key.specs.Keys.{KeyName}
-use Rattle.mdl_calls.specs.Calls.{Release}
-use Rattle.mdl_calls.specs.Runs.{Program, Give, Ask, ◌>>◌}
+use Rattle.mdl_calls.specs.Words.{Release, Program, Give, Ask, ◌>>◌}
 use Rattle.mdl_context.specs.declared.context_error.ContextError.{ContextError}
 use Rattle.mdl_context.specs.declared.context_error.ContextError.TheVariants.{StaleSavepoint, NotHeld, Waiting}
 use Rattle.mdl_context.specs.declared.kept.Kept.{Kept}

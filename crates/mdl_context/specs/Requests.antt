@@ -9,10 +9,7 @@ use Rattle.mdl_key.specs.Modes.{kind_of, is_mode_of}
 use Rattle.mdl_calls.specs.declared.answers.Held.{Held}
 use Rattle.mdl_calls.specs.declared.space_error.SpaceError.{SpaceError}
 use Rattle.mdl_calls.specs.declared.space_error.SpaceError.TheVariants.{NoWait, WrongKind, OutOfMemory}
-use Rattle.mdl_calls.specs.Answers.{Answer, Refused, At_place, Granted, Would_wait, Waits, Pending, Is_settled, Lost}
-use Rattle.mdl_calls.specs.Calls.{Resolve, Try_now, Begin_wait, Clone_ticket, Poll_wait, Settle_timeout, End_wait, Release}
-use Rattle.mdl_calls.specs.Runs.{Program, Give, Ask, ◌>>=◌, ◌>>◌}
-use Rattle.mdl_calls.specs.Searches.{SearchEnd, Over, Cut_off, Failed, seeking, most_searches}
+use Rattle.mdl_calls.specs.Words.{Answer, Refused, At_place, Granted, Would_wait, Waits, Pending, Is_settled, Lost, Resolve, Try_now, Begin_wait, Clone_ticket, Poll_wait, Settle_timeout, End_wait, Release, Program, Give, Ask, ◌>>=◌, ◌>>◌, SearchEnd, Over, Cut_off, Failed, seeking, most_searches}
 use Rattle.mdl_system.specs.Strength.{covers}
 use Rattle.mdl_context.specs.declared.context_error.ContextError.{ContextError}
 use Rattle.mdl_context.specs.declared.context_error.ContextError.TheVariants.{Waiting, Space}

@@ -1,10 +1,7 @@
 //! Tickets given up to a lock space, of any kind.
 ghost use Rattle.std.specs.Prelude.{◌≡◌, ℕ, true, not, map, filter};
 ghost use Rattle.mdl_key.specs.Keys.{KeyName};
-ghost use Rattle.mdl_calls.specs.Answers.{Done};
-ghost use Rattle.mdl_calls.specs.Calls.{Release};
-ghost use Rattle.mdl_calls.specs.Own.{holds, giving_up};
-ghost use Rattle.mdl_calls.specs.Runs.{Runs};
+ghost use Rattle.mdl_calls.specs.Words.{Done, Release, holds, giving_up, Runs};
 ghost use Rattle.mdl_context.specs.Contexts.{held_of};
 ghost use Rattle.mdl_context.specs.Goings.{goes};
 ghost use Rattle.mdl_context.specs.Releases.{releasing_all};

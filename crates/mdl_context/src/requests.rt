@@ -1,8 +1,6 @@
 //! Requests made to a lock space, of any kind.
 ghost use Rattle.std.specs.Prelude.{◌≡◌, true, false, Some, None, OnErr};
-ghost use Rattle.mdl_calls.specs.Calls.{Clone_ticket};
-ghost use Rattle.mdl_calls.specs.Own.{ticket_held, ending};
-ghost use Rattle.mdl_calls.specs.Runs.{Runs, Ask};
+ghost use Rattle.mdl_calls.specs.Words.{Clone_ticket, ticket_held, ending, Runs, Ask};
 ghost use Rattle.mdl_context.specs.Contexts.{Attends};
 ghost use Rattle.mdl_context.specs.Holdings.{context_of, has_room, earliest, is_of};
 ghost use Rattle.mdl_context.specs.Requests.{awaiting, copy_answered, waiting_on, waiting_at, asking_at, asking};

@@ -1,9 +1,7 @@
 //! Searches of a lock space for deadlocks, of any kind of space, and waits that are given up.
 ghost use Rattle.std.specs.Prelude.{◌≡◌, ℕ, true, IsOkUnless};
 ghost use Rattle.mdl_key.specs.Keys.{KeyName};
-ghost use Rattle.mdl_calls.specs.Own.{is_waiting, ending};
-ghost use Rattle.mdl_calls.specs.Runs.{Runs};
-ghost use Rattle.mdl_calls.specs.Searches.{seeking, most_searches};
+ghost use Rattle.mdl_calls.specs.Words.{is_waiting, ending, Runs, seeking, most_searches};
 ghost use Rattle.mdl_context.specs.Requests.{abandoning};
 ghost use Rattle.mdl_context.specs.SearchEnds.{sought};
 

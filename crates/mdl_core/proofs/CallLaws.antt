@@ -7,11 +7,7 @@ use Rattle.mdl_calls.specs.declared.answers.Settled.{Settled}
 use Rattle.mdl_calls.specs.declared.answers.Settled.TheVariants as settled_as
 use Rattle.mdl_calls.specs.declared.answers.TimedOut.TheVariants.{ByThisCall, Already}
 use Rattle.mdl_calls.specs.declared.space_error.SpaceError.TheVariants.{OutOfMemory}
-use Rattle.mdl_calls.specs.Answers.{Answer, Refused, Done, At_place, Is_settled, Timed_out, Has_wait, Has_killed, Victim_is, Holds, is_answer_of}
-use Rattle.mdl_calls.specs.Calls.{Call, Resolve, Search, Poll_wait, Settle_timeout, End_wait, Wait_of, Kill, Release, Downgrade, Change_definition, List_held, Unpin, caller, takes_memory}
-use Rattle.mdl_calls.specs.Causes.{IsCause, IsExplained}
-use Rattle.mdl_calls.specs.Own.{own_after, wait_number, is_waiting, IsRising, Draws}
-use Rattle.mdl_calls.specs.Waits.{told, IsToldOf}
+use Rattle.mdl_calls.specs.Words.{Answer, Refused, Done, At_place, Is_settled, Timed_out, Has_wait, Has_killed, Victim_is, Holds, is_answer_of, Call, Resolve, Search, Poll_wait, Settle_timeout, End_wait, Wait_of, Kill, Release, Downgrade, Change_definition, List_held, Unpin, caller, takes_memory, IsCause, IsExplained, own_after, wait_number, is_waiting, IsRising, Draws, told, IsToldOf}
 use Rattle.mdl_core.specs.declared.pending.Pending.{Pending}
 use Rattle.mdl_core.specs.Changes.{Change, Settle, seat_after, changing, losing}
 use Rattle.mdl_core.specs.CoreCalls.{outcome, Makes, wait_at, is_open_wait}

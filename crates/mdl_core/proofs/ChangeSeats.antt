@@ -23,8 +23,7 @@ use Rattle.mdl_core.specs.Ties.{Has, Awaits, in_book_of, IsNumbered, IsTied}
 use Rattle.mdl_core.proofs.CoreUnended.{not_granted}
 use Rattle.mdl_core.proofs.Effects.{Effect, Stays, Comes, Goes, Turns, Becomes, InOrder, Each, same, through, either, order-members, order-pairs, Joins, after-all, after-beside}
 use Rattle.mdl_core.proofs.PairLemmas.{below, pairs-others, split-at, filter-all, pairs-from_rising, rising-from_pairs}
-use Rattle.mdl_system.specs.Events.{LeavesOrder, granted_wait}
-use Rattle.mdl_system.specs.Systems.{GrantedWait}
+use Rattle.mdl_system.specs.Words.{LeavesOrder, granted_wait, GrantedWait}
 use Rattle.mdl_system.proofs.MemberLemmas.{AreApart, push-gains}
 use Rattle.mdl_core.proofs.TiedWrites.{held_at, waiting-own}
 

@@ -20,9 +20,7 @@ use Rattle.mdl_core.proofs.CoreUnended.{own-unended, others-unended, seated-unen
 use Rattle.mdl_core.proofs.CoreWaiting.{book-there, place_told, book-nowhere, not_there, ticket-there}
 use Rattle.mdl_core.proofs.Effects.{Effect, After, Becomes, InOrder, Each, turned, mapped, turned-mapped, through, back, each-all, each-also, each-unmapped, each-mapped, after-other, after-like, after-mapped, Joins, order-mapped}
 use Rattle.mdl_core.proofs.PairLemmas.{map-agree}
-use Rattle.mdl_system.specs.BookLaws.{in_book, of_lock}
-use Rattle.mdl_system.specs.Events.{SameElsewhere, SameAt}
-use Rattle.mdl_system.specs.Systems.{Holding, Waiter, GrantedWait}
+use Rattle.mdl_system.specs.Words.{in_book, of_lock, SameElsewhere, SameAt, Holding, Waiter, GrantedWait}
 use Rattle.mdl_system.proofs.Deciding.{nat_told, key_told}
 use Rattle.mdl_system.proofs.MemberLemmas.{AreApart}
 use Rattle.mdl_core.proofs.TiedWrites.{held_at, waiting-own, written, had_key, at_session, key-same}

@@ -10,13 +10,11 @@ use Rattle.mdl_book.specs.Granting as book
 use Rattle.mdl_calls.specs.declared.answers.Held.{Held}
 use Rattle.mdl_calls.specs.declared.answers.Settled.TheVariants as settled_as
 use Rattle.mdl_core.specs.declared.pending.Pending.{Pending}
-use Rattle.mdl_system.specs.BookLaws.{in_book, of_lock, IsGrantedByLists}
+use Rattle.mdl_system.specs.Words.{in_book, of_lock, IsGrantedByLists, IsNewNumber, Holding, Waiter, Held as Holds, lock_kind, IsGrantable}
 use Rattle.mdl_core.specs.Cores.{Core, book_at, seat_at, key_at, has_key, has_session, index_of, is_free}
 use Rattle.mdl_core.specs.ChangeEvents.{holding_of}
 use Rattle.mdl_core.specs.CoreSystems.{granted_in, book_found, book_of, waiter_in, system_of}
 use Rattle.mdl_core.specs.Seats.{SeatView, ticket_of_wait}
-use Rattle.mdl_system.specs.Events.{IsNewNumber}
-use Rattle.mdl_system.specs.Systems.{Holding, Waiter, Held as Holds, lock_kind, IsGrantable}
 use Rattle.mdl_core.specs.Ties.{IsTied, IsNumbered, Has, in_book_of}
 use Rattle.mdl_system.proofs.BookLemmas.{grantable-by_lists}
 use Rattle.mdl_core.proofs.CoreReads.{within, of_within, found}

@@ -20,9 +20,7 @@ use Rattle.mdl_core.proofs.CoreWaiting.{place_told, book-there, book-nowhere}
 use Rattle.mdl_core.proofs.DeadlockWaits.{waiter-ticket}
 use Rattle.mdl_core.proofs.PairLemmas.{same-number, pairs-from_rising}
 use Rattle.mdl_core.proofs.SessionHas.{sessions-have}
-use Rattle.mdl_system.specs.BookLaws.{in_book}
-use Rattle.mdl_system.specs.NumberingLaws.{IsWellNumbered}
-use Rattle.mdl_system.specs.Systems.{Holding, Waiter, GrantedWait}
+use Rattle.mdl_system.specs.Words.{in_book, IsWellNumbered, Holding, Waiter, GrantedWait}
 
 -- ---- the numbers of one session
 

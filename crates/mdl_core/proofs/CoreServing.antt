@@ -10,15 +10,13 @@ use Rattle.mdl_book.specs.declared.ticket.Ticket.{Ticket}
 use Rattle.mdl_book.specs.declared.lists.Lists.{Lists}
 use Rattle.mdl_book.proofs.TicketLemmas.{find-passes}
 use Rattle.mdl_calls.specs.declared.answers.Settled.TheVariants as settled_as
-use Rattle.mdl_system.specs.BlockingLaws.{IsGrantAt}
+use Rattle.mdl_system.specs.Words.{IsGrantAt, Event, GrantWaiter, Happens, LeavesOrder, IsGrantable, NoneForgottenAt, Unsettled, Waiter}
 use Rattle.mdl_core.specs.CoreLaws.{IsFirst, GrantsInOrder}
 use Rattle.mdl_core.specs.Cores.{Core, book_at, seat_at, key_at, has_key, is_free}
 use Rattle.mdl_core.specs.CoreSystems.{system_of, book_of, waiter_in}
 use Rattle.mdl_core.specs.Changes.{Admit, May, admitting_at, admitting_if, admitting_up_to, is_ready, is_unsettled, next_ready, serving}
-use Rattle.mdl_system.specs.Events.{Event, GrantWaiter, Happens, LeavesOrder}
-use Rattle.mdl_system.specs.Systems.{IsGrantable, NoneForgottenAt, Unsettled, Waiter}
 use Rattle.mdl_core.specs.Ties.{IsTied}
-use Rattle.mdl_core.proofs.ChangeEvents.{change-happens}
+use Rattle.mdl_core.proofs.ChangesHappen.{change-happens}
 use Rattle.mdl_core.proofs.ChangeTies.{tied-changing}
 use Rattle.mdl_core.proofs.CoreGranted.{book_of-at, free-grantable}
 use Rattle.mdl_core.proofs.CoreWaiting.{ticket_of-waiter, waiter-found, unsettled-found}

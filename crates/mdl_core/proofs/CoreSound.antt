@@ -6,9 +6,8 @@ use Rattle.std.proofs.lemmas.List.Concat.{flat_map-append}
 use Rattle.mdl_key.specs.Keys.{KeyName}
 use Rattle.mdl_defs.specs.declared.definition.Definition.{Definition}
 use Rattle.mdl_book.specs.Books.{empty_book}
-use Rattle.mdl_calls.specs.Answers.{Answer, Granted, Would_wait, Waits}
-use Rattle.mdl_calls.specs.Calls.{Call, Try_now, Begin_wait}
-use Rattle.mdl_system.specs.BlockingLaws.{IsAbout, FreesNothing}
+use Rattle.mdl_calls.specs.Words.{Answer, Granted, Would_wait, Waits, Call, Try_now, Begin_wait}
+use Rattle.mdl_system.specs.Words.{IsAbout, FreesNothing, Event, Grant, Happens, SameSystem, GrantsNew, System, empty_system, IsGrantable, IsLawful, NoneForgotten}
 use Rattle.mdl_core.specs.ChangeEvents.{IsChangeEvent}
 use Rattle.mdl_core.specs.Changes.{Change, Gain, Lose, Queue, Admit, Settle, Leave, Take_up, May, changing, opening}
 use Rattle.mdl_core.specs.CoreJoins.{Joins}
@@ -17,10 +16,8 @@ use Rattle.mdl_core.specs.Cores.{Core, empty_core, key_at, has_key, index_of}
 use Rattle.mdl_core.specs.CoreSystems.{system_of, granted_in, unended_from}
 use Rattle.mdl_core.specs.Seats.{empty_seat}
 use Rattle.mdl_core.specs.Ties.{IsTied, IsSound}
-use Rattle.mdl_system.specs.Events.{Event, Grant, Happens, SameSystem, GrantsNew}
-use Rattle.mdl_system.specs.Systems.{System, empty_system, IsGrantable, IsLawful, NoneForgotten}
 use Rattle.mdl_core.proofs.CallLaws.{joins-comes}
-use Rattle.mdl_core.proofs.ChangeEvents.{change-happens}
+use Rattle.mdl_core.proofs.ChangesHappen.{change-happens}
 use Rattle.mdl_core.proofs.ChangeTies.{tied-changing}
 use Rattle.mdl_core.proofs.CoreServing.{serves}
 use Rattle.mdl_core.proofs.SparedSeats.{keys-changed}

@@ -5,21 +5,18 @@ use Rattle.std.specs.List.{list_any}
 use Rattle.std.proofs.lemmas.Bool.{and_parts, and_from, or_cases, eqb-true, eq-eqb, false≢true}
 use Rattle.std.proofs.lemmas.Bool.Decides.{eqb_tells}
 use Rattle.std.proofs.lemmas.List.Folds.{list_any_at}
-use Rattle.mdl_key.specs.Keys.{KeyName, global_key}
-use Rattle.mdl_key.specs.Matrices.{clashes, Clashes, waits_behind}
+use Rattle.mdl_key.specs.Words.{KeyName, global_key, clashes, Clashes, waits_behind}
 use Rattle.mdl_book.specs.declared.lists.Lists.{Lists}
 use Rattle.mdl_book.specs.declared.ticket.Ticket.{Ticket}
 use Rattle.mdl_book.specs.Books.{empty_book}
 use Rattle.mdl_graph.specs.WaitsFor.{waits_for, waits_at, is_tied, holds_against, waits_ahead}
 use Rattle.mdl_calls.specs.declared.answers.Settled.{Settled}
 use Rattle.mdl_core.specs.declared.pending.Pending.{Pending}
-use Rattle.mdl_system.specs.BookLaws.{in_book, of_lock}
+use Rattle.mdl_system.specs.Words.{in_book, of_lock, Wishes, HoldsAgainst, WaitsAhead, WaitsFor, Unsettled, Waiter, lock_kind}
 use Rattle.mdl_core.specs.CoreCalls.{has_settled}
 use Rattle.mdl_core.specs.Cores.{Core, book_at, seat_at, key_at, has_key, has_session}
 use Rattle.mdl_core.specs.CoreSystems.{state_of, waiter_of, waiter_in, system_of}
-use Rattle.mdl_system.specs.Deadlocks.{Wishes, HoldsAgainst, WaitsAhead, WaitsFor}
 use Rattle.mdl_core.specs.Seats.{is_open, is_closed}
-use Rattle.mdl_system.specs.Systems.{Unsettled, Waiter, lock_kind}
 use Rattle.mdl_core.specs.Ties.{IsTied}
 use Rattle.mdl_core.proofs.CoreGranted.{granted-place, granted-from_place}
 use Rattle.mdl_core.proofs.CoreReads.{within, of_within}

@@ -1,9 +1,10 @@
 pub mod CallCases
+pub mod CallDeadlocks
 pub mod CallLaws
-pub mod ChangeEvents
 pub mod ChangeSeats
 pub mod ChangeSystems
 pub mod ChangeTies
+pub mod ChangesHappen
 pub mod CoreGranted
 pub mod CoreNumbered
 pub mod CoreReads
@@ -11,7 +12,6 @@ pub mod CoreServing
 pub mod CoreSound
 pub mod CoreUnended
 pub mod CoreWaiting
-pub mod DeadlockCauses
 pub mod DeadlockSystems
 pub mod DeadlockWaits
 pub mod Effects

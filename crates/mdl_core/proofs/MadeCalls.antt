@@ -4,19 +4,14 @@ use Rattle.std.proofs.lemmas.Bool.{and_parts, and_cases}
 use Rattle.std.proofs.lemmas.Bool.Decides.{nat_tests}
 use Rattle.mdl_book.specs.Books.{lock_kind}
 use Rattle.mdl_key.specs.declared.mode.Mode.{Mode}
-use Rattle.mdl_key.specs.Keys.{KeyName}
-use Rattle.mdl_key.specs.Modes.{kind_of, is_mode_of}
+use Rattle.mdl_key.specs.Words.{KeyName, kind_of, is_mode_of}
 use Rattle.mdl_calls.specs.declared.answers.Held.{Held}
 use Rattle.mdl_calls.specs.declared.answers.Settled.{Settled}
 use Rattle.mdl_calls.specs.declared.answers.Settled.TheVariants as settled_as
 use Rattle.mdl_calls.specs.declared.answers.TimedOut.TheVariants.{Already}
 use Rattle.mdl_calls.specs.declared.space_error.SpaceError.{SpaceError}
 use Rattle.mdl_calls.specs.declared.space_error.SpaceError.TheVariants.{NoPlace, NotHeld, AlreadyWaiting, BadMode, NoWait, Unsettled as Not_settled, CounterFull, Full}
-use Rattle.mdl_calls.specs.Answers.{Answer, Refused, Granted, Is_settled, Timed_out, Lost, is_answer_of}
-use Rattle.mdl_calls.specs.Calls.{Call, Resolve, Try_now, Begin_wait, Search, Poll_wait, Settle_timeout, End_wait, Wait_of, Kill, Release, Clone_ticket, List_held, caller}
-use Rattle.mdl_calls.specs.Causes.{OfHeld, IsFit, IsUnfit, IsUnknown, MayClone, MayNotClone, IsCause, IsExplained}
-use Rattle.mdl_calls.specs.Own.{Own, Numbers, is_number, is_waiting, wait_number, own_after, winning, cloning as cloning_own, giving_up, Draws}
-use Rattle.mdl_calls.specs.Waits.{IsEndOf, IsToldOf}
+use Rattle.mdl_calls.specs.Words.{Answer, Refused, Granted, Is_settled, Timed_out, Lost, is_answer_of, Call, Resolve, Try_now, Begin_wait, Search, Poll_wait, Settle_timeout, End_wait, Wait_of, Kill, Release, Clone_ticket, List_held, caller, OfHeld, IsFit, IsUnfit, IsUnknown, MayClone, MayNotClone, IsCause, IsExplained, Own, Numbers, is_number, is_waiting, wait_number, own_after, winning, cloning as cloning_own, giving_up, Draws, IsEndOf, IsToldOf}
 use Rattle.mdl_core.specs.declared.pending.Pending.{Pending}
 use Rattle.mdl_core.specs.ChangeEvents.{holding_of, waiting_ticket, IsChangeEvent}
 use Rattle.mdl_core.specs.Changes.{Change, Gain, Lose, Queue, Leave, Take_up, May, next_ticket, losing, leaving, serving}
@@ -25,13 +20,10 @@ use Rattle.mdl_core.specs.CoreJoins.{own_at, numbers_at, Knows}
 use Rattle.mdl_core.specs.CoreLaws.{is_change, IsEventOf}
 use Rattle.mdl_core.specs.Cores.{Core, book_at, seat_at, key_at, has_key, has_session, index_of, is_free}
 use Rattle.mdl_core.specs.CoreSystems.{system_of, state_of, waiter_of}
-use Rattle.mdl_system.specs.BlockingLaws.{WaitsForCause}
+use Rattle.mdl_system.specs.Words.{WaitsForCause, Event, Grant, Clone, BeginWait, SettleLost, EndGrantedWait, EndLostWait, Release as Give_up, covers, Unsettled, IsGrantable}
 use Rattle.mdl_core.specs.Seats.{SeatView, own_of, numbers_of, settling, with_ticket_of}
 use Rattle.mdl_core.specs.SessionLaws.{MeetsLimit}
 use Rattle.mdl_core.specs.Ties.{IsTied, IsNumbered, in_book_of}
-use Rattle.mdl_system.specs.Events.{Event, Grant, Clone, BeginWait, SettleLost, EndGrantedWait, EndLostWait, Release as Give_up}
-use Rattle.mdl_system.specs.Strength.{covers}
-use Rattle.mdl_system.specs.Systems.{Unsettled, IsGrantable}
 use Rattle.mdl_core.proofs.CallCases.{Through, test_cases, option_cases, not_false, not_true, cause_cases}
 use Rattle.mdl_core.proofs.CoreGranted.{free-grantable}
 use Rattle.mdl_core.proofs.CoreReads.{found, seated-same}

@@ -14,20 +14,16 @@ use Rattle.mdl_calls.specs.declared.answers.Settled.TheVariants as settled_as
 use Rattle.mdl_core.specs.declared.pending.Pending.{Pending}
 use Rattle.mdl_calls.specs.declared.space_error.SpaceError.{SpaceError}
 use Rattle.mdl_calls.specs.declared.space_error.SpaceError.TheVariants.{OutOfMemory}
-use Rattle.mdl_calls.specs.Answers.{Answer, Refused, No_cycle, Victim_is, finds_no_memory}
-use Rattle.mdl_calls.specs.Calls.{Search}
+use Rattle.mdl_calls.specs.Words.{Answer, Refused, No_cycle, Victim_is, finds_no_memory, Search, Runs, Give, SearchEnd, Over, Cut_off, Failed, after_search, seeking}
 use Rattle.mdl_core.specs.CoreCalls.{has_settled, searching_of, victim_at}
 use Rattle.mdl_core.specs.CoreJoins.{Joins, SpeaksFor}
 use Rattle.mdl_core.specs.CoreLaws.{CallsKeepSound}
 use Rattle.mdl_core.specs.Cores.{Core, seat_at, has_session}
 use Rattle.mdl_core.specs.CoreSystems.{system_of}
 use Rattle.mdl_core.specs.SearchLaws.{SearchesFindDeadlocks, SearchesSuffice, SearchesLeaveNoDeadlock}
-use Rattle.mdl_system.specs.Deadlocks.{Wishes, WaitsFor, IsDeadlock, IsChosenDeadlock, IsVictimOf}
+use Rattle.mdl_system.specs.Words.{Wishes, WaitsFor, IsDeadlock, IsChosenDeadlock, IsVictimOf, Waiter}
 use Rattle.mdl_core.specs.Changes.{losing}
-use Rattle.mdl_calls.specs.Runs.{Runs, Give}
-use Rattle.mdl_calls.specs.Searches.{SearchEnd, Over, Cut_off, Failed, after_search, seeking}
 use Rattle.mdl_core.specs.Seats.{SeatView, empty_seat, is_open, settling}
-use Rattle.mdl_system.specs.Systems.{Waiter}
 use Rattle.mdl_core.specs.Ties.{IsTied}
 use Rattle.mdl_core.proofs.CoreReads.{within, has_session-seating, seated-same}
 use Rattle.mdl_core.proofs.CoreWaiting.{wait-at}

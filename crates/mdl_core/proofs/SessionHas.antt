@@ -12,9 +12,8 @@ use Rattle.mdl_core.specs.declared.pending.Pending.{Pending}
 use Rattle.mdl_core.specs.Cores.{Core, book_at, seat_at, key_at, has_session}
 use Rattle.mdl_core.specs.CoreSystems.{state_of, unended_at, unended_of, waiter_of, waiter_in, system_of}
 use Rattle.mdl_core.specs.Seats.{ticket_of_wait}
-use Rattle.mdl_system.specs.BookLaws.{in_book}
+use Rattle.mdl_system.specs.Words.{in_book, Unsettled, Holding, Waiter, GrantedWait, Held as Holds, HasNoWait}
 use Rattle.mdl_core.specs.SessionLaws.{holdings_of, HasWait, waiter_for, HasWon, WaitsAt, HasWhatTheSystemSays, HasNothing, SessionsHaveWhatTheSystemSays, WaitsUnsettled, WaitsSomewhere}
-use Rattle.mdl_system.specs.Systems.{Unsettled, Holding, Waiter, GrantedWait, Held as Holds, HasNoWait}
 use Rattle.mdl_core.specs.Ties.{IsTied, IsSound, in_book_of}
 use Rattle.mdl_core.proofs.CoreGranted.{held-in, granted-place}
 use Rattle.mdl_core.specs.ChangeEvents.{holding_of}

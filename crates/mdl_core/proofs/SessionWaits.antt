@@ -3,8 +3,7 @@ use Rattle.std.proofs.Common.{◌≡◌, ◌↔◌, ℕ, Bool, true, false, not,
 use Rattle.std.proofs.lemmas.Bool.Decides.{Decides-eqb}
 use Rattle.mdl_calls.specs.declared.answers.Settled.TheVariants as settled_as
 use Rattle.mdl_core.specs.declared.pending.Pending.{Pending}
-use Rattle.mdl_calls.specs.Answers.{Answer, Has_wait, Has_killed}
-use Rattle.mdl_calls.specs.Calls.{Wait_of}
+use Rattle.mdl_calls.specs.Words.{Answer, Has_wait, Has_killed, Wait_of}
 use Rattle.mdl_core.specs.CoreCalls.{wait_at, is_open_wait, killing}
 use Rattle.mdl_core.specs.CoreJoins.{Joins}
 use Rattle.mdl_core.specs.Cores.{Core, seat_at}

@@ -6,8 +6,7 @@ use Rattle.std.specs.List.{flat_map}
 use Rattle.std.proofs.lemmas.Bool.Decides.{leb_tells}
 use Rattle.std.proofs.lemmas.Grind.{flat_map-append}
 use Rattle.std.proofs.lemmas.List.{append-nil, get_or-replicate, get_or_append_left, get_or_push, length-replicate, length_push}
-use Rattle.mdl_key.specs.Keys.{KeyName, global_key}
-use Rattle.mdl_key.specs.Modes.{is_mode_of}
+use Rattle.mdl_key.specs.Words.{KeyName, global_key, is_mode_of}
 use Rattle.mdl_book.specs.declared.lists.Lists.{Lists}
 use Rattle.mdl_book.specs.declared.ticket.Ticket.{Ticket}
 use Rattle.mdl_book.specs.Books.{lock_kind, empty_book}
@@ -21,8 +20,7 @@ use Rattle.mdl_core.specs.Ties.{Has, Awaits, in_book_of, IsNumbered, IsTied}
 use Rattle.mdl_core.proofs.CoreReads.{within, of_within, found-at}
 use Rattle.mdl_core.proofs.CoreWaiting.{book-there, place_told, book-nowhere, not_there}
 use Rattle.mdl_core.proofs.PairLemmas.{none-in}
-use Rattle.mdl_system.specs.Events.{SameSystem}
-use Rattle.mdl_system.specs.Systems.{Holding}
+use Rattle.mdl_system.specs.Words.{SameSystem, Holding}
 use Rattle.mdl_system.proofs.MemberLemmas.{AreApart}
 
 -- ---- nothing

@@ -4,11 +4,7 @@ use Rattle.mdl_key.specs.Keys.{KeyName}
 use Rattle.mdl_calls.specs.declared.answers.Settled.{Settled}
 use Rattle.mdl_calls.specs.declared.answers.Settled.TheVariants as settled_as
 use Rattle.mdl_calls.specs.declared.answers.TimedOut.TheVariants.{ByThisCall, Already}
-use Rattle.mdl_calls.specs.Answers.{Answer, Refused, At_place, Would_wait, Waits, Victim_is, Is_settled, Timed_out, Has_wait, Has_killed, Holds, is_answer_of}
-use Rattle.mdl_calls.specs.Calls.{Call, Resolve, Try_now, Begin_wait, Search, Poll_wait, Settle_timeout, End_wait, Wait_of, Kill, List_held, caller}
-use Rattle.mdl_calls.specs.Causes.{IsExplained}
-use Rattle.mdl_calls.specs.Own.{own_after, wait_number, Draws}
-use Rattle.mdl_calls.specs.Waits.{IsToldOf}
+use Rattle.mdl_calls.specs.Words.{Answer, Refused, At_place, Would_wait, Waits, Victim_is, Is_settled, Timed_out, Has_wait, Has_killed, Holds, is_answer_of, Call, Resolve, Try_now, Begin_wait, Search, Poll_wait, Settle_timeout, End_wait, Wait_of, Kill, List_held, caller, IsExplained, own_after, wait_number, Draws, IsToldOf}
 use Rattle.mdl_core.specs.declared.pending.Pending.{Pending}
 use Rattle.mdl_core.specs.ChangeEvents.{IsChangeEvent}
 use Rattle.mdl_core.specs.Changes.{Change, Lose, Settle, Leave, May, seat_after, changing, opening, serving}
@@ -19,9 +15,7 @@ use Rattle.mdl_core.specs.Cores.{Core, seat_at, key_at, index_of}
 use Rattle.mdl_core.specs.CoreSystems.{system_of}
 use Rattle.mdl_core.specs.Seats.{SeatView, own_of, numbers_of}
 use Rattle.mdl_core.specs.SessionLaws.{MeetsLimit}
-use Rattle.mdl_system.specs.BlockingLaws.{WaitsForCause}
-use Rattle.mdl_system.specs.Events.{Event}
-use Rattle.mdl_system.specs.Systems.{IsGrantable}
+use Rattle.mdl_system.specs.Words.{WaitsForCause, Event, IsGrantable}
 use Rattle.mdl_core.proofs.SparedSeats.{HasSettled, is_end}
 
 -- ---- ways

@@ -7,8 +7,7 @@ use Rattle.mdl_core.specs.declared.pending.Pending.{Pending}
 use Rattle.mdl_core.specs.Changes.{Change, Gain, Lose, Queue, Admit, Settle, Leave, Take_up, next_ticket}
 use Rattle.mdl_core.specs.Cores.{Core, seat_at, key_at}
 use Rattle.mdl_core.specs.CoreSystems.{system_of, state_of, waiter_of, waiter_in}
-use Rattle.mdl_system.specs.Events.{Event, Grant, Clone, BeginWait, GrantWaiter, SettleLost, EndGrantedWait, EndLostWait, Release}
-use Rattle.mdl_system.specs.Systems.{Unsettled, Holding, lock_kind, IsGrantable}
+use Rattle.mdl_system.specs.Words.{Event, Grant, Clone, BeginWait, GrantWaiter, SettleLost, EndGrantedWait, EndLostWait, Release, Unsettled, Holding, lock_kind, IsGrantable}
 
 -- a held ticket as a granted one of the system
 abbrev pub holding_of : ℕ → Held → Core → Holding

@@ -1,8 +1,7 @@
 -- What a call changes in the lock space of one thread: the seat of one session, and the book of one place.
 use Rattle.std.specs.Prelude.{◌≡◌, ◌≢◌, ℕ, zero, suc, ◌+◌, Bool, true, false, ◌&&◌, [], ◌∷◌, ◌++◌, length, find, Option, Some, None, Contains}
 use Rattle.mdl_key.specs.declared.mode.Mode.{Mode}
-use Rattle.mdl_key.specs.Keys.{KeyName}
-use Rattle.mdl_key.specs.Modes.{is_mode_of}
+use Rattle.mdl_key.specs.Words.{KeyName, is_mode_of}
 use Rattle.mdl_book.specs.declared.lists.Lists.{Lists}
 use Rattle.mdl_book.specs.declared.ticket.Ticket.{Ticket}
 use Rattle.mdl_book.specs.Books.{lock_kind, empty_book, granting, enqueueing, admitting, cancelling, removing}

@@ -2,8 +2,7 @@
 use Rattle.std.specs.Prelude.{◌≡◌, ℕ, ◌+◌, ◌-◌, ◌^◌, ◌⊎◌, Bool, true, false, not, ◌&&◌, ◌==◌, nat_le, List, [], ◌∷◌, length, find, Option, Some, None, is_some, if◌then◌else◌}
 use Rattle.std.specs.Option.{option_map}
 use Rattle.mdl_key.specs.declared.mode.Mode.{Mode}
-use Rattle.mdl_key.specs.Keys.{KeyName}
-use Rattle.mdl_key.specs.Modes.{is_mode_of}
+use Rattle.mdl_key.specs.Words.{KeyName, is_mode_of}
 use Rattle.mdl_book.specs.Books.{lock_kind, ticket_count}
 use Rattle.mdl_book.specs.declared.book_error.BookError.{BookError}
 use Rattle.mdl_book.specs.declared.book_error.BookError.TheVariants as book_error
@@ -17,11 +16,9 @@ use Rattle.mdl_calls.specs.declared.answers.Settled.{Settled}
 use Rattle.mdl_calls.specs.declared.answers.Settled.TheVariants as settled_as
 use Rattle.mdl_calls.specs.declared.answers.TimedOut.TheVariants.{ByThisCall, Already}
 use Rattle.mdl_core.specs.declared.pending.Pending.{Pending}
-use Rattle.mdl_calls.specs.Answers.{Answer, Refused, Done, At_place, Granted, Would_wait, Waits, No_cycle, Victim_is, Pending as Is_pending, Is_settled, Timed_out, Lost, Has_wait, Has_killed, Holds}
-use Rattle.mdl_calls.specs.Calls.{Call, Resolve, Try_now, Begin_wait, Search, Poll_wait, Settle_timeout, End_wait, Wait_of, Kill, Release, Clone_ticket, List_held}
+use Rattle.mdl_calls.specs.Words.{Answer, Refused, Done, At_place, Granted, Would_wait, Waits, No_cycle, Victim_is, Pending as Is_pending, Is_settled, Timed_out, Lost, Has_wait, Has_killed, Holds, Call, Resolve, Try_now, Begin_wait, Search, Poll_wait, Settle_timeout, End_wait, Wait_of, Kill, Release, Clone_ticket, List_held, is_number}
 use Rattle.mdl_core.specs.Cores.{Core, book_at, seat_at, has_key, has_session, index_of, is_free}
 use Rattle.mdl_core.specs.Changes.{opening, granting_to, queueing, losing, taking_up, leaving, freeing, serving}
-use Rattle.mdl_calls.specs.Own.{is_number}
 use Rattle.mdl_core.specs.Seats.{is_open, is_closed}
 use Rattle.mdl_system.specs.Strength.{covers}
 

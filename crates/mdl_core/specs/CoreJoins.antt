@@ -4,11 +4,9 @@ use Rattle.std.specs.Option.{IfSome}
 use Rattle.mdl_key.specs.Keys.{KeyName}
 use Rattle.mdl_calls.specs.declared.answers.Settled.{Settled}
 use Rattle.mdl_core.specs.declared.pending.Pending.{Pending}
-use Rattle.mdl_calls.specs.Answers.{Answer}
-use Rattle.mdl_calls.specs.Calls.{Call, caller, takes_memory}
+use Rattle.mdl_calls.specs.Words.{Answer, Call, caller, takes_memory, Own, Numbers}
 use Rattle.mdl_core.specs.CoreCalls.{has_call, outcome, Makes, wait_at}
 use Rattle.mdl_core.specs.Cores.{Core, seat_at, has_key, has_session, key_at}
-use Rattle.mdl_calls.specs.Own.{Own, Numbers}
 use Rattle.mdl_core.specs.Seats.{own_of, numbers_of}
 use Rattle.mdl_core.specs.Ties.{IsSound}
 

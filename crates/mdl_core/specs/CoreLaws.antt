@@ -4,14 +4,11 @@ use Rattle.mdl_key.specs.Keys.{KeyName}
 use Rattle.mdl_key.specs.declared.mode.Mode.{Mode}
 use Rattle.mdl_defs.specs.declared.definition.Definition.{Definition}
 use Rattle.mdl_calls.specs.declared.answers.TimedOut.TheVariants.{ByThisCall}
-use Rattle.mdl_calls.specs.Answers.{Answer, Done, Granted, Would_wait, Waits, Victim_is, Timed_out, Lost, Has_killed}
-use Rattle.mdl_system.specs.BlockingLaws.{IsAbout}
-use Rattle.mdl_calls.specs.Calls.{Call, Try_now, Begin_wait, Search, Settle_timeout, End_wait, Kill, Release, Clone_ticket}
+use Rattle.mdl_calls.specs.Words.{Answer, Done, Granted, Would_wait, Waits, Victim_is, Timed_out, Lost, Has_killed, Call, Try_now, Begin_wait, Search, Settle_timeout, End_wait, Kill, Release, Clone_ticket}
+use Rattle.mdl_system.specs.Words.{IsAbout, Event, Grant, Clone, BeginWait, GrantWaiter, SettleLost, EndGrantedWait, EndLostWait, Release as Give_up, Happens, Run, SameSystem, Unsettled, Victim, TimedOut, Killed, Holding, Waiter, System, empty_system, IsLawful, IsGrantable, NoneForgotten}
 use Rattle.mdl_core.specs.CoreJoins.{Joins}
 use Rattle.mdl_core.specs.Cores.{Core, empty_core, key_at}
 use Rattle.mdl_core.specs.CoreSystems.{system_of, state_of}
-use Rattle.mdl_system.specs.Events.{Event, Grant, Clone, BeginWait, GrantWaiter, SettleLost, EndGrantedWait, EndLostWait, Release as Give_up, Happens, Run, SameSystem}
-use Rattle.mdl_system.specs.Systems.{Unsettled, Victim, TimedOut, Killed, Holding, Waiter, System, empty_system, IsLawful, IsGrantable, NoneForgotten}
 use Rattle.mdl_core.specs.Ties.{IsSound}
 
 -- whether a call with this answer changes who holds what, who waits for what, or how a wait is settled

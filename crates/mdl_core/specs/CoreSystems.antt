@@ -9,10 +9,9 @@ use Rattle.mdl_defs.specs.declared.definition.Definition.{Definition}
 use Rattle.mdl_calls.specs.declared.answers.Settled.{Settled}
 use Rattle.mdl_calls.specs.declared.answers.Settled.TheVariants as settled_as
 use Rattle.mdl_core.specs.declared.pending.Pending.{Pending}
-use Rattle.mdl_system.specs.BookLaws.{of_lock}
+use Rattle.mdl_system.specs.Words.{of_lock, WaitState, Unsettled, Victim, TimedOut, Killed, Holding, Waiter, GrantedWait, System}
 use Rattle.mdl_core.specs.Cores.{Core, index_of, seat_at, book_at}
 use Rattle.mdl_core.specs.Seats.{SeatView}
-use Rattle.mdl_system.specs.Systems.{WaitState, Unsettled, Victim, TimedOut, Killed, Holding, Waiter, GrantedWait, System}
 
 -- the granted tickets of a lock
 abbrev pub granted_in : Lists → List Holding

@@ -9,3 +9,4 @@ pub mod SearchLaws
 pub mod Seats
 pub mod SessionLaws
 pub mod Ties
+pub mod Words

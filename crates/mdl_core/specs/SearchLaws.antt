@@ -1,14 +1,11 @@
 -- Laws of searches for deadlocks in the lock space of one thread.
 use Rattle.std.specs.Prelude.{◌≡◌, ◌⊎◌, ℕ, ◌≤◌, Bool, false, not, ◌&&◌, ◌||◌, ◌==◌, List, length}
 use Rattle.mdl_key.specs.declared.mode.Mode.{Mode}
-use Rattle.mdl_calls.specs.Answers.{Answer, finds_no_memory, Waits, No_cycle, Victim_is}
-use Rattle.mdl_calls.specs.Calls.{Call, Begin_wait, Search}
+use Rattle.mdl_calls.specs.Words.{Answer, finds_no_memory, Waits, No_cycle, Victim_is, Call, Begin_wait, Search, Runs, Over, Cut_off, most_searches, seeking}
 use Rattle.mdl_core.specs.CoreJoins.{Joins, SpeaksFor}
 use Rattle.mdl_core.specs.Cores.{Core}
 use Rattle.mdl_core.specs.CoreSystems.{system_of}
 use Rattle.mdl_system.specs.Deadlocks.{IsDeadlock, IsChosenDeadlock, IsVictimOf, DeadlocksGoThrough, HasNoDeadlock}
-use Rattle.mdl_calls.specs.Runs.{Runs}
-use Rattle.mdl_calls.specs.Searches.{Over, Cut_off, most_searches, seeking}
 use Rattle.mdl_core.specs.Ties.{IsSound}
 
 -- a search finds no cycle where the session is part of no deadlock, and else it names the victim of the chosen one; nothing but

@@ -7,13 +7,11 @@ use Rattle.mdl_calls.specs.declared.answers.Settled.TheVariants as settled_as
 use Rattle.mdl_core.specs.declared.pending.Pending.{Pending}
 use Rattle.mdl_calls.specs.declared.space_error.SpaceError.{SpaceError}
 use Rattle.mdl_calls.specs.declared.space_error.SpaceError.TheVariants.{NoPlace, CounterFull, Full}
-use Rattle.mdl_calls.specs.Answers.{Refused, Has_wait, Has_killed}
-use Rattle.mdl_calls.specs.Calls.{Call, Resolve, Try_now, Begin_wait, Wait_of, Kill, Clone_ticket}
+use Rattle.mdl_calls.specs.Words.{Refused, Has_wait, Has_killed, Call, Resolve, Try_now, Begin_wait, Wait_of, Kill, Clone_ticket, wait_number}
 use Rattle.mdl_core.specs.CoreCalls.{held_ticket}
 use Rattle.mdl_core.specs.CoreJoins.{Joins, own_at}
 use Rattle.mdl_core.specs.Cores.{Core, book_at, seat_at, key_at, has_key, has_session}
 use Rattle.mdl_core.specs.CoreSystems.{system_of, state_of}
-use Rattle.mdl_calls.specs.Own.{wait_number}
 use Rattle.mdl_system.specs.Systems.{Unsettled, Holding, Waiter, System, ListsHeld, HasNoWait}
 use Rattle.mdl_core.specs.Ties.{IsSound}
 

@@ -3,8 +3,7 @@ ghost use Rattle.std.specs.Prelude.{◌≡◌, ◌==◌, [], ◌∷◌, ◌++◌
 ghost use Rattle.std.proofs.Common.{rules};
 ghost use Rattle.std.specs.Cmp.Rules.{comparing};
 ghost use lib.Pointwise.{pointwise};
-ghost use Rattle.mdl_key.specs.Keys.{name_fault};
-ghost use Rattle.mdl_key.specs.Refusals.{Refuses};
+ghost use Rattle.mdl_key.specs.Words.{name_fault, Refuses};
 ghost use Rattle.mdl_defs.specs.Columns.{same_column, has_column, names_twice, without_column};
 
 use mdl_key::{KeyError, check_name};

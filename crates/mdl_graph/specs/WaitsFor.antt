@@ -2,8 +2,7 @@
 use Rattle.std.specs.Prelude.{ℕ, Bool, not, ◌&&◌, ◌||◌, ◌==◌, List, filter, flat_map, map, IsTrue}
 use Rattle.std.specs.List.{list_any}
 use Rattle.mdl_key.specs.declared.mode.Mode.{Mode}
-use Rattle.mdl_key.specs.Classes.{weight_of}
-use Rattle.mdl_key.specs.Matrices.{clashes, waits_behind}
+use Rattle.mdl_key.specs.Words.{weight_of, clashes, waits_behind}
 use Rattle.mdl_book.specs.declared.lists.Lists.{Lists}
 use Rattle.mdl_book.specs.declared.ticket.Ticket.{Ticket}
 use Rattle.mdl_book.specs.Books.{lock_kind}

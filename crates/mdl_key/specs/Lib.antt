@@ -5,3 +5,4 @@ pub mod Laws
 pub mod Matrices
 pub mod Modes
 pub mod Refusals
+pub mod Words

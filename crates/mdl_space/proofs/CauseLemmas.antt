@@ -3,9 +3,7 @@ use Rattle.std.proofs.Common.{◌≡◌, ℕ, Bool, true, false, ap, ◌∙◌}
 use Rattle.mdl_key.specs.declared.mode.Mode.{Mode}
 use Rattle.mdl_calls.specs.declared.space_error.SpaceError.{SpaceError}
 use Rattle.mdl_calls.specs.declared.space_error.SpaceError.TheVariants.{NotHeld}
-use Rattle.mdl_calls.specs.Calls.{Release}
-use Rattle.mdl_calls.specs.Causes.{Knowledge, IsCause}
-use Rattle.mdl_calls.specs.Own.{Own, holds, gaining}
+use Rattle.mdl_calls.specs.Words.{Release, Knowledge, IsCause, Own, holds, gaining}
 use Rattle.mdl_calls.proofs.OwnLemmas.{holds-gaining}
 
 -- a release is refused only where no such ticket is held

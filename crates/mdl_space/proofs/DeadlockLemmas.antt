@@ -8,8 +8,7 @@ use Rattle.mdl_graph.proofs.CycleLaws.{chosen_same}
 use Rattle.mdl_graph.specs.Graphs.{GraphView, IsGraphOf, waits, member_of, cycle_found, deadlock, deadlock_in}
 use Rattle.mdl_graph.specs.Victims.{victim_of}
 use Rattle.mdl_graph.specs.WaitsFor.{SessionTest, waits_for}
-use Rattle.mdl_core.specs.CoreCalls.{has_settled, victim_at}
-use Rattle.mdl_core.specs.Cores.{Core}
+use Rattle.mdl_core.specs.Words.{has_settled, victim_at, Core}
 
 -- the deadlock that it has is the one of the books
 pub deadlock-same : (settled : SessionTest) (books : List Lists) (graph : GraphView) (from : ℕ) → IsGraphOf settled books graph

@@ -17,9 +17,7 @@ use Rattle.mdl_book.proofs.FastLemmas.{can_be_granted-none}
 use Rattle.mdl_book.proofs.TicketLemmas.{find-passes}
 use Rattle.mdl_calls.specs.declared.answers.Settled.TheVariants as settled_as
 use Rattle.mdl_core.specs.declared.pending.Pending.{Pending}
-use Rattle.mdl_core.specs.Seats.{SeatView, empty_seat, is_open, settling}
-use Rattle.mdl_core.specs.Cores.{Core, book_at, seat_at, has_key, has_session, booking, seating}
-use Rattle.mdl_core.specs.Changes.{is_unsettled, is_ready, next_ready, admitting_if, admitting_up_to, serving}
+use Rattle.mdl_core.specs.Words.{SeatView, empty_seat, is_open, settling, Core, book_at, seat_at, has_key, has_session, booking, seating, is_unsettled, is_ready, next_ready, admitting_if, admitting_up_to, serving}
 
 -- where nobody can be granted, nobody is
 pub none_left : (n place : ℕ) (core : Core) → next_ready place core ≡ None → admitting_up_to n place core ≡ core

@@ -14,15 +14,9 @@ use Rattle.mdl_calls.specs.declared.answers.Settled.{Settled}
 use Rattle.mdl_calls.specs.declared.answers.Settled.TheVariants as settled_as
 use Rattle.mdl_core.specs.declared.pending.Pending.{Pending}
 use Rattle.mdl_calls.specs.Own.{are_rising, is_number}
-use Rattle.mdl_core.specs.Seats.{SeatView, ticket_of_wait}
-use Rattle.mdl_core.specs.Cores.{Core, book_at, seat_at, key_at, has_key}
-use Rattle.mdl_system.specs.BookLaws.{of_lock}
-use Rattle.mdl_core.specs.CoreSystems.{system_of}
-use Rattle.mdl_system.specs.Strength.{covers}
-use Rattle.mdl_core.specs.CoreJoins.{SpeaksFor}
-use Rattle.mdl_core.specs.Ties.{IsTied, Has, Awaits, in_book_of}
+use Rattle.mdl_core.specs.Words.{SeatView, ticket_of_wait, Core, book_at, seat_at, key_at, has_key, system_of, SpeaksFor, IsTied, Has, Awaits, in_book_of, holding_of}
+use Rattle.mdl_system.specs.Words.{of_lock, covers}
 use Rattle.mdl_system.proofs.BookLemmas.{compatible-Decides}
-use Rattle.mdl_core.specs.ChangeEvents.{holding_of}
 use Rattle.mdl_core.proofs.CoreGranted.{granted-from_place, granted-of_held}
 use Rattle.mdl_system.proofs.LawfulLemmas.{compatible-from_weaker}
 use Rattle.mdl_system.proofs.StrengthLemmas.{covers-at_least}

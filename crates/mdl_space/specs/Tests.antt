@@ -1,3 +1,1 @@
-pub mod LoneProofs
-pub mod LoneSessions
 pub mod Visits

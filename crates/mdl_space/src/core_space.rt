@@ -1,17 +1,12 @@
 //! The lock space of one thread.
 ghost use Rattle.std.specs.Prelude.{◌≡◌, ℕ, ◌<◌, ◌≤◌, ◌+◌, ◌^◌, Some, None, IfOk, OnOk, MatchResult, IsSome, IsTrue, length, true, false};
-ghost use Rattle.mdl_key.specs.Refusals.{Refuses};
-ghost use Rattle.mdl_key.specs.Modes.{is_mode_of};
+ghost use Rattle.mdl_key.specs.Words.{Refuses, is_mode_of};
 ghost use Rattle.mdl_book.specs.Books.{lock_kind};
 ghost use Rattle.mdl_book.specs.Granting.{is_compatible};
 ghost use Rattle.mdl_book.specs.Tickets.{ticket_of};
 ghost use Rattle.mdl_system.specs.Strength.{covers};
-ghost use Rattle.mdl_core.specs.Cores.{empty_core, book_at, has_key, has_session, seat_at};
-ghost use Rattle.mdl_core.specs.CoreCalls.{new_fault, first_cause, request_causes, clone_causes, listing, resolving, trying, beginning, searching, polling, timing_out, ending, looking_after, killing, releasing, granted_unless_full, cloning, Makes};
-ghost use Rattle.mdl_core.specs.CoreJoins.{SpeaksFor};
-ghost use Rattle.mdl_core.specs.Changes.{leaving, freeing, serving};
-ghost use Rattle.mdl_calls.specs.Own.{are_rising};
-ghost use Rattle.mdl_calls.specs.Answers.{Has_wait, Has_killed, placed, attempted, begun, searched, polled, timed_out, ended, done, cloned, listed};
+ghost use Rattle.mdl_core.specs.Words.{empty_core, book_at, has_key, has_session, seat_at, new_fault, first_cause, request_causes, clone_causes, listing, resolving, trying, beginning, searching, polling, timing_out, ending, looking_after, killing, releasing, granted_unless_full, cloning, Makes, SpeaksFor, leaving, freeing, serving};
+ghost use Rattle.mdl_calls.specs.Words.{are_rising, Has_wait, Has_killed, placed, attempted, begun, searched, polled, timed_out, ended, done, cloned, listed};
 
 use crate::granting::{give, is_free, queue};
 use crate::seat::Seat;

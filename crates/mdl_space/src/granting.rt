@@ -2,8 +2,7 @@
 ghost use Rattle.std.specs.Prelude.{◌≡◌, ◌+◌, ◌<◌, ◌^◌, ◌⊎◌, None, OnErr, MatchResult, nat_le, true, false};
 ghost use Rattle.mdl_book.specs.Books.{lock_kind, granting, enqueueing, ticket_count};
 ghost use Rattle.mdl_book.specs.Granting.{is_compatible, is_grantable};
-ghost use Rattle.mdl_core.specs.CoreCalls.{cause_in};
-ghost use Rattle.mdl_core.specs.Seats.{holding, beginning_wait};
+ghost use Rattle.mdl_core.specs.Words.{cause_in, holding, beginning_wait};
 
 use crate::seat::Seat;
 use crate::{Place, SpaceError, TicketId};

@@ -4,11 +4,7 @@ ghost use Rattle.std.specs.Option.{IfSome};
 ghost use Rattle.mdl_key.specs.Keys.{KeyName};
 ghost use Rattle.mdl_calls.specs.declared.answers.Settled.{Settled};
 ghost use Rattle.mdl_calls.specs.declared.answers.Held.{Held};
-ghost use Rattle.mdl_calls.specs.Calls.{Call, Resolve, Try_now, Begin_wait, Search as Search_by, Poll_wait, Settle_timeout, End_wait, Wait_of, Kill, Release, Clone_ticket, List_held, Unpin, caller};
-ghost use Rattle.mdl_calls.specs.Answers.{Answer, Done, At_place, Victim_is, Has_wait, Has_killed, Holds, is_answer_of, placed, attempted, begun, searched, polled, timed_out, ended, done, cloned, listed};
-ghost use Rattle.mdl_calls.specs.Own.{Own, Wait, Numbers, own_after, wait_number, is_waiting, IsRising, Draws};
-ghost use Rattle.mdl_calls.specs.Causes.{IsExplained};
-ghost use Rattle.mdl_calls.specs.Waits.{told, IsToldOf};
+ghost use Rattle.mdl_calls.specs.Words.{Call, Resolve, Try_now, Begin_wait, Search as Search_by, Poll_wait, Settle_timeout, End_wait, Wait_of, Kill, Release, Clone_ticket, List_held, Unpin, caller, Answer, Done, At_place, Victim_is, Has_wait, Has_killed, Holds, is_answer_of, placed, attempted, begun, searched, polled, timed_out, ended, done, cloned, listed, Own, Wait, Numbers, own_after, wait_number, is_waiting, IsRising, Draws, IsExplained, told, IsToldOf};
 
 use crate::{Attempt, Begun, Ended, Held, Place, Poll, Search, SpaceError, TicketId, TimedOut};
 use mdl_key::{Key, Mode};

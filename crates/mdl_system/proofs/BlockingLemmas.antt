@@ -6,10 +6,7 @@ use Rattle.std.proofs.lemmas.List.Elements.{Contains-append_left}
 use Rattle.mdl_key.specs.declared.namespace.Kind.{Kind}
 use Rattle.mdl_key.specs.declared.namespace.Kind.TheVariants.{Scoped, Object}
 use Rattle.mdl_key.specs.declared.mode.Mode.{Mode}
-use Rattle.mdl_key.specs.Classes.{IsAtLeast}
-use Rattle.mdl_key.specs.Keys.{KeyName}
-use Rattle.mdl_key.specs.Matrices.{clashes, Clashes, waits_behind, WaitsBehind}
-use Rattle.mdl_key.specs.Modes.{all_modes}
+use Rattle.mdl_key.specs.Words.{IsAtLeast, KeyName, clashes, Clashes, waits_behind, WaitsBehind, all_modes}
 use Rattle.mdl_key.proofs.MatrixLemmas.{each_mode, clashes-symmetric}
 use Rattle.mdl_system.specs.Systems.{Holding, Waiter, System, lock_kind, IsGrantable}
 use Rattle.mdl_system.specs.Events.{Event, Grant, Clone, BeginWait, GrantWaiter, SettleLost, EndGrantedWait, EndLostWait, Release, Upgrade, Merge, Downgrade, ChangeDefinition, Happens, in_mode, granted_ticket}

@@ -7,8 +7,7 @@ use Rattle.std.proofs.lemmas.List.Elements.{All-contains, Contains-get_or}
 use Rattle.std.proofs.lemmas.List.Folds.{list_all-map}
 use Rattle.mdl_key.specs.declared.namespace.Kind.{Kind}
 use Rattle.mdl_key.specs.declared.mode.Mode.{Mode}
-use Rattle.mdl_key.specs.Keys.{KeyName}
-use Rattle.mdl_key.specs.Matrices.{clashes, Clashes, waits_behind, WaitsBehind}
+use Rattle.mdl_key.specs.Words.{KeyName, clashes, Clashes, waits_behind, WaitsBehind}
 use Rattle.mdl_book.specs.declared.ticket.Ticket.{Ticket}
 use Rattle.mdl_book.specs.Granting as book
 use Rattle.mdl_system.specs.Systems.{Holding, Waiter, System, lock_kind, IsLawful, IsGrantable}

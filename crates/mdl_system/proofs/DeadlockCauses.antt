@@ -6,9 +6,7 @@ use Rattle.std.proofs.lemmas.Bool.{and_from, eq-eqb}
 use Rattle.std.proofs.lemmas.Bool.Decides.{eqb_tells}
 use Rattle.mdl_key.specs.declared.mode.Mode.{Mode}
 use Rattle.mdl_key.specs.declared.namespace.Kind.{Kind}
-use Rattle.mdl_key.specs.Classes.{IsAtLeast}
-use Rattle.mdl_key.specs.Keys.{KeyName}
-use Rattle.mdl_key.specs.Matrices.{Clashes}
+use Rattle.mdl_key.specs.Words.{IsAtLeast, KeyName, Clashes}
 use Rattle.mdl_key.proofs.MatrixLemmas.{clashes-symmetric}
 use Rattle.mdl_system.specs.Systems.{Unsettled, Holding, Waiter, System, lock_kind, HasNoWait}
 use Rattle.mdl_system.specs.Events.{Event, Grant, Clone, BeginWait, GrantWaiter, SettleLost, EndGrantedWait, EndLostWait, Release, Upgrade, Merge, Downgrade, ChangeDefinition, Happens, Run, SameAt, in_mode, granted_ticket}

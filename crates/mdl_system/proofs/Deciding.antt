@@ -7,8 +7,7 @@ use Rattle.mdl_key.specs.declared.namespace.Namespace.{Namespace}
 use Rattle.mdl_key.specs.declared.namespace.Namespace.TheVariants.{Global, Schema, Table, Commit}
 use Rattle.mdl_key.specs.declared.mode.Mode.{Mode}
 use Rattle.mdl_key.specs.declared.mode.Mode.TheVariants.{IX, S, SH, SR, SW, SWLP, SU, SRO, SNW, SNRW, X}
-use Rattle.mdl_key.specs.Keys.{KeyName, namespace_rank, key_eq}
-use Rattle.mdl_key.specs.Modes.{all_modes, mode_rank}
+use Rattle.mdl_key.specs.Words.{KeyName, namespace_rank, key_eq, all_modes, mode_rank}
 use Rattle.mdl_system.specs.Systems.{Holding, GrantedWait}
 
 pub told : {P : Type 0} → (r : Bool) → Decides r P → P ⊎ (P → ⊥)

@@ -3,8 +3,7 @@ use Rattle.std.proofs.Common.{◌≡◌, ◌≢◌, ◌⊎◌, ℕ, zero, suc, �
 use Rattle.std.specs.Prelude.{IsTrue, Contains, All}
 use Rattle.std.proofs.lemmas.List.Elements.{All-nil, All-cons}
 use Rattle.mdl_key.specs.declared.mode.Mode.{Mode}
-use Rattle.mdl_key.specs.Keys.{KeyName}
-use Rattle.mdl_key.specs.Matrices.{clashes, waits_behind, Clashes, WaitsBehind}
+use Rattle.mdl_key.specs.Words.{KeyName, clashes, waits_behind, Clashes, WaitsBehind}
 use Rattle.mdl_system.specs.Systems.{WaitState, Unsettled, Victim, TimedOut, Killed, Holding, Waiter, System, lock_kind, IsGrantable, NoneForgottenAt}
 use Rattle.mdl_system.specs.Events.{Event, GrantWaiter, GrantsWaiter, Run, Gains, LeavesOrder, granted_ticket, granted_wait}
 use Rattle.mdl_system.specs.BlockingLaws.{IsGrantAt}

@@ -6,9 +6,7 @@ use Rattle.mdl_key.specs.declared.namespace.Kind.{Kind}
 use Rattle.mdl_key.specs.declared.namespace.Kind.TheVariants.{Scoped, Object}
 use Rattle.mdl_key.specs.declared.mode.Mode.{Mode}
 use Rattle.mdl_key.specs.declared.mode.Mode.TheVariants.{X}
-use Rattle.mdl_key.specs.Keys.{KeyName}
-use Rattle.mdl_key.specs.Matrices.{clashes, Clashes}
-use Rattle.mdl_key.specs.Modes.{all_modes, is_mode_of}
+use Rattle.mdl_key.specs.Words.{KeyName, clashes, Clashes, all_modes, is_mode_of}
 use Rattle.mdl_key.proofs.MatrixLemmas.{each_mode}
 use Rattle.mdl_system.specs.Systems.{Holding, GrantedWait, System, lock_kind, Held, IsLawful}
 use Rattle.mdl_system.specs.Events.{Event, Grant, Clone, BeginWait, GrantWaiter, SettleLost, EndGrantedWait, EndLostWait, Release, Upgrade, Merge, Downgrade, ChangeDefinition, Happens, in_mode, granted_ticket, granted_wait, session_of}

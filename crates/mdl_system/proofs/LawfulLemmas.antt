@@ -7,10 +7,7 @@ use Rattle.mdl_key.specs.declared.namespace.Kind.{Kind}
 use Rattle.mdl_key.specs.declared.namespace.Kind.TheVariants.{Scoped, Object}
 use Rattle.mdl_key.specs.declared.mode.Mode.{Mode}
 use Rattle.mdl_key.specs.declared.mode.Mode.TheVariants.{SU, SNW, X}
-use Rattle.mdl_key.specs.Classes.{IsAtLeast}
-use Rattle.mdl_key.specs.Keys.{KeyName}
-use Rattle.mdl_key.specs.Matrices.{clashes, Clashes}
-use Rattle.mdl_key.specs.Modes.{all_modes}
+use Rattle.mdl_key.specs.Words.{IsAtLeast, KeyName, clashes, Clashes, all_modes}
 use Rattle.mdl_key.proofs.MatrixLemmas.{each_mode, clashes-symmetric}
 use Rattle.mdl_system.specs.Systems.{Holding, System, empty_system, lock_kind, IsLawful, IsCompatible}
 use Rattle.mdl_system.specs.Events.{Event, Grant, Clone, BeginWait, GrantWaiter, SettleLost, EndGrantedWait, EndLostWait, Release, Upgrade, Merge, Downgrade, ChangeDefinition, Happens, Run, in_mode, granted_ticket}

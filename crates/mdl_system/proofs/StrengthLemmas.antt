@@ -5,8 +5,7 @@ use Rattle.std.proofs.lemmas.Bool.{and_from}
 use Rattle.mdl_key.specs.declared.namespace.Kind.{Kind}
 use Rattle.mdl_key.specs.declared.namespace.Kind.TheVariants.{Scoped, Object}
 use Rattle.mdl_key.specs.declared.mode.Mode.{Mode}
-use Rattle.mdl_key.specs.Classes.{is_at_least, IsAtLeast}
-use Rattle.mdl_key.specs.Modes.{all_modes, is_mode_of}
+use Rattle.mdl_key.specs.Words.{is_at_least, IsAtLeast, all_modes, is_mode_of}
 use Rattle.mdl_key.proofs.MatrixLemmas.{each_mode, same, same-true, at_least-exact}
 use Rattle.mdl_system.specs.Strength.{covers}
 use Rattle.mdl_system.proofs.LawfulLemmas.{implied}

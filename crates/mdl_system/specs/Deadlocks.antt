@@ -1,9 +1,7 @@
 -- Deadlocks in the system of locks, after MySQL 5.7: `MDL_lock::visit_subgraph` of sql/mdl.cc. Which cycle is chosen, and
 -- that of equal weights the greatest session number falls, is this project's own choice.
 use Rattle.std.specs.Prelude.{◌≡◌, ◌≢◌, ◌⊎◌, ℕ, ◌<◌, ◌≤◌, Bool, List, [], ◌∷◌, Contains, AllPairs, IsTrue}
-use Rattle.mdl_key.specs.Classes.{weight_of}
-use Rattle.mdl_key.specs.Keys.{KeyName}
-use Rattle.mdl_key.specs.Matrices.{Clashes, WaitsBehind}
+use Rattle.mdl_key.specs.Words.{weight_of, KeyName, Clashes, WaitsBehind}
 use Rattle.mdl_graph.specs.Cycles.{is_chosen_before}
 use Rattle.mdl_system.specs.Systems.{System, Holding, Waiter, Unsettled, lock_kind}
 

@@ -3,8 +3,7 @@
 use Rattle.std.specs.Prelude.{◌≡◌, ◌≢◌, ◌⊎◌, ◌↔◌, ℕ, ◌+◌, List, [], ◌∷◌, ◌++◌, Option, Some, Contains}
 use Rattle.mdl_key.specs.declared.mode.Mode.{Mode}
 use Rattle.mdl_key.specs.declared.mode.Mode.TheVariants.{X}
-use Rattle.mdl_key.specs.Classes.{IsAtLeast}
-use Rattle.mdl_key.specs.Keys.{KeyName}
+use Rattle.mdl_key.specs.Words.{IsAtLeast, KeyName}
 use Rattle.mdl_system.specs.Strength.{downgrades}
 use Rattle.mdl_system.specs.Systems.{WaitState, Unsettled, Holding, Waiter, GrantedWait, System, lock_kind, Held, HasNoWait, IsGrantable}
 

@@ -8,3 +8,4 @@ pub mod PermittedEvents
 pub mod Strength
 pub mod SystemLaws
 pub mod Systems
+pub mod Words

@@ -1,8 +1,7 @@
 -- Where each event can happen: what it asks of the system before.
 use Rattle.std.specs.Prelude.{◌≡◌, ◌≢◌, ◌↔◌, Option, None, IsSome, Contains}
 use Rattle.mdl_key.specs.declared.mode.Mode.TheVariants.{X}
-use Rattle.mdl_key.specs.Classes.{IsAtLeast}
-use Rattle.mdl_key.specs.Keys.{KeyName}
+use Rattle.mdl_key.specs.Words.{IsAtLeast, KeyName}
 use Rattle.mdl_system.specs.Systems.{Unsettled, System, lock_kind, Held, HasNoWait, IsLawful, IsGrantable}
 use Rattle.mdl_system.specs.Events.{Event, Grant, Clone, BeginWait, GrantWaiter, SettleLost, EndGrantedWait, EndLostWait, Release, Upgrade, Merge, Downgrade, ChangeDefinition, Happens, IsNewNumber}
 use Rattle.mdl_system.specs.Strength.{downgrades}

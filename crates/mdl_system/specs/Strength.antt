@@ -7,8 +7,7 @@ use Rattle.mdl_key.specs.declared.namespace.Kind.{Kind}
 use Rattle.mdl_key.specs.declared.namespace.Kind.TheVariants.{Scoped, Object}
 use Rattle.mdl_key.specs.declared.mode.Mode.{Mode}
 use Rattle.mdl_key.specs.declared.mode.Mode.TheVariants.{SU, SNW, SNRW, X}
-use Rattle.mdl_key.specs.Modes.{same_mode, is_mode_of}
-use Rattle.mdl_key.specs.Classes.{is_at_least}
+use Rattle.mdl_key.specs.Words.{same_mode, is_mode_of, is_at_least}
 
 -- a kind that has both modes, where there is one. S and X are modes of both kinds, in which they clash alike with each other.
 abbrev pub common_kind : Mode → Mode → Kind

@@ -2,8 +2,7 @@
 -- change makes of what stands under a key, none where it is refused.
 use Rattle.std.specs.Prelude.{◌≡◌, ◌≢◌, ◌⊎◌, ◌↔◌, ℕ, ◌+◌, List, Option, IsTrue, Contains}
 use Rattle.mdl_key.specs.declared.mode.Mode.TheVariants.{X}
-use Rattle.mdl_key.specs.Keys.{KeyName}
-use Rattle.mdl_key.specs.Modes.{is_mode_of}
+use Rattle.mdl_key.specs.Words.{KeyName, is_mode_of}
 use Rattle.mdl_system.specs.Systems.{Holding, System, empty_system, lock_kind, Held, IsLawful}
 use Rattle.mdl_system.specs.Events.{Event, Happens, Run, session_of}
 

@@ -3,9 +3,7 @@
 use Rattle.std.specs.Prelude.{◌≡◌, ◌≢◌, ◌↔◌, ℕ, ◌<◌, List, [], Option, None, Contains, AllPairs}
 use Rattle.mdl_key.specs.declared.namespace.Kind.{Kind}
 use Rattle.mdl_key.specs.declared.mode.Mode.{Mode}
-use Rattle.mdl_key.specs.Keys.{KeyName}
-use Rattle.mdl_key.specs.Matrices.{Clashes, WaitsBehind}
-use Rattle.mdl_key.specs.Modes.{kind_of}
+use Rattle.mdl_key.specs.Words.{KeyName, Clashes, WaitsBehind, kind_of}
 use Rattle.mdl_book.specs.declared.ticket.Ticket.{Ticket}
 
 -- how a wait stands: open, or lost in one of three ways

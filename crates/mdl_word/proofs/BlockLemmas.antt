@@ -7,8 +7,7 @@ use Rattle.std.proofs.lemmas.List.Folds.{list_any_at}
 use Rattle.mdl_key.specs.declared.namespace.Kind.{Kind}
 use Rattle.mdl_key.specs.declared.mode.Mode.{Mode}
 use Rattle.mdl_key.specs.declared.mode.Mode.TheVariants.{IX, S, SH, SR, SW, SWLP, SU, SRO, SNW, SNRW, X}
-use Rattle.mdl_key.specs.Modes.{all_modes}
-use Rattle.mdl_key.specs.Matrices.{clashes, Clashes}
+use Rattle.mdl_key.specs.Words.{all_modes, clashes, Clashes}
 use Rattle.mdl_word.specs.Words.{count_with, blocks_by}
 
 -- an element that passes the test

@@ -4,8 +4,7 @@ use Rattle.std.specs.Prelude.{◌≡◌, ◌≢◌, ℕ, ◌+◌, ◌-◌, ◌^�
 use Rattle.std.specs.Int.{bit_at}
 use Rattle.mdl_key.specs.declared.namespace.Kind.{Kind}
 use Rattle.mdl_key.specs.declared.mode.Mode.{Mode}
-use Rattle.mdl_key.specs.Matrices.{clashes, Clashes}
-use Rattle.mdl_key.specs.Classes.{class_of}
+use Rattle.mdl_key.specs.Words.{clashes, Clashes, class_of}
 use Rattle.mdl_word.specs.Words.{encode, flags_alone, all_but_flags, Encodes, counts_of, slow_flag, obtrusive_flag, increment_of, one_in, count_with, blocks_by, CountAtMost}
 
 -- a lawful word is below 2^62, and any such number is the lawful word of what is read off it

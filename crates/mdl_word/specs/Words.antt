@@ -6,9 +6,7 @@ use Rattle.std.specs.Int.{bit_at}
 use Rattle.std.specs.Option.{option_map, option_map_or}
 use Rattle.mdl_key.specs.declared.namespace.Kind.{Kind}
 use Rattle.mdl_key.specs.declared.mode.Mode.{Mode}
-use Rattle.mdl_key.specs.Modes.{all_modes}
-use Rattle.mdl_key.specs.Matrices.{clashes}
-use Rattle.mdl_key.specs.Classes.{class_of}
+use Rattle.mdl_key.specs.Words.{all_modes, clashes, class_of}
 
 -- a flag as a number
 abbrev pub bit : Bool → ℕ

@@ -5,8 +5,7 @@ use Rattle.std.specs.List.{join_by}
 use Rattle.mdl_key.specs.declared.namespace.Kind.{Kind}
 use Rattle.mdl_key.specs.declared.namespace.Kind.TheVariants.{Scoped, Object}
 use Rattle.mdl_key.specs.declared.mode.Mode.{Mode}
-use Rattle.mdl_key.specs.Matrices.{granted_conflicts, waiting_conflicts}
-use Rattle.mdl_key.specs.Modes.{all_modes, is_mode_of, mode_name}
+use Rattle.mdl_key.specs.Words.{granted_conflicts, waiting_conflicts, all_modes, is_mode_of, mode_name}
 use Rattle.mdlsim.specs.declared.matrix_run.Matrix.{Matrix}
 use Rattle.mdlsim.specs.declared.matrix_run.Matrix.TheVariants.{Granted, Waiting}
 

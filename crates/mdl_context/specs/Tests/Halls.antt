@@ -1,7 +1,6 @@
 -- Contexts of several sessions over one lock space, that of one thread.
 use Rattle.std.specs.Prelude.{◌≡◌, ℕ, ◌+◌, List, [], ◌∷◌}
-use Rattle.mdl_core.specs.Cores.{Core}
-use Rattle.mdl_core.specs.CoreJoins.{SpeaksFor, own_at, Knows}
+use Rattle.mdl_core.specs.Words.{Core, SpeaksFor, own_at, Knows}
 use Rattle.mdl_context.specs.Contexts.{ContextView, Attends}
 
 -- the contexts are those of the sessions from a number on, and the space serves each

@@ -4,9 +4,7 @@ use Rattle.std.specs.Prelude.{ℕ, Bool, true, false, Result, Ok, Err}
 use Rattle.mdl_key.specs.declared.mode.Mode.{Mode}
 use Rattle.mdl_key.specs.Keys.{KeyName}
 use Rattle.mdl_calls.specs.declared.space_error.SpaceError.{SpaceError}
-use Rattle.mdl_calls.specs.Calls.{Resolve, Try_now, Release}
-use Rattle.mdl_calls.specs.Answers.{Answer, Refused, Done, At_place, Granted, Would_wait}
-use Rattle.mdl_calls.specs.Runs.{Program, Give, Ask}
+use Rattle.mdl_calls.specs.Words.{Resolve, Try_now, Release, Answer, Refused, Done, At_place, Granted, Would_wait, Program, Give, Ask}
 
 -- the key's place is asked for, then a lock there, and what was granted is released
 abbrev pub visiting : ℕ → KeyName → Mode → Program Answer

@@ -3,8 +3,7 @@ ghost use Rattle.std.specs.Prelude.{◌≡◌, ℕ, is_some, true};
 ghost use Rattle.std.specs.FinSet as set;
 ghost use Rattle.std.specs.Option.{option_map};
 ghost use Rattle.mdl_book.specs.Tickets.{ticket_id};
-ghost use Rattle.mdl_core.specs.Cores.{has_key};
-ghost use Rattle.mdl_core.specs.Changes.{is_unsettled, next_ready, admitting_if, serving};
+ghost use Rattle.mdl_core.specs.Words.{has_key, is_unsettled, next_ready, admitting_if, serving};
 
 use crate::core_space::CoreSpace;
 use crate::granting::NO_FAST;

@@ -1,11 +1,9 @@
 //! A lock space for tests: one session, one key and one ticket at most, while another session comes and goes.
 ghost use Rattle.std.specs.Prelude.{◌≡◌, ◌+◌, false, MatchResult};
 ghost use Rattle.std.proofs.Common.{rules, refl, sym, ◌∙◌};
-ghost use Rattle.mdl_calls.specs.Calls.{Begin_wait};
-ghost use Rattle.mdl_calls.specs.Causes.{IsClear, IsCause};
-ghost use Rattle.mdl_space.specs.Tests.LoneSessions.{Lone, SpeaksFor, Knows, IsSettled, Joins, alone, numbering};
-ghost use Rattle.mdl_space.specs.Tests.LoneProofs.{held-at_one, wait-at_one, settled-how};
-ghost use Rattle.mdl_calls.specs.Own.{ticket_drawn, is_waiting};
+ghost use Rattle.mdl_calls.specs.Words.{Begin_wait, IsClear, IsCause, ticket_drawn, is_waiting};
+ghost use Rattle.mdl_calls.specs.Tests.LoneSessions.{Lone, LoneSpeaks, Knows, IsSettled, LoneJoins, alone, numbering};
+ghost use Rattle.mdl_calls.proofs.LoneLemmas.{held-at_one, wait-at_one, settled-how};
 
 use super::{LockSpace, Place, TicketId};
 use crate::{Attempt, Begun, Ended, Held, Poll, Search, Settled, SpaceError, TimedOut};
@@ -39,7 +37,7 @@ pub struct LoneSession {
 impl Model for LoneSession {
     ghost use Rattle.std.specs.Prelude.{◌≡◌, Option, Some, None};
     ghost use Rattle.std.specs.Option.{option_to_list, option_map, IfSome};
-    ghost use Rattle.mdl_space.specs.Tests.LoneSessions.{Lone, last_of};
+    ghost use Rattle.mdl_calls.specs.Tests.LoneSessions.{Lone, last_of};
 
     ghost Value = { Lone };
 
@@ -116,7 +114,7 @@ impl LoneSession {
 }
 
 impl LockSpace for LoneSession {
-    ghost speaks_for = { SpeaksFor };
+    ghost speaks_for = { LoneSpeaks };
 
     ghost own = { λ a _. a.own };
 
@@ -126,7 +124,7 @@ impl LockSpace for LoneSession {
 
     ghost numbers = { λ a _. a.numbers };
 
-    ghost joins = { Joins };
+    ghost joins = { LoneJoins };
 
     ghost allowed = { λ a b call answer j. j.allowed };
 

@@ -1,7 +1,6 @@
 -- The wait is settled, so it is ended, and a ticket that it still gained is held and released.
 use Rattle.std.proofs.Common.{refl, ap, ◌∙◌}
-use Rattle.mdl_calls.specs.Causes.{Knowledge}
-use Rattle.mdl_calls.specs.Own.{is_waiting, holds, giving_up, ending}
+use Rattle.mdl_calls.specs.Words.{Knowledge, is_waiting, holds, giving_up, ending}
 use Rattle.mdl_context.proofs.AttendLemmas.{known-still}
 use Rattle.mdl_context.proofs.SeekLemmas.{lost-otherwise, holds-won, won-given_up, abandon-lost}
 use Rattle.mdl_context.proofs.WaitLemmas.{is_ok-timed_out, told-timed_out, is_ok-ended}

@@ -2,9 +2,7 @@
 use Rattle.std.proofs.Common.{◌≡◌, ◌<◌, ◌-◌, ◌+◌, suc, false, Err, rules, refl, ◌∙◌, subst, arith}
 use Rattle.std.specs.Prelude.{◌==◌}
 use Rattle.std.proofs.lemmas.Bool.Decides.{nat_tests}
-use Rattle.mdl_calls.specs.Causes.{Knowledge}
-use Rattle.mdl_calls.specs.Runs.{Runs}
-use Rattle.mdl_calls.specs.Searches.{Cut_off, seeking, most_searches}
+use Rattle.mdl_calls.specs.Words.{Knowledge, Runs, Cut_off, seeking, most_searches}
 use Rattle.mdl_context.proofs.AttendLemmas.{known-still}
 use Rattle.mdl_context.proofs.SeekLemmas.{search-refused, seek-none, seek-lost, seek-failed, seek-on, seek-cut}
 use Rattle.mdl_context.proofs.searches.seek.Goals as goal

@@ -1,8 +1,7 @@
 -- To make the searches that are left from here is to make all from the start, and none of them changes what the session has.
 use Rattle.std.proofs.Common.{◌≡◌, ℕ, ◌-◌}
 use Rattle.mdl_key.specs.Keys.{KeyName}
-use Rattle.mdl_calls.specs.Runs.{Runs}
-use Rattle.mdl_calls.specs.Searches.{SearchEnd, seeking, most_searches}
+use Rattle.mdl_calls.specs.Words.{Runs, SearchEnd, seeking, most_searches}
 use Rattle.mdl_context.proofs.searches.seek.Given as goal
 
 abbrev pub invariant-loop-turn : goal.invariant-loop-turn

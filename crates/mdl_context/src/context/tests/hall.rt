@@ -1,7 +1,6 @@
 //! A lock space with the contexts of all its sessions.
 ghost use Rattle.std.specs.Prelude.{◌≡◌, ℕ, ◌≤◌, length, IfOk};
-ghost use Rattle.mdl_core.specs.Cores.{empty_core};
-ghost use Rattle.mdl_core.specs.CoreJoins.{SpeaksFor};
+ghost use Rattle.mdl_core.specs.Words.{empty_core, SpeaksFor};
 ghost use Rattle.mdl_context.specs.Tests.Halls.{AreServed};
 
 use super::acts::{Act, Reply, make};

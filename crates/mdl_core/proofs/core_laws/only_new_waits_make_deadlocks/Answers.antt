@@ -1,5 +1,5 @@
 -- By its lemma.
-use Rattle.mdl_core.proofs.DeadlockCauses.{only-new_waits}
+use Rattle.mdl_core.proofs.CallDeadlocks.{only-new_waits}
 use Rattle.mdl_core.proofs.core_laws.only_new_waits_make_deadlocks.Goals as goal
 
 pub returns : goal.returns

@@ -1,5 +1,5 @@
 -- By its lemma.
-use Rattle.mdl_core.proofs.DeadlockCauses.{searching-ends}
+use Rattle.mdl_core.proofs.CallDeadlocks.{searching-ends}
 use Rattle.mdl_core.proofs.core_laws.searching_ends_deadlocks.Goals as goal
 
 pub returns : goal.returns

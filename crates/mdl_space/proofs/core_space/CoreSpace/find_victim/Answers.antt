@@ -1,7 +1,6 @@
 -- The victim is a session.
 use Rattle.std.proofs.Common.{◌≡◌, Some, true, sym, ◌∙◌, arith}
-use Rattle.mdl_core.specs.Cores.{has_session}
-use Rattle.mdl_core.specs.CoreCalls.{victim_at}
+use Rattle.mdl_core.specs.Words.{has_session, victim_at}
 use Rattle.mdl_core.proofs.VictimLemmas.{victim-waits}
 use Rattle.mdl_space.proofs.ServingLemmas.{session-bounds}
 use Rattle.mdl_space.proofs.core_space.CoreSpace.find_victim.Goals as goal

@@ -2,9 +2,7 @@
 use Rattle.std.proofs.Common.{rules, ◌≡◌, ℕ, ◌≤◌, true, subst, sym, arith}
 use Rattle.std.proofs.lemmas.Bool.Decides.{nat_tests}
 use Rattle.std.proofs.lemmas.List.{length-replicate}
-use Rattle.mdl_core.specs.Seats.{empty_seat}
-use Rattle.mdl_core.specs.Cores.{Core, empty_core, has_session}
-use Rattle.mdl_core.specs.CoreJoins.{SpeaksFor}
+use Rattle.mdl_core.specs.Words.{empty_seat, Core, empty_core, has_session, SpeaksFor}
 use Rattle.mdl_core.proofs.CoreSound.{empty-sound}
 use Rattle.mdl_space.proofs.core_space.CoreSpace.new.Goals as goal
 

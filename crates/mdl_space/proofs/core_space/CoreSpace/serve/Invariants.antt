@@ -1,8 +1,7 @@
 -- What is left to be done leads to the same end.
 use Rattle.std.proofs.Common.{◌≡◌, ℕ, ◌-◌, true}
 use Rattle.std.specs.FinSet as set
-use Rattle.mdl_core.specs.Cores.{has_key}
-use Rattle.mdl_core.specs.Changes.{is_unsettled, admitting_up_to, serving}
+use Rattle.mdl_core.specs.Words.{has_key, is_unsettled, admitting_up_to, serving}
 use Rattle.mdl_space.proofs.core_space.CoreSpace.serve.Given as goal
 
 abbrev pub invariant-loop-turn : goal.invariant-loop-turn

@@ -6,9 +6,7 @@ use Rattle.std.specs.Option.{option_map}
 use Rattle.mdl_book.specs.Books as book
 use Rattle.mdl_book.specs.Tickets.{ticket_id}
 use Rattle.mdl_calls.specs.declared.answers.Settled.TheVariants as settled_as
-use Rattle.mdl_core.specs.Seats.{settling}
-use Rattle.mdl_core.specs.Cores.{Core, has_session, book_at, seat_at, booking, seating}
-use Rattle.mdl_core.specs.Changes.{is_unsettled, next_ready, admitting_if}
+use Rattle.mdl_core.specs.Words.{settling, Core, has_session, book_at, seat_at, booking, seating, is_unsettled, next_ready, admitting_if}
 use Rattle.mdl_space.proofs.ServingLemmas.{nobody, next-waits, next-has_session, next-is_some, next-admitted, is_ok_found, set-granted, session-bounds, book_here, seat_here, written}
 use Rattle.mdl_space.proofs.core_space.CoreSpace.serve_next.Goals as goal
 use Rattle.mdl_space.proofs.core_space.CoreSpace.serve_next.Goals.{After-remove, After-from-2}

@@ -1,8 +1,7 @@
 -- Each session that has a settled wait is put into the set.
 use Rattle.std.proofs.Common.{◌≡◌, ◌+◌, ◌-◌, ℕ, Bool, sym, ap, ◌∙◌, arith}
 use Rattle.std.proofs.lemmas.List.{get_or_default}
-use Rattle.mdl_core.specs.Seats.{SeatView, empty_seat, is_closed}
-use Rattle.mdl_core.specs.Cores.{seat_at}
+use Rattle.mdl_core.specs.Words.{SeatView, empty_seat, is_closed, seat_at}
 use Rattle.mdl_space.proofs.ServingLemmas.{set-empty, set-put, set-passed}
 use Rattle.mdl_space.proofs.core_space.CoreSpace.settled_sessions.Goals as goal
 use Rattle.mdl_space.proofs.core_space.CoreSpace.settled_sessions.Goals.{then-is_settled, else-is_settled}

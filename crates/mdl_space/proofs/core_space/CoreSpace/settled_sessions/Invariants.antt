@@ -1,8 +1,7 @@
 -- The sessions that were looked at, and whose waits are settled.
 use Rattle.std.proofs.Common.{◌≡◌, ℕ, ◌&&◌, nat_le}
 use Rattle.std.specs.FinSet as set
-use Rattle.mdl_core.specs.Seats.{is_closed}
-use Rattle.mdl_core.specs.Cores.{seat_at}
+use Rattle.mdl_core.specs.Words.{is_closed, seat_at}
 use Rattle.mdl_space.proofs.core_space.CoreSpace.settled_sessions.Given as goal
 
 abbrev pub invariant-loop-index : goal.invariant-loop-index

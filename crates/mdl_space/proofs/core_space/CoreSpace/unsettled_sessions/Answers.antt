@@ -1,8 +1,7 @@
 -- Each session that has an unsettled wait is put into the set.
 use Rattle.std.proofs.Common.{◌≡◌, ◌+◌, ◌-◌, ℕ, Bool, sym, ap, ◌∙◌, arith}
 use Rattle.std.proofs.lemmas.List.{get_or_default}
-use Rattle.mdl_core.specs.Seats.{SeatView, empty_seat, is_open}
-use Rattle.mdl_core.specs.Cores.{seat_at}
+use Rattle.mdl_core.specs.Words.{SeatView, empty_seat, is_open, seat_at}
 use Rattle.mdl_space.proofs.ServingLemmas.{set-empty, set-put, set-passed}
 use Rattle.mdl_space.proofs.core_space.CoreSpace.unsettled_sessions.Goals as goal
 use Rattle.mdl_space.proofs.core_space.CoreSpace.unsettled_sessions.Goals.{then-is_waiting, else-is_waiting}

@@ -4,19 +4,14 @@ use Rattle.std.proofs.Math.Bool.{or-false, and-not_self}
 use Rattle.std.proofs.lemmas.Bool.{false≢true}
 use Rattle.mdl_key.specs.Keys.{KeyName}
 use Rattle.mdl_calls.specs.declared.answers.TimedOut.TheVariants.{ByThisCall}
-use Rattle.mdl_calls.specs.Answers.{Answer, Done, Granted, Waits, Victim_is, Timed_out, Lost, Has_killed}
-use Rattle.mdl_calls.specs.Calls.{Call, Try_now, Begin_wait, Search, Settle_timeout, End_wait, Kill, Release, Clone_ticket}
+use Rattle.mdl_calls.specs.Words.{Answer, Done, Granted, Waits, Victim_is, Timed_out, Lost, Has_killed, Call, Try_now, Begin_wait, Search, Settle_timeout, End_wait, Kill, Release, Clone_ticket, Runs, Over, seeking}
 use Rattle.mdl_core.specs.CoreJoins.{Joins, SpeaksFor}
 use Rattle.mdl_core.specs.CoreLaws.{IsEventOf, GrantsInOrder}
 use Rattle.mdl_core.specs.Cores.{Core}
 use Rattle.mdl_core.specs.CoreSystems.{system_of}
 use Rattle.mdl_core.specs.SearchLaws.{begins_wait, OnlyNewWaitsMakeDeadlocks, SearchingEndsDeadlocks, WaitingLeavesNoDeadlock}
 use Rattle.mdl_system.specs.DeadlockLaws as events
-use Rattle.mdl_system.specs.Deadlocks.{DeadlocksGoThrough}
-use Rattle.mdl_calls.specs.Runs.{Runs}
-use Rattle.mdl_calls.specs.Searches.{Over, seeking}
-use Rattle.mdl_system.specs.Events.{Event, Run}
-use Rattle.mdl_system.specs.Systems.{System}
+use Rattle.mdl_system.specs.Words.{DeadlocksGoThrough, Event, Run, System}
 use Rattle.mdl_core.specs.Ties.{IsSound}
 use Rattle.mdl_core.proofs.CoreSound.{calls_are-events, calls_keep-sound}
 use Rattle.mdl_core.proofs.CoreNumbered.{sound-well_numbered}

@@ -6,11 +6,7 @@ use Rattle.mdl_key.specs.Keys.{KeyName}
 use Rattle.mdl_calls.specs.declared.answers.Held.{Held}
 use Rattle.mdl_calls.specs.declared.answers.Settled.{Settled}
 use Rattle.mdl_calls.specs.declared.answers.Settled.TheVariants.{Killed, Victim}
-use Rattle.mdl_calls.specs.Calls.{Call, Resolve, Search, End_wait, Wait_of, Kill, caller}
-use Rattle.mdl_calls.specs.Answers.{Answer, At_place, Victim_is, Has_wait, Has_killed, Holds, is_answer_of}
-use Rattle.mdl_calls.specs.Own.{Own, Numbers, own_after, wait_number, is_waiting, IsRising, Draws}
-use Rattle.mdl_calls.specs.Causes.{IsExplained}
-use Rattle.mdl_calls.specs.Waits.{told, IsToldOf}
+use Rattle.mdl_calls.specs.Words.{Call, Resolve, Search, End_wait, Wait_of, Kill, caller, Answer, At_place, Victim_is, Has_wait, Has_killed, Holds, is_answer_of, Own, Numbers, own_after, wait_number, is_waiting, IsRising, Draws, IsExplained, told, IsToldOf}
 
 -- what is known of such a space: its session and its key, what the session has, how its wait is settled,
 -- and the last numbers that its tickets and waits were given
@@ -53,8 +49,8 @@ pub record IsWhole (a : Lone) : Type 0 where
   pub wait : IfSome a.own.wait (λ wait. wait.place ≡ 1)
 
 -- the space speaks for its session
-abbrev pub SpeaksFor : Lone → ℕ → Type 0
-SpeaksFor a who = (who ≡ a.who) × IsWhole a
+abbrev pub LoneSpeaks : Lone → ℕ → Type 0
+LoneSpeaks a who = (who ≡ a.who) × IsWhole a
 
 -- its key is at place 1
 abbrev pub Knows : Lone → ℕ → ℕ → KeyName → Type 0
@@ -83,8 +79,8 @@ Stays call None after = Unit {0}
 Stays call before after = after ≡ before
 
 -- what every call and its answer keep to
-pub record Joins (a : Lone) (call : Call) (answer : Answer) (b : Lone) : Type 0 where
-  pub allowed : IfSome (caller call) (SpeaksFor a)
+pub record LoneJoins (a : Lone) (call : Call) (answer : Answer) (b : Lone) : Type 0 where
+  pub allowed : IfSome (caller call) (LoneSpeaks a)
   pub same : (b.who ≡ a.who) × (b.key ≡ a.key)
   pub changed : b.own ≡ own_after call answer a.own
   pub whole : IsWhole a → IsWhole b

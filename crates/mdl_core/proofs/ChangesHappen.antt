@@ -1,8 +1,7 @@
 -- Each change in the space of one thread is an event of the system of locks.
 use Rattle.std.proofs.Common.{◌≡◌, ◌≢◌, ℕ, true, inl, inr, List, Option, Some, None, refl, sym, ap, subst, ◌∙◌}
 use Rattle.std.specs.Option.{option_map}
-use Rattle.mdl_key.specs.Classes.{IsAtLeast}
-use Rattle.mdl_key.specs.Keys.{KeyName}
+use Rattle.mdl_key.specs.Words.{IsAtLeast, KeyName}
 use Rattle.mdl_book.specs.declared.ticket.Ticket.{Ticket}
 use Rattle.mdl_calls.specs.declared.answers.Settled.{Settled}
 use Rattle.mdl_calls.specs.declared.answers.Settled.TheVariants as settled_as
@@ -20,8 +19,7 @@ use Rattle.mdl_core.proofs.CoreGranted.{held-in, new_number}
 use Rattle.mdl_core.proofs.CoreUnended.{own-unended}
 use Rattle.mdl_core.proofs.CoreWaiting.{no_wait}
 use Rattle.mdl_core.proofs.Effects.{InOrder, turned}
-use Rattle.mdl_system.specs.Events.{SameMembers, Gains, Loses, LeavesOrder, SameElsewhere, SameSystem, ElseSame, Event, GrantWaiter, Happens, granted_wait}
-use Rattle.mdl_system.specs.Systems.{Unsettled, Waiter, System, lock_kind}
+use Rattle.mdl_system.specs.Words.{SameMembers, Gains, Loses, LeavesOrder, SameElsewhere, SameSystem, ElseSame, Event, GrantWaiter, Happens, granted_wait, Unsettled, Waiter, System, lock_kind}
 use Rattle.mdl_core.proofs.TiedWrites.{held_at}
 
 -- ---- what stays

@@ -2,7 +2,7 @@
 use Rattle.std.proofs.Common.{◌≡◌, ℕ, zero, suc, true, List, [], ◌∷◌, Option, Some, None, is_some, Contains, IfSome, sym, ap, subst, refl, ◌∙◌, arith}
 use Rattle.mdl_calls.specs.declared.answers.Held.{Held}
 use Rattle.mdl_calls.specs.declared.answers.Settled.{Settled}
-use Rattle.mdl_space.specs.Tests.LoneSessions.{Lone, IsSettled, AreAtOne}
+use Rattle.mdl_calls.specs.Tests.LoneSessions.{Lone, IsSettled, AreAtOne}
 use Rattle.mdl_calls.specs.Own.{Wait}
 
 -- each of the tickets is of place 1
