@@ -42,10 +42,6 @@ module _ (P : ℕ → KeyName → Type 0) where
   pub wish-none : (wait : Option Wanted) → wait ≡ None → IfSome wait (λ wanted. P wanted.place wanted.key)
   wish-none wait none = subst (λ w. IfSome w (λ wanted. P wanted.place wanted.key)) (sym none) tt
 
-  -- a wait for a ticket
-  pub wish-some : (wait : Option Wanted) (wanted : Wanted) → wait ≡ Some wanted → P wanted.place wanted.key → IfSome wait (λ wanted. P wanted.place wanted.key)
-  wish-some wait wanted some there = subst (λ w. IfSome w (λ wanted. P wanted.place wanted.key)) (sym some) there
-
   same-key : (place : ℕ) (ticket : Kept) (key : KeyName) → is_of key ticket ≡ true → P place ticket.key → P place key
   same-key place ticket key of there = subst (P place) ((key-Decides ticket.key key).0 of) there
 
@@ -160,23 +156,6 @@ module _ {S : Type 0} {speaks_for : S → ℕ → Type 0} {own : S → ℕ → O
     keys = λ k d inside. still _ _ (attends.keys k d inside);
     wish = IfSome_then context.wait attends.wish (λ wanted. still wanted.place wanted.key);
   }
-
-  -- the wait was given up
-  pub attends-abandoned : (a b : S) (before after : ContextView) → Attends speaks_for own knows a before → ((place : ℕ) (key : KeyName) → knows a before.who place key → knows b before.who place key)
-      → speaks_for b before.who → own b before.who ≡ ending (own a before.who) → after.who ≡ before.who → after.kept ≡ before.kept → after.wait ≡ None → Attends speaks_for own knows b after
-  attends-abandoned a b before after attends still speaks ended same kept wait = record {
-    speaks = subst (speaks_for b) (sym same) speaks;
-    serves = subst (λ who. Serves (own b who) after) (sym same) (serves-ending _ _ before after attends.serves ended kept wait);
-    keys = subst (λ who. All (λ ticket. knows b who ticket.place ticket.key) after.kept) (sym same)
-        (subst (All (λ ticket. knows b before.who ticket.place ticket.key)) (sym kept) (λ k d inside. still _ _ (attends.keys k d inside)));
-    wish = wish-none (knows b after.who) after.wait wait;
-  }
-
-  -- whether the searches are over changes nothing either
-  pub attends-awaiting : (space : S) (place : ℕ) (request : Request) (searched : Bool) (context after : ContextView) → Attends speaks_for own knows space (awaiting place request false context)
-      → after ≡ awaiting place request searched context → Attends speaks_for own knows space after
-  attends-awaiting space place request searched context after attends then = subst (Attends speaks_for own knows space) (sym then)
-      (record { speaks = attends.speaks; serves = record { held = attends.serves.held; wait = attends.serves.wait }; keys = attends.keys; wish = attends.wish })
 
   -- other durations
   pub attends-changed : (f : Kept → Kept) → ((t : Kept) → held_of (f t) ≡ held_of t) → ((t : Kept) → (f t).key ≡ t.key) → (space : S) (before after : ContextView) → after.who ≡ before.who

@@ -19,10 +19,6 @@ use Rattle.mdl_core.proofs.CoreReads.{within, found-at, found}
 use Rattle.mdl_core.proofs.CoreUnended.{own-unended, granted_of}
 use Rattle.mdl_system.proofs.MemberLemmas.{Contains-map_from}
 
--- the ticket that a session waits for, as it waits
-abbrev pub waiting_of : ℕ → Pending → Waiter
-waiting_of who wait = waiter_of (record { session = who; number = wait.id; mode = wait.mode }) (Some wait)
-
 -- ---- the book of a key
 
 -- each place has a key of its own

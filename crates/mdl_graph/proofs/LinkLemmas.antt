@@ -81,18 +81,6 @@ linked-push lasts pairs befores pair count inside is_count linked = record {
   ];
 }
 
-pub linked-none : (lasts : List ℕ) (pairs : Pairs) (befores : List ℕ) → ((key : ℕ) → slice_index lasts key ≡ 0) → pairs ≡ [] → befores ≡ []
-    → AreLinked lasts pairs befores
-linked-none lasts pairs befores zeros empty none = rw (empty, none) (record {
-  same = refl;
-  last = λ key. record {
-    inside = omega (arith, zeros key);
-    here = λ place is. absurd (omega (arith, zeros key, is));
-    none = λ place from before here. absurd (omega (arith, before));
-  };
-  before = λ place inside. absurd (omega (arith, inside));
-})
-
 -- ---- the way from the last pair under a key to its first
 
 -- whether one of the pairs from a place on is under a key and passes

@@ -134,14 +134,6 @@ module _ (waits : ℕ → ℕ → Bool) (from n : ℕ) (old new : List ℕ) (fro
 
 -- ---- the beginning and the end
 
--- where nothing was found yet
-pub searched_none : (waits : ℕ → ℕ → Bool) (from : ℕ) (levels : List ℕ) → ((session : ℕ) → level_of levels session ≡ 0) → IsSearched waits from levels 0
-searched_none waits from levels none = record {
-  sound = λ session m is. absurd (omega (arith, none session, is));
-  within = λ session. omega (arith, none session);
-  best = λ m next session near at waiting. absurd (omega arith);
-}
-
 -- where the session that was asked for was reached
 pub over_found : (waits : ℕ → ℕ → Bool) (from : ℕ) (levels : List ℕ) (n : ℕ) → IsSearched waits from levels n
     → 0 < level_of levels from → IsOver waits from levels

@@ -54,9 +54,6 @@ next_found test i n session inside none passes =
     let found : first_below test n ≡ Some i = subst (λ (k : ℕ). first_below test k ≡ Some i) whole (first_found test i more none passes) in
     sym (ap (λ (o : Option ℕ). unwrap_or o session) found)
 
-pub first_none : (test : ℕ → Bool) (i : ℕ) → first_below test i ≡ None → test i ≡ false → first_below test (suc i) ≡ None
-first_none test i none fails = rw (none, fails) refl
-
 pub length_walk : (waits : ℕ → ℕ → Bool) (from : ℕ) (levels : List ℕ) (n session : ℕ) → length (walk waits from levels n session) ≡ n
 length_walk waits from levels zero session = refl
 length_walk waits from levels (suc n) session = ap suc (length_walk waits from levels n (next_of waits from levels n session))

@@ -64,16 +64,6 @@ module _ (search : Search) (path : List ℕ) (last most : ℕ) where
     λ other way. nothing_before other,
   )
 
-  -- no session is left to go on with
-  pub no_way_on : search.waits last search.from ≡ false → most ≡ 0 → IsChosenOf (IsWay search path last most) None
-  no_way_on apart none [] way = false≢true (sym apart ∙ way.leading)
-  no_way_on apart none (next ∷ rest) way = absurd (omega (arith, none, way.short))
-
-  -- no next one was tried yet
-  pub none_tried : IsChosenOf (IsWayBy search path last most []) None
-  none_tried [] way = way
-  none_tried (next ∷ rest) way = way.0
-
   -- all were tried
   from_tried : search.waits last search.from ≡ false → (list : List ℕ) → IsWay search path last most list → IsWayBy search path last most search.sessions list
   from_tried apart [] way = absurd (false≢true (sym apart ∙ way.leading))

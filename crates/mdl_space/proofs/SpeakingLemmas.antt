@@ -45,9 +45,6 @@ itself : (who : ℕ) (ticket : Held) → is_ticket who ticket.id (in_book_of who
 itself who ticket = grind (arith, nat_tests)
 
 module _ (core : Core) (who : ℕ) (speaks : SpeaksFor core who) where
-  pub held-rising : IsTrue (are_rising (seat_at who core).held)
-  held-rising = (speaks.1.tied.numbered who speaks.0).rising
-
   module _ (id : ℕ) (ticket : Held) (found : find (is_number id) (seat_at who core).held ≡ Some ticket) where
     has_found : Has (seat_at who core) ticket
     has_found = inl (found_among (is_number id) (seat_at who core).held ticket found)

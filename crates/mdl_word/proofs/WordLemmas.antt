@@ -24,21 +24,11 @@ module _ {word a b c : ℕ} {slow obtrusive : Bool} (e : Encodes word a b c slow
   pub first_of : word % 1048576 ≡ a
   first_of = omega (arith, bit-lt slow, bit-lt obtrusive)
 
-  pub second_of : word / 1048576 % 1048576 ≡ b
-  second_of = omega (arith, bit-lt slow, bit-lt obtrusive)
-
-  pub third_of : word / 1099511627776 % 1048576 ≡ c
-  third_of = omega (arith, bit-lt slow, bit-lt obtrusive)
-
   pub slow_of : (word / 1152921504606846976 % 2 == 1) ≡ slow
   slow_of = let is : word / 1152921504606846976 % 2 ≡ bit slow = omega (arith, bit-lt slow, bit-lt obtrusive) in ap (λ n. n == 1) is ∙ bit-eq slow
 
   pub obtrusive_of : (word / 2305843009213693952 % 2 == 1) ≡ obtrusive
   obtrusive_of = let is : word / 2305843009213693952 % 2 ≡ bit obtrusive = omega (arith, bit-lt slow, bit-lt obtrusive) in ap (λ n. n == 1) is ∙ bit-eq obtrusive
-
-  -- bits 62 and 63 are zero
-  pub word_fits : word < 4611686018427387904
-  word_fits = omega (arith, bit-lt slow, bit-lt obtrusive)
 
   -- ---- adding and subtracting tickets of each class
 

@@ -16,9 +16,3 @@ pub appends_more : (a b c : Option (List ℕ)) (text : List ℕ) (done count : �
 appends_more a b c text done count p q =
     let e : take (done + count) text ≡ take done text ++ take count (drop done text) = take-add done count text in
     rw e (appends_both a b c (take done text) (take count (drop done text)) p q)
-
--- what was written, and then nothing more, where that is not all of the text
-pub appends_none : (a b c : Option (List ℕ)) (text : List ℕ) (done : ℕ) → done < length text → Appends a b (take done text) → Appends b c []
-    → AppendsPart a c text
-appends_none a b c text done less p q =
-    (done, less, let e = append-nil (take done text) in let P : List ℕ → Type 0 = λ xs. Appends a c xs in subst P e (appends_both a b c (take done text) [] p q))
