@@ -261,6 +261,3 @@ fn take_ticket(tickets: &mut TicketList, session: u16, number: u64) -> Result<Ti
 {
     tickets.take(session, number).ok_or(BookError::NotHere)
 }
-
-#[cfg(test)]
-mod tests;

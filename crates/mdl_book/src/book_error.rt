@@ -17,28 +17,3 @@ pub enum BookError {
     #[error("out of memory")]
     OutOfMemory,
 }
-
-#[cfg(test)]
-mod tests {
-    use super::*;
-    use std::test::Fail;
-
-    #[test]
-    fn tells_each_cause(rt: HostRuntime) -> Result<(), Fail> {
-        for (error, text) in [
-            (BookError::NotHere, "no such ticket"),
-            (
-                BookError::WouldConflict,
-                "another session holds the lock in a mode that conflicts",
-            ),
-            (
-                BookError::Full,
-                "the lock has as many tickets as it can have",
-            ),
-            (BookError::OutOfMemory, "out of memory"),
-        ] {
-            assert_eq!(rt; error.to_string(rt.alloc())?.as_str(), text);
-        }
-        Ok(())
-    }
-}

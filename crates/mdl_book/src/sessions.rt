@@ -78,32 +78,3 @@ impl Sessions {
         words[usize::from(place / 64)] &= !(1 << (place % 64));
     }
 }
-
-#[cfg(test)]
-mod tests {
-    use super::*;
-
-    #[test]
-    fn puts_in_and_takes_out(rt: HostRuntime) {
-        let mut sessions = Sessions::new();
-        assert!(rt; !sessions.contains(1));
-        for session in [1, 64, 65, 1024] {
-            sessions.insert(session);
-            assert!(rt; sessions.contains(session), "put in {session}");
-        }
-        for session in [0, 2, 63, 66, 1023, 1025] {
-            assert!(rt; !sessions.contains(session), "never put in {session}");
-        }
-        sessions.remove(64);
-        assert!(rt; !sessions.contains(64));
-        assert!(rt; sessions.contains(65));
-    }
-
-    #[test]
-    fn holds_every_session(rt: HostRuntime) {
-        let sessions = Sessions::all();
-        for (session, want) in [(0, false), (1, true), (1024, true), (1025, false)] {
-            assert_eq!(rt; sessions.contains(session), want, "at {session}");
-        }
-    }
-}

@@ -182,6 +182,3 @@ fn place_of(tickets: &[Ticket], session: u16, number: u64) -> Option<usize>
 {
     tickets.iter().position(|ticket| ticket.session == session && ticket.number == number)
 }
-
-#[cfg(test)]
-mod tests;

@@ -55,39 +55,3 @@ pub enum SpaceError {
     #[error("the place is in use")]
     InUse,
 }
-
-#[cfg(test)]
-mod tests {
-    use super::*;
-    use std::test::Fail;
-
-    #[test]
-    fn tells_each_cause(rt: HostRuntime) -> Result<(), Fail> {
-        for (error, text) in [
-            (SpaceError::NoPlace, "no such place"),
-            (SpaceError::NotHeld, "no such ticket is held"),
-            (
-                SpaceError::NotUpgradable,
-                "the held mode can't be changed so",
-            ),
-            (SpaceError::NotExclusive, "not locked exclusively"),
-            (SpaceError::AlreadyWaiting, "the session has a wait"),
-            (SpaceError::BadMode, "not a mode that the ticket can have"),
-            (SpaceError::VersionFull, "no version is left"),
-            (SpaceError::NoWait, "the session has no wait"),
-            (SpaceError::Unsettled, "the wait isn't settled"),
-            (SpaceError::CounterFull, "no number is left"),
-            (
-                SpaceError::Full,
-                "the lock has as many tickets as it can have",
-            ),
-            (SpaceError::Def(DefError::Exists), "already exists"),
-            (SpaceError::WrongKind, "no definition for such a key"),
-            (SpaceError::OutOfMemory, "out of memory"),
-            (SpaceError::InUse, "the place is in use"),
-        ] {
-            assert_eq!(rt; error.to_string(rt.alloc())?.as_str(), text);
-        }
-        Ok(())
-    }
-}

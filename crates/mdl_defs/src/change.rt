@@ -120,6 +120,3 @@ fn table(columns: Result<Columns, AllocError>) -> Result<Option<Definition>, Def
         Err(AllocError) => Err(DefError::OutOfMemory),
     }
 }
-
-#[cfg(test)]
-mod tests;

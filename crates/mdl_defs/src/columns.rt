@@ -175,39 +175,3 @@ impl PartialEq for Columns {
 impl Eq for Columns {
     ghost laws = { Prim.search (comparing, rules) depth 9 };
 }
-
-#[cfg(test)]
-mod tests {
-    use super::*;
-    use std::test::Fail;
-
-    #[test]
-    fn names_columns(rt: HostRuntime) -> Result<(), Fail> {
-        let alloc = rt.alloc();
-        assert_eq!(rt; Column::new(alloc, "a_1")?.name(), "a_1");
-        for (name, want) in [("", KeyError::EmptyName), ("aB", KeyError::BadByte(1))] {
-            assert_eq!(rt; Column::new(alloc, name).err(), Some(want), "name {name}");
-        }
-        Ok(())
-    }
-
-    #[test]
-    fn keeps_columns_in_order(rt: HostRuntime) -> Result<(), Fail> {
-        let alloc = rt.alloc();
-        let mut columns = Columns::new(alloc);
-        assert_eq!(rt; columns.as_slice().len(), 0);
-        let mut shorter = columns.clone()?;
-        for name in ["y", "x", "y"] {
-            columns.push(Column::new(alloc, name)?)?;
-            assert!(rt; columns != shorter, "{name}");
-            shorter = columns.clone()?;
-            assert!(rt; columns == shorter, "{name}");
-        }
-        let [first, second, third] = columns.as_slice() else {
-            panic!(rt; "three columns");
-        };
-        assert!(rt; first == third && first != second);
-        assert_eq!(rt; second.name(), "x");
-        Ok(())
-    }
-}

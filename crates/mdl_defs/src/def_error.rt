@@ -33,29 +33,3 @@ pub enum DefError {
     #[error("out of memory")]
     OutOfMemory,
 }
-
-#[cfg(test)]
-mod tests {
-    use super::*;
-    use std::test::Fail;
-
-    #[test]
-    fn tells_each_cause(rt: HostRuntime) -> Result<(), Fail> {
-        for (error, text) in [
-            (DefError::Exists, "already exists"),
-            (DefError::Missing, "doesn't exist"),
-            (DefError::DuplicateColumn, "duplicate column name"),
-            (DefError::NoColumn, "no such column"),
-            (DefError::LastColumn, "a table can't lose its last column"),
-            (DefError::ManyColumns, "more than 64 columns"),
-            (
-                DefError::WrongKind,
-                "columns where none can be, or none where some have to be",
-            ),
-            (DefError::OutOfMemory, "out of memory"),
-        ] {
-            assert_eq!(rt; error.to_string(rt.alloc())?.as_str(), text);
-        }
-        Ok(())
-    }
-}

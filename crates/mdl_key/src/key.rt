@@ -243,6 +243,3 @@ fn text(alloc: Global, name: &str) -> Result<String, KeyError>
         Err(AllocError) => Err(KeyError::OutOfMemory),
     }
 }
-
-#[cfg(test)]
-mod tests;

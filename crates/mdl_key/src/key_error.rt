@@ -17,22 +17,3 @@ pub enum KeyError {
     #[error("out of memory")]
     OutOfMemory,
 }
-
-#[cfg(test)]
-mod tests {
-    use super::*;
-    use std::test::Fail;
-
-    #[test]
-    fn tells_each_cause(rt: HostRuntime) -> Result<(), Fail> {
-        for (error, text) in [
-            (KeyError::EmptyName, "empty name"),
-            (KeyError::LongName, "name of more than 64 bytes"),
-            (KeyError::BadByte(3), "bad byte at 3 of a name"),
-            (KeyError::OutOfMemory, "out of memory"),
-        ] {
-            assert_eq!(rt; error.to_string(rt.alloc())?.as_str(), text);
-        }
-        Ok(())
-    }
-}

@@ -47,6 +47,3 @@ fn contains(modes: u16, mode: Mode) -> bool
 {
     (modes >> mode as u32) & 1 == 1
 }
-
-#[cfg(test)]
-mod tests;

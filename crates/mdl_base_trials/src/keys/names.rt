@@ -1,4 +1,8 @@
-use super::*;
+//! Keys: what they are made of, and how they are refused, compared and printed.
+use crate::texts::is_printed;
+use mdl_key::{Key, KeyError, Kind, Namespace, check_name};
+use std::alloc::Global;
+use std::cmp::Ordering;
 
 // The longest name, and two that are longer, the last of which has a bad byte as well.
 const LONGEST: &str = "0123456789_abcdefghijklmnopqrstuvwxyz_0123456789_abcdefghijklmno";
@@ -20,34 +24,32 @@ fn key_of(alloc: Global, (namespace, schema, table): Name) -> Result<Key, KeyErr
     }
 }
 
-// Whether a key has its names, and is written so.
-fn is_named(alloc: Global, name: Name, text: &str) -> bool {
+// Whether a key has its names, is of this kind, and is printed so.
+fn is_named(alloc: Global, name: Name, kind: Kind, text: &str) -> bool {
     match key_of(alloc, name) {
         Ok(key) => key.namespace() == name.0
-            && key.kind() == name.0.kind()
+            && key.kind() == kind
+            && name.0.kind() == kind
             && key.schema_name() == name.1
             && key.table_name() == name.2
-            && is_written(alloc, &key, text),
-        Err(_) => false,
-    }
-}
-
-fn is_written(alloc: Global, key: &Key, text: &str) -> bool {
-    match key.to_string(alloc) {
-        Ok(written) => written.as_str() == text,
+            && is_printed(alloc, &key, text),
         Err(_) => false,
     }
 }
 
 #[test]
 fn names_locks(rt: HostRuntime) {
-    for (name, text) in [
-        ((Namespace::Global, "", ""), "GLOBAL"),
-        ((Namespace::Schema, "test", ""), "SCHEMA test"),
-        ((Namespace::Table, "test", "t_1"), "TABLE test.t_1"),
-        ((Namespace::Commit, "", ""), "COMMIT"),
+    for (name, kind, text) in [
+        ((Namespace::Global, "", ""), Kind::Scoped, "GLOBAL"),
+        ((Namespace::Schema, "test", ""), Kind::Scoped, "SCHEMA test"),
+        (
+            (Namespace::Table, "test", "t_1"),
+            Kind::Object,
+            "TABLE test.t_1",
+        ),
+        ((Namespace::Commit, "", ""), Kind::Scoped, "COMMIT"),
     ] {
-        assert!(rt; is_named(rt.alloc(), name, text), "{text}");
+        assert!(rt; is_named(rt.alloc(), name, kind, text), "{text}");
     }
 }
 
@@ -95,11 +97,8 @@ fn looks_at_the_schema_first(rt: HostRuntime) {
         ("abc.", ".", KeyError::BadByte(3)),
         ("abc", "", KeyError::EmptyName),
     ] {
-        assert_eq!(rt;
-            refusal(rt.alloc(), (Namespace::Table, schema, table)),
-            Some(want),
-            "{schema} and {table}"
-        );
+        let found = refusal(rt.alloc(), (Namespace::Table, schema, table));
+        assert!(rt; found == Some(want), "{schema} and {table}");
     }
 }
 
@@ -145,5 +144,17 @@ fn stands_in_order(rt: HostRuntime) {
             assert!(rt; are_ordered(rt.alloc(), *a, *b, i.cmp(&j)), "{i} and {j}");
         }
         assert!(rt; is_copied(rt.alloc(), *a), "{i}");
+    }
+}
+
+#[test]
+fn tells_each_cause(rt: HostRuntime) {
+    for (error, text) in [
+        (KeyError::EmptyName, "empty name"),
+        (KeyError::LongName, "name of more than 64 bytes"),
+        (KeyError::BadByte(3), "bad byte at 3 of a name"),
+        (KeyError::OutOfMemory, "out of memory"),
+    ] {
+        assert!(rt; is_printed(rt.alloc(), &error, text), "{text}");
     }
 }

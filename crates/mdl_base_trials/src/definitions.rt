@@ -1,0 +1,235 @@
+//! Definitions and their changes.
+mod columns;
+
+use crate::texts::is_printed;
+use columns::{Names, columns};
+use mdl_defs::{Change, Column, DefError, Definition, apply};
+use std::alloc::Global;
+use std::test::Fail;
+
+// A definition to be: a schema, or a table of these columns.
+#[derive(Clone, Copy)]
+enum What {
+    Schema,
+    Table(Names),
+}
+
+// A change to be.
+#[derive(Clone, Copy)]
+enum Act {
+    Create(What),
+    Drop,
+    Put(What),
+    Add(&'static str),
+    Lose(&'static str),
+}
+
+// Tables of some columns, and of many.
+const NONE: What = What::Table(Names::These(&[]));
+
+const X: What = What::Table(Names::These(&["x"]));
+
+const Y: What = What::Table(Names::These(&["y"]));
+
+const X_Y: What = What::Table(Names::These(&["x", "y"]));
+
+const Y_X: What = What::Table(Names::These(&["y", "x"]));
+
+const Y_Y: What = What::Table(Names::These(&["y", "y"]));
+
+const C63: What = What::Table(Names::Numbered(63, &[]));
+
+const C64: What = What::Table(Names::Numbered(64, &[]));
+
+const C65: What = What::Table(Names::Numbered(65, &[]));
+
+// What stands, a change, and what stands after it or why it is refused.
+type Row = (Option<What>, Act, Result<Option<What>, DefError>);
+
+const CREATED: &[Row] = &[
+    (None, Act::Create(What::Schema), Ok(Some(What::Schema))),
+    (None, Act::Create(X), Ok(Some(X))),
+    (None, Act::Create(Y_X), Ok(Some(Y_X))),
+    (None, Act::Create(C64), Ok(Some(C64))),
+    (None, Act::Create(C65), Err(DefError::ManyColumns)),
+    (
+        None,
+        Act::Create(What::Table(Names::Numbered(65, &["c7"]))),
+        Err(DefError::DuplicateColumn),
+    ),
+    (
+        None,
+        Act::Create(What::Table(Names::These(&["x", "y", "x"]))),
+        Err(DefError::DuplicateColumn),
+    ),
+    (None, Act::Create(NONE), Err(DefError::WrongKind)),
+    (
+        Some(What::Schema),
+        Act::Create(What::Schema),
+        Err(DefError::Exists),
+    ),
+    (Some(What::Schema), Act::Create(X), Err(DefError::Exists)),
+    (Some(What::Schema), Act::Create(NONE), Err(DefError::Exists)),
+    (Some(X), Act::Create(X), Err(DefError::Exists)),
+    (Some(X), Act::Create(Y_Y), Err(DefError::Exists)),
+    (Some(X), Act::Create(C65), Err(DefError::Exists)),
+];
+
+const DROPPED_AND_PUT: &[Row] = &[
+    (None, Act::Drop, Err(DefError::Missing)),
+    (Some(What::Schema), Act::Drop, Ok(None)),
+    (Some(X_Y), Act::Drop, Ok(None)),
+    (None, Act::Put(What::Schema), Ok(Some(What::Schema))),
+    (None, Act::Put(X), Ok(Some(X))),
+    (
+        Some(What::Schema),
+        Act::Put(What::Schema),
+        Ok(Some(What::Schema)),
+    ),
+    (Some(What::Schema), Act::Put(X), Ok(Some(X))),
+    (Some(X), Act::Put(What::Schema), Ok(Some(What::Schema))),
+    (
+        Some(X_Y),
+        Act::Put(What::Table(Names::These(&["z", "x"]))),
+        Ok(Some(What::Table(Names::These(&["z", "x"])))),
+    ),
+    (Some(X), Act::Put(C64), Ok(Some(C64))),
+    (Some(X), Act::Put(C65), Err(DefError::ManyColumns)),
+    (
+        Some(X),
+        Act::Put(What::Table(Names::Numbered(65, &["c65"]))),
+        Err(DefError::DuplicateColumn),
+    ),
+    (Some(X), Act::Put(Y_Y), Err(DefError::DuplicateColumn)),
+    (Some(X), Act::Put(NONE), Err(DefError::WrongKind)),
+];
+
+const GAINED_AND_LOST: &[Row] = &[
+    (None, Act::Add("x"), Err(DefError::Missing)),
+    (Some(What::Schema), Act::Add("x"), Err(DefError::WrongKind)),
+    (Some(X), Act::Add("x"), Err(DefError::DuplicateColumn)),
+    (Some(X_Y), Act::Add("y"), Err(DefError::DuplicateColumn)),
+    (
+        Some(X),
+        Act::Add("a"),
+        Ok(Some(What::Table(Names::These(&["x", "a"])))),
+    ),
+    (
+        Some(Y_X),
+        Act::Add("b"),
+        Ok(Some(What::Table(Names::These(&["y", "x", "b"])))),
+    ),
+    (Some(C63), Act::Add("c64"), Ok(Some(C64))),
+    (Some(C64), Act::Add("c65"), Err(DefError::ManyColumns)),
+    (Some(C64), Act::Add("c9"), Err(DefError::DuplicateColumn)),
+    (None, Act::Lose("x"), Err(DefError::Missing)),
+    (Some(What::Schema), Act::Lose("x"), Err(DefError::WrongKind)),
+    (Some(X_Y), Act::Lose("z"), Err(DefError::NoColumn)),
+    (Some(X), Act::Lose("z"), Err(DefError::NoColumn)),
+    (Some(X), Act::Lose("x"), Err(DefError::LastColumn)),
+    (Some(X_Y), Act::Lose("x"), Ok(Some(Y))),
+    (
+        Some(What::Table(Names::These(&["x", "y", "z"]))),
+        Act::Lose("y"),
+        Ok(Some(What::Table(Names::These(&["x", "z"])))),
+    ),
+    (Some(C64), Act::Lose("c64"), Ok(Some(C63))),
+];
+
+fn definition(alloc: Global, what: What) -> Result<Definition, Fail> {
+    match what {
+        What::Schema => Ok(Definition::Schema),
+        What::Table(names) => Ok(Definition::Table(columns(alloc, names)?)),
+    }
+}
+
+fn standing(alloc: Global, what: Option<What>) -> Result<Option<Definition>, Fail> {
+    match what {
+        Some(what) => Ok(Some(definition(alloc, what)?)),
+        None => Ok(None),
+    }
+}
+
+fn change(alloc: Global, act: Act) -> Result<Change, Fail> {
+    match act {
+        Act::Create(what) => Ok(Change::Create(definition(alloc, what)?)),
+        Act::Drop => Ok(Change::Drop),
+        Act::Put(what) => Ok(Change::Put(definition(alloc, what)?)),
+        Act::Add(name) => Ok(Change::AddColumn(Column::new(alloc, name)?)),
+        Act::Lose(name) => Ok(Change::DropColumn(Column::new(alloc, name)?)),
+    }
+}
+
+// Whether a change of what stands makes of it what its row says.
+fn is_changed_so(alloc: Global, (before, act, want): Row) -> Result<bool, Fail> {
+    let before = standing(alloc, before)?;
+    let change = change(alloc, act)?;
+    match (apply(alloc, &before, &change), want) {
+        (Ok(after), Ok(wanted)) => Ok(after == standing(alloc, wanted)?),
+        (Err(cause), Err(wanted)) => Ok(cause == wanted),
+        _ => Ok(false),
+    }
+}
+
+#[test]
+fn changes_what_stands(rt: HostRuntime) -> Result<(), Fail> {
+    for rows in [CREATED, DROPPED_AND_PUT, GAINED_AND_LOST] {
+        for (place, row) in rows.iter().enumerate() {
+            assert!(rt;
+                is_changed_so(rt.alloc(), *row)?,
+                "row {place} of {}",
+                rows.len()
+            );
+        }
+    }
+    Ok(())
+}
+
+// Changes no two of which are the same.
+const DIFFERENT: [Act; 9] = [
+    Act::Drop,
+    Act::Create(What::Schema),
+    Act::Create(X),
+    Act::Put(What::Schema),
+    Act::Put(X),
+    Act::Put(X_Y),
+    Act::Add("x"),
+    Act::Add("y"),
+    Act::Lose("x"),
+];
+
+// Whether the copy of a change is the same, and the changes are equal as is wanted.
+fn compares(alloc: Global, a: Act, b: Act, equal: bool) -> Result<bool, Fail> {
+    let a = change(alloc, a)?;
+    let b = change(alloc, b)?;
+    Ok(a.clone()? == a && (a == b) == equal)
+}
+
+#[test]
+fn copies_are_equal(rt: HostRuntime) -> Result<(), Fail> {
+    for (i, a) in DIFFERENT.iter().enumerate() {
+        for (j, b) in DIFFERENT.iter().enumerate() {
+            assert!(rt; compares(rt.alloc(), *a, *b, i == j)?, "{i} and {j}");
+        }
+    }
+    Ok(())
+}
+
+#[test]
+fn tells_each_cause(rt: HostRuntime) {
+    for (error, text) in [
+        (DefError::Exists, "already exists"),
+        (DefError::Missing, "doesn't exist"),
+        (DefError::DuplicateColumn, "duplicate column name"),
+        (DefError::NoColumn, "no such column"),
+        (DefError::LastColumn, "a table can't lose its last column"),
+        (DefError::ManyColumns, "more than 64 columns"),
+        (
+            DefError::WrongKind,
+            "columns where none can be, or none where some have to be",
+        ),
+        (DefError::OutOfMemory, "out of memory"),
+    ] {
+        assert!(rt; is_printed(rt.alloc(), &error, text), "{text}");
+    }
+}

@@ -1,0 +1,4 @@
+//! Modes, the matrices and keys.
+mod matrices;
+mod modes;
+mod names;

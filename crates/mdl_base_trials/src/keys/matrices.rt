@@ -1,0 +1,154 @@
+//! The matrices as they are printed, and strength by them.
+use mdl_key::{
+    Kind, Mode, at_least, conflicts_granted, conflicts_waiting, granted_row, obtrusive_row,
+    waiting_row,
+};
+
+// The matrices of MySQL 5.7, sql/mdl.cc: a kind, the mode asked for, the modes that clash with it where they are granted, and
+// those that it waits behind.
+type Row = (Kind, Mode, &'static [Mode], &'static [Mode]);
+
+const ROWS: [Row; 13] = [
+    (
+        Kind::Scoped,
+        Mode::IX,
+        &[Mode::S, Mode::X],
+        &[Mode::S, Mode::X],
+    ),
+    (Kind::Scoped, Mode::S, &[Mode::IX, Mode::X], &[Mode::X]),
+    (Kind::Scoped, Mode::X, &[Mode::IX, Mode::S, Mode::X], &[]),
+    (Kind::Object, Mode::S, &[Mode::X], &[Mode::X]),
+    (Kind::Object, Mode::SH, &[Mode::X], &[]),
+    (
+        Kind::Object,
+        Mode::SR,
+        &[Mode::SNRW, Mode::X],
+        &[Mode::SNRW, Mode::X],
+    ),
+    (
+        Kind::Object,
+        Mode::SW,
+        &[Mode::SRO, Mode::SNW, Mode::SNRW, Mode::X],
+        &[Mode::SNW, Mode::SNRW, Mode::X],
+    ),
+    (
+        Kind::Object,
+        Mode::SWLP,
+        &[Mode::SRO, Mode::SNW, Mode::SNRW, Mode::X],
+        &[Mode::SRO, Mode::SNW, Mode::SNRW, Mode::X],
+    ),
+    (
+        Kind::Object,
+        Mode::SU,
+        &[Mode::SU, Mode::SNW, Mode::SNRW, Mode::X],
+        &[Mode::X],
+    ),
+    (
+        Kind::Object,
+        Mode::SRO,
+        &[Mode::SW, Mode::SWLP, Mode::SNRW, Mode::X],
+        &[Mode::SW, Mode::SNRW, Mode::X],
+    ),
+    (
+        Kind::Object,
+        Mode::SNW,
+        &[
+            Mode::SW,
+            Mode::SWLP,
+            Mode::SU,
+            Mode::SNW,
+            Mode::SNRW,
+            Mode::X,
+        ],
+        &[Mode::X],
+    ),
+    (
+        Kind::Object,
+        Mode::SNRW,
+        &[
+            Mode::SR,
+            Mode::SW,
+            Mode::SWLP,
+            Mode::SU,
+            Mode::SRO,
+            Mode::SNW,
+            Mode::SNRW,
+            Mode::X,
+        ],
+        &[Mode::X],
+    ),
+    (
+        Kind::Object,
+        Mode::X,
+        &[
+            Mode::S,
+            Mode::SH,
+            Mode::SR,
+            Mode::SW,
+            Mode::SWLP,
+            Mode::SU,
+            Mode::SRO,
+            Mode::SNW,
+            Mode::SNRW,
+            Mode::X,
+        ],
+        &[],
+    ),
+];
+
+// Whether the matrices have this row.
+fn have_row((kind, ask, granted, waiting): Row) -> bool {
+    for mode in Mode::ALL {
+        if conflicts_granted(kind, ask, mode) != granted.contains(&mode)
+            || conflicts_waiting(kind, ask, mode) != waiting.contains(&mode)
+        {
+            return false;
+        }
+    }
+    true
+}
+
+#[test]
+fn each_entry_is_as_in_the_table(rt: HostRuntime) {
+    for row in ROWS {
+        assert!(rt; have_row(row), "{} of {:?}", row.1, row.0);
+    }
+}
+
+#[test]
+fn rows_are_bit_maps(rt: HostRuntime) {
+    for (found, wanted) in [
+        (granted_row(Kind::Scoped, Mode::IX), 0b100_0000_0010),
+        (waiting_row(Kind::Scoped, Mode::S), 0b100_0000_0000),
+        (granted_row(Kind::Object, Mode::SR), 0b110_0000_0000),
+        (waiting_row(Kind::Object, Mode::SRO), 0b110_0001_0000),
+        (obtrusive_row(Kind::Scoped), 0b111_1111_1110),
+        (obtrusive_row(Kind::Object), 0b111_1100_0001),
+    ] {
+        assert_eq!(rt; found, wanted);
+    }
+}
+
+// Two modes of a kind, and whether each is at least as strong as the other.
+const STRENGTH: [(Kind, Mode, Mode, bool, bool); 10] = [
+    (Kind::Object, Mode::SU, Mode::SR, true, false),
+    (Kind::Object, Mode::SNRW, Mode::SRO, true, false),
+    (Kind::Object, Mode::SNW, Mode::SRO, true, false),
+    (Kind::Object, Mode::SU, Mode::SW, false, false),
+    (Kind::Object, Mode::SU, Mode::SRO, false, false),
+    (Kind::Object, Mode::S, Mode::SH, true, true),
+    (Kind::Object, Mode::SW, Mode::SWLP, true, true),
+    (Kind::Object, Mode::X, Mode::SNRW, true, false),
+    (Kind::Scoped, Mode::S, Mode::IX, false, false),
+    (Kind::Scoped, Mode::X, Mode::S, true, false),
+];
+
+#[test]
+fn compares_modes_by_strength(rt: HostRuntime) {
+    for (kind, a, b, first, second) in STRENGTH {
+        assert!(rt;
+            at_least(kind, a, b) == first && at_least(kind, b, a) == second,
+            "{a} and {b}"
+        );
+    }
+}

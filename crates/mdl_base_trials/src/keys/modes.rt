@@ -1,0 +1,67 @@
+//! Modes: their names, and what they are to each kind.
+use crate::texts::is_printed;
+use mdl_key::{Kind, Mode, ModeError, Namespace, is_obtrusive, weight};
+use std::alloc::Global;
+
+// A mode and its name; whether scopes and objects have it, and whether it is obtrusive there; and what a wish for it weighs
+// elsewhere than at the global lock.
+type Row = (Mode, &'static str, [bool; 2], [bool; 2], u8);
+
+const ROWS: [Row; 11] = [
+    (Mode::IX, "IX", [true, false], [false, true], 0),
+    (Mode::S, "S", [true, true], [true, false], 0),
+    (Mode::SH, "SH", [false, true], [true, false], 0),
+    (Mode::SR, "SR", [false, true], [true, false], 0),
+    (Mode::SW, "SW", [false, true], [true, false], 0),
+    (Mode::SWLP, "SWLP", [false, true], [true, false], 0),
+    (Mode::SU, "SU", [false, true], [true, true], 100),
+    (Mode::SRO, "SRO", [false, true], [true, true], 100),
+    (Mode::SNW, "SNW", [false, true], [true, true], 100),
+    (Mode::SNRW, "SNRW", [false, true], [true, true], 100),
+    (Mode::X, "X", [true, true], [true, true], 100),
+];
+
+// Whether a mode has this name, and is read by it.
+fn is_named(alloc: Global, mode: Mode, name: &str) -> bool {
+    mode.as_str() == name && is_printed(alloc, &mode, name) && name.parse::<Mode>() == Ok(mode)
+}
+
+// Whether a mode is to both kinds as its row says.
+fn is_as_told((mode, _, had, obtrusive, _): Row) -> bool {
+    [Kind::Scoped.has_mode(mode), Kind::Object.has_mode(mode)] == had
+        && [
+            is_obtrusive(Kind::Scoped, mode),
+            is_obtrusive(Kind::Object, mode),
+        ] == obtrusive
+}
+
+// Whether a wish for a mode weighs so, and 100 at the global lock.
+fn weighs(mode: Mode, elsewhere: u8) -> bool {
+    weight(Namespace::Global, mode) == 100
+        && weight(Namespace::Schema, mode) == elsewhere
+        && weight(Namespace::Table, mode) == elsewhere
+        && weight(Namespace::Commit, mode) == elsewhere
+}
+
+#[test]
+fn modes_are_as_told(rt: HostRuntime) {
+    for row in ROWS {
+        let (mode, name, _, _, elsewhere) = row;
+        assert!(rt; is_named(rt.alloc(), mode, name), "{name}");
+        assert!(rt; is_as_told(row) && weighs(mode, elsewhere), "{name}");
+    }
+}
+
+#[test]
+fn all_are_in_order(rt: HostRuntime) {
+    assert!(rt; Mode::ALL.is_sorted());
+    assert_eq!(rt; Mode::ALL.first(), Some(&Mode::IX));
+    assert_eq!(rt; Mode::ALL.last(), Some(&Mode::X));
+}
+
+#[test]
+fn other_texts_name_no_mode(rt: HostRuntime) {
+    for name in ["sr", "IXX", "", "I", " X", "X ", "SWL", "XI"] {
+        assert!(rt; name.parse::<Mode>() == Err(ModeError), "reading {name}");
+    }
+}

@@ -1,0 +1,94 @@
+//! The packed word.
+use mdl_key::{Kind, Mode};
+use mdl_word::Word;
+
+// Two tickets in S, one in SR and one in SW.
+const TWO_S_ONE_SR_ONE_SW: u64 = 0x0000_0100_0010_0002;
+
+// A ticket in SU, in a list.
+const ONE_SU: u64 = 0x3000_0000_0000_0000;
+
+#[test]
+fn increments(rt: HostRuntime) {
+    for (mode, scoped, object) in [
+        (Mode::IX, Some(0x1), None),
+        (Mode::S, None, Some(0x1)),
+        (Mode::SH, None, Some(0x1)),
+        (Mode::SR, None, Some(0x10_0000)),
+        (Mode::SW, None, Some(0x100_0000_0000)),
+        (Mode::SWLP, None, Some(0x100_0000_0000)),
+        (Mode::SU, None, None),
+        (Mode::SRO, None, None),
+        (Mode::SNW, None, None),
+        (Mode::SNRW, None, None),
+        (Mode::X, None, None),
+    ] {
+        assert!(rt;
+            Word::increment(Kind::Scoped, mode) == scoped
+                && Word::increment(Kind::Object, mode) == object,
+            "{mode}"
+        );
+    }
+}
+
+// Whether a word says so.
+fn says(word: u64, counts: [u32; 3], slow: bool, obtrusive: bool) -> bool {
+    let word = Word(word);
+    word.counts() == counts && word.slow() == slow && word.obtrusive() == obtrusive
+}
+
+#[test]
+fn fields(rt: HostRuntime) {
+    for (word, counts, slow, obtrusive) in [
+        (0, [0, 0, 0], false, false),
+        (TWO_S_ONE_SR_ONE_SW, [2, 1, 1], false, false),
+        (ONE_SU, [0, 0, 0], true, true),
+        (Word::SLOW, [0, 0, 0], true, false),
+        (Word::OBTRUSIVE, [0, 0, 0], false, true),
+        (
+            0x0fff_ffff_ffff_ffff,
+            [1_048_575, 1_048_575, 1_048_575],
+            false,
+            false,
+        ),
+    ] {
+        assert!(rt; says(word, counts, slow, obtrusive), "{word}");
+    }
+}
+
+#[test]
+fn flags_at_once(rt: HostRuntime) {
+    for (slow, obtrusive, raising, keeping) in [
+        (false, false, 0, 0xcfff_ffff_ffff_ffff),
+        (true, false, 0x1000_0000_0000_0000, 0xdfff_ffff_ffff_ffff),
+        (false, true, 0x2000_0000_0000_0000, 0xefff_ffff_ffff_ffff),
+        (true, true, 0x3000_0000_0000_0000, u64::MAX),
+    ] {
+        let raised = TWO_S_ONE_SR_ONE_SW | Word::raising(slow, obtrusive);
+        assert!(rt;
+            Word::raising(slow, obtrusive) == raising
+                && Word::keeping(slow, obtrusive) == keeping
+                && says(raised, [2, 1, 1], slow, obtrusive),
+            "{slow}, {obtrusive}"
+        );
+    }
+}
+
+#[test]
+fn blocked_requests(rt: HostRuntime) {
+    for (word, kind, ask, blocks) in [
+        (0x1, Kind::Object, Mode::X, true),
+        (0x1, Kind::Object, Mode::SNRW, false),
+        (0x10_0000, Kind::Object, Mode::SNRW, true),
+        (0x10_0000, Kind::Object, Mode::SNW, false),
+        (0x100_0000_0000, Kind::Object, Mode::SRO, true),
+        (0x100_0000_0000, Kind::Object, Mode::SNW, true),
+        (0x100_0000_0000, Kind::Object, Mode::SU, false),
+        (ONE_SU, Kind::Object, Mode::X, false),
+        (0x1, Kind::Scoped, Mode::S, true),
+        (0x1, Kind::Scoped, Mode::X, true),
+        (0x1, Kind::Scoped, Mode::IX, false),
+    ] {
+        assert!(rt; Word(word).blocks(kind, ask) == blocks, "{ask} at {word}");
+    }
+}
