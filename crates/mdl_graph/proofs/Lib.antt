@@ -12,9 +12,9 @@ pub mod OrderLemmas
 pub mod RoundLemmas
 pub mod SearchLemmas
 pub mod SeenLemmas
+pub mod SettledLemmas
 pub mod TieLemmas
 pub mod VictimLemmas
 pub mod WaitingLemmas
 pub mod WalkLemmas
-pub mod WayLemmas
 pub mod WeightLemmas

@@ -82,6 +82,13 @@ MembersOfCyclesWait =
     (settled : SessionTest) (books : List Lists) (from : ℕ) (cycle : List ℕ) →
     IsCycleThrough (waits_for settled books) from cycle → All (HasWish settled books) cycle
 
+-- where those who are settled were all settled before, a cycle stays one
+abbrev pub FewerSettledKeepCycles : Type 0
+FewerSettledKeepCycles =
+    (settled fewer : SessionTest) (books : List Lists) (from : ℕ) (cycle : List ℕ) →
+    ((session : ℕ) → IsTrue (fewer session) → IsTrue (settled session)) →
+    IsCycleThrough (waits_for settled books) from cycle → IsCycleThrough (waits_for fewer books) from cycle
+
 -- a member is unsettled, and waits at one of the locks by a ticket that weighs as much
 abbrev pub IsWaiting : SessionTest → List Lists → Member → Type 0
 IsWaiting settled books member =

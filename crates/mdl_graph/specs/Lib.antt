@@ -5,4 +5,3 @@ pub mod Members
 pub mod Searches
 pub mod Victims
 pub mod WaitsFor
-pub mod Ways

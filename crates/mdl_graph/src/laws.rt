@@ -1,5 +1,5 @@
 //! Laws of deadlocks. Each is proved as the contract of a function that does nothing.
-ghost use Rattle.mdl_graph.specs.GraphLaws.{WaitingIsBeingBlocked, CyclesAreRounds, DeadlocksAreChosenCycles, MembersOfCyclesWait, MembersOfDeadlocksWait, ShorterCyclesComeFirst, VictimsWeighLeast, GraphsBeginEmpty, GraphsFindDeadlocks};
+ghost use Rattle.mdl_graph.specs.GraphLaws.{WaitingIsBeingBlocked, CyclesAreRounds, DeadlocksAreChosenCycles, MembersOfCyclesWait, FewerSettledKeepCycles, MembersOfDeadlocksWait, ShorterCyclesComeFirst, VictimsWeighLeast, GraphsBeginEmpty, GraphsFindDeadlocks};
 
 /// One session waits for another where it is unsettled and a ticket of the other stands against its wish, and nowhere else.
 pub fn waiting_is_being_blocked()
@@ -24,6 +24,11 @@ pub fn deadlocks_are_chosen_cycles()
 /// Each member of a cycle is unsettled, and a ticket of it waits at one of the locks.
 pub fn members_of_cycles_wait()
     ensures { MembersOfCyclesWait }
+{}
+
+/// A cycle stays one where fewer sessions are settled: where those who are were all settled before.
+pub fn fewer_settled_keep_cycles()
+    ensures { FewerSettledKeepCycles }
 {}
 
 /// Each member of a deadlock is unsettled and waits at one of the locks, by a ticket of its weight.

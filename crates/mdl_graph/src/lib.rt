@@ -9,19 +9,15 @@ mod cycle;
 mod laws;
 mod levels;
 mod links;
-#[cfg(test)]
-mod plain;
 mod rows;
-#[cfg(test)]
-mod tests;
 mod wait_graph;
 mod walks;
 mod weights;
 
 pub use cycle::{Cycle, Member, victim};
 pub use laws::{
-    cycles_are_rounds, deadlocks_are_chosen_cycles, graphs_begin_empty, graphs_find_deadlocks,
-    members_of_cycles_wait, members_of_deadlocks_wait, shorter_cycles_come_first,
-    victims_weigh_least, waiting_is_being_blocked,
+    cycles_are_rounds, deadlocks_are_chosen_cycles, fewer_settled_keep_cycles, graphs_begin_empty,
+    graphs_find_deadlocks, members_of_cycles_wait, members_of_deadlocks_wait,
+    shorter_cycles_come_first, victims_weigh_least, waiting_is_being_blocked,
 };
 pub use wait_graph::WaitGraph;

@@ -130,6 +130,3 @@ impl WaitGraph {
         Ok(Some(Cycle::new(members)))
     }
 }
-
-#[cfg(test)]
-mod tests;

@@ -2,8 +2,8 @@
 ghost use Rattle.std.specs.Prelude.{◌<◌};
 
 use crate::plain::plain_cycle;
-use crate::{Cycle, Member, WaitGraph, victim};
 use mdl_book::{Book, Sessions, Ticket};
+use mdl_graph::{Cycle, Member, WaitGraph, victim};
 use mdl_key::{Key, Kind, Mode, conflicts_granted, conflicts_waiting, weight};
 use std::alloc::{AllocError, Global};
 use std::test::Fail;
@@ -260,33 +260,35 @@ fn are_equal(members: &[Member], sessions: &[u16]) -> bool {
             .all(|(member, &session)| member.session == session)
 }
 
+// Who waits for whom in pairs, the session that is asked for, and the sessions of the cycle that is found.
+type Case = (&'static [(u16, u16)], u16, &'static [u16]);
+
+const CASES: &[Case] = &[
+    (&[(1, 2), (2, 1)], 1, &[1, 2]),
+    (&[(1, 2), (2, 1)], 2, &[2, 1]),
+    (&[(1, 2), (2, 3), (3, 1)], 3, &[3, 1, 2]),
+    (&[(1, 3), (3, 1), (1, 2), (2, 1)], 1, &[1, 2]),
+    (&[(1, 2), (2, 3), (3, 1), (1, 4), (4, 1)], 1, &[1, 4]),
+    (
+        &[(5, 3), (3, 2), (2, 5), (5, 1), (1, 4), (4, 5)],
+        5,
+        &[5, 1, 4],
+    ),
+    (
+        &[(1, 2), (2, 3), (3, 4), (4, 5), (5, 6), (6, 1)],
+        4,
+        &[4, 5, 6, 1, 2, 3],
+    ),
+    (&[(1, 2), (2, 3), (3, 2)], 1, &[]),
+    (&[(1, 2), (2, 3)], 1, &[]),
+];
+
 #[test]
 fn finds_the_shortest_and_of_those_the_first(rt: HostRuntime) -> Result<(), Fail> {
-    let rows: [(&[(u16, u16)], u16, &[u16]); 9] = [
-        (&[(1, 2), (2, 1)], 1, &[1, 2]),
-        (&[(1, 2), (2, 1)], 2, &[2, 1]),
-        (&[(1, 2), (2, 3), (3, 1)], 3, &[3, 1, 2]),
-        (&[(1, 3), (3, 1), (1, 2), (2, 1)], 1, &[1, 2]),
-        (&[(1, 2), (2, 3), (3, 1), (1, 4), (4, 1)], 1, &[1, 4]),
-        (
-            &[(5, 3), (3, 2), (2, 5), (5, 1), (1, 4), (4, 5)],
-            5,
-            &[5, 1, 4],
-        ),
-        (
-            &[(1, 2), (2, 3), (3, 4), (4, 5), (5, 6), (6, 1)],
-            4,
-            &[4, 5, 6, 1, 2, 3],
-        ),
-        (&[(1, 2), (2, 3), (3, 2)], 1, &[]),
-        (&[(1, 2), (2, 3)], 1, &[]),
-    ];
-    for (ties, from, sessions) in rows {
+    for (ties, from, sessions) in CASES {
         let books = tie_books(rt.alloc(), ties)?;
-        assert!(rt;
-            is_cycle_of(&find(rt.alloc(), &books, 0, from)?, sessions),
-            "{sessions:?}"
-        );
+        let found = find(rt.alloc(), &books, 0, *from)?;
+        assert!(rt; is_cycle_of(&found, sessions), "{sessions:?}");
     }
     Ok(())
 }

@@ -2,7 +2,7 @@
 ghost use Rattle.std.specs.Prelude.{◌≡◌, ◌<◌, ◌++◌, [], ◌∷◌, length, IfOk};
 ghost use Rattle.std.specs.Option.{option_map};
 ghost use Rattle.mdl_graph.specs.Cycles.{in_order, is_chosen_before, chosen_cycle};
-ghost use Rattle.mdl_graph.specs.Ways.{waits_by, search_of, better_of, IsWay, IsChosenOf};
+ghost use Rattle.mdl_graph_trials.specs.Ways.{waits_by, search_of, better_of, IsWay, IsChosenOf};
 
 use std::alloc::{AllocError, Global};
 

@@ -2,10 +2,10 @@
 use Rattle.std.proofs.Common.{◌≡◌, ◌+◌, ◌∙◌, ◌<◌, length, sym, subst, arith, List, take, inl, inr, Option, Vec, Global, ℕ}
 use Rattle.std.specs.Option.{option_map}
 use Rattle.std.proofs.lemmas.List.{take_all}
-use Rattle.mdl_graph.specs.Ways.{search_of, IsWayBy, IsChosenOf}
-use Rattle.mdl_graph.proofs.WayLemmas.{all_tried, step_dead, step_on}
-use Rattle.mdl_graph.proofs.plain.+plain_way.Goals.{then-waits-2+then-not-contains+in_ok-longer+in_ok-way+in_ok-best, else-waits-2, else-waits-2-via-then-waits-2+else-not-contains, else-waits-2-via-else-waits-2}
-use Rattle.mdl_graph.proofs.plain.+plain_way.Goals as goal
+use Rattle.mdl_graph_trials.specs.Ways.{search_of, IsWayBy, IsChosenOf}
+use Rattle.mdl_graph_trials.proofs.WayLemmas.{all_tried, step_dead, step_on}
+use Rattle.mdl_graph_trials.proofs.plain.+plain_way.Goals.{then-waits-2+then-not-contains+in_ok-longer+in_ok-way+in_ok-best, else-waits-2, else-waits-2-via-then-waits-2+else-not-contains, else-waits-2-via-else-waits-2}
+use Rattle.mdl_graph_trials.proofs.plain.+plain_way.Goals as goal
 
 pub loop-next-preserved : goal.loop-next-preserved
 loop-next-preserved t c =

@@ -1,8 +1,8 @@
 -- Over each next session the remaining length shrinks; the best way so far is the chosen one over those tried.
 use Rattle.std.proofs.Common.{take}
 use Rattle.std.specs.Option.{option_map}
-use Rattle.mdl_graph.specs.Ways.{search_of, IsWayBy, IsChosenOf}
-use Rattle.mdl_graph.proofs.plain.+plain_way.Given as goal
+use Rattle.mdl_graph_trials.specs.Ways.{search_of, IsWayBy, IsChosenOf}
+use Rattle.mdl_graph_trials.proofs.plain.+plain_way.Given as goal
 
 abbrev pub decreases-plain_way : goal.decreases-plain_way
 decreases-plain_way l = l.most

@@ -1,9 +1,9 @@
 -- The chosen way on from a session gives the chosen cycle through it.
 use Rattle.std.proofs.Common.{◌∙◌, [], ◌∷◌, length, sym, subst, ap, Some, None, Option, List, Vec, Global, ℕ}
 use Rattle.std.specs.Option.{option_map}
-use Rattle.mdl_graph.specs.Ways.{search_of, IsWay, IsChosenOf}
-use Rattle.mdl_graph.proofs.WayLemmas.{found_chosen, no_cycle_through, stands_in, stands_not_in}
-use Rattle.mdl_graph.proofs.plain.plain_cycle.Goals as goal
+use Rattle.mdl_graph_trials.specs.Ways.{search_of, IsWay, IsChosenOf}
+use Rattle.mdl_graph_trials.proofs.WayLemmas.{found_chosen, no_cycle_through, stands_in, stands_not_in}
+use Rattle.mdl_graph_trials.proofs.plain.plain_cycle.Goals as goal
 
 pub returns-then-not-contains : goal.returns-then-not-contains
 returns-then-not-contains c =

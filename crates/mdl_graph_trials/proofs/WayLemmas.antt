@@ -12,7 +12,7 @@ use Rattle.mdl_graph.specs.Members.{Among, AreAmong}
 use Rattle.mdl_graph.specs.Cycles.{leads, are_distinct, is_cycle_through, IsCycleThrough, is_chosen_before, first_of, lists_of, chosen_cycle}
 use Rattle.mdl_graph.proofs.CycleOrder.{before_total, before_trans}
 use Rattle.mdl_graph.proofs.CycleLaws.{listed, at_most, chosen_of, none_of, cycle_distinct}
-use Rattle.mdl_graph.specs.Ways.{Search, search_of, better_of, waits_by, IsWay, IsWayBy, IsChosenOf}
+use Rattle.mdl_graph_trials.specs.Ways.{Search, search_of, better_of, waits_by, IsWay, IsWayBy, IsChosenOf}
 
 -- ---- the same session before two lists changes nothing
 
