@@ -5,7 +5,7 @@ use Rattle.std.specs.List.{Contains}
 use Rattle.std.specs.Option.{option_map, unwrap_or}
 use Rattle.mdl_graph.specs.declared.cycle.Member.{Member}
 use Rattle.mdl_graph.proofs.CycleLaws.{chosen_is, none_chosen, chosen_same}
-use Rattle.mdl_graph.specs.Cycles.{chosen_cycle}
+use Rattle.mdl_graph.specs.Cycles.{chosen_cycle, IsCycleThrough}
 use Rattle.mdl_graph.specs.Graphs.{GraphView, waits, weight_found, member_of, deadlock}
 use Rattle.mdl_graph.specs.Searches.{Pairs, are_joined, waits_by, IsOver, level_of, walk, weight_at, weighed}
 use Rattle.mdl_graph.proofs.JoinLemmas.{joined_by}
@@ -32,6 +32,16 @@ members_same weights wishes weighs (session ∷ rest) =
     ap (λ (w : ℕ). record { session = session; weight = w } ∷ map (member_of wishes) rest) weight
     ∙ ap (λ (members : List Member). weighed weights session ∷ members) (members_same weights wishes weighs rest)
 
+-- where no list is a cycle, there is no deadlock
+pub found_free : (graph : GraphView) (by_rows : ℕ → ℕ → Bool) → ((waiter other : ℕ) → by_rows waiter other ≡ waits graph waiter other)
+    → (from : ℕ) → ((cycle : List ℕ) → IsCycleThrough by_rows from cycle → ⊥) → deadlock graph from ≡ None
+found_free graph by_rows same from free =
+    let sessions = sessions_of graph in
+    let found : chosen_cycle (waits graph) sessions from ≡ None =
+    chosen_same (waits graph) by_rows sessions from (λ waiter other. sym (same waiter other))
+    ∙ none_chosen by_rows sessions from free in
+    ap (option_map (map (member_of graph.wishes))) found
+
 module _ (graph : GraphView) (by_rows : ℕ → ℕ → Bool) (same : (waiter other : ℕ) → by_rows waiter other ≡ waits graph waiter other)
     (from : ℕ) (levels : List ℕ) (over : IsOver by_rows from levels) where
   pub found_cycle : (weights : List (Option ℕ)) → ((waiter other : ℕ) → waits graph waiter other ≡ true → Contains (sessions_of graph) waiter)
@@ -47,12 +57,7 @@ module _ (graph : GraphView) (by_rows : ℕ → ℕ → Bool) (same : (waiter ot
       sym (ap (option_map (map (member_of graph.wishes))) found ∙ ap Some (members_same weights graph.wishes weighs walked))
 
   pub found_none : level_of levels from ≡ 0 → None ≡ deadlock graph from
-  found_none none =
-      let sessions = sessions_of graph in
-      let found : chosen_cycle (waits graph) sessions from ≡ None =
-      chosen_same (waits graph) by_rows sessions from (λ waiter other. sym (same waiter other))
-      ∙ none_chosen by_rows sessions from (no_cycle by_rows from levels over none) in
-      sym (ap (option_map (map (member_of graph.wishes))) found)
+  found_none none = sym (found_free graph by_rows same from (no_cycle by_rows from levels over none))
 
 -- a search that goes by links is one by rows
 pub over_by : (waits stands links_of_waits links_of_stands : Pairs) (from at : ℕ) (levels : List ℕ) → links_of_waits ≡ waits → links_of_stands ≡ stands → at ≡ from

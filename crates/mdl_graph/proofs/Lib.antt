@@ -4,6 +4,7 @@ pub mod CycleLaws
 pub mod CycleOrder
 pub mod DeadlockLemmas
 pub mod FoundLemmas
+pub mod FreeLemmas
 pub mod JoinLemmas
 pub mod LevelLemmas
 pub mod LinkLemmas

@@ -208,7 +208,7 @@ module _ (waits : ℕ → ℕ → Bool) (from : ℕ) (levels : List ℕ) (reach 
 -- ---- the chosen cycle
 
 -- a cycle leads back to its first session
-cycle_leads : (waits : ℕ → ℕ → Bool) (from : ℕ) (cycle : List ℕ) → IsCycleThrough waits from cycle
+pub cycle_leads : (waits : ℕ → ℕ → Bool) (from : ℕ) (cycle : List ℕ) → IsCycleThrough waits from cycle
     → (rest : List ℕ) × (cycle ≡ from ∷ rest) × (leads waits from from rest ≡ true)
 cycle_leads waits from [] is = absurd (false≢true is)
 cycle_leads waits from (first ∷ rest) is =

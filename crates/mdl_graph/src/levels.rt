@@ -150,7 +150,7 @@ pub(crate) fn levels_back(
     let mut levels = vec![in alloc; 0; count]?;
     let mut done = vec![in alloc; false; rows]?;
     let mut front = vec![in alloc; from]?;
-    let mut reached = Vec::new(alloc);
+    let mut reached = Vec::with_capacity(alloc, count)?;
     let mut steps = 0;
     while !front.is_empty() && level_at(&levels, from) == 0 {
         steps += 1;

@@ -1,6 +1,7 @@
 //! Who waits at a lock, and who stands against them: a row for each mode that is wished for there.
 ghost use Rattle.std.specs.Prelude.{◌≡◌, ℕ, ◌≤◌, ◌<◌, true, false, ◌||◌, ◌&&◌, ◌==◌, ◌++◌, length, take, OnOk, IfOk, MatchOption, slice_index};
 ghost use Rattle.std.specs.FinSet as set;
+ghost use Rattle.std.specs.List.{list_any};
 ghost use Rattle.mdl_key.specs.Modes.{mode_rank};
 ghost use Rattle.mdl_graph.specs.WaitsFor.{holds_against, waits_ahead, waits_at, wishes_at};
 ghost use Rattle.mdl_graph.specs.Searches.{holds, are_joined, AreSeen, AreRows, AreOfModes, stands_against};
@@ -9,6 +10,48 @@ use crate::Member;
 use mdl_book::{Book, Sessions};
 use mdl_key::{Mode, conflicts_granted, conflicts_waiting, weight};
 use std::alloc::AllocError;
+
+// What a graph has room for at least, once somebody waits.
+const LEAST_ROOM: usize = 64;
+
+/// Makes room for those who wait at a lock and those who hold it. Where nobody waits it takes no memory.
+pub(crate) fn make_room(
+    wishes: &mut Vec<Member>,
+    ranks: &mut Vec<usize>,
+    waits: &mut Vec<(usize, u16)>,
+    stands: &mut Vec<(u16, usize)>,
+    book: &Book,
+) -> Result<(), AllocError>
+    ensures wishes { wishes.new.items ≡ wishes.old.items }
+    ensures ranks { ranks.new.items ≡ ranks.old.items }
+    ensures waits { waits.new.items ≡ waits.old.items }
+    ensures stands { stands.new.items ≡ stands.old.items }
+{
+    let waiting = book.waiting().len();
+    if waiting == 0 {
+        return Ok(());
+    }
+    let least = if wishes.is_empty() { LEAST_ROOM } else { 1 };
+    let most = waiting.max(least);
+    wishes.reserve(most)?;
+    ranks.reserve(least)?;
+    waits.reserve(most)?;
+    stands.reserve(most.max(book.granted().len()))
+}
+
+/// Whether a session waits in some row.
+pub(crate) fn waits_in_some(waits: &[(usize, u16)], session: u16) -> bool
+    ensures { result ≡ list_any (λ wait. wait.1 == session) waits.now }
+{
+    waits.iter().any(|wait| wait.1 == session)
+}
+
+/// Whether a session stands against some row.
+pub(crate) fn stands_in_some(stands: &[(u16, usize)], session: u16) -> bool
+    ensures { result ≡ list_any (λ stand. stand.0 == session) stands.now }
+{
+    stands.iter().any(|stand| stand.0 == session)
+}
 
 /// Puts the wishes of the unsettled sessions that wait at a lock, and their rows, behind those that there are.
 pub(crate) fn add_waiters(

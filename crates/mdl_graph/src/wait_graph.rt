@@ -1,5 +1,5 @@
 //! Which session waits for which.
-ghost use Rattle.std.specs.Prelude.{◌≡◌, ℕ, ◌||◌, ◌++◌, [], ◌∷◌, List, OnOk, OnErr, IfOk};
+ghost use Rattle.std.specs.Prelude.{◌≡◌, ℕ, ◌||◌, ◌++◌, [], ◌∷◌, List, false, None, OnOk, OnErr, IfOk};
 ghost use Rattle.mdl_book.specs.declared.lists.Lists.{Lists};
 ghost use Rattle.mdl_graph.specs.Graphs.{empty_graph, is_settled, waits, IsGraphOf, deadlock};
 ghost use Rattle.mdl_graph.specs.WaitsFor.{SessionTest, waits_at, wishes_at};
@@ -7,7 +7,7 @@ ghost use Rattle.mdl_graph.specs.WaitsFor.{SessionTest, waits_at, wishes_at};
 use crate::counts::session_count;
 use crate::levels::{level_at, levels_back};
 use crate::links::Links;
-use crate::rows::add_waiters;
+use crate::rows::{add_waiters, make_room, stands_in_some, waits_in_some};
 use crate::walks::walk;
 use crate::weights::Weights;
 use crate::{Cycle, Member};
@@ -73,6 +73,26 @@ impl WaitGraph {
             → IsGraphOf settled books self.old → IsGraphOf settled (books ++ book.now ∷ []) self.new) }
         ensures unchanged { OnErr result (self.new ≡ self.old) }
     {
+        make_room(
+            &mut self.wishes,
+            &mut self.ranks,
+            &mut self.waits,
+            &mut self.stands,
+            book,
+        )?;
+        self.add_reserved(book)
+    }
+
+    // Likewise, where there is room for most of what is added.
+    fn add_reserved(&mut self, book: &Book) -> Result<(), AllocError>
+        ensures settled { self.new.settled ≡ self.old.settled }
+        ensures wishes { OnOk result (self.new.wishes ≡ self.old.wishes ++ wishes_at (is_settled self.old) book.now) }
+        ensures waits { OnOk result ((waiter other : ℕ) → waits self.new waiter other
+            ≡ (waits self.old waiter other || waits_at (is_settled self.old) book.now waiter other)) }
+        ensures graph { OnOk result ((settled : SessionTest) (books : List Lists)
+            → IsGraphOf settled books self.old → IsGraphOf settled (books ++ book.now ∷ []) self.new) }
+        ensures unchanged { OnErr result (self.new ≡ self.old) }
+    {
         let wishes = self.wishes.len();
         let ranks = self.ranks.len();
         let waits = self.waits.len();
@@ -99,6 +119,23 @@ impl WaitGraph {
     /// The shortest cycle of unsettled sessions through one of them, and of equal length the one whose list of numbers,
     /// beginning with that session, is least. It takes time by the number of sessions and rows.
     pub fn find_cycle(&self, from: u16) -> Result<Option<Cycle>, AllocError>
+        ensures { IfOk result (λ found. found ≡ deadlock self.now from) }
+    {
+        if !self.is_between(from) {
+            return Ok(None);
+        }
+        self.search(from)
+    }
+
+    // Whether a session waits, and another one for it. Else it stands in no cycle.
+    fn is_between(&self, from: u16) -> bool
+        ensures { result ≡ false → deadlock self.now from ≡ None }
+    {
+        waits_in_some(&self.waits, from) && stands_in_some(&self.stands, from)
+    }
+
+    // The cycle by the steps that others are away from the session.
+    fn search(&self, from: u16) -> Result<Option<Cycle>, AllocError>
         ensures { IfOk result (λ found. found ≡ deadlock self.now from) }
     {
         let alloc = *self.wishes.allocator();

@@ -137,10 +137,15 @@ fn are_of(members: &[Member], sessions: &[u16]) -> bool {
             .all(|(member, session)| member.session == *session)
 }
 
+// Whether this is found.
+fn finds(graph: &WaitGraph, (from, sessions, falls): Found) -> Result<bool, Fail> {
+    Ok(is_cycle_of(&graph.find_cycle(from)?, sessions, falls))
+}
+
 // Whether each of these is found.
-fn finds_all(graph: &WaitGraph, found: &[Found]) -> Result<bool, Fail> {
-    for (from, sessions, falls) in found {
-        if !is_cycle_of(&graph.find_cycle(*from)?, sessions, *falls) {
+fn finds_all(graph: &WaitGraph, rows: &[Found]) -> Result<bool, Fail> {
+    for row in rows {
+        if !finds(graph, *row)? {
             return Ok(false);
         }
     }
@@ -152,6 +157,50 @@ fn finds_deadlocks_of_a_few(rt: HostRuntime) -> Result<(), Fail> {
     for (number, (tables, settled, found)) in CASES.iter().enumerate() {
         let graph = graph_of(rt.alloc(), tables, *settled)?;
         assert!(rt; finds_all(&graph, found)?, "case {number}");
+    }
+    Ok(())
+}
+
+// Who waits for whom in pairs, each at a table of its own, and what is found.
+type Tied = (&'static [(u16, u16)], Found);
+
+const TIED: &[Tied] = &[
+    (&[(1, 2), (2, 1)], (1, &[1, 2], 2)),
+    (&[(1, 2), (2, 3), (3, 1)], (3, &[3, 1, 2], 3)),
+    // Of two as short the first, and the shorter one.
+    (&[(1, 3), (3, 1), (1, 2), (2, 1)], (1, &[1, 2], 2)),
+    (&[(1, 2), (2, 3), (3, 1), (1, 4), (4, 1)], (1, &[1, 4], 4)),
+    (
+        &[(5, 3), (3, 2), (2, 5), (5, 1), (1, 4), (4, 5)],
+        (5, &[5, 1, 4], 5),
+    ),
+    (
+        &[(1, 2), (2, 3), (3, 4), (4, 5), (5, 6), (6, 1)],
+        (4, &[4, 5, 6, 1, 2, 3], 6),
+    ),
+    // A deadlock of others, and none at all.
+    (&[(1, 2), (2, 3), (3, 2)], (1, &[], 0)),
+    (&[(1, 2), (2, 3)], (1, &[], 0)),
+];
+
+// The graph of these pairs.
+fn tied_graph(alloc: Global, ties: &[(u16, u16)]) -> Result<WaitGraph, Fail> {
+    let mut graph = WaitGraph::new(alloc, Sessions::new());
+    for (waiter, other) in ties {
+        add_table(
+            &mut graph,
+            alloc,
+            &[At::Holds(*other, Mode::X), At::Waits(*waiter, Mode::X)],
+        )?;
+    }
+    Ok(graph)
+}
+
+#[test]
+fn finds_the_shortest_and_of_those_the_first(rt: HostRuntime) -> Result<(), Fail> {
+    for (number, (ties, found)) in TIED.iter().enumerate() {
+        let graph = tied_graph(rt.alloc(), ties)?;
+        assert!(rt; finds(&graph, *found)?, "case {number}");
     }
     Ok(())
 }

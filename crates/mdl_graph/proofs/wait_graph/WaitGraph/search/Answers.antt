@@ -9,7 +9,7 @@ use Rattle.mdl_graph.specs.Searches.{Pairs, are_joined, level_of, ties_of, walk,
 use Rattle.mdl_graph.proofs.FoundLemmas.{found_none, found_cycle, over_by, AreWeighed}
 use Rattle.mdl_graph.proofs.JoinLemmas.{joined-apart, rows-fresh, rows-known, ties_join}
 use Rattle.mdl_graph.proofs.WalkLemmas.{length_walk, walk_of_two}
-use Rattle.mdl_graph.proofs.wait_graph.WaitGraph.find_cycle.Goals as goal
+use Rattle.mdl_graph.proofs.wait_graph.WaitGraph.search.Goals as goal
 
 pub of_waits-requires : goal.of_waits-requires
 of_waits-requires c =
