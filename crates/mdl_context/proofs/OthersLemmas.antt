@@ -36,8 +36,8 @@ module _ {S : Type 0} {speaks_for : S → ℕ → Type 0} {own : S → ℕ → O
       let rest = leaves who (next answer) mid b reply (made.1 answer) run w other then_speaks in
       let now = others a mid call answer w speaks (λ e. other (cc)) step in
       (rest.0, rest.1 ∙ now, λ place key known. rest.2 place key (remembers a mid call answer w place key speaks (λ e _. not-theirs call w who place other made.0 e) step known))
-  leaves who (Grow refused found) a b reply made (inl run) = leaves who refused a b reply made.0 run
-  leaves who (Grow refused found) a b reply made (inr run) = leaves who found a b reply made.1 run
+  leaves who (Grow refused found) a b reply made (inl run) w other speaks = leaves who refused a b reply made.0 run w other speaks
+  leaves who (Grow refused found) a b reply made (inr run) w other speaks = leaves who found a b reply made.1 run w other speaks
 
 -- ---- searches
 
