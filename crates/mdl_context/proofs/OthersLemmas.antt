@@ -1,9 +1,9 @@
 -- A context makes its calls for its own session, so nothing changes for the others.
-use Rattle.std.proofs.Common.{◌≡◌, ◌≢◌, ℕ, zero, suc, Bool, true, false, List, [], ◌∷◌, Option, Some, None, refl, sym, ap, ◌∙◌, subst}
+use Rattle.std.proofs.Common.{◌≡◌, ◌≢◌, ℕ, zero, suc, Bool, true, false, List, [], ◌∷◌, Option, Some, None, inl, inr, refl, sym, ap, ◌∙◌, subst}
 use Rattle.std.specs.Prelude.{◌==◌, is_some, if◌then◌else◌}
 use Rattle.mdl_key.specs.Keys.{KeyName}
 use Rattle.mdl_calls.specs.declared.answers.Held.{Held}
-use Rattle.mdl_calls.specs.Words.{Answer, Done, Refused, Victim_is, At_place, Granted, Would_wait, Waits, Pending, Is_settled, Lost, Call, Clone_ticket, Unpin, caller, Own, Program, Runs, Give, Ask, ◌>>=◌, SearchEnd, Over, Cut_off, Failed, after_search, seeking, most_searches}
+use Rattle.mdl_calls.specs.Words.{Answer, Done, Refused, Victim_is, At_place, Granted, Would_wait, Waits, Pending, Is_settled, Lost, Call, Clone_ticket, Unpin, caller, Own, Program, Runs, Give, Ask, Grow, ◌>>=◌, SearchEnd, Over, Cut_off, Failed, after_search, seeking, most_searches}
 use Rattle.mdl_context.specs.declared.kept.Kept.{Kept}
 use Rattle.mdl_context.specs.declared.request.Request.{Request}
 use Rattle.mdl_context.specs.Contexts.{ContextView, LeavesOthers}
@@ -14,6 +14,7 @@ use Rattle.mdl_context.specs.Requests as requests
 abbrev pub IsFor : {A : Type 0} → ℕ → Program A → Type 0
 IsFor who (Give x) = Unit {0}
 IsFor who (Ask call next) = (caller call ≡ Some who) × ((answer : Answer) → IsFor who (next answer))
+IsFor who (Grow refused found) = IsFor who refused × IsFor who found
 
 -- ---- what runs of such a program leave
 
@@ -35,6 +36,8 @@ module _ {S : Type 0} {speaks_for : S → ℕ → Type 0} {own : S → ℕ → O
       let rest = leaves who (next answer) mid b reply (made.1 answer) run w other then_speaks in
       let now = others a mid call answer w speaks (λ e. other (cc)) step in
       (rest.0, rest.1 ∙ now, λ place key known. rest.2 place key (remembers a mid call answer w place key speaks (λ e _. not-theirs call w who place other made.0 e) step known))
+  leaves who (Grow refused found) a b reply made (inl run) w other speaks = leaves who refused a b reply made.0 run w other speaks
+  leaves who (Grow refused found) a b reply made (inr run) w other speaks = leaves who found a b reply made.1 run w other speaks
 
 -- ---- searches
 
@@ -45,6 +48,7 @@ either who false one other first second = second
 for_bind : {A B : Type 0} (who : ℕ) (first : Program A) (next : A → Program B) → IsFor who first → ((x : A) → IsFor who (next x)) → IsFor who (first >>= next)
 for_bind who (Give x) next made later = later x
 for_bind who (Ask call more) next made later = (made.0, λ answer. for_bind who (more answer) next (made.1 answer) later)
+for_bind who (Grow refused found) next made later = (for_bind who refused next made.0 later, for_bind who found next made.1 later)
 
 for_search : (who : ℕ) (more : Program SearchEnd) (answer : Answer) → IsFor who more → IsFor who (after_search who more answer)
 for_search who more (Victim_is victim) made = either who (victim == who) _ _ tt made
