@@ -1,4 +1,3 @@
-pub mod CauseLemmas
 pub mod DeadlockLemmas
 pub mod KnownKeyLemmas
 pub mod SearchLemmas

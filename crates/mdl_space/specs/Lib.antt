@@ -18,4 +18,3 @@ pub use Rattle.mdl_system.specs.Events
 pub use Rattle.mdl_system.specs.Strength
 pub use Rattle.mdl_system.specs.Systems
 pub mod KnownKeys
-pub mod Tests

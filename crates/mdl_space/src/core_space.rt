@@ -410,5 +410,3 @@ impl CoreSpace {
 mod calls;
 mod deadlocks;
 mod serving;
-#[cfg(test)]
-mod tests;

@@ -194,8 +194,3 @@ pub trait LockSpace {
     ghost others_draw: { (a b : Self) (call : Call) (answer : Answer) (w : ℕ) → speaks_for a w → (caller call ≡ Some w → ⊥)
         → joins a call answer b → numbers b w ≡ numbers a w };
 }
-
-#[cfg(test)]
-mod lone_session;
-#[cfg(test)]
-mod tests;

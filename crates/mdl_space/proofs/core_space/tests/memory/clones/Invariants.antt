@@ -1,6 +1,0 @@
--- The space stays sound.
-use Rattle.mdl_core.specs.Ties.{IsSound}
-use Rattle.mdl_space.proofs.core_space.tests.memory.clones.Given as goal
-
-abbrev pub invariant-loop-number : goal.invariant-loop-number
-invariant-loop-number l = IsSound l.space

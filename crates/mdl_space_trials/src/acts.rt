@@ -1,0 +1,157 @@
+//! Acts and replies: by these all tests of the space call it.
+ghost use Rattle.std.specs.Prelude.{ℕ};
+
+use mdl_key::{Key, Mode};
+use mdl_space::{
+    Attempt, Begun, Ended, LockSpace, Place, Poll, Search, Settled, SpaceError, TicketId, TimedOut,
+};
+
+/// A call of a space, which a session makes, or anyone of a session.
+#[derive(Clone, Copy)]
+pub(crate) enum Act {
+    TryNow(u16, Place, Mode),
+    BeginWait(u16, Place, Mode),
+    Search(u16),
+    Poll(u16),
+    TimeOut(u16),
+    EndWait(u16),
+    WaitOf(u16),
+    Kill(u16, u64),
+    Release(u16, TicketId),
+    Clone(u16, TicketId, Mode),
+}
+
+/// What it answers.
+#[derive(Clone, Copy, PartialEq, Eq)]
+pub(crate) enum Reply {
+    NoSession,
+    Refused(SpaceError),
+    Granted(TicketId),
+    WouldWait,
+    Waiting(u64),
+    NoCycle,
+    Victim(u16),
+    Pending,
+    Settled(Settled),
+    TimedOut,
+    Lost(Settled),
+    HasWait(u64),
+    HasNone,
+    Killed(bool),
+    Done,
+}
+
+impl Act {
+    /// The session that makes the call. Some that anyone may make this one makes.
+    pub(crate) fn caller(self, anyone: u16) -> u16 {
+        match self {
+            Act::TryNow(who, _, _)
+            | Act::BeginWait(who, _, _)
+            | Act::Search(who)
+            | Act::Poll(who)
+            | Act::TimeOut(who)
+            | Act::EndWait(who)
+            | Act::Release(who, _)
+            | Act::Clone(who, _, _) => who,
+            Act::WaitOf(_) | Act::Kill(_, _) => anyone,
+        }
+    }
+}
+
+/// The place of a key, for a session.
+pub(crate) fn resolve<S: LockSpace>(space: &mut S, who: u16, key: &Key) -> Result<Place, SpaceError>
+    requires { S.speaks_for space.old who }
+    ensures { (w : ℕ) → S.speaks_for space.old w → S.speaks_for space.new w }
+{
+    space.resolve(who, key)
+}
+
+/// Makes a call for a session.
+pub(crate) fn call<S: LockSpace>(space: &mut S, who: u16, act: Act) -> Reply
+    requires { S.speaks_for space.old who }
+    ensures { (w : ℕ) → S.speaks_for space.old w → S.speaks_for space.new w }
+{
+    match act {
+        Act::TryNow(_, place, mode) => attempted(space.try_now(who, place, mode)),
+        Act::BeginWait(_, place, mode) => begun(space.begin_wait(who, place, mode)),
+        Act::Search(_) => searched(space.search(who)),
+        Act::Poll(_) => polled(space.poll_wait(who)),
+        Act::TimeOut(_) => timed_out(space.settle_timeout(who)),
+        Act::EndWait(_) => ended(space.end_wait(who)),
+        Act::WaitOf(target) => numbered(space.wait_of(target)),
+        Act::Kill(target, number) => Reply::Killed(space.kill(target, number)),
+        Act::Release(_, id) => done(space.release(who, id)),
+        Act::Clone(_, id, mode) => cloned(space.clone_ticket(who, id, mode)),
+    }
+}
+
+fn attempted(outcome: Result<Attempt, SpaceError>) -> Reply {
+    match outcome {
+        Ok(Attempt::Granted(id)) => Reply::Granted(id),
+        Ok(Attempt::WouldWait) => Reply::WouldWait,
+        Err(error) => Reply::Refused(error),
+    }
+}
+
+fn begun(outcome: Result<Begun, SpaceError>) -> Reply {
+    match outcome {
+        Ok(Begun::Granted(id)) => Reply::Granted(id),
+        Ok(Begun::Waiting(number)) => Reply::Waiting(number),
+        Err(error) => Reply::Refused(error),
+    }
+}
+
+fn searched(outcome: Result<Search, SpaceError>) -> Reply {
+    match outcome {
+        Ok(Search::NoCycle) => Reply::NoCycle,
+        Ok(Search::Victim(session)) => Reply::Victim(session),
+        Err(error) => Reply::Refused(error),
+    }
+}
+
+fn polled(outcome: Result<Poll, SpaceError>) -> Reply {
+    match outcome {
+        Ok(Poll::Pending) => Reply::Pending,
+        Ok(Poll::Settled(how)) => Reply::Settled(how),
+        Err(error) => Reply::Refused(error),
+    }
+}
+
+fn timed_out(outcome: Result<TimedOut, SpaceError>) -> Reply {
+    match outcome {
+        Ok(TimedOut::ByThisCall) => Reply::TimedOut,
+        Ok(TimedOut::Already(how)) => Reply::Settled(how),
+        Err(error) => Reply::Refused(error),
+    }
+}
+
+fn ended(outcome: Result<Ended, SpaceError>) -> Reply {
+    match outcome {
+        Ok(Ended::Granted(id)) => Reply::Granted(id),
+        Ok(Ended::Victim) => Reply::Lost(Settled::Victim),
+        Ok(Ended::Timeout) => Reply::Lost(Settled::Timeout),
+        Ok(Ended::Killed) => Reply::Lost(Settled::Killed),
+        Err(error) => Reply::Refused(error),
+    }
+}
+
+fn numbered(outcome: Option<u64>) -> Reply {
+    match outcome {
+        Some(number) => Reply::HasWait(number),
+        None => Reply::HasNone,
+    }
+}
+
+fn cloned(outcome: Result<TicketId, SpaceError>) -> Reply {
+    match outcome {
+        Ok(id) => Reply::Granted(id),
+        Err(error) => Reply::Refused(error),
+    }
+}
+
+fn done(outcome: Result<(), SpaceError>) -> Reply {
+    match outcome {
+        Ok(()) => Reply::Done,
+        Err(error) => Reply::Refused(error),
+    }
+}

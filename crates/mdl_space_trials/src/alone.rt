@@ -1,0 +1,180 @@
+//! A space of one session, whose lock another one takes and gives up between its calls.
+ghost use Rattle.std.specs.Prelude.{◌≡◌};
+ghost use Rattle.mdl_calls.specs.Runs.{Runs};
+ghost use Rattle.mdl_space_trials.specs.Visits.{visiting, visited};
+
+use crate::acts::{Act, Reply, call};
+use crate::lone_session::LoneSession;
+use mdl_key::{Key, KeyError, Mode};
+use mdl_space::{Attempt, LockSpace, Settled, SpaceError};
+use std::alloc::Global;
+use std::marker::Model;
+
+// The session.
+const WHO: u16 = 3;
+
+/// The space speaks for the session.
+#[derive(Drop)]
+struct Alone {
+    space: LoneSession,
+}
+
+impl Model for Alone {
+    ghost use Rattle.mdl_calls.specs.Tests.LoneSessions.{LoneSpeaks};
+
+    ghost Value = { Unit };
+
+    ghost view = { λ _. tt };
+
+    ghost invariant = { λ alone. LoneSpeaks alone.space 3 };
+}
+
+impl Alone {
+    // Nothing is held of this table.
+    fn new(alloc: Global, name: &str) -> Result<Alone, KeyError> {
+        match Key::table(alloc, "test", name) {
+            Ok(key) => Ok(Alone {
+                space: LoneSession::new(alloc, WHO, key),
+            }),
+            Err(error) => Err(error),
+        }
+    }
+
+    // Makes a call, for the one session alone.
+    fn make(&mut self, act: Act) -> Reply {
+        if act.caller(WHO) != WHO {
+            return Reply::NoSession;
+        }
+        call(&mut self.space, WHO, act)
+    }
+
+    // The place of the first call that answers something else than it should.
+    fn first_wrong(&mut self, rows: &[(Act, Reply)]) -> Option<usize> {
+        for (place, (act, reply)) in rows.iter().enumerate() {
+            if self.make(*act) != *reply {
+                return Some(place);
+            }
+        }
+        None
+    }
+
+    // How many tickets are held.
+    fn held_count(&self) -> Result<usize, SpaceError> {
+        Ok(self.space.held(WHO)?.len())
+    }
+
+    // Visits the lock of a table.
+    fn visit(&mut self, alloc: Global, name: &str, mode: Mode) -> Result<bool, SpaceError> {
+        match Key::table(alloc, "test", name) {
+            Ok(key) => visit(&mut self.space, WHO, &key, mode),
+            Err(_) => Err(SpaceError::OutOfMemory),
+        }
+    }
+}
+
+// Takes a lock, if it can be had now, and gives it up again. Whether it was had.
+fn visit<S: LockSpace>(space: &mut S, who: u16, key: &Key, mode: Mode) -> Result<bool, SpaceError>
+    requires { S.speaks_for space.old who }
+    ensures speaks { S.speaks_for space.new who }
+    ensures run { Runs S.joins space.old (visiting who key.now mode) (visited result) space.new }
+    ensures unchanged { S.own space.new who ≡ S.own space.old who }
+{
+    let place = space.resolve(who, key)?;
+    match space.try_now(who, place, mode)? {
+        Attempt::Granted(id) => {
+            space.release(who, id)?;
+            Ok(true)
+        }
+        Attempt::WouldWait => Ok(false),
+    }
+}
+
+const VISITS: [(&str, Mode, Result<bool, SpaceError>); 4] = [
+    ("t", Mode::SR, Ok(false)),
+    ("t", Mode::SR, Ok(true)),
+    ("u", Mode::SR, Err(SpaceError::NoPlace)),
+    ("t", Mode::IX, Err(SpaceError::BadMode)),
+];
+
+// The first visit that answers something else than it should.
+fn first_wrong_visit(alloc: Global, alone: &mut Alone) -> Option<usize> {
+    for (place, (name, mode, outcome)) in VISITS.iter().enumerate() {
+        if alone.visit(alloc, name, *mode) != *outcome {
+            return Some(place);
+        }
+    }
+    None
+}
+
+// The same of a new space.
+fn first_wrong_of_visits(alloc: Global) -> Option<usize> {
+    match Alone::new(alloc, "t") {
+        Ok(mut alone) => first_wrong_visit(alloc, &mut alone),
+        Err(_) => Some(VISITS.len()),
+    }
+}
+
+#[test]
+fn a_visit_is_a_run_in_any_space(rt: HostRuntime) {
+    assert_eq!(rt; first_wrong_of_visits(rt.alloc()), None);
+}
+
+const NO_WAIT: Reply = Reply::Refused(SpaceError::NoWait);
+
+const A_KILLED_WAIT: &[(Act, Reply)] = &[
+    (Act::TimeOut(3), NO_WAIT),
+    (Act::EndWait(3), NO_WAIT),
+    (Act::Release(3, 1), Reply::Refused(SpaceError::NotHeld)),
+    (Act::BeginWait(3, 1, Mode::X), Reply::Waiting(1)),
+    (
+        Act::BeginWait(3, 1, Mode::X),
+        Reply::Refused(SpaceError::AlreadyWaiting),
+    ),
+    (Act::EndWait(3), Reply::Refused(SpaceError::Unsettled)),
+    (Act::WaitOf(3), Reply::HasWait(1)),
+    (Act::WaitOf(4), Reply::HasNone),
+    (Act::Kill(3, 2), Reply::Killed(false)),
+    (Act::Kill(4, 1), Reply::Killed(false)),
+    (Act::Kill(3, 1), Reply::Killed(true)),
+    (Act::Kill(3, 1), Reply::Killed(false)),
+    (Act::TimeOut(3), Reply::Settled(Settled::Killed)),
+    (Act::Poll(3), Reply::Settled(Settled::Killed)),
+    (Act::EndWait(3), Reply::Lost(Settled::Killed)),
+    // The next one ends for want of patience, and then the lock is had at once.
+    (Act::BeginWait(3, 1, Mode::X), Reply::Waiting(2)),
+    (Act::TimeOut(3), Reply::TimedOut),
+    (Act::Poll(3), Reply::Settled(Settled::Timeout)),
+    (Act::EndWait(3), Reply::Lost(Settled::Timeout)),
+    (Act::Poll(3), NO_WAIT),
+    (Act::BeginWait(3, 1, Mode::X), Reply::Granted(3)),
+];
+
+const A_HELD_TICKET: &[(Act, Reply)] = &[
+    (
+        Act::Clone(3, 3, Mode::S),
+        Reply::Refused(SpaceError::OutOfMemory),
+    ),
+    (Act::Release(3, 3), Reply::Done),
+];
+
+// Whether a killed wait, one that ends for want of patience and one that is granted go as they should, and a ticket is held
+// as long as it is.
+fn goes_as_told(alone: &mut Alone) -> bool {
+    alone.first_wrong(A_KILLED_WAIT).is_none()
+        && alone.held_count() == Ok(1)
+        && alone.first_wrong(A_HELD_TICKET).is_none()
+        && alone.held_count() == Ok(0)
+}
+
+// The same of a new space.
+fn new_one_goes_as_told(alloc: Global) -> bool {
+    match Alone::new(alloc, "t") {
+        Ok(mut alone) => goes_as_told(&mut alone),
+        Err(_) => false,
+    }
+}
+
+#[test]
+fn a_wait_is_seen_through(rt: HostRuntime) {
+    assert!(rt; new_one_goes_as_told(rt.alloc()));
+}

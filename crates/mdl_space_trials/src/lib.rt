@@ -1,0 +1,28 @@
+//! Trials of the lock space: worked examples, each of which shows one thing.
+//!
+//! Everything here is for tests. Most of them are rows of calls and of what these have to answer (`acts`), which a space with
+//! its sessions plays one after another (`room`): the ordinary `life` of locks, `refusals`, `deadlocks`, a lock that is
+//! `full`, want of `memory`, and `limits`. `alone` plays such rows in a space of another make, `lone_session`: one session, whose
+//! lock another one takes and gives up between its calls. So the trait is no tighter than a shared space can meet.
+#![tactic(auto)]
+
+#[cfg(test)]
+mod acts;
+#[cfg(test)]
+mod alone;
+#[cfg(test)]
+mod deadlocks;
+#[cfg(test)]
+mod full;
+#[cfg(test)]
+mod life;
+#[cfg(test)]
+mod limits;
+#[cfg(test)]
+mod lone_session;
+#[cfg(test)]
+mod memory;
+#[cfg(test)]
+mod refusals;
+#[cfg(test)]
+mod room;

@@ -1,0 +1,90 @@
+//! Limits, places and lists of the space.
+use crate::acts::{Act, Reply};
+use crate::room::Room;
+use mdl_key::{Key, KeyError, Mode};
+use mdl_space::{CoreSpace, Held, NewError, Place, SpaceError};
+use std::alloc::Global;
+
+const LIMITS: [(u16, u16, Option<NewError>); 6] = [
+    (0, 0, Some(NewError::BadPlaces)),
+    (257, 1, Some(NewError::BadPlaces)),
+    (1, 0, Some(NewError::BadSessions)),
+    (256, 65, Some(NewError::BadSessions)),
+    (1, 1, None),
+    (256, 64, None),
+];
+
+// Why there can't be a space of so many places and sessions.
+fn fault(alloc: Global, places: u16, sessions: u16) -> Option<NewError> {
+    CoreSpace::new(alloc, places, sessions).err()
+}
+
+#[test]
+fn spaces_have_their_limits(rt: HostRuntime) {
+    for (places, sessions, wanted) in LIMITS {
+        assert_eq!(rt;
+            fault(rt.alloc(), places, sessions),
+            wanted,
+            "{places} places, {sessions} sessions"
+        );
+    }
+}
+
+// What a key, if it can be made, has for a place.
+fn place_of(room: &mut Room, key: Result<Key, KeyError>) -> Result<Place, SpaceError> {
+    match key {
+        Ok(key) => room.resolve(&key),
+        Err(_) => Err(SpaceError::OutOfMemory),
+    }
+}
+
+// The places of four keys in turn, where two are free: a table, a schema, the table again, and one key too many.
+fn places(alloc: Global, room: &mut Room) -> [Result<Place, SpaceError>; 4] {
+    [
+        place_of(room, Key::table(alloc, "test", "t")),
+        place_of(room, Key::schema(alloc, "test")),
+        place_of(room, Key::table(alloc, "test", "t")),
+        place_of(room, Ok(Key::global(alloc))),
+    ]
+}
+
+#[test]
+fn keys_keep_their_places(rt: HostRuntime) {
+    let are_kept = match Room::new(rt.alloc(), 2, 1) {
+        Ok(mut room) => places(rt.alloc(), &mut room)
+            == [Ok(1), Ok(2), Ok(1), Err(SpaceError::NoPlace)],
+        Err(_) => false,
+    };
+    assert!(rt; are_kept);
+}
+
+const HELD: &[Held] = &[Held {
+    id: 1,
+    place: 2,
+    mode: Mode::IX,
+}];
+
+// Whether these are the tickets that a session holds.
+fn holds(room: &Room, who: u16, tickets: &[Held]) -> bool {
+    match room.held(who) {
+        Ok(held) => held.as_slice() == tickets,
+        Err(_) => false,
+    }
+}
+
+// Whether a session that has nothing comes to hold the lock of a schema, and another one holds nothing.
+fn lists_what_is_held(room: &mut Room) -> bool {
+    holds(room, 2, &[])
+        && room.make(Act::TryNow(2, 2, Mode::IX)) == Reply::Granted(1)
+        && holds(room, 2, HELD)
+        && holds(room, 1, &[])
+}
+
+#[test]
+fn what_is_held_is_listed(rt: HostRuntime) {
+    let are_listed = match Room::of_three(rt.alloc()) {
+        Some(mut room) => lists_what_is_held(&mut room),
+        None => false,
+    };
+    assert!(rt; are_listed);
+}

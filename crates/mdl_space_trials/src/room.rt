@@ -1,0 +1,131 @@
+//! A space of one thread with its sessions.
+ghost use Rattle.mdl_core.specs.CoreJoins.{SpeaksFor};
+ghost use Rattle.mdl_space_trials.specs.Serving.{SpeaksForAll};
+
+use crate::acts::{Act, Reply, call, resolve};
+use mdl_key::Key;
+use mdl_space::{CoreSpace, Held, LockSpace, NewError, Place, SpaceError};
+use std::alloc::Global;
+use std::marker::Model;
+
+/// The places of a room of three.
+pub(crate) const TABLE: Place = 1;
+
+pub(crate) const SCHEMA: Place = 2;
+
+pub(crate) const GLOBAL: Place = 3;
+
+const SESSIONS: u16 = 5;
+
+/// The space speaks for each of so many sessions, numbered from 1.
+#[derive(Drop)]
+pub(crate) struct Room {
+    space: CoreSpace,
+    sessions: u16,
+}
+
+impl Model for Room {
+    ghost use Rattle.mdl_core.specs.CoreJoins.{SpeaksFor};
+    ghost use Rattle.mdl_space_trials.specs.Serving.{SpeaksForAll};
+
+    ghost Value = { Unit };
+
+    ghost view = { λ _. tt };
+
+    ghost invariant = { λ room. SpeaksForAll SpeaksFor room.sessions room.space };
+}
+
+impl Room {
+    /// Nobody has asked for anything.
+    pub(crate) fn new(alloc: Global, places: u16, sessions: u16) -> Result<Room, NewError> {
+        match CoreSpace::new(alloc, places, sessions) {
+            Ok(space) => Ok(Room { space, sessions }),
+            Err(error) => Err(error),
+        }
+    }
+
+    /// A table, a schema and the global lock have the places 1 to 3, and nobody has anything.
+    pub(crate) fn of_three(alloc: Global) -> Option<Room> {
+        let table = Key::table(alloc, "test", "t").ok()?;
+        let schema = Key::schema(alloc, "test").ok()?;
+        Room::with_keys(alloc, 3, &[table, schema, Key::global(alloc)])
+    }
+
+    /// Two tables, the commit lock and the global lock have the places 1 to 4, and nobody has anything.
+    pub(crate) fn of_four(alloc: Global) -> Option<Room> {
+        let a = Key::table(alloc, "test", "a").ok()?;
+        let b = Key::table(alloc, "test", "b").ok()?;
+        Room::with_keys(alloc, 4, &[a, b, Key::commit(alloc), Key::global(alloc)])
+    }
+
+    // Each of these keys has a place, in this order, of so many.
+    fn with_keys(alloc: Global, places: u16, keys: &[Key]) -> Option<Room> {
+        let mut room = Room::new(alloc, places, SESSIONS).ok()?;
+        for key in keys {
+            room.resolve(key).ok()?;
+        }
+        Some(room)
+    }
+
+    /// The place of a key, for the first session.
+    pub(crate) fn resolve(&mut self, key: &Key) -> Result<Place, SpaceError> {
+        if self.sessions == 0 {
+            return Err(SpaceError::NoPlace);
+        }
+        resolve(&mut self.space, 1, key)
+    }
+
+    /// What a session holds.
+    pub(crate) fn held(&self, who: u16) -> Result<Vec<Held>, SpaceError> {
+        if who == 0 || who > self.sessions {
+            return Err(SpaceError::NotHeld);
+        }
+        self.space.held(who)
+    }
+
+    /// How many waits aren't settled.
+    pub(crate) fn open_waits(&mut self) -> usize {
+        let mut waits = 0usize;
+        for who in 1..self.sessions.saturating_add(1) {
+            if self.make(Act::Poll(who)) == Reply::Pending {
+                waits = waits.saturating_add(1);
+            }
+        }
+        waits
+    }
+
+    /// Makes a call. For a session that there isn't, it makes only those that anyone may make.
+    pub(crate) fn make(&mut self, act: Act) -> Reply {
+        let who = act.caller(1);
+        if who == 0 || who > self.sessions {
+            return Reply::NoSession;
+        }
+        call(&mut self.space, who, act)
+    }
+
+    /// Makes calls one after another, and gives the place of the first that answers something else than it should.
+    pub(crate) fn first_wrong(&mut self, rows: &[(Act, Reply)]) -> Option<usize> {
+        for (place, (act, reply)) in rows.iter().enumerate() {
+            if self.make(*act) != *reply {
+                return Some(place);
+            }
+        }
+        None
+    }
+}
+
+/// The same in a room of three.
+pub(crate) fn first_wrong(alloc: Global, rows: &[(Act, Reply)]) -> Option<usize> {
+    match Room::of_three(alloc) {
+        Some(mut room) => room.first_wrong(rows),
+        None => Some(rows.len()),
+    }
+}
+
+/// And in one of four.
+pub(crate) fn first_wrong_of_four(alloc: Global, rows: &[(Act, Reply)]) -> Option<usize> {
+    match Room::of_four(alloc) {
+        Some(mut room) => room.first_wrong(rows),
+        None => Some(rows.len()),
+    }
+}
