@@ -1,5 +1,5 @@
 //! Why calls of a lock space are refused, as it is printed.
-use crate::texts::is_printed;
+use crate::texts::first_misprinted;
 use mdl_calls::SpaceError;
 use mdl_defs::DefError;
 
@@ -29,7 +29,5 @@ const CAUSES: [(SpaceError, &str); 15] = [
 
 #[test]
 fn tells_each_cause(rt: HostRuntime) {
-    for (error, text) in CAUSES {
-        assert!(rt; is_printed(rt.alloc(), &error, text), "{text}");
-    }
+    assert!(rt; first_misprinted(rt.alloc(), &CAUSES).is_none());
 }

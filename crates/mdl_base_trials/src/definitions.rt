@@ -1,11 +1,10 @@
 //! Definitions and their changes.
 mod columns;
 
-use crate::texts::is_printed;
+use crate::texts::first_misprinted;
 use columns::{Names, columns};
 use mdl_defs::{Change, Column, DefError, Definition, apply};
 use std::alloc::Global;
-use std::test::Fail;
 
 // A definition to be: a schema, or a table of these columns.
 #[derive(Clone, Copy)]
@@ -136,53 +135,75 @@ const GAINED_AND_LOST: &[Row] = &[
     (Some(C64), Act::Lose("c64"), Ok(Some(C63))),
 ];
 
-fn definition(alloc: Global, what: What) -> Result<Definition, Fail> {
+// The definition, if there was memory for it.
+fn definition(alloc: Global, what: What) -> Option<Definition> {
     match what {
-        What::Schema => Ok(Definition::Schema),
-        What::Table(names) => Ok(Definition::Table(columns(alloc, names)?)),
+        What::Schema => Some(Definition::Schema),
+        What::Table(names) => match columns(alloc, names) {
+            Some(columns) => Some(Definition::Table(columns)),
+            None => None,
+        },
     }
 }
 
-fn standing(alloc: Global, what: Option<What>) -> Result<Option<Definition>, Fail> {
+fn standing(alloc: Global, what: Option<What>) -> Option<Definition> {
     match what {
-        Some(what) => Ok(Some(definition(alloc, what)?)),
-        None => Ok(None),
+        Some(what) => definition(alloc, what),
+        None => None,
     }
 }
 
-fn change(alloc: Global, act: Act) -> Result<Change, Fail> {
+// The change, if there was memory for it.
+fn change(alloc: Global, act: Act) -> Option<Change> {
     match act {
-        Act::Create(what) => Ok(Change::Create(definition(alloc, what)?)),
-        Act::Drop => Ok(Change::Drop),
-        Act::Put(what) => Ok(Change::Put(definition(alloc, what)?)),
-        Act::Add(name) => Ok(Change::AddColumn(Column::new(alloc, name)?)),
-        Act::Lose(name) => Ok(Change::DropColumn(Column::new(alloc, name)?)),
+        Act::Drop => Some(Change::Drop),
+        Act::Create(what) => match definition(alloc, what) {
+            Some(definition) => Some(Change::Create(definition)),
+            None => None,
+        },
+        Act::Put(what) => match definition(alloc, what) {
+            Some(definition) => Some(Change::Put(definition)),
+            None => None,
+        },
+        Act::Add(name) => match Column::new(alloc, name) {
+            Ok(column) => Some(Change::AddColumn(column)),
+            Err(_) => None,
+        },
+        Act::Lose(name) => match Column::new(alloc, name) {
+            Ok(column) => Some(Change::DropColumn(column)),
+            Err(_) => None,
+        },
+    }
+}
+
+// What becomes of what stands by a change.
+fn outcome(alloc: Global, before: Option<What>, act: Act) -> Result<Option<Definition>, DefError> {
+    match change(alloc, act) {
+        Some(change) => apply(alloc, &standing(alloc, before), &change),
+        None => Err(DefError::OutOfMemory),
     }
 }
 
 // Whether a change of what stands makes of it what its row says.
-fn is_changed_so(alloc: Global, (before, act, want): Row) -> Result<bool, Fail> {
-    let before = standing(alloc, before)?;
-    let change = change(alloc, act)?;
-    match (apply(alloc, &before, &change), want) {
-        (Ok(after), Ok(wanted)) => Ok(after == standing(alloc, wanted)?),
-        (Err(cause), Err(wanted)) => Ok(cause == wanted),
-        _ => Ok(false),
+fn is_changed_so(alloc: Global, (before, act, want): Row) -> bool {
+    match (outcome(alloc, before, act), want) {
+        (Ok(after), Ok(wanted)) => after == standing(alloc, wanted),
+        (Err(cause), Err(wanted)) => cause == wanted,
+        _ => false,
     }
 }
 
 #[test]
-fn changes_what_stands(rt: HostRuntime) -> Result<(), Fail> {
+fn changes_what_stands(rt: HostRuntime) {
     for rows in [CREATED, DROPPED_AND_PUT, GAINED_AND_LOST] {
         for (place, row) in rows.iter().enumerate() {
             assert!(rt;
-                is_changed_so(rt.alloc(), *row)?,
+                is_changed_so(rt.alloc(), *row),
                 "row {place} of {}",
                 rows.len()
             );
         }
     }
-    Ok(())
 }
 
 // Changes no two of which are the same.
@@ -198,38 +219,45 @@ const DIFFERENT: [Act; 9] = [
     Act::Lose("x"),
 ];
 
-// Whether the copy of a change is the same, and the changes are equal as is wanted.
-fn compares(alloc: Global, a: Act, b: Act, equal: bool) -> Result<bool, Fail> {
-    let a = change(alloc, a)?;
-    let b = change(alloc, b)?;
-    Ok(a.clone()? == a && (a == b) == equal)
+fn is_copied(change: &Change) -> bool {
+    match change.clone() {
+        Ok(copy) => copy == *change,
+        Err(_) => false,
+    }
+}
+
+// Whether two changes are equal as is wanted, and each is equal to its copy.
+fn compare(alloc: Global, a: Act, b: Act, equal: bool) -> bool {
+    match (change(alloc, a), change(alloc, b)) {
+        (Some(a), Some(b)) => (a == b) == equal && is_copied(&a),
+        _ => false,
+    }
 }
 
 #[test]
-fn copies_are_equal(rt: HostRuntime) -> Result<(), Fail> {
+fn copies_are_equal(rt: HostRuntime) {
     for (i, a) in DIFFERENT.iter().enumerate() {
         for (j, b) in DIFFERENT.iter().enumerate() {
-            assert!(rt; compares(rt.alloc(), *a, *b, i == j)?, "{i} and {j}");
+            assert!(rt; compare(rt.alloc(), *a, *b, i == j), "{i} and {j}");
         }
     }
-    Ok(())
 }
+
+const CAUSES: [(DefError, &str); 8] = [
+    (DefError::Exists, "already exists"),
+    (DefError::Missing, "doesn't exist"),
+    (DefError::DuplicateColumn, "duplicate column name"),
+    (DefError::NoColumn, "no such column"),
+    (DefError::LastColumn, "a table can't lose its last column"),
+    (DefError::ManyColumns, "more than 64 columns"),
+    (
+        DefError::WrongKind,
+        "columns where none can be, or none where some have to be",
+    ),
+    (DefError::OutOfMemory, "out of memory"),
+];
 
 #[test]
 fn tells_each_cause(rt: HostRuntime) {
-    for (error, text) in [
-        (DefError::Exists, "already exists"),
-        (DefError::Missing, "doesn't exist"),
-        (DefError::DuplicateColumn, "duplicate column name"),
-        (DefError::NoColumn, "no such column"),
-        (DefError::LastColumn, "a table can't lose its last column"),
-        (DefError::ManyColumns, "more than 64 columns"),
-        (
-            DefError::WrongKind,
-            "columns where none can be, or none where some have to be",
-        ),
-        (DefError::OutOfMemory, "out of memory"),
-    ] {
-        assert!(rt; is_printed(rt.alloc(), &error, text), "{text}");
-    }
+    assert!(rt; first_misprinted(rt.alloc(), &CAUSES).is_none());
 }

@@ -1,5 +1,5 @@
 //! Fast tickets, which the word counts and no list has, and what those who take them are told.
-use super::steps::{Answer, CONFLICT, NO, NO_FAST, Step, Steps, YES, first_wrong};
+use super::steps::{Answer, CONFLICT, Life, NO, NO_FAST, Step, Steps, YES, first_wrong};
 use mdl_key::{Kind, Mode};
 use mdl_word::Word;
 use std::alloc::Global;
@@ -90,14 +90,9 @@ const OBTRUSIVE_AT_A_SCHEMA: Steps = &[
     (Step::Needs, Answer::Needs(true, true)),
 ];
 
-#[test]
-fn tells_what_it_needs(rt: HostRuntime) {
-    for (what, kind, steps) in [
-        ("fast tickets of a schema", Kind::Scoped, FAST_IN_A_SCHEMA),
-        ("what comes and goes", Kind::Object, NEEDS),
-        ("obtrusive at a table", Kind::Object, OBTRUSIVE_AT_A_TABLE),
-        ("obtrusive at a schema", Kind::Scoped, OBTRUSIVE_AT_A_SCHEMA),
-    ] {
-        assert_eq!(rt; first_wrong(rt.alloc(), kind, steps), None, "{what}");
-    }
-}
+pub(super) const LIVES: &[Life] = &[
+    ("fast tickets of a schema", Kind::Scoped, FAST_IN_A_SCHEMA),
+    ("what comes and goes", Kind::Object, NEEDS),
+    ("obtrusive at a table", Kind::Object, OBTRUSIVE_AT_A_TABLE),
+    ("obtrusive at a schema", Kind::Scoped, OBTRUSIVE_AT_A_SCHEMA),
+];

@@ -1,5 +1,5 @@
 //! Books of locks that are granted and waited for.
-use super::steps::{Answer, CONFLICT, NO, NO_FAST, Step, Steps, YES, first_wrong, new_book};
+use super::steps::{Answer, CONFLICT, Life, NO, NO_FAST, Step, Steps, YES, new_book};
 use mdl_key::{Kind, Mode};
 use std::alloc::Global;
 
@@ -90,26 +90,21 @@ const LATER_AND_SETTLED: Steps = &[
     (Step::Next(NO_FAST, &[1, 2, 3]), Answer::FindsNobody),
 ];
 
-#[test]
-fn grants_in_turn(rt: HostRuntime) {
-    for (what, kind, steps) in [
-        ("an ordinary life", Kind::Object, LIFE),
-        ("a schema is served in turn", Kind::Scoped, IN_TURN),
-        (
-            "other sessions alone are looked at",
-            Kind::Object,
-            BESIDE_OTHERS,
-        ),
-        ("a clone overtakes", Kind::Object, OVERTAKEN),
-        (
-            "later and settled waiters count",
-            Kind::Object,
-            LATER_AND_SETTLED,
-        ),
-    ] {
-        assert_eq!(rt; first_wrong(rt.alloc(), kind, steps), None, "{what}");
-    }
-}
+pub(super) const LIVES: &[Life] = &[
+    ("an ordinary life", Kind::Object, LIFE),
+    ("a schema is served in turn", Kind::Scoped, IN_TURN),
+    (
+        "other sessions alone are looked at",
+        Kind::Object,
+        BESIDE_OTHERS,
+    ),
+    ("a clone overtakes", Kind::Object, OVERTAKEN),
+    (
+        "later and settled waiters count",
+        Kind::Object,
+        LATER_AND_SETTLED,
+    ),
+];
 
 fn keeps_its_key(alloc: Global) -> bool {
     match new_book(alloc, Kind::Object) {

@@ -52,6 +52,9 @@ pub(crate) const FULL: Answer = Answer::Refuses(BookError::Full);
 /// What one book is asked, step by step.
 pub(crate) type Steps = &'static [(Step, Answer)];
 
+/// What a book's steps show, the kind of its lock, and the steps.
+pub(crate) type Life = (&'static str, Kind, Steps);
+
 pub(crate) fn ticket(session: u16, number: u64, mode: Mode) -> Ticket {
     Ticket {
         session,

@@ -1,5 +1,5 @@
 //! Wishes beside tickets of the same session and of others, granted or waiting. Whatever waits can be admitted.
-use super::steps::{Answer, NO, NO_FAST, Step, Steps, YES, first_wrong};
+use super::steps::{Answer, Life, NO, NO_FAST, Step, Steps, YES};
 use mdl_key::{Kind, Mode};
 
 const OWN_GRANTED: Steps = &[
@@ -35,13 +35,8 @@ const LEFT_MODES: Steps = &[
     (Step::CanGrant(9, Mode::X, NO_FAST), YES),
 ];
 
-#[test]
-fn own_tickets_never_stand_in_the_way(rt: HostRuntime) {
-    for (what, kind, steps) in [
-        ("own granted tickets", Kind::Object, OWN_GRANTED),
-        ("own waiting tickets", Kind::Object, OWN_WAITING),
-        ("modes that are left", Kind::Scoped, LEFT_MODES),
-    ] {
-        assert_eq!(rt; first_wrong(rt.alloc(), kind, steps), None, "{what}");
-    }
-}
+pub(super) const LIVES: &[Life] = &[
+    ("own granted tickets", Kind::Object, OWN_GRANTED),
+    ("own waiting tickets", Kind::Object, OWN_WAITING),
+    ("modes that are left", Kind::Scoped, LEFT_MODES),
+];

@@ -2,7 +2,6 @@
 use mdl_defs::{Column, Columns};
 use mdl_key::KeyError;
 use std::alloc::Global;
-use std::test::Fail;
 
 /// Names of columns.
 #[derive(Clone, Copy)]
@@ -13,54 +12,101 @@ pub(crate) enum Names {
     Numbered(u32, &'static [&'static str]),
 }
 
-/// Columns of these names, in order.
-pub(crate) fn columns(alloc: Global, names: Names) -> Result<Columns, Fail> {
+// Puts a column of this name last: whether that went well.
+fn add(alloc: Global, columns: &mut Columns, name: &str) -> bool {
+    match Column::new(alloc, name) {
+        Ok(column) => columns.push(column).is_ok(),
+        Err(_) => false,
+    }
+}
+
+fn add_these(alloc: Global, columns: &mut Columns, names: &[&str]) -> bool {
+    for name in names {
+        if !add(alloc, columns, name) {
+            return false;
+        }
+    }
+    true
+}
+
+fn add_one_numbered(alloc: Global, columns: &mut Columns, number: u32) -> bool {
+    match format!(in alloc; "c{number}") {
+        Ok(name) => add(alloc, columns, name.as_str()),
+        Err(_) => false,
+    }
+}
+
+fn add_numbered(alloc: Global, columns: &mut Columns, last: u32) -> bool {
+    for number in 1..=last {
+        if !add_one_numbered(alloc, columns, number) {
+            return false;
+        }
+    }
+    true
+}
+
+/// Columns of these names, in order, if there was memory for them.
+pub(crate) fn columns(alloc: Global, names: Names) -> Option<Columns> {
     let mut columns = Columns::new(alloc);
-    let more = match names {
-        Names::These(names) => names,
+    let well = match names {
+        Names::These(names) => add_these(alloc, &mut columns, names),
         Names::Numbered(last, names) => {
-            for number in 1..=last {
-                let name = format!(in alloc; "c{number}")?;
-                columns.push(Column::new(alloc, name.as_str())?)?;
-            }
-            names
+            add_numbered(alloc, &mut columns, last) && add_these(alloc, &mut columns, names)
         }
     };
-    for name in more {
-        columns.push(Column::new(alloc, name)?)?;
+    if well { Some(columns) } else { None }
+}
+
+// Whether a column of this name has it, or is refused so.
+fn is_named(alloc: Global, name: &str, refusal: Option<KeyError>) -> bool {
+    match Column::new(alloc, name) {
+        Ok(column) => column.name() == name && refusal.is_none(),
+        Err(error) => refusal == Some(error),
     }
-    Ok(columns)
 }
 
 #[test]
-fn names_columns(rt: HostRuntime) -> Result<(), Fail> {
-    let alloc = rt.alloc();
-    assert_eq!(rt; Column::new(alloc, "a_1")?.name(), "a_1");
-    for (name, want) in [("", KeyError::EmptyName), ("aB", KeyError::BadByte(1))] {
-        assert_eq!(rt; Column::new(alloc, name).err(), Some(want), "name {name}");
+fn names_columns(rt: HostRuntime) {
+    for (name, refusal) in [
+        ("a_1", None),
+        ("", Some(KeyError::EmptyName)),
+        ("aB", Some(KeyError::BadByte(1))),
+    ] {
+        assert!(rt; is_named(rt.alloc(), name, refusal), "name {name}");
     }
-    Ok(())
 }
 
-// Whether columns with one more differ from those without it, and are the same as their copy.
-fn grow(columns: &mut Columns, column: Column) -> Result<bool, Fail> {
-    let shorter = columns.clone()?;
-    columns.push(column)?;
-    Ok(*columns != shorter && *columns == columns.clone()?)
+fn is_copied(columns: &Columns) -> bool {
+    match columns.clone() {
+        Ok(copy) => copy == *columns,
+        Err(_) => false,
+    }
+}
+
+// Whether columns with one more differ from those without it.
+fn grow(alloc: Global, columns: &mut Columns, name: &str) -> bool {
+    match columns.clone() {
+        Ok(shorter) => add(alloc, columns, name) && *columns != shorter,
+        Err(_) => false,
+    }
+}
+
+fn are_y_x_y(columns: &[Column]) -> bool {
+    match columns {
+        [first, second, third] => first == third && first != second && second.name() == "x",
+        _ => false,
+    }
 }
 
 #[test]
-fn keeps_columns_in_order(rt: HostRuntime) -> Result<(), Fail> {
-    let alloc = rt.alloc();
-    let mut columns = Columns::new(alloc);
-    assert_eq!(rt; columns.as_slice().len(), 0);
+fn keeps_columns_in_order(rt: HostRuntime) {
+    let mut columns = Columns::new(rt.alloc());
+    assert!(rt; columns.as_slice().is_empty());
     for name in ["y", "x", "y"] {
-        assert!(rt; grow(&mut columns, Column::new(alloc, name)?)?, "{name}");
+        assert!(rt;
+            grow(rt.alloc(), &mut columns, name) && is_copied(&columns),
+            "{name}"
+        );
     }
-    let [first, second, third] = columns.as_slice() else {
-        panic!(rt; "three columns");
-    };
-    assert!(rt; first == third && first != second);
-    assert_eq!(rt; second.name(), "x");
-    Ok(())
+    assert!(rt; are_y_x_y(columns.as_slice()));
 }

@@ -55,8 +55,7 @@ fn modes_are_as_told(rt: HostRuntime) {
 #[test]
 fn all_are_in_order(rt: HostRuntime) {
     assert!(rt; Mode::ALL.is_sorted());
-    assert_eq!(rt; Mode::ALL.first(), Some(&Mode::IX));
-    assert_eq!(rt; Mode::ALL.last(), Some(&Mode::X));
+    assert!(rt; Mode::ALL[0] == Mode::IX && Mode::ALL[10] == Mode::X);
 }
 
 #[test]
