@@ -12,9 +12,9 @@ use Rattle.clap.specs.Takes.{takes}
 use Rattle.clap.specs.Faults.{defaults_fault, built_fault, bundle_fault, bundle_step_fault, entered_fault, fault_of, flag_word_fault, flags_fault, is_simple_and_free, level_fault, long_fault, other_fault, short_fault, step_fault, turn_fault, walk_fault}
 use Rattle.clap.specs.declared.error.kind.ErrorKind.{ErrorKind}
 use Rattle.mdl_key.specs.declared.namespace.Kind.TheVariants.{Scoped, Object}
-use Rattle.mdlsim.specs.declared.command_line.Run.{Run}
-use Rattle.mdlsim.specs.declared.command_line.Run.TheVariants.{Lock, Matrix}
-use Rattle.mdlsim.specs.CommandLine.{Asks, lock_subcommand, mdlsim, scoped_flag, words_of_run}
+use Rattle.mdl_lock.specs.declared.program.Run.{Run}
+use Rattle.mdl_lock.specs.declared.program.Run.TheVariants.{Lock, Matrix}
+use Rattle.mdlsim.specs.CommandLine.{Asks, lock_subcommand, mdlsim, scoped_flag}
 use Rattle.clap.proofs.OnLiterals.{clap_on_literals}
 use Rattle.clap.proofs.WalkLemmas.{walk_stopped}
 use Rattle.mdlsim.proofs.LongOptions.{spelled}

@@ -1,5 +1,5 @@
 -- What a parse finds in the words of a run.
-use Rattle.std.proofs.Common.{◌≡◌, ◌∙◌, ◌⊎◌, inl, inr, ap, refl, codes, true, List, [], ◌∷◌, Option, Some, None, option_map, drop}
+use Rattle.std.proofs.Common.{◌≡◌, ◌∙◌, ◌⊎◌, inl, inr, ap, refl, codes, List, ◌∷◌, Option, Some, None, option_map, drop}
 use Rattle.std.specs.Prelude.{Box, unwrap_or}
 use Rattle.std.specs.Box.{box_value}
 use Rattle.clap.specs.Walk.{Row, Text, one_of, rows_of}
@@ -10,8 +10,8 @@ use Rattle.clap.specs.declared.parser.matches.ArgMatches.TheViews.{out-ArgMatche
 use Rattle.clap.specs.declared.parser.matches.SubCommand.{SubCommand}
 use Rattle.mdl_key.specs.declared.namespace.Kind.{Kind}
 use Rattle.mdl_key.specs.declared.namespace.Kind.TheVariants.{Scoped, Object}
-use Rattle.mdlsim.specs.declared.command_line.Run.{Run}
-use Rattle.mdlsim.specs.declared.command_line.Run.TheVariants.{Lock, Matrix}
+use Rattle.mdl_lock.specs.declared.program.Run.{Run}
+use Rattle.mdl_lock.specs.declared.program.Run.TheVariants.{Lock, Matrix}
 use Rattle.mdlsim.specs.CommandLine.{Asks, Finds, mdlsim, words_of_run}
 use Rattle.clap.proofs.OnLiterals.{clap_on_literals}
 use Rattle.clap.proofs.WalkLemmas.{one_text-rows}

@@ -1,16 +1,3 @@
-pub mod Actions
-pub mod Ascii
 pub mod CommandWords
-pub mod DeviceLemmas
-pub mod FindLemmas
-pub mod ForgottenLemmas
 pub mod FoundRuns
-pub mod LawfulLemmas
-pub mod LockLemmas
 pub mod LongOptions
-pub mod MatrixRows
-pub mod OrderLemmas
-pub mod Reading
-pub mod RunLemmas
-pub mod Sessions
-pub mod Words

@@ -1,5 +1,5 @@
 -- How a long option without a value is spelled.
-use Rattle.std.proofs.Common.{◌≡◌, ◌∙◌, ◌==◌, ◌||◌, ap, ap₂, arith, refl, sym, true, false, Bool, List, [], ◌∷◌, ℕ, Option, Some, None, suc, take, ◌+◌, if◌then◌else◌}
+use Rattle.std.proofs.Common.{◌≡◌, ◌∙◌, ◌==◌, ◌||◌, ap, ap₂, arith, refl, sym, true, false, Bool, [], ◌∷◌, Option, Some, None, suc, take, ◌+◌, if◌then◌else◌}
 use Rattle.std.specs.Prelude.{option_and_then, unwrap_or}
 use Rattle.std.specs.List.{after_first, before_first, position_or_len}
 use Rattle.std.proofs.lemmas.Bool.Decides.{Decides-eqb}

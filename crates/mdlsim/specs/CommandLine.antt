@@ -5,8 +5,8 @@ use Rattle.clap.specs.Simple.{App, new_app, new_rule, new_shape, on_top, subcomm
 use Rattle.clap.specs.declared.builder.action.ArgAction.TheVariants.{SetTrue}
 use Rattle.clap.specs.declared.parser.matches.ArgMatches.{ArgMatches}
 use Rattle.mdl_key.specs.declared.namespace.Kind.TheVariants.{Scoped, Object}
-use Rattle.mdlsim.specs.declared.command_line.Run.{Run}
-use Rattle.mdlsim.specs.declared.command_line.Run.TheVariants.{Lock, Matrix}
+use Rattle.mdl_lock.specs.declared.program.Run.{Run}
+use Rattle.mdl_lock.specs.declared.program.Run.TheVariants.{Lock, Matrix}
 
 -- the words of a run, behind the program's name
 abbrev pub words_of_run : Run → List (List ℕ)

@@ -1,11 +1,1 @@
-pub mod Answering
-pub mod Answers
 pub mod CommandLine
-pub mod Devices
-pub mod Faults
-pub mod Lines
-pub mod Locks
-pub mod MatrixText
-pub mod Output
-pub mod Runs
-pub mod Scripts

@@ -1,23 +1,15 @@
 //! What the command line asks for.
 ghost use Rattle.std.specs.Prelude.{◌≡◌, IfErr, IfOk, Some, codes, drop, map};
 ghost use Rattle.clap.specs.Words.{app_of, found_of, kind_of, one_text};
+ghost use Rattle.mdl_lock.specs.declared.program.Run.{Run};
 ghost use Rattle.mdlsim.specs.CommandLine.{Asks, Finds, mdlsim};
-ghost use Rattle.mdlsim.specs.declared.command_line.Run.{Run};
 
 use clap::error::ErrorKind;
 use clap::{Arg, ArgAction, ArgMatches, Command, Error};
 use mdl_key::Kind;
+pub use mdl_lock::Run;
 use std::alloc::{AllocError, Global};
 use std::convert::AsStr;
-
-/// What the command line asks for.
-#[derive(Clone, Copy, Debug, PartialEq, Eq)]
-pub enum Run {
-    /// Drive one lock of this kind by a script.
-    Lock(Kind),
-    /// Print the two matrices of each kind of lock.
-    Matrix,
-}
 
 /// Reads the words of a command line; the first is the program's name.
 pub fn command<S: AsStr>(alloc: Global, words: &[S]) -> Result<Run, Error>

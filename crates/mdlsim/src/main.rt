@@ -2,22 +2,11 @@
 //! what the lock answers. `mdlsim matrix` prints which modes clash, and which wait behind which.
 #![tactic(auto)]
 
-mod answer;
 mod command_line;
-mod device;
-#[cfg(test)]
-mod fakes;
-mod fault;
-mod lines;
-mod lock_answers;
-mod lock_run;
-mod matrix_run;
-mod parse;
 mod program;
-mod report;
-mod script_command;
 
-use program::{lack_words, run_words};
+use mdl_lock::lack_words;
+use program::run_words;
 use std::io;
 use std::process::ExitCode;
 

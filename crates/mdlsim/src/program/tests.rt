@@ -1,141 +1,34 @@
 use super::*;
-use crate::fakes::{Habit, Slip, Source, Target};
-use std::alloc::AllocError;
-use std::test::Fail;
 
-const LOCK: &[&str] = &["mdlsim", "lock"];
-
-const SCOPED: &[&str] = &["mdlsim", "lock", "--scoped"];
-
-const MATRIX: &[&str] = &["mdlsim", "matrix"];
-
-// What is seen of a run: its status, what it wrote, and what it told.
-#[derive(Drop)]
-struct Seen {
-    status: u8,
-    written: Vec<u8>,
-    told: Vec<u8>,
-}
-
-// Runs the words without what is promised of them: the tests look at what it does.
-fn look_at(alloc: Global, words: &[&str], input: &mut Source<'_>, output: Habit) -> Seen {
-    let mut target = Target::new(alloc, output);
-    let mut told = Vec::new(alloc);
-    let status = run_words(alloc, words, input, &mut target, &mut told);
-    Seen {
-        status,
-        written: target.taken,
-        told,
-    }
-}
-
-// A script of so many lines that are granted, and one that is refused.
-fn refused_after(alloc: Global, lines: usize) -> Result<String, AllocError> {
-    let mut script = String::new(alloc);
-    for _ in 0..lines {
-        script.push_str("1 TIMEOUT\n")?;
-    }
-    script.push_str("1 GO\n")?;
-    Ok(script)
-}
-
+// Words of command lines, and what is told of those that ask for no run. What other words ask for is done.
 #[test]
-fn statuses_and_lines_of_a_run(rt: HostRuntime) {
-    let gone = Habit::steps_of(7).slips_after(9, Slip::Fails(ErrorKind::BrokenPipe));
-    let sound = Habit::steps_of(7);
-    let device = "fault: device\n";
-    let both = "1 GRANTED SR\n2 WAITS X\n";
-    for (words, script, input, output, status, answers, line) in [
-        (LOCK, "1 SR\n2 X\n", sound, sound, 0, both, ""),
+fn words_are_obeyed_or_refused(rt: HostRuntime) {
+    let rows: [(&[&str], u8, &[u8], &[u8]); 5] = [
+        (&["mdlsim"], 2, b"", b"requires a subcommand"),
         (
-            SCOPED,
-            "1 IX\n2 S\n",
-            sound,
-            sound,
-            0,
-            "1 GRANTED IX\n2 WAITS S\n",
-            "",
+            &["mdlsim", "replay"],
+            2,
+            b"",
+            b"unrecognized subcommand 'replay'",
         ),
+        (&["mdlsim", "lock", "x"], 2, b"", b"unexpected argument 'x'"),
         (
-            LOCK,
-            "1 SR\n2 x\n",
-            sound,
-            sound,
-            1,
-            "",
-            "line 2: BadWord\n",
+            &["mdlsim", "--help"],
+            2,
+            b"",
+            b"Drives one lock by a script",
         ),
-        (LOCK, "x", sound, gone, 1, "", "line 1: BadSession\n"),
-        (SCOPED, "1 SR\n", sound, sound, 1, "", "line 1: BadWord\n"),
-        (LOCK, "1 SR\n2 X\n", sound, gone, 3, "1 GRANTED", device),
-        (LOCK, "1 SR\n2 X\n", gone, sound, 3, "", device),
-        (MATRIX, "", sound, gone, 3, "SCOPED GR", device),
-    ] {
-        let mut source = Source::new(script.as_bytes(), input);
-        let seen = look_at(rt.alloc(), words, &mut source, output);
-        assert_eq!(rt; seen.status, status, "{script}");
-        assert_eq!(rt; seen.written.as_slice(), answers.as_bytes(), "{script}");
-        assert_eq!(rt; seen.told.as_slice(), line.as_bytes(), "{script}");
-    }
-}
-
-// However far down, a refused line is told as such, and never as a fault.
-#[test]
-fn refused_lines_far_down_are_told(rt: HostRuntime) -> Result<(), Fail> {
-    for lines in [0, 1, 9, 99, 100, 101, 999, 20_000] {
-        let script = refused_after(rt.alloc(), lines)?;
-        let sound = Habit::steps_of(usize::MAX);
-        let mut source = Source::new(script.as_bytes(), sound);
-        let seen = look_at(rt.alloc(), LOCK, &mut source, sound);
-        let number = lines + 1;
-        let line = format!(in rt.alloc(); "line {number}: BadWord\n")?;
-        assert_eq!(rt; seen.status, 1, "{line}");
-        assert!(rt; seen.written.is_empty(), "{line}");
-        assert_eq!(rt; seen.told.as_slice(), line.as_bytes());
-    }
-    Ok(())
-}
-
-#[test]
-fn the_matrices_are_printed_without_input(rt: HostRuntime) {
-    let gone = Habit::steps_of(7).slips_after(0, Slip::Fails(ErrorKind::BrokenPipe));
-    let mut source = Source::new(b"1 SR", gone);
-    let seen = look_at(rt.alloc(), MATRIX, &mut source, Habit::steps_of(7));
-    assert_eq!(rt; seen.status, 0);
-    assert!(rt; seen.written.starts_with(b"SCOPED GRANTED IX: S X\n"));
-    assert!(rt; seen.written.ends_with(b"OBJECT WAITING X: -\n"));
-    assert!(rt; seen.told.is_empty());
-}
-
-// Words that ask for no run are refused on the stream of errors alone, and help stands there too.
-#[test]
-fn words_that_ask_for_no_run_are_refused(rt: HostRuntime) {
-    let refused: [(&[&str], &[u8]); 4] = [
-        (&["mdlsim"], b"requires a subcommand"),
-        (&["mdlsim", "replay"], b"unrecognized subcommand 'replay'"),
-        (&["mdlsim", "lock", "x"], b"unexpected argument 'x'"),
-        (&["mdlsim", "--help"], b"Drives one lock by a script"),
+        (&["mdlsim", "lock"], 0, b"1 GRANTED SR\n", b""),
     ];
-    for (words, part) in refused {
-        let sound = Habit::steps_of(7);
-        let mut source = Source::new(b"1 SR\n", sound);
-        let seen = look_at(rt.alloc(), words, &mut source, sound);
-        assert_eq!(rt; seen.status, 2, "{words:?}");
-        assert!(rt; seen.written.is_empty(), "{words:?}");
-        let found = seen.told.windows(part.len()).any(|piece| piece == part);
-        assert!(rt; found, "{words:?}");
-    }
-}
-
-#[test]
-fn missing_words_are_told(rt: HostRuntime) {
-    for (kind, status, line) in [
-        (ErrorKind::OutOfMemory, 3, "fault: memory\n"),
-        (ErrorKind::InvalidData, 2, "error: invalid data\n"),
-    ] {
+    for (words, status, answers, part) in rows {
+        let mut written = Vec::new(rt.alloc());
         let mut told = Vec::new(rt.alloc());
-        let error = io::Error::from(kind);
-        assert_eq!(rt; lack_words(&error, &mut told), status, "{line}");
-        assert_eq!(rt; told.as_slice(), line.as_bytes());
+        let mut script = b"1 SR\n".as_slice();
+        let seen = run_words(rt.alloc(), words, &mut script, &mut written, &mut told);
+        assert_eq!(rt; seen, status, "{words:?}");
+        assert_eq!(rt; written.as_slice(), answers, "{words:?}");
+        let found = part.is_empty() || told.windows(part.len()).any(|piece| piece == part);
+        assert!(rt; found, "{words:?}");
+        assert_eq!(rt; told.is_empty(), status == 0, "{words:?}");
     }
 }

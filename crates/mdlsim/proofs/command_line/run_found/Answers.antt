@@ -1,5 +1,5 @@
 -- What is found names the run's subcommand, and says of `--scoped` whether it was there.
-use Rattle.std.proofs.Common.{◌≡◌, ◌∙◌, rules, ap, inl, inr, option_map}
+use Rattle.std.proofs.Common.{◌∙◌, rules, inl, inr}
 use Rattle.mdlsim.proofs.FoundRuns.{is_either, is_lock, is_matrix}
 use Rattle.mdlsim.proofs.command_line.run_found.Goals as goal
 use Rattle.mdlsim.proofs.command_line.run_found.Goals.{in_default-via-in-Some+in_default, in_default-via-in_default}

@@ -1,0 +1,5 @@
+pub mod Ascii
+pub mod DeviceLemmas
+pub mod Items
+pub mod ScriptLemmas
+pub mod Sessions

@@ -1,0 +1,76 @@
+//! What stands in a line of a script.
+ghost use Rattle.std.specs.Prelude.{◌≡◌, ℕ, List, [], ◌∷◌, MatchOption};
+ghost use Rattle.std.specs.Option.{option_map};
+ghost use Rattle.std.specs.Str.Lines.{strip_carriage_return};
+ghost use Rattle.mdl_lines.specs.Lines.{is_blank, words_of, only};
+ghost use Rattle.mdl_lines.specs.ScriptLines.{is_comment};
+ghost use Rattle.mdl_lines.specs.Sessions.{session_of};
+
+use crate::fault::LineError;
+
+// The longest line, in bytes.
+const LONGEST_LINE: usize = 4096;
+
+/// A line without the carriage return at its end.
+pub fn strip_carriage_return(line: &[u8]) -> &[u8]
+    ensures { result.now ≡ strip_carriage_return line.now }
+{
+    match line {
+        [line @ .., b'\r'] => line,
+        _ => line,
+    }
+}
+
+/// Whether a line begins with `#`, and its words are not read. One that is too long is refused first, and then one that is
+/// not ASCII.
+pub fn is_comment(line: &[u8]) -> Result<bool, LineError>
+    ensures { result ≡ is_comment line.now }
+{
+    if line.len() > LONGEST_LINE {
+        return Err(LineError::LongLine);
+    }
+    if !line.is_ascii() {
+        return Err(LineError::NotAscii);
+    }
+    Ok(matches!(line, [b'#', ..]))
+}
+
+/// The first word of a line, and the second where it is the last.
+pub fn first_words(line: &[u8]) -> Option<(&[u8], Option<&[u8]>)>
+    ensures { MatchOption result (words_of line.now ≡ [])
+        (λ found. (others : List (List ℕ)) × (words_of line.now ≡ found.0.now ∷ others) × (only others ≡ option_map (λ word. word.now) found.1)) }
+{
+    let mut words = line
+        .split(|byte| is_blank(*byte))
+        .filter(|word| !word.is_empty());
+    let first = words.next()?;
+    let Some(second) = words.next() else {
+        return Some((first, None));
+    };
+    match words.next() {
+        None => Some((first, Some(second))),
+        Some(_) => Some((first, None)),
+    }
+}
+
+/// Whether a byte parts words: a space or a tab.
+pub fn is_blank(byte: u8) -> bool
+    ensures { result ≡ is_blank byte }
+{
+    byte == b' ' || byte == b'\t'
+}
+
+/// The session that a word names: a number from 1 to 64 in one or two digits, the first of which is not 0.
+#[tactic(auto, using(crate::proofs::Sessions::none_for_long))]
+pub fn session_of(word: &[u8]) -> Option<u16>
+    ensures { result ≡ session_of word.now }
+{
+    match word {
+        [ones @ b'1'..=b'9'] => Some(u16::from(*ones - b'0')),
+        [tens @ b'1'..=b'9', ones @ b'0'..=b'9'] => {
+            let session = 10 * u16::from(*tens - b'0') + u16::from(*ones - b'0');
+            (session <= 64).then_some(session)
+        }
+        _ => None,
+    }
+}

@@ -1,0 +1,9 @@
+pub mod Actions
+pub mod FindLemmas
+pub mod ForgottenLemmas
+pub mod LawfulLemmas
+pub mod LockLemmas
+pub mod MatrixRows
+pub mod OrderLemmas
+pub mod Reading
+pub mod RunLemmas

@@ -1,0 +1,7 @@
+pub mod Answering
+pub mod Answers
+pub mod Locks
+pub mod MatrixText
+pub mod Output
+pub mod Runs
+pub mod Scripts

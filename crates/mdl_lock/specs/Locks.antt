@@ -1,0 +1,30 @@
+-- What is true of a lock while sessions have one ticket or one wait each, and how a book is seen as a lock.
+use Rattle.std.specs.Prelude.{◌≡◌, ℕ, ◌+◌, ◌≤◌, All, count_by}
+use Rattle.mdl_book.specs.declared.lists.Lists.{Lists}
+use Rattle.mdl_book.specs.declared.ticket.Ticket.{Ticket}
+use Rattle.mdl_book.specs.Tickets.{is_ticket}
+use Rattle.mdl_lines.specs.Sessions.{IsScriptSession}
+use Rattle.mdl_lock.specs.declared.script_command.ScriptCommand.{ScriptCommand}
+use Rattle.mdl_lock.specs.Answers.{Lock}
+
+-- the lists of a book, as a lock
+abbrev pub lock_of : Lists → Lock
+lock_of lists = record { granted = lists.granted; waiting = lists.waiting }
+
+-- a command of such a session
+abbrev pub IsNumbered : ScriptCommand → Type 0
+IsNumbered command = IsScriptSession command.session
+
+-- the ticket of such a session, whose number is 1
+abbrev pub IsScriptTicket : Ticket → Type 0
+IsScriptTicket ticket = (IsScriptSession ticket.session) × (ticket.number ≡ 1)
+
+-- how many tickets a session has, granted and waiting
+abbrev pub tickets_of : ℕ → Lock → ℕ
+tickets_of session lock = count_by (is_ticket session 1) lock.granted + count_by (is_ticket session 1) lock.waiting
+
+-- each that holds or waits does so by a session's ticket, and no session has two tickets
+pub record IsOrderly (lock : Lock) : Type 0 where
+  pub holders : All IsScriptTicket lock.granted
+  pub waiters : All IsScriptTicket lock.waiting
+  pub one_each : (session : ℕ) → tickets_of session lock ≤ 1

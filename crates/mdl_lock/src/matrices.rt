@@ -1,0 +1,132 @@
+//! Prints the two matrices of both kinds of lock.
+ghost use Rattle.std.specs.Prelude.{◌≡◌, ◌⊎◌, ◌++◌, OnOk, IfOk, IfErr};
+ghost use Rattle.std.specs.Io.KnownBytes.{Appends};
+ghost use Rattle.std.specs.List.{list_any};
+ghost use Rattle.std.specs.String.{string_bytes};
+ghost use Rattle.mdl_key.specs.Modes.{same_mode};
+ghost use Rattle.mdl_lock.specs.MatrixText.{kind_name, matrix_name, row_of, row_text, line_of, lines_of_matrix, matrix_text, known_lines, printed};
+ghost use Rattle.mdl_lines.specs.Devices.{LeavesWritten};
+
+use mdl_key::{Kind, Mode, conflicts_granted, conflicts_waiting};
+use mdl_lines::{Fault, write_all};
+use std::alloc::{AllocError, Global};
+use std::io::Write;
+
+/// Writes both matrices of both kinds of lock, a line for each mode asked for.
+///
+/// What is known of the writer is by the bytes that it tells, as a vector does.
+pub fn matrix_run<W: Write>(alloc: Global, writer: &mut W) -> Result<(), Fault>
+    ensures printed { OnOk result (Appends (W.contents writer.old) (W.contents writer.new) matrix_text) }
+
+    // After a fault a beginning was written, never all, and nothing unless writing failed.
+    ensures part { IfErr result (λ fault. LeavesWritten fault (W.contents writer.old) (W.contents writer.new) matrix_text) }
+    ensures fault { IfErr result (λ fault. (fault ≡ Fault.Memory) ⊎ (fault ≡ Fault.Write)) }
+{
+    let text = matrix_text(alloc).map_err(|_| Fault::Memory)?;
+    write_all(writer, text.as_bytes())
+}
+
+/// That text, line by line.
+pub fn matrices_are_known()
+    ensures { matrix_text ≡ printed known_lines }
+{}
+
+// One of the two matrices.
+#[derive(Clone, Copy)]
+enum Matrix {
+    // What clashes with a request while another session holds it.
+    Granted,
+    // What a request waits behind while another session waits for it.
+    Waiting,
+}
+
+impl Matrix {
+    fn as_str(self) -> &'static str
+        ensures { result.now ≡ matrix_name self }
+    {
+        match self {
+            Matrix::Granted => "GRANTED",
+            Matrix::Waiting => "WAITING",
+        }
+    }
+
+    // Whether the other mode stands in the row of the one asked for.
+    fn has(self, kind: Kind, ask: Mode, other: Mode) -> bool
+        ensures { result ≡ list_any (same_mode other) (row_of self kind ask) }
+    {
+        match self {
+            Matrix::Granted => conflicts_granted(kind, ask, other),
+            Matrix::Waiting => conflicts_waiting(kind, ask, other),
+        }
+    }
+}
+
+// Both matrices of both kinds.
+fn matrix_text(alloc: Global) -> Result<String, AllocError>
+    ensures { IfOk result (λ text. string_bytes text ≡ matrix_text) }
+{
+    let mut text = String::new(alloc);
+    push_lines(alloc, &mut text, Kind::Scoped, Matrix::Granted)?;
+    push_lines(alloc, &mut text, Kind::Scoped, Matrix::Waiting)?;
+    push_lines(alloc, &mut text, Kind::Object, Matrix::Granted)?;
+    push_lines(alloc, &mut text, Kind::Object, Matrix::Waiting)?;
+    Ok(text)
+}
+
+// Adds the lines of a matrix.
+fn push_lines(
+    alloc: Global,
+    text: &mut String,
+    kind: Kind,
+    matrix: Matrix,
+) -> Result<(), AllocError>
+    ensures { OnOk result (string_bytes text.new ≡ string_bytes text.old ++ lines_of_matrix kind matrix) }
+{
+    for ask in Mode::ALL {
+        if kind.has_mode(ask) {
+            text.push_str(&line(alloc, kind, matrix, ask)?)?;
+        }
+    }
+    Ok(())
+}
+
+// The line of a mode asked for, with its line feed.
+fn line(alloc: Global, kind: Kind, matrix: Matrix, ask: Mode) -> Result<String, AllocError>
+    ensures { IfOk result (λ text. string_bytes text ≡ line_of kind matrix ask) }
+{
+    let kind_name = kind_name(kind);
+    let matrix_name = matrix.as_str();
+    let row = row_text(alloc, &row(alloc, kind, matrix, ask)?)?;
+    format!(in alloc; "{kind_name} {matrix_name} {ask}: {row}\n")
+}
+
+fn kind_name(kind: Kind) -> &'static str
+    ensures { result.now ≡ kind_name kind }
+{
+    match kind {
+        Kind::Scoped => "SCOPED",
+        Kind::Object => "OBJECT",
+    }
+}
+
+// The modes that stand in the row of the one asked for.
+fn row(alloc: Global, kind: Kind, matrix: Matrix, ask: Mode) -> Result<Vec<Mode>, AllocError>
+    ensures { IfOk result (λ row. row.items ≡ row_of matrix kind ask) }
+{
+    Mode::ALL
+        .iter()
+        .copied()
+        .filter(|other| matrix.has(kind, ask, *other))
+        .collect(alloc)
+}
+
+// The modes of a row, parted by spaces, or `-` where there are none.
+fn row_text(alloc: Global, row: &[Mode]) -> Result<String, AllocError>
+    ensures { IfOk result (λ text. string_bytes text ≡ row_text row.now) }
+{
+    if row.is_empty() {
+        return String::from_str(alloc, "-");
+    }
+    let names: Vec<&str> = row.iter().map(|mode| mode.as_str()).collect(alloc)?;
+    names.join(alloc, " ")
+}

@@ -1,0 +1,92 @@
+//! What a program does and tells once the words of its command line are read, over the streams that it is given.
+ghost use Rattle.std.specs.Prelude.{◌≡◌, ◌⊎◌, IfOk, IfErr, IsOk, Result};
+ghost use Rattle.std.specs.Io.KnownBytes.{Keeps};
+ghost use Rattle.mdl_lines.specs.declared.fault.Fault.{Fault};
+ghost use Rattle.mdl_lock.specs.Runs.{EndsAs, end_status};
+
+use crate::lock_script::lock_run;
+use crate::matrices::matrix_run;
+use mdl_key::Kind;
+use mdl_lines::{Fault, report};
+use std::alloc::Global;
+use std::io::{ErrorKind, Read, Write};
+use std::{fmt, io};
+
+// The status of a program whose command line was refused, or that was asked for help.
+const USAGE: u8 = 2;
+
+/// What the command line asks for.
+#[derive(Clone, Copy, Debug, PartialEq, Eq)]
+pub enum Run {
+    /// Drive one lock of this kind by a script.
+    Lock(Kind),
+    /// Print the two matrices of each kind of lock.
+    Matrix,
+}
+
+/// Does what is asked for, and answers the status. Words that ask for no run are refused: what there is to say of them is told
+/// on the stream of errors alone.
+pub fn run_asked<D: fmt::Display, R: Read, W: Write, E: Write>(
+    alloc: Global,
+    asked: &Result<Run, D>,
+    input: &mut R,
+    output: &mut W,
+    errors: &mut E,
+) -> u8
+    // The status is that of an end which the run may have, and nothing is told of a run that was done.
+    ensures ran { IfOk asked.now (λ run. (end : Result (Unit {0}) Fault)
+        × EndsAs run (R.remaining input.old) (W.contents output.old) (W.contents output.new) end
+        × (result ≡ end_status end)
+        × (IsOk end → Keeps (E.contents errors.old) (E.contents errors.new))) }
+    ensures refused { IfErr asked.now (λ refusal. (result ≡ 2) × Keeps (W.contents output.old) (W.contents output.new)) }
+{
+    match asked {
+        Ok(run) => tell_end(end_of(alloc, *run, input, output), errors),
+        Err(refusal) => refuse_words(refusal, errors),
+    }
+}
+
+// Does what is asked for.
+fn end_of<R: Read, W: Write>(
+    alloc: Global,
+    asked: Run,
+    input: &mut R,
+    output: &mut W,
+) -> Result<(), Fault>
+    ensures { EndsAs asked (R.remaining input.old) (W.contents output.old) (W.contents output.new) result }
+{
+    match asked {
+        Run::Lock(kind) => lock_run(alloc, kind, input, output),
+        Run::Matrix => matrix_run(alloc, output),
+    }
+}
+
+// The status of a run that ended so. A fault is told, and nothing is told of a run that was done.
+fn tell_end<E: Write>(end: Result<(), Fault>, errors: &mut E) -> u8
+    ensures status { result ≡ end_status end }
+    ensures quiet { IsOk end → Keeps (E.contents errors.old) (E.contents errors.new) }
+{
+    match end {
+        Ok(()) => 0,
+        Err(fault) => report(&fault, errors),
+    }
+}
+
+// Tells why words ask for no run, or the help that they ask for.
+fn refuse_words<D: fmt::Display, E: Write>(refusal: &D, errors: &mut E) -> u8
+    ensures { result ≡ 2 }
+{
+    let _ = write!(errors, "{refusal}");
+    USAGE
+}
+
+/// Tells that the words of the command line could not be had, and answers the status: 3 for want of memory.
+pub fn lack_words<E: Write>(error: &io::Error, errors: &mut E) -> u8
+    ensures { (result ≡ 2) ⊎ (result ≡ 3) }
+{
+    if error.kind() == ErrorKind::OutOfMemory {
+        return report(&Fault::Memory, errors);
+    }
+    let _ = writeln!(errors, "error: {error}");
+    USAGE
+}

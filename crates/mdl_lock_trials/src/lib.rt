@@ -1,0 +1,18 @@
+//! Trials of one lock: scripts, the matrices and what is told, over readers and writers of every habit.
+//!
+//! Everything here is for tests. `fakes` has readers and writers that work in small steps and slip once: they fail, they move
+//! nothing, or they are interrupted. `scripts` has rows of scripts beside their answers, and scripts by chance beside a lock as
+//! plain as can be written. `matrices`, `statuses` and `faults` have what is printed of all modes, what a program answers and
+//! where it tells what, and the lines of faults.
+#![tactic(auto)]
+
+#[cfg(test)]
+mod fakes;
+#[cfg(test)]
+mod faults;
+#[cfg(test)]
+mod matrices;
+#[cfg(test)]
+mod scripts;
+#[cfg(test)]
+mod statuses;

@@ -1,8 +1,0 @@
--- The ticket that is given up leaves the lock orderly.
-use Rattle.mdlsim.specs.Locks.{lock_of}
-use Rattle.mdlsim.proofs.OrderLemmas.{orderly_release}
-use Rattle.mdlsim.proofs.lock_answers.release.Goals as goal
-
-pub grant_waiters-requires-clause-orderly : goal.grant_waiters-requires-clause-orderly
-grant_waiters-requires-clause-orderly c =
-    rw c.remove.ensures.removed (orderly_release (lock_of c.args.book.now) c.args.session 1 c.requires.orderly)
