@@ -8,9 +8,10 @@ use Rattle.std.proofs.lemmas.List.{get_or-set_same, get_or-set_other, length-set
 use Rattle.std.proofs.lemmas.List.Edits.{length-remove}
 use Rattle.std.proofs.lemmas.List.Sums.{sum_by_push, sum_by-remove, sum_by-set, get_or-le-sum_by, count_by-le-length, sum_by-le, list_all-from_AllPass, AllPass-from_list_all}
 use Rattle.mdl_key.specs.declared.mode.Mode.{Mode}
-use Rattle.mdl_key.specs.declared.mode.Mode.TheVariants.{IX, S, SH, SR, SW, SWLP, SU, SRO, SNW, SNRW, X}
+use Rattle.mdl_key.specs.declared.mode.Mode.TheVariants.{IX}
 use Rattle.mdl_key.specs.Modes.{mode_rank, same_mode, all_modes}
 use Rattle.mdl_key.proofs.MatrixLemmas.{each_mode}
+use Rattle.mdl_key.proofs.ModeLemmas.{at_rank}
 use Rattle.mdl_book.specs.declared.ticket.Ticket.{Ticket}
 use Rattle.mdl_book.specs.Tickets.{in_mode}
 use Rattle.mdl_book.specs.TicketLists.{count_in, CountsModes, none_counted}
@@ -115,20 +116,6 @@ all_from_none_counted test own counts tickets counted none =
     passed (get_or counts (mode_rank ticket.mode) 0) (test ticket.mode) (own ticket) some (each_mode (λ m. nat_eq (get_or counts (mode_rank m) 0) 0 || not (test m)) none ticket.mode))
 
 -- ---- and the other way round
-
--- each mode stands at its rank
-at_rank : (mode : Mode) → get_or all_modes (mode_rank mode) IX ≡ mode
-at_rank IX = refl
-at_rank S = refl
-at_rank SH = refl
-at_rank SR = refl
-at_rank SW = refl
-at_rank SWLP = refl
-at_rank SU = refl
-at_rank SRO = refl
-at_rank SNW = refl
-at_rank SNRW = refl
-at_rank X = refl
 
 same_mode-is : (a b : Mode) → same_mode a b ≡ true → a ≡ b
 same_mode-is a b same = sym (at_rank a) ∙ ap (λ r. get_or all_modes r IX) (eqb-true (mode_rank a) (mode_rank b) same) ∙ at_rank b

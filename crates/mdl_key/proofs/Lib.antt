@@ -1,1 +1,2 @@
 pub mod MatrixLemmas
+pub mod ModeLemmas

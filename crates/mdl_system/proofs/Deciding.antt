@@ -6,8 +6,9 @@ use Rattle.std.proofs.lemmas.Slice.Eq.{bytes_eq-Decides}
 use Rattle.mdl_key.specs.declared.namespace.Namespace.{Namespace}
 use Rattle.mdl_key.specs.declared.namespace.Namespace.TheVariants.{Global, Schema, Table, Commit}
 use Rattle.mdl_key.specs.declared.mode.Mode.{Mode}
-use Rattle.mdl_key.specs.declared.mode.Mode.TheVariants.{IX, S, SH, SR, SW, SWLP, SU, SRO, SNW, SNRW, X}
+use Rattle.mdl_key.specs.declared.mode.Mode.TheVariants.{IX}
 use Rattle.mdl_key.specs.Words.{KeyName, namespace_rank, key_eq, all_modes, mode_rank}
+use Rattle.mdl_key.proofs.ModeLemmas.{at_rank}
 use Rattle.mdl_system.specs.Systems.{Holding, GrantedWait}
 
 pub told : {P : Type 0} → (r : Bool) → Decides r P → P ⊎ (P → ⊥)
@@ -46,25 +47,10 @@ namespace_told m n =
     like_told (λ e. sym (namespace_back m) ∙ ap namespace_at e ∙ namespace_back n) (λ e. ap namespace_rank e)
     (nat_told (namespace_rank m) (namespace_rank n))
 
-mode_at : ℕ → Mode
-mode_at n = get_or all_modes n IX
-
-mode_back : (m : Mode) → mode_at (mode_rank m) ≡ m
-unfolding mode_at
-mode_back IX = refl
-mode_back S = refl
-mode_back SH = refl
-mode_back SR = refl
-mode_back SW = refl
-mode_back SWLP = refl
-mode_back SU = refl
-mode_back SRO = refl
-mode_back SNW = refl
-mode_back SNRW = refl
-mode_back X = refl
-
 mode_told : (m n : Mode) → (m ≡ n) ⊎ (m ≢ n)
-mode_told m n = like_told (λ e. sym (mode_back m) ∙ ap mode_at e ∙ mode_back n) (λ e. ap mode_rank e) (nat_told (mode_rank m) (mode_rank n))
+mode_told m n =
+    like_told (λ e. sym (at_rank m) ∙ ap (λ r. get_or all_modes r IX) e ∙ at_rank n) (λ e. ap mode_rank e)
+    (nat_told (mode_rank m) (mode_rank n))
 
 -- ---- keys and tickets, field by field
 
