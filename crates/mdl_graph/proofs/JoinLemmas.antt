@@ -80,6 +80,9 @@ joined_by waits stands waiter other = both_ways (are_joined waits stands waiter 
           ))),
     ))
 
+pub joined_links : (waits stands : Pairs) → are_joined waits stands ≡ waits_by waits stands
+joined_links waits stands = λ i waiter other. joined_by waits stands waiter other i
+
 -- ---- rows below a number
 
 pub rows-known : (rows : ℕ) (waits : Pairs) → ((row session : ℕ) → rows ≤ row → holds waits row session ≡ false) → AreRows rows waits

@@ -1,6 +1,6 @@
 //! Pairs of a key and a value, each with the place of the one before under the same key.
 ghost use Rattle.std.specs.Prelude.{◌≡◌, ℕ, ◌≤◌, ◌<◌, ◌-◌, ◌++◌, [], ◌∷◌, length, slice_index, OnOk, IfOk};
-ghost use Rattle.mdl_graph.specs.Searches.{AreRows, AreLinked, IsLast, key_at, value_at};
+ghost use Rattle.mdl_graph.specs.Searches.{AreRows, AreLinked, IsLast, holds, key_at, value_at};
 
 use std::alloc::{AllocError, Global};
 use std::marker::Model;
@@ -87,6 +87,20 @@ impl Links {
             Some(last) => *last,
             None => 0,
         }
+    }
+
+    /// Whether a value is there under a key.
+    pub(crate) fn has(&self, key: usize, value: usize) -> bool
+        ensures { result ≡ holds self.now key value }
+    {
+        let mut at = self.last(key);
+        while at > 0 {
+            if self.value(at - 1) == value {
+                return true;
+            }
+            at = self.before(at - 1);
+        }
+        false
     }
 
     /// The value at a place.

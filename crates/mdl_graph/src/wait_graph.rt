@@ -155,15 +155,7 @@ impl WaitGraph {
             return Ok(None);
         }
         let weights = Weights::new(alloc, &self.wishes)?;
-        let members = walk(
-            alloc,
-            &levels,
-            &self.waits,
-            &self.stands,
-            &weights,
-            from,
-            steps,
-        )?;
+        let members = walk(alloc, &levels, &waits, &stands, &weights, from, steps)?;
         Ok(Some(Cycle::new(members)))
     }
 }

@@ -1,10 +1,11 @@
 //! The way back to a session, by how many steps the others are from it.
 ghost use Rattle.std.specs.Prelude.{◌≡◌, ℕ, ◌<◌, ◌≤◌, ◌⊎◌, ◌||◌, ◌&&◌, ◌==◌, not, length, map, IfOk};
 ghost use Rattle.std.specs.List.{list_any};
-ghost use Rattle.mdl_graph.specs.Searches.{are_joined, holds, is_at, level_of, next_of, walk, weighed};
+ghost use Rattle.mdl_graph.specs.Searches.{is_at, level_of, next_of, waits_by, waits_in, walk, weighed};
 
 use crate::Member;
 use crate::levels::level_at;
+use crate::links::Links;
 use crate::weights::Weights;
 use std::alloc::{AllocError, Global};
 
@@ -19,33 +20,31 @@ fn is_at(levels: &[usize], from: usize, steps: usize, session: usize) -> bool
     }
 }
 
-// Whether a session stands against a row.
-fn stands_against(stands: &[(u16, usize)], row: usize, session: usize) -> bool
-    ensures { result ≡ holds stands.now session row }
+// Whether one session waits for another, found from the other one on.
+fn waits_for(waits: &Links, stands: &Links, waiter: usize, other: usize) -> bool
+    ensures { result ≡ waits_by waits.now stands.now waiter other }
 {
-    stands
-        .iter()
-        .any(|stand| usize::from(stand.0) == session && stand.1 == row)
-}
-
-// Whether one session waits for another.
-fn waits_for(waits: &[(usize, u16)], stands: &[(u16, usize)], waiter: usize, other: usize) -> bool
-    ensures { result ≡ are_joined waits.now stands.now waiter other }
-{
-    waits.iter().any(|wait| usize::from(wait.1) == waiter
-        && (usize::from(wait.1) != other && stands_against(stands, wait.0, other)))
+    let mut at = stands.last(other);
+    while at > 0 {
+        let row = stands.value(at - 1);
+        if waiter != other && waits.has(row, waiter) {
+            return true;
+        }
+        at = stands.before(at - 1);
+    }
+    false
 }
 
 // The least session that one waits for of those so many steps away.
 fn next_of(
     levels: &[usize],
-    waits: &[(usize, u16)],
-    stands: &[(u16, usize)],
+    waits: &Links,
+    stands: &Links,
     from: usize,
     steps: usize,
     session: usize,
 ) -> usize
-    ensures value { result ≡ next_of (are_joined waits.now stands.now) from levels.now steps session }
+    ensures value { result ≡ next_of (waits_by waits.now stands.now) from levels.now steps session }
     ensures within { (result < length levels.now) ⊎ (result ≡ session) }
 {
     for next in 0..levels.len() {
@@ -60,14 +59,14 @@ fn next_of(
 pub(crate) fn walk(
     alloc: Global,
     levels: &[usize],
-    waits: &[(usize, u16)],
-    stands: &[(u16, usize)],
+    waits: &Links,
+    stands: &Links,
     weights: &Weights,
     from: u16,
     steps: usize,
 ) -> Result<Vec<Member>, AllocError>
     requires { length levels.now ≤ 65536 }
-    ensures { IfOk result (λ members. members.items ≡ map (weighed weights.now) (walk (are_joined waits.now stands.now) from levels.now steps from)) }
+    ensures { IfOk result (λ members. members.items ≡ map (weighed weights.now) (walk (waits_by waits.now stands.now) from levels.now steps from)) }
 {
     let mut members = Vec::new(alloc);
     let mut session = usize::from(from);

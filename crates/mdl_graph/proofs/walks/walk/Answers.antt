@@ -1,13 +1,13 @@
 -- The walk goes one session on.
 use Rattle.std.proofs.Common.{◌≡◌, ◌∙◌, ◌++◌, ◌-◌, ◌+◌, ℕ, Bool, List, [], ◌∷◌, map, sym, ap, subst, append_assoc, arith, inl, inr}
 use Rattle.mdl_graph.specs.declared.cycle.Member.{Member}
-use Rattle.mdl_graph.specs.Searches.{are_joined, weighed, walk, next_of}
+use Rattle.mdl_graph.specs.Searches.{waits_by, weighed, walk, next_of}
 use Rattle.mdl_graph.proofs.WalkLemmas.{walk_more}
 use Rattle.mdl_graph.proofs.walks.walk.Goals as goal
 
 pub loop-step-preserved : goal.loop-step-preserved
 loop-step-preserved c =
-    let waits : ℕ → ℕ → Bool = are_joined c.args.waits.now c.args.stands.now in
+    let waits : ℕ → ℕ → Bool = waits_by c.args.waits.now c.args.stands.now in
     let levels = c.args.levels.now in
     let from = c.args.from in
     let at = c.loop-step.session in

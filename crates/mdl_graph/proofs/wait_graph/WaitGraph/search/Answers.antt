@@ -5,9 +5,9 @@ use Rattle.std.proofs.lemmas.Grind.{common_steps}
 use Rattle.std.proofs.lemmas.List.{length-map}
 use Rattle.mdl_graph.specs.declared.cycle.Member.{Member}
 use Rattle.mdl_graph.specs.Graphs.{GraphView, waits}
-use Rattle.mdl_graph.specs.Searches.{Pairs, are_joined, level_of, ties_of, walk, weighed, IsOver}
+use Rattle.mdl_graph.specs.Searches.{Pairs, are_joined, level_of, ties_of, waits_by, walk, weighed, IsOver}
 use Rattle.mdl_graph.proofs.FoundLemmas.{found_none, found_cycle, over_by, AreWeighed}
-use Rattle.mdl_graph.proofs.JoinLemmas.{joined-apart, rows-fresh, rows-known, ties_join}
+use Rattle.mdl_graph.proofs.JoinLemmas.{joined-apart, joined_links, rows-fresh, rows-known, ties_join}
 use Rattle.mdl_graph.proofs.WalkLemmas.{length_walk, walk_of_two}
 use Rattle.mdl_graph.proofs.wait_graph.WaitGraph.search.Goals as goal
 
@@ -52,12 +52,13 @@ new-requires-2 c =
     let some : 0 < level_of levels c.args.from = grind (arith, common_steps, level) in
     let weights = c.in_ok-weights.weights in
     let members : c.in_ok-members.members.items ≡ map (weighed weights) (walk by_rows c.args.from levels (level_of levels c.args.from) c.args.from) =
-    let walked_by : Pairs → Pairs → List ℕ → ℕ → List Member = λ one other found steps. map (weighed weights) (walk (are_joined one other) c.args.from found steps c.args.from) in
+    let walked_by : Pairs → Pairs → List ℕ → ℕ → List Member = λ one other found steps. map (weighed weights) (walk (waits_by one other) c.args.from found steps c.args.from) in
     c.in_ok-members.ensures
-    ∙ ap (λ (pairs : Pairs). walked_by pairs c.deref-9.result.now c.deref-7.result.now c.level_at-steps.result) c.deref-8.ensures.value
-    ∙ ap (λ (pairs : Pairs). walked_by rows pairs c.deref-7.result.now c.level_at-steps.result) c.deref-9.ensures.value
+    ∙ ap (λ (pairs : Pairs). walked_by pairs c.in_ok-stands.stands c.deref-7.result.now c.level_at-steps.result) (c.in_ok-waits.ensures ∙ c.deref-3.ensures.value)
+    ∙ ap (λ (pairs : Pairs). walked_by rows pairs c.deref-7.result.now c.level_at-steps.result) (c.in_ok-stands.ensures ∙ c.deref-4.ensures.value)
     ∙ ap (λ (found : List ℕ). walked_by rows against found c.level_at-steps.result) c.deref-7.ensures.value
-    ∙ ap (walked_by rows against levels) level in
+    ∙ ap (walked_by rows against levels) level
+    ∙ ap (λ (waits : ℕ → ℕ → Bool). map (weighed weights) (walk waits c.args.from levels (level_of levels c.args.from) c.args.from)) (sym (joined_links rows against)) in
     let walked = walk by_rows c.args.from levels (level_of levels c.args.from) c.args.from in
     let len : length c.in_ok-members.members.items ≡ level_of levels c.args.from =
     ap (λ (list : List Member). length list) members ∙ length-map walked (weighed weights) ∙ length_walk by_rows c.args.from levels (level_of levels c.args.from) c.args.from in
@@ -78,12 +79,13 @@ returns c =
     let some : 0 < level_of levels c.args.from = grind (arith, common_steps, level) in
     let weights = c.in_ok-weights.weights in
     let members : c.in_ok-members.members.items ≡ map (weighed weights) (walk by_rows c.args.from levels (level_of levels c.args.from) c.args.from) =
-    let walked_by : Pairs → Pairs → List ℕ → ℕ → List Member = λ one other found steps. map (weighed weights) (walk (are_joined one other) c.args.from found steps c.args.from) in
+    let walked_by : Pairs → Pairs → List ℕ → ℕ → List Member = λ one other found steps. map (weighed weights) (walk (waits_by one other) c.args.from found steps c.args.from) in
     c.in_ok-members.ensures
-    ∙ ap (λ (pairs : Pairs). walked_by pairs c.deref-9.result.now c.deref-7.result.now c.level_at-steps.result) c.deref-8.ensures.value
-    ∙ ap (λ (pairs : Pairs). walked_by rows pairs c.deref-7.result.now c.level_at-steps.result) c.deref-9.ensures.value
+    ∙ ap (λ (pairs : Pairs). walked_by pairs c.in_ok-stands.stands c.deref-7.result.now c.level_at-steps.result) (c.in_ok-waits.ensures ∙ c.deref-3.ensures.value)
+    ∙ ap (λ (pairs : Pairs). walked_by rows pairs c.deref-7.result.now c.level_at-steps.result) (c.in_ok-stands.ensures ∙ c.deref-4.ensures.value)
     ∙ ap (λ (found : List ℕ). walked_by rows against found c.level_at-steps.result) c.deref-7.ensures.value
-    ∙ ap (walked_by rows against levels) level in
+    ∙ ap (walked_by rows against levels) level
+    ∙ ap (λ (waits : ℕ → ℕ → Bool). map (weighed weights) (walk waits c.args.from levels (level_of levels c.args.from) c.args.from)) (sym (joined_links rows against)) in
     let weighs : AreWeighed weights graph.wishes = λ session. rw (← c.deref-6.ensures.value) (c.in_ok-weights.ensures session) in
     let wished : (waiter other : ℕ) → waits graph waiter other ≡ true → Contains (map (λ (wish : Member). wish.session) graph.wishes) waiter =
     λ waiter other e. c.self.invariant.wished waiter other (sym (ties_join rows against waiter other) ∙ e) in
