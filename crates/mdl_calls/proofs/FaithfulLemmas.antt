@@ -1,10 +1,15 @@
 -- Programs where memory is wanting: one after another, and that runs and outcomes are the same where it wasn't.
-use Rattle.std.proofs.Common.{◌≡◌, true, ◌⊎◌, inl, inr, refl, sym, subst}
+use Rattle.std.proofs.Common.{◌≡◌, Bool, true, false, if◌then◌else◌, ◌⊎◌, inl, inr, refl, sym, subst}
 use Rattle.mdl_calls.specs.declared.space_error.SpaceError.TheVariants.{OutOfMemory}
 use Rattle.mdl_calls.specs.Answers.{Answer, Refused}
 use Rattle.mdl_calls.specs.Calls.{Call, takes_memory}
 use Rattle.mdl_calls.specs.Faithful.{Each, EachCall, IsFaithful, IsFrugal, StepsOrWants}
 use Rattle.mdl_calls.specs.Runs.{Program, Give, Ask, Grow, ◌>>=◌, Runs, outcome_of}
+
+-- one program or the other, by a test
+pub either : {A : Type 0} (P : Program A → Type 0) (test : Bool) (one other : Program A) → P one → P other → P (if test then one else other)
+either P true one other first second = first
+either P false one other first second = second
 
 -- ---- one program after another
 

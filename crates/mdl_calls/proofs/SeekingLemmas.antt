@@ -1,17 +1,12 @@
 -- Searches for deadlocks, one after another: which calls they make, and that they fail once one of them found no memory.
-use Rattle.std.proofs.Common.{◌≡◌, ℕ, zero, suc, Bool, true, false, refl}
-use Rattle.std.specs.Prelude.{◌==◌, if◌then◌else◌}
-use Rattle.mdl_calls.specs.declared.space_error.SpaceError.TheVariants.{OutOfMemory}
+use Rattle.std.proofs.Common.{ℕ, zero, suc, refl}
+use Rattle.std.specs.Prelude.{◌==◌}
 use Rattle.mdl_calls.specs.Answers.{Answer, Victim_is}
 use Rattle.mdl_calls.specs.Calls.{Call, Search}
 use Rattle.mdl_calls.specs.Faithful.{EachCall, IsFaithful}
 use Rattle.mdl_calls.specs.Runs.{Program}
-use Rattle.mdl_calls.specs.Searches.{SearchEnd, Failed, after_search, seeking}
-
--- by a test
-either : (P : Program SearchEnd → Type 0) (test : Bool) (one other : Program SearchEnd) → P one → P other → P (if test then one else other)
-either P true one other first second = first
-either P false one other first second = second
+use Rattle.mdl_calls.specs.Searches.{SearchEnd, IsStarvedSearch, after_search, seeking}
+use Rattle.mdl_calls.proofs.FaithfulLemmas.{either}
 
 module _ (P : Call → Type 0) (who : ℕ) (may : P (Search who)) where
   calls_after : (more : Program SearchEnd) (answer : Answer) → EachCall P more → EachCall P (after_search who more answer)
@@ -24,15 +19,11 @@ module _ (P : Call → Type 0) (who : ℕ) (may : P (Search who)) where
   calls_seeking zero = tt
   calls_seeking (suc n) = (may, λ answer. calls_after (seeking n who) answer (calls_seeking n))
 
--- they failed for want of memory
-abbrev pub IsStarvedSearch : SearchEnd → Type 0
-IsStarvedSearch end = end ≡ Failed OutOfMemory
-
 faithful_after : (who : ℕ) (more : Program SearchEnd) (answer : Answer) → IsFaithful IsStarvedSearch more → IsFaithful IsStarvedSearch (after_search who more answer)
 faithful_after who more (Victim_is victim) made = either (IsFaithful IsStarvedSearch) (victim == who) _ more tt made
 faithful_after who more _ made = tt
 
--- they do once one of them found none
+-- they fail for want of memory once one of them found none
 pub faithful_seeking : (n who : ℕ) → IsFaithful IsStarvedSearch (seeking n who)
 unfolding seeking
 faithful_seeking zero who = tt

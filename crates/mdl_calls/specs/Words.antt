@@ -5,6 +5,6 @@ pub use Rattle.mdl_calls.specs.Causes.{IsCause, IsClear, IsExplained, IsFit, IsU
 pub use Rattle.mdl_calls.specs.Faithful.{Each, EachCall, IsFaithful, IsFrugal, StepsOrWants}
 pub use Rattle.mdl_calls.specs.Own.{Draws, IsRising, Numbers, Own, Wait, are_rising, cloning, ending, gaining, giving_up, holds, is_number, is_waiting, own_after, ticket_drawn, ticket_held, wait_number, winning}
 pub use Rattle.mdl_calls.specs.Runs.{Ask, Give, Grow, Program, Runs, outcome_of, ◌>>=◌, ◌>>◌}
-pub use Rattle.mdl_calls.specs.Searches.{Cut_off, Failed, Over, SearchEnd, after_search, most_searches}
+pub use Rattle.mdl_calls.specs.Searches.{Cut_off, Failed, IsStarvedSearch, Over, SearchEnd, after_search, most_searches}
 unfoldable pub use Rattle.mdl_calls.specs.Searches.{seeking}
 pub use Rattle.mdl_calls.specs.Waits.{IsEndOf, IsToldOf, told}

@@ -33,11 +33,15 @@ makes who a call speaks made = (allowed (caller call) made.1, made.0, inr refl)
     allowed None same = tt
     allowed (Some w) same = subst (SpeaksFor a) (sym same) speaks
 
--- what a call leaves, the space speaks for too
+-- for whom the space speaks before a call, it speaks after it
 speaks-on : (who : ℕ) (a b : Core) (call : Call) (answer : Answer) → SpeaksFor a who → Joins a call answer b → SpeaksFor b who
 speaks-on who a b call answer speaks joins = core-keeps calls_keep-sound a b call answer who speaks joins
+
+-- and so before and after a run
+pub run-speaks : {A : Type 0} (program : Program A) (a b : Core) (reply : A) (who : ℕ) → Runs Joins a program reply b → SpeaksFor a who → SpeaksFor b who
+run-speaks program a b reply who run speaks = runs_keeps Joins (λ c. SpeaksFor c who) (speaks-on who) program a b reply speaks run
 
 pub outcomes-are_runs : (A : Type 0) → OutcomesAreRuns A
 outcomes-are_runs A program a who speaks made =
     let run = runs_outcome Joins outcome (λ c. SpeaksFor c who) (IsMadeFor who) (makes who) (speaks-on who) program a speaks made in
-    (run, runs_keeps Joins (λ c. SpeaksFor c who) (speaks-on who) program a (outcome_of outcome program a).1 (outcome_of outcome program a).0 speaks run)
+    (run, λ session spoken. run-speaks program a (outcome_of outcome program a).1 (outcome_of outcome program a).0 session run spoken)

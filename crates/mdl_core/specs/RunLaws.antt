@@ -24,9 +24,10 @@ FrugalRuns A =
 abbrev pub IsMadeFor : ℕ → Call → Type 0
 IsMadeFor who call = (has_call call ≡ true) × IfSome (caller call) (λ maker. maker ≡ who)
 
--- an outcome is a run, where the space speaks for a session and each call is made so; and the space speaks for it then too
+-- an outcome is a run, where each call is made for one session, which the space speaks for, or for nobody; and for whom it
+-- spoke before, it speaks then too
 abbrev pub OutcomesAreRuns : Type 0 → Type 0
 OutcomesAreRuns A =
     (program : Program A) (a : Core) (who : ℕ) → SpeaksFor a who → EachCall (IsMadeFor who) program →
     let end = outcome_of outcome program a in
-    Runs Joins a program end.0 end.1 × SpeaksFor end.1 who
+    Runs Joins a program end.0 end.1 × ((session : ℕ) → SpeaksFor a session → SpeaksFor end.1 session)

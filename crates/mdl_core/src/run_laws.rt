@@ -14,6 +14,7 @@ pub fn frugal_runs<A>()
 {}
 
 /// The outcome of a program is a run of it, where its calls are made for one session, which the space speaks for, or for nobody.
+/// For whom the space spoke before, it speaks then too.
 pub fn outcomes_are_runs<A>()
     ensures { OutcomesAreRuns A }
 {}
