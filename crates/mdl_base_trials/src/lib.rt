@@ -1,9 +1,9 @@
 //! Tests of the crates at the ground: keys and modes, words, definitions, books, strength, and the causes of refusals.
 //!
-//! Everything here is for tests. Each crate below has its tests in the module that is named for its subject: `keys` those of
-//! `mdl_key`, `words` of `mdl_word`, `definitions` of `mdl_defs`, `books` of `mdl_book`, `strength` of `mdl_system`, and
-//! `calls` of `mdl_calls`. They stand over what these crates show to all, so that the crates themselves have no tests and are
-//! proved once. Cases are rows of tables, and a test is a loop over one; `texts` compares what is printed.
+//! Everything here is for tests. Each crate below has its tests in the module that is named for its subject: `keys` those
+//! of `mdl_key`, `words` of `mdl_word`, `definitions` of `mdl_defs`, `books` of `mdl_book`, `strength` of `mdl_system`,
+//! and `calls` of `mdl_calls`. They stand over what these crates show to all, so that the crates themselves have no tests
+//! and are proved once. Cases are rows of tables, and a test is a loop over one; `texts` compares what is printed.
 #![tactic(auto)]
 
 #[cfg(test)]

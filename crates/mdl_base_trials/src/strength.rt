@@ -2,7 +2,8 @@
 use mdl_key::Mode;
 use mdl_system::covers;
 
-// SU is as strong as SR and not as SW, SNRW as SRO; S of a scope isn't as strong as IX; S and SH are each as strong as the other.
+// SU is as strong as SR and not as SW, SNRW as SRO; S of a scope isn't as strong as IX; S and SH are each as strong as
+// the other.
 #[test]
 fn strength_is_that_of_a_common_kind(rt: HostRuntime) {
     for (a, b, wanted) in [

@@ -4,8 +4,8 @@ use mdl_key::{
     waiting_row,
 };
 
-// The matrices of MySQL 5.7, sql/mdl.cc: a kind, the mode asked for, the modes that clash with it where they are granted, and
-// those that it waits behind.
+// The matrices of MySQL 5.7, sql/mdl.cc: a kind, the mode asked for, the modes that clash with it where they are granted,
+// and those that it waits behind.
 type Row = (Kind, Mode, &'static [Mode], &'static [Mode]);
 
 const ROWS: [Row; 13] = [

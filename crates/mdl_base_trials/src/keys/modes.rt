@@ -3,8 +3,8 @@ use crate::texts::is_printed;
 use mdl_key::{Kind, Mode, ModeError, Namespace, is_obtrusive, weight};
 use std::alloc::Global;
 
-// A mode and its name; whether scopes and objects have it, and whether it is obtrusive there; and what a wish for it weighs
-// elsewhere than at the global lock.
+// A mode and its name; whether scopes and objects have it, and whether it is obtrusive there; and what a wish for it
+// weighs elsewhere than at the global lock.
 type Row = (Mode, &'static str, [bool; 2], [bool; 2], u8);
 
 const ROWS: [Row; 11] = [
