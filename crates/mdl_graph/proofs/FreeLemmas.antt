@@ -3,7 +3,7 @@ use Rattle.std.proofs.Common.{◌≡◌, ℕ, Bool, true, false, List, [], ◌�
 use Rattle.std.specs.Prelude.{◌==◌, ◌&&◌, ◌||◌, not}
 use Rattle.std.specs.List.{list_any}
 use Rattle.std.proofs.lemmas.Bool.{and_parts, false≢true}
-use Rattle.mdl_graph.specs.Cycles.{leads, IsCycleThrough}
+use Rattle.mdl_graph.specs.Cycles.{leads}
 use Rattle.mdl_graph.specs.Graphs.{GraphView, waits, deadlock}
 use Rattle.mdl_graph.specs.Searches.{Pairs, are_joined, holds}
 use Rattle.mdl_graph.proofs.FoundLemmas.{found_free}

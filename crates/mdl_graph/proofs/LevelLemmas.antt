@@ -1,7 +1,7 @@
 -- What a step does to how far the sessions are.
-use Rattle.std.proofs.Common.{◌≡◌, ◌≢◌, ℕ, zero, suc, ◌<◌, Bool, true, false, not, List, length, refl, ap, sym, subst, ◌∙◌, ◌⊎◌, inl, inr, arith, get_or, get_or-set_same, get_or-set_other}
+use Rattle.std.proofs.Common.{◌≡◌, ◌≢◌, ℕ, ◌<◌, Bool, true, false, not, List, length, refl, ap, sym, subst, ◌∙◌, inl, inr, arith, get_or-set_same, get_or-set_other}
 use Rattle.std.specs.Prelude.{◌&&◌, ◌||◌, ◌==◌, slice_index_or, slice_set}
-use Rattle.std.proofs.lemmas.Bool.{cases_eq, and_parts, and_from, not_from_false, ne_eqb}
+use Rattle.std.proofs.lemmas.Bool.{cases_eq, and_from, not_from_false, ne_eqb}
 use Rattle.std.proofs.lemmas.Bool.Decides.{nat_tests}
 use Rattle.mdl_graph.specs.Searches.{Pairs, AreDone, holds, level_of, opened, waits_in}
 

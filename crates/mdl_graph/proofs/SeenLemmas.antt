@@ -1,5 +1,5 @@
 -- Sessions that were seen.
-use Rattle.std.proofs.Common.{◌≡◌, ◌∙◌, ℕ, true, false, ap, sym, Bool, ◌||◌, ◌==◌, arith}
+use Rattle.std.proofs.Common.{◌≡◌, ◌∙◌, ℕ, true, ap, sym, Bool, ◌||◌, ◌==◌, arith}
 use Rattle.std.specs.Cmp.{nat_cmp_total, unsigned_tied}
 use Rattle.std.specs.FinSet as set
 use Rattle.std.specs.Ordering.{nat_cmp}

@@ -1,12 +1,11 @@
 -- Where fewer sessions are settled, more wait.
-use Rattle.std.proofs.Common.{◌≡◌, ℕ, Bool, true, false, ◌&&◌, List, [], ◌∷◌, refl, sym, ◌∙◌, inl, inr}
+use Rattle.std.proofs.Common.{◌≡◌, ℕ, true, false, ◌&&◌, List, [], ◌∷◌, refl, sym, ◌∙◌, inl, inr}
 use Rattle.std.specs.Prelude.{◌==◌, IsTrue, IsFalse, Any}
 use Rattle.std.proofs.lemmas.Bool.{and_parts, and_from, false≢true}
 use Rattle.mdl_book.specs.declared.lists.Lists.{Lists}
-use Rattle.mdl_book.specs.declared.ticket.Ticket.{Ticket}
 use Rattle.mdl_graph.specs.Cycles.{leads, are_distinct, IsCycleThrough}
 use Rattle.mdl_graph.specs.WaitsFor.{SessionTest, WaitsFor, waits_for}
-use Rattle.mdl_graph.specs.GraphLaws.{HoldsAgainst, WaitsAhead, IsBlockedAt}
+use Rattle.mdl_graph.specs.GraphLaws.{IsBlockedAt}
 use Rattle.mdl_graph.proofs.WaitingLemmas.{waits_by}
 
 any_more : {X : Type 0} (P Q : X → Type 0) → ((x : X) → P x → Q x) → (xs : List X) → Any P xs → Any Q xs

@@ -68,7 +68,7 @@ pub(crate) fn walk(
     requires { length levels.now ≤ 65536 }
     ensures { IfOk result (λ members. members.items ≡ map (weighed weights.now) (walk (waits_by waits.now stands.now) from levels.now steps from)) }
 {
-    let mut members = Vec::new(alloc);
+    let mut members = Vec::with_capacity(alloc, steps)?;
     let mut session = usize::from(from);
     for step in 0..steps {
         let number = session as u16;

@@ -1,6 +1,6 @@
 -- The waiters of one row more are offered the step, unless all were reached.
 use Rattle.std.proofs.Common.{◌≡◌, ◌<◌, ◌∙◌, ◌-◌, ℕ, Bool, suc, not, sym, ap, arith, true, false}
-use Rattle.std.specs.Prelude.{◌&&◌, ◌||◌, ◌==◌, slice_index_or, length}
+use Rattle.std.specs.Prelude.{◌||◌, ◌==◌, slice_index_or, length}
 use Rattle.std.proofs.lemmas.Bool.{and_parts}
 use Rattle.std.proofs.lemmas.Bool.Decides.{nat_tests}
 use Rattle.std.proofs.lemmas.Grind.{common_steps}

@@ -1,9 +1,9 @@
 -- In the rows that the other one stands against the waiter is found, or not.
-use Rattle.std.proofs.Common.{◌≡◌, ◌<◌, ◌∙◌, ◌-◌, ◌||◌, ℕ, Bool, suc, refl, sym, ap, subst, arith, true, false}
+use Rattle.std.proofs.Common.{◌≡◌, ◌∙◌, ◌-◌, ◌||◌, ℕ, Bool, suc, refl, sym, ap, subst, arith, true, false}
 use Rattle.std.specs.Prelude.{◌&&◌, ◌==◌, not}
 use Rattle.std.proofs.lemmas.Bool.{eq-eqb}
-use Rattle.mdl_graph.specs.Searches.{holds, waits_by, waits_in}
-use Rattle.mdl_graph.proofs.LinkLemmas.{any_from, way-begun, way-inside, way-more, way-step, way-none}
+use Rattle.mdl_graph.specs.Searches.{holds, waits_in}
+use Rattle.mdl_graph.proofs.LinkLemmas.{any_from, way-begun, way-more, way-step, way-none}
 use Rattle.mdl_graph.proofs.walks.waits_for.Goals.{else-waiter-other-via-then-waiter-other+else-has, else-waiter-other-via-else-waiter-other}
 use Rattle.mdl_graph.proofs.walks.waits_for.Goals as goal
 

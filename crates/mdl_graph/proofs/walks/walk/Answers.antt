@@ -1,5 +1,5 @@
 -- The walk goes one session on.
-use Rattle.std.proofs.Common.{◌≡◌, ◌∙◌, ◌++◌, ◌-◌, ◌+◌, ℕ, Bool, List, [], ◌∷◌, map, sym, ap, subst, append_assoc, arith, inl, inr}
+use Rattle.std.proofs.Common.{◌≡◌, ◌∙◌, ◌++◌, ◌-◌, ◌+◌, ℕ, Bool, List, [], ◌∷◌, map, sym, ap, append_assoc, arith, inl, inr}
 use Rattle.mdl_graph.specs.declared.cycle.Member.{Member}
 use Rattle.mdl_graph.specs.Searches.{waits_by, weighed, walk, next_of}
 use Rattle.mdl_graph.proofs.WalkLemmas.{walk_more}

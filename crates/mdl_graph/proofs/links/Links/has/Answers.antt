@@ -1,12 +1,8 @@
 -- On the way under the key the value is found, or not.
-use Rattle.std.proofs.Common.{◌≡◌, ◌<◌, ◌∙◌, ◌-◌, ◌||◌, ℕ, Bool, suc, sym, ap, subst, arith, true, false}
-use Rattle.std.specs.Prelude.{◌&&◌, ◌==◌}
+use Rattle.std.proofs.Common.{◌≡◌, ◌∙◌, ◌-◌, ◌||◌, ℕ, Bool, suc, sym, ap, subst, arith, false}
+use Rattle.std.specs.Prelude.{◌==◌}
 use Rattle.std.proofs.lemmas.Bool.{ne_eqb}
-use Rattle.std.proofs.lemmas.Bool.Decides.{nat_tests}
-use Rattle.std.proofs.lemmas.Grind.{common_steps}
-use Rattle.std.proofs.lemmas.List.Folds.{list_any_at}
-use Rattle.mdl_graph.specs.Searches.{holds, key_at, value_at}
-use Rattle.mdl_graph.proofs.LinkLemmas.{any_from, way-begun, way-inside, way-more, way-step, way-none}
+use Rattle.mdl_graph.proofs.LinkLemmas.{any_from, way-begun, way-more, way-step, way-none}
 use Rattle.mdl_graph.proofs.links.Links.has.Goals as goal
 
 pub loop-at-init : goal.loop-at-init

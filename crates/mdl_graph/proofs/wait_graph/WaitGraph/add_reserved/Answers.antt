@@ -1,5 +1,5 @@
 -- What was added is there, and each waiter has a wish still.
-use Rattle.std.proofs.Common.{◌≡◌, ◌∙◌, ℕ, Bool, ap, sym, refl, length}
+use Rattle.std.proofs.Common.{◌∙◌, Bool, ap, sym, refl, length}
 use Rattle.std.specs.Prelude.{◌||◌}
 use Rattle.std.specs.FinSet as set
 use Rattle.mdl_graph.specs.Graphs.{GraphView}
