@@ -2,7 +2,7 @@
 use Rattle.std.specs.Prelude.{◌≡◌, ℕ, List, ◌++◌, codes, Result, Ok, Err, IsOk}
 use Rattle.std.specs.Fmt.{decimal}
 use Rattle.mdl_lines.specs.declared.fault.LineError.{LineError}
-use Rattle.mdl_lines.specs.declared.fault.LineError.TheVariants.{BadSession, BadWord, LongLine, NotAscii}
+use Rattle.mdl_lines.specs.declared.fault.LineError.TheVariants.{BadSession, BadWord, BadName, LongLine, NotAscii}
 use Rattle.mdl_lines.specs.declared.fault.Fault.{Fault}
 use Rattle.mdl_lines.specs.declared.fault.Fault.TheVariants.{Refused, Memory, Read, Write}
 
@@ -10,6 +10,7 @@ use Rattle.mdl_lines.specs.declared.fault.Fault.TheVariants.{Refused, Memory, Re
 abbrev pub line_error_name : LineError → List ℕ
 line_error_name BadSession = codes "BadSession"
 line_error_name BadWord = codes "BadWord"
+line_error_name BadName = codes "BadName"
 line_error_name LongLine = codes "LongLine"
 line_error_name NotAscii = codes "NotAscii"
 

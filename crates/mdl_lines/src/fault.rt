@@ -12,6 +12,8 @@ pub enum LineError {
     BadSession,
     /// A word is missing, misspelled, or one too many.
     BadWord,
+    /// A word is no name where one has to stand, or names a table for the second time.
+    BadName,
     /// The line has more than 4,096 bytes. Its line feed, and a carriage return at its end, don't count.
     LongLine,
     /// A byte of the line is 0x80 or more.
@@ -26,6 +28,7 @@ impl LineError {
         match self {
             LineError::BadSession => "BadSession",
             LineError::BadWord => "BadWord",
+            LineError::BadName => "BadName",
             LineError::LongLine => "LongLine",
             LineError::NotAscii => "NotAscii",
         }

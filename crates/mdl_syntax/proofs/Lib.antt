@@ -1,0 +1,6 @@
+pub mod FormLemmas
+pub mod NameLemmas
+pub mod Reading
+pub mod ResultLemmas
+pub mod TableLemmas
+pub mod WordLemmas

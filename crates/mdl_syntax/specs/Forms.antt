@@ -1,0 +1,135 @@
+-- The forms of statements: key words, and what may stand behind them. The script language is this project's own. Words are
+-- read from left to right, and the first fault counts.
+use Rattle.std.specs.Prelude.{ℕ, nat_le, List, [], ◌∷◌, ◌++◌, length, codes, Option, Some, None, Result, Ok, Err, if◌then◌else◌}
+use Rattle.std.specs.List.{list_any}
+use Rattle.mdl_key.specs.Keys.{KeyName, key_eq}
+use Rattle.mdl_lines.specs.declared.fault.LineError.{LineError}
+use Rattle.mdl_lines.specs.declared.fault.LineError.TheVariants.{BadName, BadSession, BadWord}
+use Rattle.mdl_lines.specs.Lines.{words_of}
+use Rattle.mdl_lines.specs.Sessions.{session_of}
+use Rattle.mdl_syntax.specs.declared.statement.Priority.{Priority}
+use Rattle.mdl_syntax.specs.declared.statement.Priority.TheVariants.{Normal, Low}
+use Rattle.mdl_syntax.specs.declared.statement.Statement.{Statement}
+use Rattle.mdl_syntax.specs.declared.statement.Statement.TheVariants.{Begin, Commit, Rollback, Savepoint, RollbackTo, Select, Write, CreateTable, DropTables, KillQuery, Timeout}
+use Rattle.mdl_syntax.specs.KeyWords.{behind}
+use Rattle.mdl_syntax.specs.Names.{name_of, table_of}
+
+-- what comes of a value that may be refused
+abbrev pub and_then : {A B : Type 0} → Result A LineError → (A → Result B LineError) → Result B LineError
+and_then (Ok value) next = next value
+and_then (Err error) next = Err error
+
+-- a value that has to be there
+abbrev pub or_refuse : {A : Type 0} → LineError → Option A → Result A LineError
+or_refuse error (Some value) = Ok value
+or_refuse error None = Err error
+
+-- a value, where no word is left
+abbrev pub no_more : {A : Type 0} → A → List (List ℕ) → Result A LineError
+no_more value [] = Ok value
+no_more value (word ∷ words) = Err BadWord
+
+-- one word, which means something or is refused so
+abbrev pub one_word : {A : Type 0} → LineError → (List ℕ → Option A) → List (List ℕ) → Result A LineError
+one_word error meaning [] = Err BadWord
+one_word error meaning (word ∷ words) = and_then (or_refuse error (meaning word)) (λ value. no_more value words)
+
+-- one name
+abbrev pub one_name : List (List ℕ) → Result (List ℕ) LineError
+one_name = one_word BadName name_of
+
+-- one table
+abbrev pub one_table : List (List ℕ) → Result KeyName LineError
+one_table = one_word BadName table_of
+
+-- one session
+abbrev pub one_session : List (List ℕ) → Result ℕ LineError
+one_session = one_word BadSession session_of
+
+-- one table more than these: a ninth is a word too many, and none is named twice
+abbrev pub more_tables : List KeyName → List ℕ → Result (List KeyName) LineError
+more_tables tables word =
+    if nat_le 8 (length tables) then Err BadWord
+    else and_then (or_refuse BadName (table_of word)) (λ table. if list_any (key_eq table) tables then Err BadName else Ok (tables ++ table ∷ []))
+
+-- one column more than these: a 65th is a word too many
+abbrev pub more_columns : List (List ℕ) → List ℕ → Result (List (List ℕ)) LineError
+more_columns columns word =
+    if nat_le 64 (length columns) then Err BadWord
+    else and_then (or_refuse BadName (name_of word)) (λ column. Ok (columns ++ column ∷ []))
+
+-- what each word in turn adds to a list
+abbrev pub each_word : {A : Type 0} → (List A → List ℕ → Result (List A) LineError) → List A → List (List ℕ) → Result (List A) LineError
+each_word adds values [] = Ok values
+each_word adds values (word ∷ words) = and_then (adds values word) (λ more. each_word adds more words)
+
+-- what the words list, of which there is at least one
+abbrev pub listed : {A : Type 0} → (List A → List ℕ → Result (List A) LineError) → List (List ℕ) → Result (List A) LineError
+listed adds [] = Err BadWord
+listed adds (word ∷ words) = each_word adds [] (word ∷ words)
+
+-- tables
+abbrev pub some_tables : List (List ℕ) → Result (List KeyName) LineError
+some_tables = listed more_tables
+
+-- columns
+abbrev pub some_columns : List (List ℕ) → Result (List (List ℕ)) LineError
+some_columns = listed more_columns
+
+-- a table and then its columns
+abbrev pub table_and_columns : List (List ℕ) → Result (KeyName × List (List ℕ)) LineError
+table_and_columns [] = Err BadWord
+table_and_columns (word ∷ words) =
+    and_then (or_refuse BadName (table_of word)) (λ table. and_then (some_columns words) (λ columns. Ok (table, columns)))
+
+-- the statement that is made of what words say
+abbrev pub makes : {A : Type 0} → (A → Statement) → (List (List ℕ) → Result A LineError) → List (List ℕ) → Result Statement LineError
+makes statement reads words = and_then (reads words) (λ value. Ok (statement value))
+
+-- a write to one table
+abbrev pub writes : Priority → List (List ℕ) → Result Statement LineError
+writes priority = makes (λ table. Write table priority) one_table
+
+-- a form: its key words, and how the words behind them are read
+pub record Form : Type 0 where
+  pub key_words : List (List ℕ)
+  pub reads : List (List ℕ) → Result Statement LineError
+
+abbrev pub form : List ℕ → (List (List ℕ) → Result Statement LineError) → Form
+form key_words reads = record { key_words = words_of key_words; reads = reads }
+
+-- the words behind a form's key words, read by it, or else what the other forms make of all words
+abbrev pub read_by : Form → Option (List (List ℕ)) → Result Statement LineError → Result Statement LineError
+read_by form (Some words) others = form.reads words
+read_by form None others = others
+
+-- the table of forms. Where two fit, the first one counts: LOW_PRIORITY behind INSERT is no table
+abbrev pub forms : List Form
+forms =
+    form (codes "BEGIN") (no_more Begin)
+    ∷ form (codes "START TRANSACTION") (no_more Begin)
+    ∷ form (codes "COMMIT") (no_more Commit)
+    ∷ form (codes "ROLLBACK TO") (makes RollbackTo one_name)
+    ∷ form (codes "ROLLBACK") (no_more Rollback)
+    ∷ form (codes "SAVEPOINT") (makes Savepoint one_name)
+    ∷ form (codes "SELECT") (makes Select some_tables)
+    ∷ form (codes "INSERT LOW_PRIORITY") (writes Low)
+    ∷ form (codes "INSERT") (writes Normal)
+    ∷ form (codes "UPDATE LOW_PRIORITY") (writes Low)
+    ∷ form (codes "UPDATE") (writes Normal)
+    ∷ form (codes "DELETE LOW_PRIORITY") (writes Low)
+    ∷ form (codes "DELETE") (writes Normal)
+    ∷ form (codes "CREATE TABLE") (makes (λ named. CreateTable named.0 named.1) table_and_columns)
+    ∷ form (codes "DROP TABLE") (makes DropTables some_tables)
+    ∷ form (codes "KILL QUERY") (makes KillQuery one_session)
+    ∷ form (codes "TIMEOUT") (no_more Timeout)
+    ∷ []
+
+-- what the first of these forms that fits says; where none fits, a key word is misspelled or missing
+abbrev pub says_in : List Form → List (List ℕ) → Result Statement LineError
+says_in [] words = Err BadWord
+says_in (form ∷ forms) words = read_by form (behind form.key_words words) (says_in forms words)
+
+-- the statement that words say, or their first fault
+abbrev pub statement_of : List (List ℕ) → Result Statement LineError
+statement_of words = says_in forms words

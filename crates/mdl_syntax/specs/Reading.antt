@@ -1,0 +1,19 @@
+-- What reading words may come to, beside what they say.
+use Rattle.std.specs.Prelude.{◌≡◌, ℕ, List, [], ◌∷◌, codes, Result, Ok, Err, IsOk}
+use Rattle.mdl_lines.specs.declared.fault.LineError.{LineError}
+use Rattle.mdl_syntax.specs.declared.no_statement.NoStatement.{NoStatement}
+use Rattle.mdl_syntax.specs.declared.no_statement.NoStatement.TheVariants.{Refused, Memory}
+use Rattle.mdl_syntax.specs.declared.statement.Priority.TheVariants.{Normal, Low}
+use Rattle.mdl_syntax.specs.declared.statement.Statement.{Statement}
+use Rattle.mdl_syntax.specs.Forms.{form, read_by, writes}
+use Rattle.mdl_syntax.specs.KeyWords.{behind}
+
+-- words that say this are read so: what is refused is told as refused, whether or not there is memory
+abbrev pub ReadsAs : {A : Type 0} → Result A LineError → Result A NoStatement → Type 0
+ReadsAs said (Ok value) = said ≡ Ok value
+ReadsAs said (Err (Refused error)) = said ≡ Err error
+ReadsAs said (Err Memory) = IsOk said
+
+-- what the words behind INSERT, UPDATE or DELETE say
+abbrev pub write_of : List (List ℕ) → Result Statement LineError
+write_of words = read_by (form (codes "LOW_PRIORITY") (writes Low)) (behind (codes "LOW_PRIORITY" ∷ []) words) (writes Normal words)

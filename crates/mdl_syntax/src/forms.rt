@@ -1,0 +1,227 @@
+//! The forms of statements: key words, and what stands behind them.
+ghost use Rattle.std.specs.Prelude.{◌≡◌, ◌++◌, ◌∷◌, [], Err, map, IfOk};
+ghost use Rattle.mdl_key.specs.Keys.{table_key};
+ghost use Rattle.mdl_lines.specs.Lines.{words_of};
+ghost use Rattle.mdl_syntax.specs.declared.statement.Statement.TheVariants.{Savepoint, RollbackTo, CreateTable, KillQuery};
+ghost use Rattle.mdl_syntax.specs.Forms as forms;
+ghost use Rattle.mdl_syntax.specs.Reading.{ReadsAs, write_of};
+
+use crate::key_words::behind;
+use crate::no_statement::NoStatement;
+use crate::table_names::{TableName, TableNames, name_of, table_of};
+use crate::words::split_word;
+use crate::{Name, Priority, Statement, Tables};
+use mdl_defs::{Column, Columns};
+use mdl_key::Key;
+use mdl_lines::{LineError, session_of};
+use std::alloc::{AllocError, Global};
+use std::str;
+
+// The most columns of a table.
+const MOST_COLUMNS: usize = 64;
+
+/// The statement that words say. What refuses them is told also where memory ran out.
+pub(crate) fn statement_of(alloc: Global, words: &[u8]) -> Result<Statement, NoStatement>
+    ensures { ReadsAs (forms.statement_of (words_of words.now)) result }
+{
+    let Some((word, rest)) = split_word(words) else {
+        return bad_word();
+    };
+    let Ok(key_word) = str::from_utf8(word) else {
+        return bad_word();
+    };
+    match key_word {
+        "BEGIN" => no_more(Statement::Begin, rest),
+        "START" => match behind("TRANSACTION", rest) {
+            Some(rest) => no_more(Statement::Begin, rest),
+            None => bad_word(),
+        },
+        "COMMIT" => no_more(Statement::Commit, rest),
+        "ROLLBACK" => match behind("TO", rest) {
+            Some(rest) => Ok(Statement::RollbackTo(one_name(alloc, rest)?)),
+            None => no_more(Statement::Rollback, rest),
+        },
+        "SAVEPOINT" => Ok(Statement::Savepoint(one_name(alloc, rest)?)),
+        "SELECT" => Ok(Statement::Select(some_tables(alloc, rest)?)),
+        "INSERT" | "UPDATE" | "DELETE" => write(alloc, rest),
+        "CREATE" => match behind("TABLE", rest) {
+            Some(rest) => create_table(alloc, rest),
+            None => bad_word(),
+        },
+        "DROP" => match behind("TABLE", rest) {
+            Some(rest) => Ok(Statement::DropTables(some_tables(alloc, rest)?)),
+            None => bad_word(),
+        },
+        "KILL" => match behind("QUERY", rest) {
+            Some(rest) => kill_query(rest),
+            None => bad_word(),
+        },
+        "TIMEOUT" => no_more(Statement::Timeout, rest),
+        _ => bad_word(),
+    }
+}
+
+// What has no form, or a word too few or too many.
+fn bad_word() -> Result<Statement, NoStatement>
+    ensures { result ≡ Err (NoStatement.Refused LineError.BadWord) }
+{
+    Err(NoStatement::Refused(LineError::BadWord))
+}
+
+// A statement, where no word is left.
+fn no_more(statement: Statement, words: &[u8]) -> Result<Statement, NoStatement>
+    ensures { ReadsAs (forms.no_more statement (words_of words.now)) result }
+{
+    match split_word(words) {
+        None => Ok(statement),
+        Some(_) => bad_word(),
+    }
+}
+
+// One name.
+fn one_name(alloc: Global, words: &[u8]) -> Result<Name, NoStatement>
+    ensures { ReadsAs (forms.one_name (words_of words.now)) result }
+{
+    let Some((word, rest)) = split_word(words) else {
+        return Err(NoStatement::Refused(LineError::BadWord));
+    };
+    let Some(name) = name_of(word) else {
+        return Err(NoStatement::Refused(LineError::BadName));
+    };
+    if split_word(rest).is_some() {
+        return Err(NoStatement::Refused(LineError::BadWord));
+    }
+    match Name::new(alloc, name) {
+        Ok(name) => Ok(name),
+        Err(_) => Err(NoStatement::Memory),
+    }
+}
+
+// One table.
+fn one_table(alloc: Global, words: &[u8]) -> Result<Key, NoStatement>
+    ensures { ReadsAs (forms.one_table (words_of words.now)) result }
+{
+    let Some((word, rest)) = split_word(words) else {
+        return Err(NoStatement::Refused(LineError::BadWord));
+    };
+    let Some(table) = table_of(word) else {
+        return Err(NoStatement::Refused(LineError::BadName));
+    };
+    if split_word(rest).is_some() {
+        return Err(NoStatement::Refused(LineError::BadWord));
+    }
+    Ok(key_of(alloc, &table)?)
+}
+
+// The key of a table, whose names were looked at.
+fn key_of(alloc: Global, name: &TableName) -> Result<Key, AllocError>
+    ensures { IfOk result (λ key. key ≡ table_key name.now.schema.now name.now.table.now) }
+{
+    match Key::table(alloc, name.schema, name.table) {
+        Ok(key) => Ok(key),
+        Err(_) => Err(AllocError),
+    }
+}
+
+// A write of one table.
+fn write(alloc: Global, words: &[u8]) -> Result<Statement, NoStatement>
+    ensures { ReadsAs (write_of (words_of words.now)) result }
+{
+    match behind("LOW_PRIORITY", words) {
+        Some(rest) => Ok(Statement::Write {
+            table: one_table(alloc, rest)?,
+            priority: Priority::Low,
+        }),
+        None => Ok(Statement::Write {
+            table: one_table(alloc, words)?,
+            priority: Priority::Normal,
+        }),
+    }
+}
+
+// Tables.
+fn some_tables(alloc: Global, words: &[u8]) -> Result<Tables, NoStatement>
+    ensures { ReadsAs (forms.some_tables (words_of words.now)) result }
+{
+    let names = TableNames::read(words)?;
+    Ok(keys_of(alloc, names.as_slice())?)
+}
+
+// The keys of tables, whose names were looked at.
+fn keys_of(alloc: Global, names: &[TableName]) -> Result<Tables, AllocError>
+    ensures { IfOk result (λ tables. tables ≡ map (λ name. table_key name.schema.now name.table.now) names.now) }
+{
+    let mut tables = Tables::new(alloc);
+    for name in names {
+        tables.push(key_of(alloc, name)?)?;
+    }
+    Ok(tables)
+}
+
+// A new table, and its columns.
+fn create_table(alloc: Global, words: &[u8]) -> Result<Statement, NoStatement>
+    ensures { ReadsAs (forms.makes (λ named. CreateTable named.0 named.1) forms.table_and_columns (words_of words.now)) result }
+{
+    let Some((word, rest)) = split_word(words) else {
+        return bad_word();
+    };
+    let Some(name) = table_of(word) else {
+        return Err(NoStatement::Refused(LineError::BadName));
+    };
+    let columns = some_columns(alloc, rest)?;
+    Ok(Statement::CreateTable {
+        table: key_of(alloc, &name)?,
+        columns,
+    })
+}
+
+// Columns. Where one finds no room, those behind it are looked at all the same.
+fn some_columns(alloc: Global, words: &[u8]) -> Result<Columns, NoStatement>
+    ensures { ReadsAs (forms.some_columns (words_of words.now)) result }
+{
+    let mut columns = Columns::new(alloc);
+    let mut count = 0;
+    let mut has_room = true;
+    let mut left = words;
+    while let Some((word, rest)) = split_word(left) {
+        if count == MOST_COLUMNS {
+            return Err(NoStatement::Refused(LineError::BadWord));
+        }
+        let Some(name) = name_of(word) else {
+            return Err(NoStatement::Refused(LineError::BadName));
+        };
+        has_room = has_room && push_column(alloc, &mut columns, name).is_ok();
+        count += 1;
+        left = rest;
+    }
+    if count == 0 {
+        return Err(NoStatement::Refused(LineError::BadWord));
+    }
+    if !has_room {
+        return Err(NoStatement::Memory);
+    }
+    Ok(columns)
+}
+
+// Puts a column last, whose name was looked at.
+fn push_column(alloc: Global, columns: &mut Columns, name: &str) -> Result<(), AllocError>
+    ensures { IfOk result (λ _. columns.new ≡ columns.old ++ name.now ∷ []) }
+{
+    match Column::new(alloc, name) {
+        Ok(column) => columns.push(column),
+        Err(_) => Err(AllocError),
+    }
+}
+
+// A session to kill.
+fn kill_query(words: &[u8]) -> Result<Statement, NoStatement>
+    ensures { ReadsAs (forms.makes KillQuery forms.one_session (words_of words.now)) result }
+{
+    let Some((word, rest)) = split_word(words) else {
+        return bad_word();
+    };
+    let Some(session) = session_of(word) else {
+        return Err(NoStatement::Refused(LineError::BadSession));
+    };
+    no_more(Statement::KillQuery(session), rest)
+}

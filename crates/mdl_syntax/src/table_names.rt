@@ -1,0 +1,135 @@
+//! The names that words write, before memory is taken for them.
+ghost use Rattle.std.specs.Prelude.{◌≡◌, ◌<◌, ◌≤◌, List, Some, None, Ok, Err, length, map, position, take, MatchOption, MatchResult};
+ghost use Rattle.std.specs.List.{list_any};
+ghost use Rattle.mdl_key.specs.Keys.{KeyName, key_eq, table_key};
+ghost use Rattle.mdl_lines.specs.Lines.{words_of};
+ghost use Rattle.mdl_syntax.specs.Names.{is_dot, name_of, table_in, table_of};
+ghost use Rattle.mdl_syntax.specs.Forms.{more_tables, listed};
+
+use crate::words::split_word;
+use mdl_key::check_name;
+use mdl_lines::LineError;
+use std::marker::Model;
+use std::str;
+
+// The most tables of a statement.
+const MOST_TABLES: usize = 8;
+
+// The schema of a table that is named without one.
+const DEFAULT_SCHEMA: &[u8] = b"test";
+
+/// The names of a table's schema and of the table.
+#[derive(Clone, Copy)]
+pub(crate) struct TableName<'a> {
+    pub(crate) schema: &'a str,
+    pub(crate) table: &'a str,
+}
+
+/// The name that a word is.
+pub(crate) fn name_of(word: &[u8]) -> Option<&str>
+    ensures { MatchOption result (name_of word.now ≡ None) (λ name. name_of word.now ≡ Some name.now) }
+{
+    let name = str::from_utf8(word).ok()?;
+    check_name(name).ok()?;
+    Some(name)
+}
+
+/// The table that a word names.
+pub(crate) fn table_of(word: &[u8]) -> Option<TableName<'_>>
+    ensures { MatchOption result (table_of word.now ≡ None) (λ name. table_of word.now ≡ Some (table_key name.schema.now name.table.now)) }
+{
+    match first_dot(word) {
+        Some(at) => table_in(&word[..at], &word[at + 1..]),
+        None => table_in(DEFAULT_SCHEMA, word),
+    }
+}
+
+// The place of the first dot.
+fn first_dot(word: &[u8]) -> Option<usize>
+    ensures { result ≡ position is_dot word.now }
+{
+    word.iter().position(|byte| *byte == b'.')
+}
+
+// The table of this name in this schema.
+fn table_in<'a>(schema: &'a [u8], table: &'a [u8]) -> Option<TableName<'a>>
+    ensures { MatchOption result (table_in schema.now table.now ≡ None) (λ name. table_in schema.now table.now ≡ Some (table_key name.schema.now name.table.now)) }
+{
+    let schema = name_of(schema)?;
+    let table = name_of(table)?;
+    Some(TableName { schema, table })
+}
+
+/// The tables that a statement names, no two the same.
+#[derive(Drop)]
+pub(crate) struct TableNames<'a> {
+    names: [TableName<'a>; MOST_TABLES],
+    count: usize,
+}
+
+impl<'a> Model for TableNames<'a> {
+    ghost use Rattle.std.specs.Prelude.{◌≡◌, ◌≤◌, List, length, map, take};
+    ghost use Rattle.mdl_key.specs.Keys.{KeyName, key_eq, table_key};
+
+    ghost Value = { List KeyName };
+
+    ghost view = { λ t. map (λ name. table_key name.schema.now name.table.now) (take t.count t.names) };
+
+    ghost invariant = { λ t. (t.count ≤ 8) × (length t.names ≡ 8) };
+}
+
+impl<'a> TableNames<'a> {
+    /// The tables that words name.
+    pub(crate) fn read(words: &'a [u8]) -> Result<TableNames<'a>, LineError>
+        ensures { MatchResult result (λ tables. listed more_tables (words_of words.now) ≡ Ok tables) (λ error. listed more_tables (words_of words.now) ≡ Err error) }
+    {
+        let mut tables = TableNames {
+            names: [TableName {
+                schema: "",
+                table: "",
+            }; MOST_TABLES],
+            count: 0,
+        };
+        let mut left = words;
+        while let Some((word, rest)) = split_word(left) {
+            tables.add(word)?;
+            left = rest;
+        }
+        if tables.as_slice().is_empty() {
+            return Err(LineError::BadWord);
+        }
+        Ok(tables)
+    }
+
+    // One more, which a word names.
+    fn add(&mut self, word: &'a [u8]) -> Result<(), LineError>
+        ensures { MatchResult result (λ _. more_tables self.old word.now ≡ Ok self.new) (λ error. more_tables self.old word.now ≡ Err error) }
+    {
+        if self.count == MOST_TABLES {
+            return Err(LineError::BadWord);
+        }
+        let Some(name) = table_of(word) else {
+            return Err(LineError::BadName);
+        };
+        if self.has(&name) {
+            return Err(LineError::BadName);
+        }
+        self.names[self.count] = name;
+        self.count += 1;
+        Ok(())
+    }
+
+    // Whether a table is among them.
+    fn has(&self, name: &TableName) -> bool
+        ensures { result ≡ list_any (key_eq (table_key name.now.schema.now name.now.table.now)) self.now }
+    {
+        self.as_slice().iter().any(|other| name.schema == other.schema && name.table == other.table)
+    }
+
+    /// The tables, in order.
+    pub(crate) fn as_slice(&self) -> &[TableName<'a>]
+        ensures { self.now ≡ map (λ name. table_key name.schema.now name.table.now) result.now }
+    {
+        &self.names[..self.count]
+    }
+}

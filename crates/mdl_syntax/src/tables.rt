@@ -1,0 +1,58 @@
+//! The tables of a statement.
+ghost use Rattle.std.specs.Prelude.{◌≡◌, [], ◌∷◌, ◌++◌, OnOk, OnErr};
+
+use mdl_key::Key;
+use std::alloc::{AllocError, Global};
+use std::marker::Model;
+
+/// The keys of tables, in the order in which a statement names them.
+#[derive(Drop)]
+pub struct Tables {
+    list: Vec<Key>,
+}
+
+impl Model for Tables {
+    ghost use Rattle.std.specs.Prelude.{List};
+    ghost use Rattle.mdl_key.specs.Keys.{KeyName};
+
+    ghost Value = { List KeyName };
+
+    ghost view = { λ tables. tables.list.items };
+}
+
+impl Tables {
+    /// No tables. It takes no memory.
+    pub fn new(alloc: Global) -> Tables
+        ensures { result ≡ [] }
+    {
+        Tables {
+            list: Vec::new(alloc),
+        }
+    }
+
+    /// Puts a table last.
+    pub fn push(&mut self, table: Key) -> Result<(), AllocError>
+        ensures pushed { OnOk result (self.new ≡ self.old ++ table ∷ []) }
+        ensures unchanged { OnErr result (self.new ≡ self.old) }
+    {
+        self.list.push(table)?;
+        Ok(())
+    }
+
+    /// The tables, in order.
+    pub fn as_slice(&self) -> &[Key]
+        ensures { result.now ≡ self.now }
+    {
+        &self.list
+    }
+}
+
+impl Clone for Tables {
+    ghost is_clone = { λ tables copy. copy ≡ tables };
+
+    fn clone(&self) -> Result<Tables, AllocError> {
+        Ok(Tables {
+            list: self.list.clone()?,
+        })
+    }
+}

@@ -1,0 +1,224 @@
+//! Scripts, and what is read of them or refuses them.
+use crate::written::read;
+use std::alloc::{AllocError, Global};
+use std::test::Fail;
+
+// A script of lines that are parted by ` / `, and what is read of it: lines with their number and session, or the refusal.
+const ROWS: &str = "\
+1 BEGIN / 2 START TRANSACTION / 3 COMMIT / 64 ROLLBACK => 1 1 begin / 2 2 begin / 3 3 commit / 4 64 roll back
+1 SAVEPOINT p / 1 ROLLBACK TO p / 1 SAVEPOINT to => 1 1 savepoint p / 2 1 roll back to p / 3 1 savepoint to
+1 SELECT t / 1 SELECT s.t t test.u => 1 1 read TABLE test.t / 2 1 read TABLE s.t TABLE test.t TABLE test.u
+1 INSERT t / 1 UPDATE s.t / 1 DELETE t => 1 1 write TABLE test.t / 2 1 write TABLE s.t / 3 1 write TABLE test.t
+1 INSERT LOW_PRIORITY t / 1 UPDATE LOW_PRIORITY s.t => 1 1 write late TABLE test.t / 2 1 write late TABLE s.t
+1 DELETE LOW_PRIORITY low_priority / 1 DELETE low_priority => 1 1 write late TABLE test.low_priority / \
+    2 1 write TABLE test.low_priority
+1 CREATE TABLE t x / 1 CREATE TABLE s.t x y x => 1 1 create TABLE test.t x / 2 1 create TABLE s.t x y x
+1 DROP TABLE t / 1 DROP TABLE b s.a a => 1 1 drop TABLE test.t / 2 1 drop TABLE test.b TABLE s.a TABLE test.a
+1 KILL QUERY 64 / 9 KILL QUERY 1 / 9 TIMEOUT => 1 1 kill 64 / 2 9 kill 1 / 3 9 time out
+1 SELECT a b c d e f g h => 1 1 read TABLE test.a TABLE test.b TABLE test.c TABLE test.d TABLE test.e TABLE test.f \
+    TABLE test.g TABLE test.h
+1 DROP TABLE a b c d e f g h => 1 1 drop TABLE test.a TABLE test.b TABLE test.c TABLE test.d TABLE test.e TABLE test.f \
+    TABLE test.g TABLE test.h
+1 SELECT az09_.az09_ _ 0 => 1 1 read TABLE az09_.az09_ TABLE test._ TABLE test.0
+1 SELECT a.t b.t test.t => 1 1 read TABLE a.t TABLE b.t TABLE test.t
+# 1 SELECT T /  / 1 BEGIN / #2 X / \t / \t 2 \t  COMMIT \t => 3 1 begin / 6 2 commit
+1 ROLLBACK TO SAVEPOINT p => line 1: BadName
+1 BEGIN / # 1 / 2 INSERT low_priority t => line 3: BadWord
+1 INSERT LOW_PRIORITY => line 1: BadWord
+1 INSERT LOW_PRIORITY LOW_PRIORITY => line 1: BadName
+1 INSERT low_priority t => line 1: BadWord
+1 UPDATE LOW_PRIORITY => line 1: BadWord
+1 DELETE LOW_PRIORITY T => line 1: BadName
+1 SELECT a b c d e f g h T => line 1: BadWord
+1 SELECT a b c d e f g T => line 1: BadName
+1 SELECT a b c d e f g h i => line 1: BadWord
+1 SELECT a b c d e f g h a => line 1: BadWord
+1 SELECT a b c d e f g a => line 1: BadName
+1 SELECT T b c d e f g h i => line 1: BadName
+1 SELECT t test.t => line 1: BadName
+1 SELECT test.t s.t t => line 1: BadName
+1 SELECT s.t t s.t U => line 1: BadName
+1 DROP TABLE a b c d e f g h i => line 1: BadWord
+1 DROP TABLE a a => line 1: BadName
+1 BEGIN / 1 CREATE TAB => line 2: BadWord
+65 BEGIN => line 1: BadSession
+0 BEGIN => line 1: BadSession
+01 BEGIN => line 1: BadSession
++1 BEGIN => line 1: BadSession
+BEGIN => line 1: BadSession
+ # x => line 1: BadSession
+0 SELECT T => line 1: BadSession
+1 KILL QUERY 0 => line 1: BadSession
+1 KILL QUERY 01 => line 1: BadSession
+1 KILL QUERY 65 => line 1: BadSession
+1 KILL QUERY 2 3 => line 1: BadWord
+1 KILL QUERY 0 3 => line 1: BadSession
+1 KILL QUERY => line 1: BadWord
+1 KILL 2 => line 1: BadWord
+1 KILL => line 1: BadWord
+1 => line 1: BadWord
+1 begin => line 1: BadWord
+1 BEGIN BEGIN => line 1: BadWord
+1 BEGINS => line 1: BadWord
+1 START => line 1: BadWord
+1 START TRANSACTION now => line 1: BadWord
+1 START t => line 1: BadWord
+1 COMMIT t => line 1: BadWord
+1 ROLLBACK t => line 1: BadWord
+1 ROLLBACK TO => line 1: BadWord
+1 ROLLBACK TO p q => line 1: BadWord
+1 ROLLBACK TO P q => line 1: BadName
+1 SAVEPOINT => line 1: BadWord
+1 SAVEPOINT p q => line 1: BadWord
+1 SAVEPOINT p.q => line 1: BadName
+1 SELECT => line 1: BadWord
+1 SELECT T => line 1: BadName
+1 SELECT a.b.c => line 1: BadName
+1 SELECT . => line 1: BadName
+1 SELECT a. => line 1: BadName
+1 SELECT .a => line 1: BadName
+1 SELECT a,b => line 1: BadName
+1 INSERT => line 1: BadWord
+1 INSERT t u => line 1: BadWord
+1 INSERT T u => line 1: BadName
+1 UPDATE => line 1: BadWord
+1 DELETE t u => line 1: BadWord
+1 CREATE => line 1: BadWord
+1 CREATE TABLE => line 1: BadWord
+1 CREATE TABLE t => line 1: BadWord
+1 CREATE TABLE T => line 1: BadName
+1 CREATE TABLE t X => line 1: BadName
+1 CREATE TABLE t x.y => line 1: BadName
+1 DROP => line 1: BadWord
+1 DROP TABLE => line 1: BadWord
+1 DROP TABLES t => line 1: BadWord
+1 TIMEOUT 1 => line 1: BadWord
+1 RENAME TABLE a TO b => line 1: BadWord
+1 ALTER TABLE t ADD c COPY => line 1: BadWord
+1 CREATE SCHEMA s => line 1: BadWord
+1 DROP SCHEMA s => line 1: BadWord
+1 LOCK TABLES t READ => line 1: BadWord
+1 UNLOCK TABLES => line 1: BadWord
+1 FLUSH TABLES WITH READ LOCK => line 1: BadWord
+1 SELECT t\u{e9} => line 1: NotAscii
+#\u{e9} => line 1: NotAscii";
+
+// The lines of a row, which are parted by ` / `, each with this at its end.
+fn lines(alloc: Global, row: &str, end: &str) -> Result<String, AllocError> {
+    let mut text = String::new(alloc);
+    for line in row.split(" / ") {
+        text.push_str(line)?;
+        text.push_str(end)?;
+    }
+    Ok(text)
+}
+
+#[test]
+fn rows_are_read(rt: HostRuntime) -> Result<(), Fail> {
+    let alloc = rt.alloc();
+    for row in ROWS.split('\n') {
+        let Some((script, want)) = row.split_once(" => ") else {
+            return Err(Fail::from("a row says nothing"));
+        };
+        for end in ["\n", "\r\n"] {
+            let script = lines(alloc, script, end)?;
+            assert_eq!(rt; read(alloc, script.as_bytes())?.as_str(), want, "{row}");
+        }
+    }
+    Ok(())
+}
+
+#[test]
+fn line_ends_make_no_difference(rt: HostRuntime) -> Result<(), Fail> {
+    let alloc = rt.alloc();
+    for (script, want) in [
+        ("", ""),
+        ("\n", ""),
+        ("\r", ""),
+        ("\n\r\n1 BEGIN", "3 1 begin"),
+        ("1 BEGIN\r", "1 1 begin"),
+        ("1 BEGIN\r\r\n", "line 1: BadWord"),
+        ("1 BEGIN\r\r", "line 1: BadWord"),
+        (
+            "1 SELECT t\r\n\r\n2 SELECT t",
+            "1 1 read TABLE test.t / 3 2 read TABLE test.t",
+        ),
+    ] {
+        assert_eq!(rt;
+            read(alloc, script.as_bytes())?.as_str(),
+            want,
+            "{script:?}"
+        );
+    }
+    Ok(())
+}
+
+// A text of this many bytes, a beginning and then one byte again and again.
+fn stretched(alloc: Global, start: &str, byte: char, count: usize) -> Result<String, AllocError> {
+    let mut text = String::from_str(alloc, start)?;
+    for _ in start.len()..count {
+        text.push(byte)?;
+    }
+    Ok(text)
+}
+
+#[test]
+fn lines_and_names_have_a_longest(rt: HostRuntime) -> Result<(), Fail> {
+    let alloc = rt.alloc();
+    for (start, byte, count, end, want) in [
+        ("#", 'x', 4096, "\r\n", ""),
+        ("#", 'x', 4097, "\n", "line 1: LongLine"),
+        ("\u{80}", 'x', 4097, "\n", "line 1: LongLine"),
+        ("\u{80}", 'x', 4096, "\n", "line 1: NotAscii"),
+        ("1 COMMIT", ' ', 4096, "\n", "1 1 commit"),
+        ("1 COMMIT", ' ', 4097, "", "line 1: LongLine"),
+        ("1 SELECT s.", 'x', 76, "\n", "line 1: BadName"),
+        ("1 SAVEPOINT ", 'x', 77, "\n", "line 1: BadName"),
+        ("1 CREATE TABLE t ", 'x', 82, "\n", "line 1: BadName"),
+    ] {
+        let mut script = stretched(alloc, start, byte, count)?;
+        script.push_str(end)?;
+        assert_eq!(rt;
+            read(alloc, script.as_bytes())?.as_str(),
+            want,
+            "{start}{byte}.. of {count}"
+        );
+    }
+    for (start, count) in [("1 SELECT ", 73), ("1 SELECT s.", 75), ("1 SAVEPOINT ", 76)] {
+        let script = stretched(alloc, start, 'x', count)?;
+        assert!(rt;
+            read(alloc, script.as_bytes())?.as_str().ends_with("xxxx"),
+            "{start}"
+        );
+    }
+    Ok(())
+}
+
+// CREATE TABLE with this many columns, and a last word.
+fn created(alloc: Global, columns: u32, last: &str) -> Result<String, Fail> {
+    let mut script = String::from_str(alloc, "1 CREATE TABLE t")?;
+    for number in 1..=columns {
+        script.push_str(format!(in alloc; " c{number}")?.as_str())?;
+    }
+    script.push_str(last)?;
+    Ok(script)
+}
+
+#[test]
+fn a_65th_column_is_a_word_too_many(rt: HostRuntime) -> Result<(), Fail> {
+    let alloc = rt.alloc();
+    for (columns, last, want) in [
+        (64, "", "c64"),
+        (63, " x", "x"),
+        (65, "", "line 1: BadWord"),
+        (64, " C", "line 1: BadWord"),
+        (63, " C", "line 1: BadName"),
+    ] {
+        let script = created(alloc, columns, last)?;
+        assert!(rt;
+            read(alloc, script.as_bytes())?.as_str().ends_with(want),
+            "{columns}{last}"
+        );
+    }
+    Ok(())
+}
