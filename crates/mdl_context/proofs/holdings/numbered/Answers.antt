@@ -1,7 +1,7 @@
 -- The ticket is where the search by halves ends.
 use Rattle.std.proofs.Common.{rules, sym, ap, ◌∙◌, Some}
 use Rattle.mdl_context.specs.Holdings.{is_ticket}
-use Rattle.mdl_context.proofs.KeyLemmas.{found_at, found_none}
+use Rattle.mdl_context.proofs.PlaceLemmas.{found_at, found_none}
 use Rattle.mdl_context.proofs.holdings.numbered.Goals as goal
 
 pub returns-in_err-at : goal.returns-in_err-at
