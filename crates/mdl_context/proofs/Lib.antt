@@ -1,6 +1,7 @@
 pub mod AttendLemmas
 pub mod BeyondLemmas
 pub mod FrontLemmas
+pub mod GainLemmas
 pub mod IndexLemmas
 pub mod OthersLemmas
 pub mod PlaceLemmas

@@ -8,11 +8,11 @@ use Rattle.mdl_context.proofs.PlaceLemmas.{found_at, index-less, rising-numbers,
 use Rattle.mdl_context.proofs.SearchLemmas.{without_at}
 use Rattle.mdl_context.proofs.holdings.Holdings.remove.Goals as goal
 
-pub remove-requires : goal.remove-requires
-remove-requires c = (found_at (is_ticket c.args.id) c.self.inside.tickets.items c.args.at _ (sym (rw (← c.self.view_is) at c.requires.here))).0
+pub remove-ticket-requires : goal.remove-ticket-requires
+remove-ticket-requires c = (found_at (is_ticket c.args.id) c.self.inside.tickets.items c.args.at _ (sym (rw (← c.self.view_is) at c.requires.here))).0
 
-pub remove-requires-2 : goal.remove-requires-2
-remove-requires-2 c =
+pub remove-requires : goal.remove-requires
+remove-requires c =
     let kept = c.self.inside.tickets.items in
     let rising : AreRising kept = rw (← c.self.view_is) at c.requires.rising in
     let place = c.remove-ticket.result.place in
