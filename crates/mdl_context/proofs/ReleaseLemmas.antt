@@ -45,7 +45,7 @@ holds_mid [] D t = grind (arith, nat_tests)
 holds_mid (x ∷ F) D t = grind (arith, nat_tests, holds_mid F D t)
 
 -- the ticket that stands for none
-pub no_item : Kept
+abbrev pub no_item : Kept
 no_item = record { id = 0; place = 0; mode = IX; duration = Statement }
 
 -- a ticket is the one that is there
