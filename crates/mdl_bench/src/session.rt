@@ -48,7 +48,7 @@ fn acquire<S: LockSpace>(
     ensures { Attends S.speaks_for S.own S.knows space.new context.new }
 {
     let request = Request {
-        key: key.clone()?,
+        key,
         mode: Mode::SR,
         duration,
     };

@@ -1,20 +1,24 @@
 -- A context goes on to attend to its session over each call.
-use Rattle.std.proofs.Common.{◌≡◌, ℕ, Bool, true, false, List, [], ◌∷◌, ◌++◌, Option, Some, None, refl, sym, ap, subst, arith}
-use Rattle.std.specs.Prelude.{◌&&◌, All, filter, map, slice_index_or}
+use Rattle.std.proofs.Common.{◌≡◌, ℕ, Bool, true, false, List, [], ◌∷◌, ◌++◌, Option, Some, None, refl, sym, ap, ◌∙◌, subst, arith}
+use Rattle.std.specs.Prelude.{◌==◌, ◌||◌, All, filter, map, slice_index_or}
+use Rattle.std.specs.List.{list_any}
+use Rattle.std.specs.Map.{lookup}
 use Rattle.std.specs.Option.{IfSome}
-use Rattle.std.proofs.lemmas.List.Elements.{All-head, All-tail, All-push, All-map, All-filter}
-use Rattle.std.proofs.lemmas.Option.{IfSome_then}
-use Rattle.mdl_key.specs.Keys.{KeyName}
+use Rattle.std.proofs.lemmas.Bool.Decides.{nat_tests}
+use Rattle.std.proofs.lemmas.List.Elements.{All-push, All-map, All-filter}
+use Rattle.mdl_key.specs.Keys.{KeyName, key_eq}
+use Rattle.mdl_system.proofs.Deciding.{key-Decides}
 use Rattle.mdl_calls.specs.declared.answers.Held.{Held}
 use Rattle.mdl_calls.specs.declared.answers.Settled.{Settled}
-use Rattle.mdl_calls.specs.Words.{Answer, Done, Granted, Waits, Lost, Call, Begin_wait, End_wait, Unpin, caller, Own, own_after, gaining, ending}
-use Rattle.mdl_system.proofs.Deciding.{key-Decides}
+use Rattle.mdl_calls.specs.Words.{Answer, Done, Granted, Lost, Call, End_wait, Unpin, caller, Own, own_after, gaining}
+use Rattle.mdl_calls.specs.Own.{waiting}
 use Rattle.mdl_context.specs.declared.kept.Kept.{Kept}
 use Rattle.mdl_context.specs.declared.kept.Wanted.{Wanted}
+use Rattle.mdl_context.specs.Contexts.{ContextView, Attends, Serves, held_of, place_known, is_known_place}
+use Rattle.mdl_context.specs.Holdings.{with_wanted}
 use Rattle.mdl_context.specs.declared.request.Request.{Request}
-use Rattle.mdl_context.specs.Contexts.{ContextView, Attends, Serves, held_of}
-use Rattle.mdl_context.specs.Holdings.{is_of, earliest, kept_of, with_wanted}
-use Rattle.mdl_context.specs.Requests.{suffices, awaiting}
+use Rattle.mdl_context.specs.Requests.{remembering, keeping, awaiting}
+use Rattle.mdl_context.specs.Waits.{without_wait}
 use Rattle.mdl_context.proofs.ServingLemmas.{serves-changed, serves-gaining, serves-waiting, serves-ending, serves-winning}
 
 -- whether a call gives a place up
@@ -22,45 +26,135 @@ abbrev pub unpins : Call → Bool
 unpins (Unpin _ _) = true
 unpins _ = false
 
--- ---- which key a session knows where a ticket is
+-- ---- known places
 
-module _ (P : ℕ → KeyName → Type 0) where
-  abbrev at_place : Kept → Type 0
-  at_place ticket = P ticket.place ticket.key
+-- the keys of these entries are known at their places
+abbrev pub AreKnown : {S : Type 0} → (S → ℕ → ℕ → KeyName → Type 0) → S → ℕ → List (KeyName × ℕ) → Type 0
+AreKnown knows space who known = All (λ entry. knows space who entry.1 entry.0) known
 
-  -- with one more ticket
-  pub keys-push : (kept now : List Kept) (ticket : Kept) → now ≡ kept ++ ticket ∷ [] → All at_place kept → P ticket.place ticket.key → All at_place now
-  keys-push kept now ticket more known there = subst (All at_place) (sym more) (All-push at_place kept ticket known there)
+-- these tickets are at known places
+abbrev pub ArePlaced : List (KeyName × ℕ) → List Kept → Type 0
+ArePlaced known kept = All (λ ticket. is_known_place known ticket.place ≡ true) kept
 
-  -- with the ticket that was waited for
-  pub keys-taken : (id : ℕ) (wait : Option Wanted) (kept now : List Kept) → now ≡ with_wanted id wait kept → All at_place kept → IfSome wait (λ wanted. P wanted.place wanted.key)
-      → All at_place now
-  keys-taken id None kept now more known there = subst (All at_place) (sym more) known
-  keys-taken id (Some wanted) kept now more known there = keys-push kept now _ more known there
+-- and so is what is waited for
+abbrev pub IsPlaced : List (KeyName × ℕ) → Option Wanted → Type 0
+IsPlaced known wait = IfSome wait (λ wanted. is_known_place known wanted.place ≡ true)
 
-  -- where there is no wait
-  pub wish-none : (wait : Option Wanted) → wait ≡ None → IfSome wait (λ wanted. P wanted.place wanted.key)
-  wish-none wait none = subst (λ w. IfSome w (λ wanted. P wanted.place wanted.key)) (sym none) tt
+-- the place of a known key is a known place
+pub known-place : (key : KeyName) (known : List (KeyName × ℕ)) (place : ℕ) → place_known key known ≡ Some place → is_known_place known place ≡ true
+known-place key [] place found = cc
+known-place key (e ∷ es) place found = go (key_eq key e.0) refl (known-place key es place) where
+  go : (b : Bool) → key_eq key e.0 ≡ b → (place_known key es ≡ Some place → is_known_place es place ≡ true) → is_known_place (e ∷ es) place ≡ true
+  go true same later = let here : e.1 ≡ place = grind (arith, found, same) in grind (arith, nat_tests)
+  go false same later = let there : is_known_place es place ≡ true = later (grind (arith, found, same)) in grind (arith, nat_tests)
 
-  same-key : (place : ℕ) (ticket : Kept) (key : KeyName) → is_of key ticket ≡ true → P place ticket.key → P place key
-  same-key place ticket key of there = subst (P place) ((key-Decides ticket.key key).0 of) there
+-- a known place stays one where one more is known
+pub still-known-place : (known : List (KeyName × ℕ)) (e : KeyName × ℕ) (place : ℕ) → is_known_place known place ≡ true → is_known_place (known ++ e ∷ []) place ≡ true
+still-known-place [] e place there = cc
+still-known-place (x ∷ xs) e place there = grind (arith, nat_tests, still-known-place xs e place)
 
-  -- of a ticket that was found by its key
-  pub found-known : (test : Kept → Bool) (key : KeyName) (kept : List Kept) (found : Held) → ((ticket : Kept) → test ticket ≡ true → is_of key ticket ≡ true)
-      → All at_place kept → earliest test kept ≡ Some found → P found.place key
-  found-known test key [] found of known is = cc
-  found-known test key (x ∷ xs) found of known is = go (λ e. found-known test key xs found of (All-tail at_place x xs known) e) (test x) refl where
-    go : (earliest test xs ≡ Some found → P found.place key) → (b : Bool) → test x ≡ b → P found.place key
-    go later true e = same-key found.place x key (of x e) (subst (λ place. P place x.key) (grind (arith, e, is)) (All-head at_place x xs known))
-    go later false e = later (grind (arith, e, is))
+-- the key that came to be known last is known
+pub known-last : (key : KeyName) (known : List (KeyName × ℕ)) (place : ℕ) → place_known key known ≡ None → place_known key (known ++ (key, place) ∷ []) ≡ Some place
+known-last key [] place none = rw ((key-Decides key key).1 refl) refl
+known-last key (e ∷ es) place none = go (key_eq key e.0) refl (known-last key es place) where
+  go : (b : Bool) → key_eq key e.0 ≡ b → (place_known key es ≡ None → place_known key (es ++ (key, place) ∷ []) ≡ Some place) → place_known key ((e ∷ es) ++ (key, place) ∷ []) ≡ Some place
+  go true same later = absurd (grind (arith, none, same))
+  go false same later = let there : place_known key (es ++ (key, place) ∷ []) ≡ Some place = later (grind (arith, none, same)) in rw same there
 
-all-three : (a b c : Bool) → (a && b && c) ≡ true → a ≡ true
-all-three true b c e = refl
-all-three false b c e = grind (arith, e)
+-- with one more ticket
+pub placed-push : (known : List (KeyName × ℕ)) (kept now : List Kept) (ticket : Kept) → now ≡ kept ++ ticket ∷ [] → ArePlaced known kept → is_known_place known ticket.place ≡ true → ArePlaced known now
+placed-push known kept now ticket more placed there =
+    subst (ArePlaced known) (sym more) (All-push (λ (t : Kept). is_known_place known t.place ≡ true) kept ticket placed there)
 
--- a ticket that suffices is of the wanted key
-pub sufficient-of : (request : Request) (ticket : Kept) → suffices request ticket ≡ true → is_of request.key ticket ≡ true
-sufficient-of request ticket = all-three (is_of request.key ticket) _ _
+-- with the ticket that was waited for
+pub placed-taken : (known : List (KeyName × ℕ)) (id : ℕ) (wait : Option Wanted) (kept now : List Kept) → now ≡ with_wanted id wait kept → ArePlaced known kept → IsPlaced known wait → ArePlaced known now
+placed-taken known id None kept now more placed there = subst (ArePlaced known) (sym more) placed
+placed-taken known id (Some wanted) kept now more placed there = placed-push known kept now _ more placed there
+
+-- where there is no wait
+pub placed-none : (known : List (KeyName × ℕ)) (wait : Option Wanted) → wait ≡ None → IsPlaced known wait
+placed-none known wait none = subst (IsPlaced known) (sym none) tt
+
+-- where one more place is known
+still-placed : (known : List (KeyName × ℕ)) (e : KeyName × ℕ) (kept : List Kept) → ArePlaced known kept → ArePlaced (known ++ e ∷ []) kept
+still-placed known e kept placed k d inside = still-known-place known e _ (placed k d inside)
+
+still-wished : (known : List (KeyName × ℕ)) (e : KeyName × ℕ) (wait : Option Wanted) → IsPlaced known wait → IsPlaced (known ++ e ∷ []) wait
+still-wished known e None placed = placed
+still-wished known e (Some wanted) placed = still-known-place known e _ placed
+
+-- ---- over calls
+
+module _ {S : Type 0} {speaks_for : S → ℕ → Type 0} {own : S → ℕ → Own} {knows : S → ℕ → ℕ → KeyName → Type 0} where
+  -- what the context serves then is what the session has then, and it knows what it knew
+  pub attends-over : (a b : S) (before after : ContextView) → Attends speaks_for own knows a before → ((place : ℕ) (key : KeyName) → knows a before.who place key → knows b before.who place key)
+      → speaks_for b before.who → Serves (own b before.who) after → after.who ≡ before.who → after.known ≡ before.known → ArePlaced before.known after.kept → IsPlaced before.known after.wait
+      → Attends speaks_for own knows b after
+  attends-over a b before after attends still speaks serves same known placed wished = record {
+    speaks = subst (speaks_for b) (sym same) speaks;
+    serves = subst (λ who. Serves (own b who) after) (sym same) serves;
+    known = subst (λ who. AreKnown knows b who after.known) (sym same) (subst (AreKnown knows b before.who) (sym known) (λ k d inside. still _ _ (attends.known k d inside)));
+    places = subst (λ (es : List (KeyName × ℕ)). ArePlaced es after.kept) (sym known) placed;
+    wish = subst (λ (es : List (KeyName × ℕ)). IsPlaced es after.wait) (sym known) wished;
+  }
+
+  -- nothing has changed, though there were calls
+  pub attends-same : (a b : S) (context : ContextView) → Attends speaks_for own knows a context → ((place : ℕ) (key : KeyName) → knows a context.who place key → knows b context.who place key)
+      → speaks_for b context.who → own b context.who ≡ own a context.who → Attends speaks_for own knows b context
+  attends-same a b context attends still speaks same =
+      attends-over a b context context attends still speaks (subst (λ (o : Own). Serves o context) (sym same) attends.serves) refl refl attends.places attends.wish
+
+  -- fewer tickets are left
+  pub attends-left : (a b : S) (before after : ContextView) (stays : Kept → Bool) → Attends speaks_for own knows a before → ((place : ℕ) (key : KeyName) → knows a before.who place key → knows b before.who place key)
+      → speaks_for b before.who → Serves (own b before.who) after → after.who ≡ before.who → after.known ≡ before.known → after.kept ≡ filter stays before.kept → after.wait ≡ before.wait
+      → Attends speaks_for own knows b after
+  attends-left a b before after stays attends still speaks serves same known left waits =
+      attends-over a b before after attends still speaks serves same known
+      (subst (ArePlaced before.known) (sym left) (All-filter stays (λ (t : Kept). is_known_place before.known t.place ≡ true) before.kept attends.places))
+      (subst (IsPlaced before.known) (sym waits) attends.wish)
+
+  -- other durations
+  pub attends-changed : (f : Kept → Kept) → ((t : Kept) → held_of (f t) ≡ held_of t) → (space : S) (before after : ContextView) → after.who ≡ before.who → after.known ≡ before.known
+      → after.kept ≡ map f before.kept → after.wait ≡ before.wait → Attends speaks_for own knows space before → Attends speaks_for own knows space after
+  attends-changed f same space before after who known kept wait attends =
+      attends-over space space before after attends (λ place key there. there) attends.speaks (serves-changed f same (own space before.who) before after kept wait attends.serves) who known
+      (subst (ArePlaced before.known) (sym kept)
+      (All-map (λ (t : Kept). is_known_place before.known t.place ≡ true) f before.kept (λ k d inside. placed-changed (slice_index_or before.kept k d) (attends.places k d inside))))
+      (subst (IsPlaced before.known) (sym wait) attends.wish)
+      where
+        placed-changed : (t : Kept) → is_known_place before.known t.place ≡ true → is_known_place before.known (f t).place ≡ true
+        placed-changed t there = ap (λ (h : Held). is_known_place before.known h.place) (same t) ∙ there
+
+  -- one more place is known
+  pub attends-learnt : (space : S) (key : KeyName) (place : ℕ) (before after : ContextView) → Attends speaks_for own knows space before → knows space before.who place key
+      → after ≡ remembering key place before → Attends speaks_for own knows space after
+  attends-learnt space key place before after attends knew learnt =
+      subst (Attends speaks_for own knows space) (sym learnt) (record {
+        speaks = attends.speaks;
+        serves = record { held = attends.serves.held; wait = attends.serves.wait };
+        known = All-push (λ (e : KeyName × ℕ). knows space before.who e.1 e.0) before.known (key, place) attends.known knew;
+        places = still-placed before.known (key, place) before.kept attends.places;
+        wish = still-wished before.known (key, place) before.wait attends.wish;
+      })
+
+  -- a ticket at a known place is gained
+  pub attends-granted : (a b : S) (before after : ContextView) (id place : ℕ) (request : Request) → Attends speaks_for own knows a before
+      → ((at : ℕ) (key : KeyName) → knows a before.who at key → knows b before.who at key) → speaks_for b before.who → own b before.who ≡ gaining id place request.mode (own a before.who)
+      → is_known_place before.known place ≡ true → after ≡ keeping id place request before → Attends speaks_for own knows b after
+  attends-granted a b before after id place request attends still speaks gains there is =
+      let then_after = keeping id place request before in
+      subst (Attends speaks_for own knows b) (sym is)
+      (attends-over a b before then_after attends still speaks (serves-gaining _ _ before then_after id place request attends.serves gains refl refl) refl refl
+      (placed-push before.known before.kept then_after.kept _ refl attends.places there) attends.wish)
+
+  -- a wait for a ticket at a known place begins
+  pub attends-awaiting : (a b : S) (before after : ContextView) (number place : ℕ) (request : Request) (searched : Bool) → Attends speaks_for own knows a before
+      → ((at : ℕ) (key : KeyName) → knows a before.who at key → knows b before.who at key) → speaks_for b before.who → own b before.who ≡ waiting number place request.mode (own a before.who)
+      → is_known_place before.known place ≡ true → after ≡ awaiting place request searched before → Attends speaks_for own knows b after
+  attends-awaiting a b before after number place request searched attends still speaks begins there is =
+      let then_after = awaiting place request searched before in
+      subst (Attends speaks_for own knows b) (sym is)
+      (attends-over a b before then_after attends still speaks (serves-waiting _ _ before then_after number place request searched attends.serves begins refl refl) refl refl attends.places there)
 
 -- ---- over a call
 
@@ -74,101 +168,31 @@ module _ {S : Type 0} {speaks_for : S → ℕ → Type 0} {own : S → ℕ → O
       → (place : ℕ) (key : KeyName) → knows a who place key → knows b who place key
   known-still a b call answer who speaks stays step place key = remembers a b call answer who place key speaks (λ e done. cc) step
 
-  keys-still : (a b : S) (who : ℕ) → ((place : ℕ) (key : KeyName) → knows a who place key → knows b who place key) → (kept : List Kept)
-      → All (λ ticket. knows a who ticket.place ticket.key) kept → All (λ ticket. knows b who ticket.place ticket.key) kept
-  keys-still a b who still kept known k d inside = still _ _ (known k d inside)
-
-  wish-still : (a b : S) (who : ℕ) → ((place : ℕ) (key : KeyName) → knows a who place key → knows b who place key) → (wait : Option Wanted)
-      → IfSome wait (λ wanted. knows a who wanted.place wanted.key) → IfSome wait (λ wanted. knows b who wanted.place wanted.key)
-  wish-still a b who still None known = known
-  wish-still a b who still (Some wanted) known = still _ _ known
-
-  -- the context serves what the call makes of the session, and what it keeps is known
+  -- the context serves what the call makes of the session
   pub attends-after : (a b : S) (call : Call) (answer : Answer) (before after : ContextView) → Attends speaks_for own knows a before → caller call ≡ Some before.who → unpins call ≡ false
-      → joins a call answer b → after.who ≡ before.who → Serves (own_after call answer (own a before.who)) after → All (λ ticket. knows a before.who ticket.place ticket.key) after.kept
-      → IfSome after.wait (λ wanted. knows a before.who wanted.place wanted.key) → Attends speaks_for own knows b after
-  attends-after a b call answer before after attends by stays step same serves keys wish =
-      let still = known-still a b call answer before.who attends.speaks stays step in
+      → joins a call answer b → Serves (own_after call answer (own a before.who)) after → after.who ≡ before.who → after.known ≡ before.known → ArePlaced before.known after.kept
+      → IsPlaced before.known after.wait → Attends speaks_for own knows b after
+  attends-after a b call answer before after attends by stays step serves same known placed wished =
       let now : own b before.who ≡ own_after call answer (own a before.who) = changes a b call answer before.who by step in
-      record {
-        speaks = subst (speaks_for b) (sym same) (keeps a b call answer before.who attends.speaks step);
-        serves = subst (λ who. Serves (own b who) after) (sym same) (subst (λ (o : Own). Serves o after) (sym now) serves);
-        keys = subst (λ who. All (λ ticket. knows b who ticket.place ticket.key) after.kept) (sym same) (keys-still a b before.who still after.kept keys);
-        wish = subst (λ who. IfSome after.wait (λ wanted. knows b who wanted.place wanted.key)) (sym same) (wish-still a b before.who still after.wait wish);
-      }
+      attends-over a b before after attends (known-still a b call answer before.who attends.speaks stays step) (keeps a b call answer before.who attends.speaks step)
+      (subst (λ (o : Own). Serves o after) (sym now) serves) same known placed wished
 
   -- a call that does nothing to the session
   pub attends-still : (a b : S) (call : Call) (answer : Answer) (context : ContextView) → Attends speaks_for own knows a context → caller call ≡ Some context.who → unpins call ≡ false
       → own_after call answer (own a context.who) ≡ own a context.who → joins a call answer b → Attends speaks_for own knows b context
   attends-still a b call answer context attends by stays nothing step =
-      attends-after a b call answer context context attends by stays step refl (subst (λ (o : Own). Serves o context) (sym nothing) attends.serves) attends.keys attends.wish
-
-  -- a call that gains a ticket
-  pub attends-gained : (a b : S) (call : Call) (answer : Answer) (id place : ℕ) (request : Request) (before after : ContextView) → Attends speaks_for own knows a before → caller call ≡ Some before.who
-      → unpins call ≡ false → own_after call answer (own a before.who) ≡ gaining id place request.mode (own a before.who) → joins a call answer b → knows a before.who place request.key
-      → after.who ≡ before.who → after.kept ≡ before.kept ++ kept_of id place request ∷ [] → after.wait ≡ before.wait → Attends speaks_for own knows b after
-  attends-gained a b call answer id place request before after attends by stays gains step known same kept wait =
-      attends-after a b call answer before after attends by stays step same (serves-gaining _ _ before after id place request attends.serves gains kept wait)
-      (keys-push (knows a before.who) before.kept after.kept _ kept attends.keys known) (subst (λ w. IfSome w (λ wanted. knows a before.who wanted.place wanted.key)) (sym wait) attends.wish)
-
-  -- a wait begins
-  pub attends-waiting : (a b : S) (number place : ℕ) (request : Request) (context : ContextView) → Attends speaks_for own knows a context
-      → joins a (Begin_wait context.who place request.mode) (Waits number) b → knows a context.who place request.key → Attends speaks_for own knows b (awaiting place request false context)
-  attends-waiting a b number place request context attends step known =
-      let after = awaiting place request false context in
-      attends-after a b _ _ context after attends refl refl step refl (serves-waiting _ _ context after number place request false attends.serves refl refl refl) attends.keys known
+      attends-after a b call answer context context attends by stays step (subst (λ (o : Own). Serves o context) (sym nothing) attends.serves) refl refl attends.places attends.wish
 
   -- a wait ends with its ticket
   pub attends-won : (a b : S) (id : ℕ) (before after : ContextView) → Attends speaks_for own knows a before → joins a (End_wait before.who) (Granted id) b
-      → after.who ≡ before.who → after.kept ≡ with_wanted id before.wait before.kept → after.wait ≡ None → Attends speaks_for own knows b after
-  attends-won a b id before after attends step same kept wait =
-      attends-after a b _ _ before after attends refl refl step same (serves-winning id _ _ before after attends.serves refl kept wait)
-      (keys-taken (knows a before.who) id before.wait before.kept after.kept kept attends.keys attends.wish) (wish-none (knows a before.who) after.wait wait)
+      → after.who ≡ before.who → after.known ≡ before.known → after.kept ≡ with_wanted id before.wait before.kept → after.wait ≡ None → Attends speaks_for own knows b after
+  attends-won a b id before after attends step same known kept wait =
+      attends-after a b _ _ before after attends refl refl step (serves-winning id _ _ before after attends.serves refl kept wait) same known
+      (placed-taken before.known id before.wait before.kept after.kept kept attends.places attends.wish) (placed-none before.known after.wait wait)
 
   -- a wait ends without it
-  pub attends-lost : (a b : S) (how : Settled) (before after : ContextView) → Attends speaks_for own knows a before → joins a (End_wait before.who) (Lost how) b
-      → after.who ≡ before.who → after.kept ≡ before.kept → after.wait ≡ None → Attends speaks_for own knows b after
-  attends-lost a b how before after attends step same kept wait =
-      attends-after a b _ _ before after attends refl refl step same (serves-ending _ _ before after attends.serves refl kept wait)
-      (subst (All (λ ticket. knows a before.who ticket.place ticket.key)) (sym kept) attends.keys) (wish-none (knows a before.who) after.wait wait)
-
--- ---- over many calls, of which fewer tickets are left
-
-module _ {S : Type 0} {speaks_for : S → ℕ → Type 0} {own : S → ℕ → Own} {knows : S → ℕ → ℕ → KeyName → Type 0} where
-  -- what is left is known
-  pub attends-left : (a b : S) (before after : ContextView) (stays : Kept → Bool) → Attends speaks_for own knows a before → ((place : ℕ) (key : KeyName) → knows a before.who place key → knows b before.who place key)
-      → speaks_for b before.who → Serves (own b before.who) after → after.who ≡ before.who → after.kept ≡ filter stays before.kept → after.wait ≡ before.wait → Attends speaks_for own knows b after
-  attends-left a b before after stays attends still speaks serves same left waits = record {
-    speaks = subst (speaks_for b) (sym same) speaks;
-    serves = subst (λ who. Serves (own b who) after) (sym same) serves;
-    keys = subst (λ who. All (λ ticket. knows b who ticket.place ticket.key) after.kept) (sym same)
-        (subst (All (λ ticket. knows b before.who ticket.place ticket.key)) (sym left) (All-filter stays (λ ticket. knows b before.who ticket.place ticket.key) before.kept (λ k d inside. still _ _ (attends.keys k d inside))));
-    wish = subst (λ who. IfSome after.wait (λ wanted. knows b who wanted.place wanted.key)) (sym same)
-        (subst (λ wait. IfSome wait (λ wanted. knows b before.who wanted.place wanted.key)) (sym waits) (IfSome_then before.wait attends.wish (λ wanted. still wanted.place wanted.key)));
-  }
-
-  -- nothing has changed, though there were calls
-  pub attends-same : (a b : S) (context : ContextView) → Attends speaks_for own knows a context → ((place : ℕ) (key : KeyName) → knows a context.who place key → knows b context.who place key)
-      → speaks_for b context.who → own b context.who ≡ own a context.who → Attends speaks_for own knows b context
-  attends-same a b context attends still speaks same = record {
-    speaks = speaks;
-    serves = subst (λ (o : Own). Serves o context) (sym same) attends.serves;
-    keys = λ k d inside. still _ _ (attends.keys k d inside);
-    wish = IfSome_then context.wait attends.wish (λ wanted. still wanted.place wanted.key);
-  }
-
-  -- other durations
-  pub attends-changed : (f : Kept → Kept) → ((t : Kept) → held_of (f t) ≡ held_of t) → ((t : Kept) → (f t).key ≡ t.key) → (space : S) (before after : ContextView) → after.who ≡ before.who
-      → after.kept ≡ map f before.kept → after.wait ≡ before.wait → Attends speaks_for own knows space before → Attends speaks_for own knows space after
-  attends-changed f same key space before after who kept wait attends = record {
-    speaks = subst (speaks_for space) (sym who) attends.speaks;
-    serves = subst (λ w. Serves (own space w) after) (sym who) (serves-changed f same (own space before.who) before after kept wait attends.serves);
-    keys = subst (λ w. All (λ ticket. knows space w ticket.place ticket.key) after.kept) (sym who)
-        (subst (All (λ ticket. knows space before.who ticket.place ticket.key)) (sym kept)
-        (All-map (λ ticket. knows space before.who ticket.place ticket.key) f before.kept (λ k d inside. known-changed (slice_index_or before.kept k d) (attends.keys k d inside))));
-    wish = subst (λ w. IfSome after.wait (λ wanted. knows space w wanted.place wanted.key)) (sym who)
-        (subst (λ wait. IfSome wait (λ wanted. knows space before.who wanted.place wanted.key)) (sym wait) attends.wish);
-  } where
-    known-changed : (t : Kept) → knows space before.who t.place t.key → knows space before.who (f t).place (f t).key
-    known-changed t known =
-        subst (λ place. knows space before.who place (f t).key) (sym (ap (λ (h : Held). h.place) (same t))) (subst (knows space before.who t.place) (sym (key t)) known)
+  pub attends-lost : (a b : S) (how : Settled) (before after : ContextView) → Attends speaks_for own knows a before → joins a (End_wait before.who) (Lost how) b → after ≡ without_wait before
+      → Attends speaks_for own knows b after
+  attends-lost a b how before after attends step lost =
+      subst (Attends speaks_for own knows b) (sym lost)
+      (attends-after a b _ _ before (without_wait before) attends refl refl step (serves-ending _ _ before (without_wait before) attends.serves refl refl refl) refl refl attends.places tt)

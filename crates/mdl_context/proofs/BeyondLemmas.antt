@@ -5,6 +5,7 @@ use Rattle.std.specs.Option.{option_map}
 use Rattle.std.proofs.lemmas.Bool.Decides.{nat_tests}
 use Rattle.mdl_key.specs.declared.mode.Duration.{Duration}
 use Rattle.mdl_key.specs.declared.mode.Duration.TheVariants.{Statement, Transaction}
+use Rattle.mdl_key.specs.Keys.{KeyName}
 use Rattle.mdl_calls.specs.Words.{Answer, Call, Own, IsRising, is_number, holds, giving_up, Program, Runs, Give}
 use Rattle.mdl_calls.proofs.RunLemmas.{runs_bind}
 use Rattle.mdl_context.specs.declared.context_error.ContextError.{ContextError}
@@ -74,12 +75,12 @@ kept-beyond d m first kept nth rising found is =
 pub none-beyond : (d : Duration) (m : ℕ) (kept : List Kept) (nth : Option ℕ) → nth ≡ option_map (λ t. t.id) (slice_get (held_for d kept) m) → nth ≡ None → beyond d m kept ≡ []
 none-beyond d m kept nth found is = none-nth (held_for d kept) m (sym found ∙ is)
 
--- a context is who, what and which wait
-pub same-context : (who : ℕ) (kept left : List Kept) (wait still : Option Wanted) → kept ≡ left → wait ≡ still →
-    let before : ContextView = record { who = who; kept = kept; wait = wait } in
-    let after : ContextView = record { who = who; kept = left; wait = still } in
+-- a context is who, what, which places and which wait
+pub same-context : (who : ℕ) (kept left : List Kept) (known knew : List (KeyName × ℕ)) (wait still : Option Wanted) → kept ≡ left → known ≡ knew → wait ≡ still →
+    let before : ContextView = record { who = who; kept = kept; known = known; wait = wait } in
+    let after : ContextView = record { who = who; kept = left; known = knew; wait = still } in
     before ≡ after
-same-context who kept left wait still k w = cc
+same-context who kept left known knew wait still k n w = cc
 
 -- ---- a single ticket
 

@@ -1,22 +1,13 @@
--- The numbers by key: one taken out, and keys unlisted.
-use Rattle.std.proofs.Common.{◌≡◌, ◌≢◌, ℕ, zero, suc, ◌<◌, ◌≤◌, Bool, false, List, [], ◌∷◌, length, get_or, Option, Some, None, Result, Ok, Err, refl, sym, ap, ◌∙◌, arith}
-use Rattle.std.specs.Prelude.{not, nat_eq, nat_lt, filter, IsTrue, is_some}
-use Rattle.std.specs.Cmp.{IsEquivalence, nat_eq_equiv}
+-- Numbers by place: one taken out of numbers that rise, and lists without numbers.
+use Rattle.std.proofs.Common.{◌≡◌, ◌≢◌, ℕ, zero, suc, ◌<◌, ◌≤◌, List, [], ◌∷◌, ◌++◌, length, get_or, Result, Ok, Err, refl, sym, ap, ◌∙◌, arith}
+use Rattle.std.specs.Prelude.{nat_lt, IsTrue}
 use Rattle.std.specs.List.{list_all, remove}
 use Rattle.std.specs.List.Sorted.{IsBinarySearchResult}
-use Rattle.std.specs.Map.{lookup, keys_of}
-use Rattle.std.specs.List.{IsDistinct}
 use Rattle.std.specs.Ordering.{nat_cmp}
 use Rattle.std.proofs.lemmas.Bool.Decides.{nat_tests}
-use Rattle.std.proofs.lemmas.Cmp.{on_equiv, and_equiv, nat_list_eq_equiv}
 use Rattle.std.proofs.lemmas.List.Sorted.{searched}
-use Rattle.std.proofs.lemmas.Map.Entries.{lookup-filter-values, option_filter}
-use Rattle.mdl_key.specs.Keys.{KeyName, namespace_rank, key_eq}
 use Rattle.smallvec.specs.SmallVec.{SmallVec}
-use Rattle.mdl_context.specs.Indexes.{Index, is_listed, listed, numbers_of, rises, without_one}
-
-pub key_eq_equiv : IsEquivalence key_eq
-key_eq_equiv = and_equiv (on_equiv (λ k. namespace_rank k.namespace) nat_eq_equiv) (and_equiv (on_equiv (λ k. k.schema) nat_list_eq_equiv) (on_equiv (λ k. k.table) nat_list_eq_equiv))
+use Rattle.mdl_context.specs.Indexes.{Index, numbers_of, rises, without_one}
 
 -- ---- a number among numbers that rise
 
@@ -66,32 +57,9 @@ missed_stays ns id (Err gap) rising told none =
     let parted = searched ns id (Err gap) told (none_falls ns rising) in
     not_among id ns (λ k below same. grind (arith, nat_tests, parted.1 k, parted.2 k))
 
--- ---- keys unlisted
-
--- whether a list has numbers
-abbrev pub has_numbers : SmallVec ℕ → Bool
-has_numbers list = not (nat_eq (length list.items) 0)
-
-empty_unlisted : (list : Option (SmallVec ℕ)) → listed (option_filter has_numbers list) ≡ listed list
-empty_unlisted None = refl
-empty_unlisted (Some list) = by_items list.items refl where
-  by_items : (items : List ℕ) → list.items ≡ items → listed (option_filter has_numbers (Some list)) ≡ listed (Some list)
-  by_items [] e = grind (arith, nat_tests)
-  by_items (n ∷ ns) e = grind (arith, nat_tests)
-
-pub same_numbers : (index : Index) (key : KeyName) → IsDistinct key_eq (keys_of index) → numbers_of key (filter (λ e. has_numbers e.1) index) ≡ numbers_of key index
-same_numbers index key distinct = ap listed (lookup-filter-values key_eq_equiv has_numbers key index distinct) ∙ empty_unlisted (lookup (key_eq key) index)
-
-none_left : (list : Option (SmallVec ℕ)) → listed (option_filter has_numbers list) ≡ [] → is_some (option_filter has_numbers list) ≡ false
-none_left None none = refl
-none_left (Some list) none = by_items list.items refl where
-  by_items : (items : List ℕ) → list.items ≡ items → is_some (option_filter has_numbers (Some list)) ≡ false
-  by_items [] e = grind (arith, nat_tests)
-  by_items (n ∷ ns) e = grind (arith, nat_tests)
-
--- no key is listed without numbers then
-pub none_empty : (index : Index) (key : KeyName) → IsDistinct key_eq (keys_of index) → numbers_of key (filter (λ e. has_numbers e.1) index) ≡ []
-    → is_listed key (filter (λ e. has_numbers e.1) index) ≡ false
-none_empty index key distinct none =
-    let found = lookup-filter-values key_eq_equiv has_numbers key index distinct in
-    ap is_some found ∙ none_left (lookup (key_eq key) index) (sym (ap listed found) ∙ none)
+-- a list without numbers more changes none
+pub one_empty_more : (index : Index) (list : SmallVec ℕ) (place : ℕ) → list.items ≡ [] → numbers_of place (index ++ list ∷ []) ≡ numbers_of place index
+one_empty_more [] list zero none = none
+one_empty_more [] list (suc place) none = refl
+one_empty_more (x ∷ xs) list zero none = refl
+one_empty_more (x ∷ xs) list (suc place) none = one_empty_more xs list place none

@@ -1,11 +1,10 @@
-pub mod AcquireLemmas
 pub mod AttendLemmas
 pub mod BeyondLemmas
 pub mod FrontLemmas
-pub mod HallLemmas
+pub mod GainLemmas
 pub mod IndexLemmas
-pub mod KeyLemmas
 pub mod OthersLemmas
+pub mod PlaceLemmas
 pub mod ReleaseLemmas
 pub mod SearchLemmas
 pub mod SeekLemmas

@@ -1,6 +1,7 @@
 -- A context makes its calls for its own session, so nothing changes for the others.
 use Rattle.std.proofs.Common.{◌≡◌, ◌≢◌, ℕ, zero, suc, Bool, true, false, List, [], ◌∷◌, Option, Some, None, inl, inr, refl, sym, ap, ◌∙◌, subst}
 use Rattle.std.specs.Prelude.{◌==◌, is_some, if◌then◌else◌}
+use Rattle.mdl_key.specs.declared.mode.Mode.{Mode}
 use Rattle.mdl_key.specs.Keys.{KeyName}
 use Rattle.mdl_calls.specs.declared.answers.Held.{Held}
 use Rattle.mdl_calls.specs.Words.{Answer, Done, Refused, Victim_is, At_place, Granted, Would_wait, Waits, Pending, Is_settled, Lost, Call, Clone_ticket, Unpin, caller, Own, Program, Runs, Give, Ask, Grow, ◌>>=◌, SearchEnd, Over, Cut_off, Failed, after_search, seeking, most_searches}
@@ -8,7 +9,10 @@ use Rattle.mdl_context.specs.declared.kept.Kept.{Kept}
 use Rattle.mdl_context.specs.declared.request.Request.{Request}
 use Rattle.mdl_context.specs.Contexts.{ContextView, LeavesOthers}
 use Rattle.mdl_context.specs.Releases as releases
+use Rattle.mdl_context.specs.Gains as gains
+use Rattle.mdl_context.specs.Holdings.{earliest}
 use Rattle.mdl_context.specs.Requests as requests
+use Rattle.mdl_context.specs.Waits as waits
 
 -- a program makes all its calls for one session
 abbrev pub IsFor : {A : Type 0} → ℕ → Program A → Type 0
@@ -39,6 +43,14 @@ module _ {S : Type 0} {speaks_for : S → ℕ → Type 0} {own : S → ℕ → O
   leaves who (Grow refused found) a b reply made (inl run) w other speaks = leaves who refused a b reply made.0 run w other speaks
   leaves who (Grow refused found) a b reply made (inr run) w other speaks = leaves who found a b reply made.1 run w other speaks
 
+-- twice over, the others are left as they are
+pub both-leave : {S : Type 0} (speaks_for : S → ℕ → Type 0) (own : S → ℕ → Own) (knows : S → ℕ → ℕ → KeyName → Type 0) (who : ℕ) (a mid b : S)
+    → LeavesOthers speaks_for own knows who a mid → LeavesOthers speaks_for own knows who mid b → LeavesOthers speaks_for own knows who a b
+both-leave speaks_for own knows who a mid b first second w other speaks =
+    let here = first w other speaks in
+    let there = second w other here.0 in
+    (there.0, there.1 ∙ here.1, λ place key known. there.2 place key (here.2 place key known))
+
 -- ---- searches
 
 either : {A : Type 0} (who : ℕ) (test : Bool) (one other : Program A) → IsFor who one → IsFor who other → IsFor who (if test then one else other)
@@ -60,75 +72,78 @@ unfolding seeking
 for_seeking zero who = tt
 for_seeking (suc n) who = (refl, λ answer. for_search who (seeking n who) answer (for_seeking n who))
 
-for_unwanted : (who : ℕ) (answer : Answer) → IsFor who (requests.unwanted_end_answered who answer)
+for_unwanted : (who : ℕ) (answer : Answer) → IsFor who (gains.unwanted_end_answered who answer)
 for_unwanted who (Granted id) = (refl, λ _. tt)
 for_unwanted who _ = tt
 
-for_abandoning : (who : ℕ) → IsFor who (requests.abandoning who)
+for_abandoning : (who : ℕ) → IsFor who (gains.abandoning who)
 for_abandoning who = (refl, λ _. (refl, for_unwanted who))
 
 -- ---- wishes
 
-for_wish_sought : (place number : ℕ) (request : Request) (context : ContextView) (end : SearchEnd) → IsFor context.who (requests.wish_sought place number request context end)
-for_wish_sought place number request context Over = tt
-for_wish_sought place number request context Cut_off = tt
-for_wish_sought place number request context (Failed refusal) = for_bind context.who (requests.abandoning context.who) _ (for_abandoning context.who) (λ _. tt)
+for_copy : (who : ℕ) (answer : Answer) → IsFor who (gains.copy_answered answer)
+for_copy who (Granted id) = tt
+for_copy who _ = tt
 
-for_wish : (place : ℕ) (request : Request) (context : ContextView) (answer : Answer) → IsFor context.who (requests.wish_answered place request context answer)
-for_wish place request context (Granted id) = tt
-for_wish place request context (Waits number) =
-    for_bind context.who (seeking most_searches context.who) _ (for_seeking most_searches context.who) (for_wish_sought place number request context)
-for_wish place request context _ = tt
+for_wish_sought : (who number : ℕ) (end : SearchEnd) → IsFor who (gains.wish_sought who number end)
+for_wish_sought who number Over = tt
+for_wish_sought who number Cut_off = tt
+for_wish_sought who number (Failed refusal) = for_bind who (gains.abandoning who) _ (for_abandoning who) (λ _. tt)
 
-for_try : (place : ℕ) (request : Request) (context : ContextView) (answer : Answer) → IsFor context.who (requests.try_answered place request context answer)
-for_try place request context (Granted id) = tt
-for_try place request context Would_wait = (refl, for_wish place request context)
-for_try place request context _ = tt
+for_wish : (who : ℕ) (answer : Answer) → IsFor who (gains.wish_answered who answer)
+for_wish who (Granted id) = tt
+for_wish who (Waits number) = for_bind who (seeking most_searches who) _ (for_seeking most_searches who) (for_wish_sought who number)
+for_wish who _ = tt
+
+for_try : (who place : ℕ) (mode : Mode) (answer : Answer) → IsFor who (gains.try_answered who place mode answer)
+for_try who place mode (Granted id) = tt
+for_try who place mode Would_wait = (refl, for_wish who)
+for_try who place mode _ = tt
+
+for_gaining : (ticket : Option Held) (who place : ℕ) (mode : Mode) → IsFor who (gains.gaining_from ticket who place mode)
+for_gaining (Some ticket) who place mode = (refl, for_copy who)
+for_gaining None who place mode = (refl, for_try who place mode)
+
+pub for_reusing : (ticket : Option Held) (place : ℕ) (request : Request) (context : ContextView) → IsFor context.who (requests.reusing ticket place request context)
+for_reusing (Some ticket) place request context = tt
+for_reusing None place request context =
+    (tt, for_bind context.who (gains.gaining_from (earliest (requests.suffices place request) context.kept) context.who place request.mode) _ (for_gaining _ context.who place request.mode) (λ _. tt))
 
 for_place : (request : Request) (context : ContextView) (answer : Answer) → IsFor context.who (requests.place_answered request context answer)
-for_place request context (At_place place) = (refl, for_try place request context)
+for_place request context (At_place place) =
+    let after = requests.remembering request.key.now place context in
+    (tt, for_reusing (earliest (requests.is_reusable place request) after.kept) place request after)
 for_place request context _ = tt
 
-pub for_asking : (ticket : Option Held) (request : Request) (context : ContextView) → IsFor context.who (requests.asking ticket request context)
-for_asking (Some ticket) request context = (refl, for_try ticket.place request context)
-for_asking None request context = (refl, for_place request context)
+pub for_finding : (place : Option ℕ) (request : Request) (context : ContextView) → IsFor context.who (requests.finding place request context)
+for_finding (Some place) request context = for_reusing (earliest (requests.is_reusable place request) context.kept) place request context
+for_finding None request context = (refl, for_place request context)
 
 -- ---- waits
 
-for_end : (context : ContextView) (answer : Answer) → IsFor context.who (requests.end_answered context answer)
+for_end : (context : ContextView) (answer : Answer) → IsFor context.who (waits.end_answered context answer)
 for_end context (Granted id) = tt
 for_end context (Lost how) = tt
 for_end context _ = tt
 
-for_poll : (context : ContextView) (answer : Answer) → IsFor context.who (requests.poll_answered context answer)
+pub for_ending : (context : ContextView) → IsFor context.who (waits.ending context)
+for_ending context = (refl, for_end context)
+
+for_poll : (context : ContextView) (answer : Answer) → IsFor context.who (waits.poll_answered context answer)
 for_poll context Pending = tt
 for_poll context (Is_settled how) = (refl, for_end context)
 for_poll context _ = tt
 
-for_looking : (context : ContextView) → IsFor context.who (requests.looking context)
+pub for_looking : (context : ContextView) → IsFor context.who (waits.looking context)
 for_looking context = (refl, for_poll context)
 
-for_wait_sought : (context : ContextView) (end : SearchEnd) → IsFor context.who (requests.wait_sought context end)
-for_wait_sought context Over = for_looking (requests.searched context)
+for_wait_sought : (context : ContextView) (end : SearchEnd) → IsFor context.who (waits.wait_sought context end)
+for_wait_sought context Over = for_looking (waits.searched context)
 for_wait_sought context Cut_off = for_looking context
-for_wait_sought context (Failed refusal) = for_bind context.who (requests.abandoning context.who) _ (for_abandoning context.who) (λ _. tt)
+for_wait_sought context (Failed refusal) = for_bind context.who (gains.abandoning context.who) _ (for_abandoning context.who) (λ _. tt)
 
-for_cut_off : (context : ContextView) (answer : Answer) → IsFor context.who (requests.cut_off_answered context answer)
-for_cut_off context Pending =
-    for_bind context.who (seeking most_searches context.who) _ (for_seeking most_searches context.who) (for_wait_sought context)
-for_cut_off context (Is_settled how) = (refl, for_end context)
-for_cut_off context _ = tt
-
-for_going_on : (searched : Option Bool) (context : ContextView) → IsFor context.who (requests.going_on searched context)
-for_going_on None context = tt
-for_going_on (Some true) context = for_looking context
-for_going_on (Some false) context = (refl, for_cut_off context)
-
-pub for_resuming : (context : ContextView) → IsFor context.who (requests.resuming context)
-for_resuming context = for_going_on (requests.is_searched context.wait) context
-
-pub for_giving_up_wait : (context : ContextView) → IsFor context.who (requests.giving_up_wait context)
-for_giving_up_wait context = either context.who (is_some context.wait) _ _ (refl, λ _. (refl, for_end context)) tt
+pub for_searching_on : (context : ContextView) → IsFor context.who (waits.searching_on context)
+for_searching_on context = for_bind context.who (seeking most_searches context.who) _ (for_seeking most_searches context.who) (for_wait_sought context)
 
 -- ---- releases
 

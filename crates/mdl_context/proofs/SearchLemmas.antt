@@ -11,7 +11,6 @@ use Rattle.std.proofs.lemmas.List.Sums.{position_or_len_is}
 use Rattle.std.proofs.lemmas.List.Quantifiers.{position-Some}
 use Rattle.mdl_key.specs.declared.mode.Mode.TheVariants.{X}
 use Rattle.mdl_key.specs.declared.mode.Duration.TheVariants.{Explicit}
-use Rattle.mdl_key.specs.Keys.{global_key}
 use Rattle.mdl_context.specs.declared.kept.Kept.{Kept}
 use Rattle.mdl_context.specs.Contexts.{AreRising, has_number}
 use Rattle.mdl_context.specs.Holdings.{is_ticket, without_number}
@@ -30,7 +29,7 @@ rises (x ∷ xs) zero (suc j) d rising before inside = grind (arith, nat_tests, 
 rises (x ∷ xs) (suc i) (suc j) d rising before inside = grind (arith, nat_tests, rises xs i j d)
 
 pub no_ticket : Kept
-no_ticket = record { id = 0; key = global_key; place = 0; mode = X; duration = Explicit }
+no_ticket = record { id = 0; place = 0; mode = X; duration = Explicit }
 
 module _ (xs : List Kept) (rising : AreRising xs) (id : ℕ) where
   comparisons_rise : IsNonDecreasingBy (λ ticket. ordering_index (nat_cmp ticket.id id)) xs

@@ -12,7 +12,7 @@ use Rattle.mdl_calls.specs.declared.answers.Settled.{Settled}
 use Rattle.mdl_calls.specs.declared.answers.Settled.TheVariants as settled_as
 use Rattle.mdl_calls.specs.Words.{Answer, Refused, No_cycle, Victim_is, Lost, ended, Knowledge, IsCause, Call, Search, Settle_timeout, End_wait, Own, Wait, IsRising, are_rising, is_number, is_waiting, holds, gaining, ending, winning, giving_up, Runs, SearchEnd, Over, Cut_off, Failed, seeking}
 use Rattle.mdl_calls.specs.declared.space_error.SpaceError.TheVariants.{OutOfMemory}
-use Rattle.mdl_context.specs.Requests.{abandoning}
+use Rattle.mdl_context.specs.Gains.{abandoning}
 
 -- a search is refused only for memory
 pub search-refused : (knows : Knowledge) (who : ℕ) (refusal : SpaceError) (own : Own) → IsCause knows (Search who) refusal own → refusal ≡ OutOfMemory

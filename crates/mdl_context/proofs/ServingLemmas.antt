@@ -12,7 +12,7 @@ use Rattle.mdl_context.specs.declared.kept.Wanted.{Wanted}
 use Rattle.mdl_context.specs.declared.request.Request.{Request}
 use Rattle.mdl_context.specs.Contexts.{ContextView, Serves, AreRising, held_of, wish_here, wish_there}
 use Rattle.mdl_context.specs.Holdings.{earliest, kept_of, wanted_of, with_wanted}
-use Rattle.mdl_context.specs.Requests.{is_searched}
+use Rattle.mdl_context.specs.Waits.{is_searched}
 use Rattle.mdl_context.proofs.FrontLemmas.{Above}
 
 unwrap : {X : Type 0} {x y : X} → Some x ≡ Some y → x ≡ y
@@ -63,7 +63,7 @@ won-held id held kept (Some w) None same wish = cc
 won-held id held kept (Some w) (Some v) same wish =
     let place : w.place ≡ v.place = ap (λ (p : ℕ × Mode). p.0) (unwrap wish) in
     let mode : w.mode ≡ v.mode = ap (λ (p : ℕ × Mode). p.1) (unwrap wish) in
-    rw (same, place, mode) (sym (map-append held_of kept (record { id = id; key = v.key; place = v.place; mode = v.mode; duration = v.duration } ∷ [])))
+    rw (same, place, mode) (sym (map-append held_of kept (record { id = id; place = v.place; mode = v.mode; duration = v.duration } ∷ [])))
 
 won-wait : (id : ℕ) (held : List Held) (w : Option Wait) → (winning id w (record { held = held; wait = w })).wait ≡ None
 won-wait id held None = refl

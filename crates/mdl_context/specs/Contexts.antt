@@ -1,12 +1,13 @@
 -- The tickets of a session by how long it keeps them, after MySQL 5.7: `MDL_context` of sql/mdl.h and sql/mdl.cc. That a mark
 -- counts tickets, where MySQL points at the newest ones, is this project's own choice.
-use Rattle.std.specs.Prelude.{◌≡◌, ◌≢◌, ℕ, Bool, not, ◌||◌, ◌==◌, nat_lt, List, ◌++◌, map, filter, drop, length, All, Option, IsTrue}
+use Rattle.std.specs.Prelude.{◌≡◌, ◌≢◌, ℕ, Bool, true, not, ◌||◌, ◌==◌, nat_lt, List, ◌++◌, map, filter, drop, length, All, Option, IsTrue}
 use Rattle.std.specs.List.{list_any}
+use Rattle.std.specs.Map.{lookup}
 use Rattle.std.specs.Option.{IfSome, option_map}
 use Rattle.mdl_key.specs.declared.mode.Mode.{Mode}
 use Rattle.mdl_key.specs.declared.mode.Duration.{Duration}
 use Rattle.mdl_key.specs.declared.mode.Duration.TheVariants.{Statement, Transaction, Explicit}
-use Rattle.mdl_key.specs.Keys.{KeyName}
+use Rattle.mdl_key.specs.Keys.{KeyName, key_eq}
 use Rattle.mdl_calls.specs.declared.answers.Held.{Held}
 use Rattle.mdl_calls.specs.declared.answers.Settled.{Settled}
 use Rattle.mdl_calls.specs.Own.{Own, Wait, are_rising}
@@ -14,10 +15,12 @@ use Rattle.mdl_context.specs.declared.kept.Kept.{Kept}
 use Rattle.mdl_context.specs.declared.kept.Wanted.{Wanted}
 use Rattle.mdl_context.specs.declared.request.Mark.{Mark}
 
--- a context: whose it is, its tickets in order of gain, and the wait that isn't ended
+-- a context: whose it is, its tickets in order of gain, the keys whose places it knows, in the order in which it came to know
+-- them, and the wait that isn't ended
 pub record ContextView : Type 0 where
   pub who : ℕ
   pub kept : List Kept
+  pub known : List (KeyName × ℕ)
   pub wait : Option Wanted
 
 -- the durations in their order
@@ -63,6 +66,14 @@ has_number tickets id = list_any (λ ticket. ticket.id == id) tickets
 abbrev pub without : List Kept → List Kept → List Kept
 without gone kept = filter (λ ticket. not (has_number gone ticket.id)) kept
 
+-- the place of a key, where it is known
+abbrev pub place_known : KeyName → List (KeyName × ℕ) → Option ℕ
+place_known key known = lookup (key_eq key) known
+
+-- whether a place is that of a known key
+abbrev pub is_known_place : List (KeyName × ℕ) → ℕ → Bool
+is_known_place known place = list_any (λ entry. entry.1 == place) known
+
 -- a kept ticket as the lock space holds it
 abbrev pub held_of : Kept → Held
 held_of ticket = record { id = ticket.id; place = ticket.place; mode = ticket.mode }
@@ -83,13 +94,14 @@ pub record Serves (own : Own) (context : ContextView) : Type 0 where
   pub held : own.held ≡ map held_of context.kept
   pub wait : option_map wish_there own.wait ≡ option_map wish_here context.wait
 
--- the lock space speaks for the context's session, and the context keeps what that has there, each ticket and the wait with the
--- key that the session knows at its place
+-- the lock space speaks for the context's session, and the context keeps what that has there. The session knows each place that
+-- the context knows, with its key; and each ticket is at one of these places, and so is what is waited for
 pub record Attends {S : Type 0} (speaks_for : S → ℕ → Type 0) (own : S → ℕ → Own) (knows : S → ℕ → ℕ → KeyName → Type 0) (space : S) (context : ContextView) : Type 0 where
   pub speaks : speaks_for space context.who
   pub serves : Serves (own space context.who) context
-  pub keys : All (λ ticket. knows space context.who ticket.place ticket.key) context.kept
-  pub wish : IfSome context.wait (λ wanted. knows space context.who wanted.place wanted.key)
+  pub known : All (λ entry. knows space context.who entry.1 entry.0) context.known
+  pub places : All (λ ticket. is_known_place context.known ticket.place ≡ true) context.kept
+  pub wish : IfSome context.wait (λ wanted. is_known_place context.known wanted.place ≡ true)
 
 -- a session's wait is settled, in one way or another
 abbrev pub IsSettled : {S : Type 0} → (S → ℕ → Settled → Type 0) → S → ℕ → Type 0

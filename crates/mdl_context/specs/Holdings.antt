@@ -3,7 +3,7 @@ use Rattle.std.specs.Prelude.{◌≡◌, ℕ, Bool, true, not, ◌&&◌, ◌==�
 use Rattle.std.specs.Option.{option_map}
 use Rattle.mdl_key.specs.declared.mode.Duration.{Duration}
 use Rattle.mdl_key.specs.declared.mode.Duration.TheVariants.{Transaction, Explicit}
-use Rattle.mdl_key.specs.Keys.{KeyName, key_eq}
+use Rattle.mdl_key.specs.Keys.{KeyName}
 use Rattle.mdl_calls.specs.declared.answers.Held.{Held}
 use Rattle.mdl_context.specs.declared.kept.Kept.{Kept}
 use Rattle.mdl_context.specs.declared.kept.Wanted.{Wanted}
@@ -11,16 +11,18 @@ use Rattle.mdl_context.specs.declared.request.Request.{Request}
 use Rattle.mdl_context.specs.Contexts.{ContextView, held_of}
 use Rattle.mdl_context.specs.Indexes.{Index, numbers_of, has_room_for}
 
--- the kept tickets in order of gain, their numbers by key, the wait, and whether there is a place for one more ticket
+-- the kept tickets in order of gain, the known places, the tickets' numbers by place, the wait, and whether there is a place for
+-- one more ticket
 pub record HoldingsView : Type 0 where
   pub kept : List Kept
+  pub known : List (KeyName × ℕ)
   pub index : Index
   pub wait : Option Wanted
   pub has_place : Bool
 
 -- the context that keeps this for a session
 abbrev pub context_of : ℕ → HoldingsView → ContextView
-context_of who holdings = record { who = who; kept = holdings.kept; wait = holdings.wait }
+context_of who holdings = record { who = who; kept = holdings.kept; known = holdings.known; wait = holdings.wait }
 
 -- whether a ticket has this number
 abbrev pub is_ticket : ℕ → Kept → Bool
@@ -30,21 +32,21 @@ is_ticket id ticket = ticket.id == id
 abbrev pub without_number : ℕ → List Kept → List Kept
 without_number id kept = filter (λ ticket. not (is_ticket id ticket)) kept
 
--- whether a ticket is of this key
-abbrev pub is_of : KeyName → Kept → Bool
-is_of key ticket = key_eq ticket.key key
+-- whether a ticket is at this place
+abbrev pub is_at : ℕ → Kept → Bool
+is_at place ticket = ticket.place == place
 
--- the numbers of a key's tickets, in order of gain
-abbrev pub numbers_among : KeyName → List Kept → List ℕ
-numbers_among key kept = map (λ ticket. ticket.id) (filter (is_of key) kept)
+-- the numbers of a place's tickets, in order of gain
+abbrev pub numbers_among : ℕ → List Kept → List ℕ
+numbers_among place kept = map (λ ticket. ticket.id) (filter (is_at place) kept)
 
--- an index has just the tickets' numbers, under their keys
+-- an index has just the tickets' numbers, at their places
 abbrev pub IsIndexOf : List Kept → Index → Type 0
-IsIndexOf kept index = (key : KeyName) → numbers_of key index ≡ numbers_among key kept
+IsIndexOf kept index = (place : ℕ) → numbers_of place index ≡ numbers_among place kept
 
--- whether there is room for one more ticket of a key
-abbrev pub has_room : KeyName → HoldingsView → Bool
-has_room key holdings = holdings.has_place && has_room_for key holdings.index
+-- whether there is room for one more ticket at a place
+abbrev pub has_room : ℕ → HoldingsView → Bool
+has_room place holdings = holdings.has_place && has_room_for place holdings.index
 
 -- the earliest ticket that passes a test, as the lock space holds it
 abbrev pub earliest : (Kept → Bool) → List Kept → Option Held
@@ -65,12 +67,11 @@ transactional ticket = kept_for (in_transaction ticket.duration) ticket
 
 -- the ticket that a request gains
 abbrev pub kept_of : ℕ → ℕ → Request → Kept
-kept_of id place request = record { id = id; key = request.key; place = place; mode = request.mode; duration = request.duration }
+kept_of id place request = record { id = id; place = place; mode = request.mode; duration = request.duration }
 
 -- the ticket that a request waits for, and whether the searches for deadlocks are over
 abbrev pub wanted_of : ℕ → Request → Bool → Wanted
-wanted_of place request searched =
-    record { key = request.key; place = place; mode = request.mode; duration = request.duration; searched = searched }
+wanted_of place request searched = record { place = place; mode = request.mode; duration = request.duration; searched = searched }
 
 -- the same, for which the searches are over
 abbrev pub search_over : Wanted → Wanted
@@ -80,4 +81,4 @@ search_over wanted = record wanted { searched = true }
 abbrev pub with_wanted : ℕ → Option Wanted → List Kept → List Kept
 with_wanted id None kept = kept
 with_wanted id (Some wanted) kept =
-    kept ++ record { id = id; key = wanted.key; place = wanted.place; mode = wanted.mode; duration = wanted.duration } ∷ []
+    kept ++ record { id = id; place = wanted.place; mode = wanted.mode; duration = wanted.duration } ∷ []

@@ -1,35 +1,29 @@
--- A session's tickets by key: the numbers of those of each key.
-use Rattle.std.specs.Prelude.{ℕ, Bool, not, true, false, ◌&&◌, ◌==◌, nat_lt, List, [], ◌∷◌, filter, length, Option, Some, None, is_some}
+-- A session's tickets by place: the numbers of those at each place.
+use Rattle.std.specs.Prelude.{ℕ, Bool, not, true, false, ◌&&◌, ◌==◌, nat_lt, List, [], ◌∷◌, filter, length, slice_get, Option, Some, None}
 use Rattle.std.specs.List.{list_all}
-use Rattle.std.specs.Map.{lookup}
-use Rattle.mdl_key.specs.Keys.{KeyName, key_eq}
 use Rattle.smallvec.specs.SmallVec.{SmallVec}
 
--- the keys that are listed, each with the numbers of its tickets
+-- for each place the numbers of its tickets
 abbrev pub Index : Type 0
-Index = List (KeyName × SmallVec ℕ)
-
--- whether a key is listed
-abbrev pub is_listed : KeyName → Index → Bool
-is_listed key index = is_some (lookup (key_eq key) index)
+Index = List (SmallVec ℕ)
 
 -- the numbers in a list, if there is one
 abbrev pub listed : Option (SmallVec ℕ) → List ℕ
 listed None = []
 listed (Some list) = list.items
 
--- the numbers of a key: none where it isn't listed
-abbrev pub numbers_of : KeyName → Index → List ℕ
-numbers_of key index = listed (lookup (key_eq key) index)
+-- the numbers at a place
+abbrev pub numbers_of : ℕ → Index → List ℕ
+numbers_of place index = listed (slice_get index place)
 
 -- whether there is a list with room for one more number
 abbrev pub has_place : Option (SmallVec ℕ) → Bool
 has_place None = false
 has_place (Some list) = nat_lt (length list.items) list.capacity
 
--- whether a key is listed with room for one more number
-abbrev pub has_room_for : KeyName → Index → Bool
-has_room_for key index = has_place (lookup (key_eq key) index)
+-- whether there is room for one more number at a place
+abbrev pub has_room_for : ℕ → Index → Bool
+has_room_for place index = has_place (slice_get index place)
 
 -- whether each number is below all later ones
 abbrev pub rises : List ℕ → Bool

@@ -1,9 +1,10 @@
 pub mod Contexts
 pub mod DurationLaws
+pub mod Gains
 pub mod Goings
 pub mod Holdings
 pub mod Indexes
 pub mod Releases
 pub mod Requests
 pub mod SearchEnds
-pub mod Tests
+pub mod Waits

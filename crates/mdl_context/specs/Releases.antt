@@ -10,8 +10,8 @@ use Rattle.mdl_context.specs.declared.context_error.ContextError.{ContextError}
 use Rattle.mdl_context.specs.declared.context_error.ContextError.TheVariants.{StaleSavepoint, NotHeld, Waiting}
 use Rattle.mdl_context.specs.declared.kept.Kept.{Kept}
 use Rattle.mdl_context.specs.declared.request.Mark.{Mark}
-use Rattle.mdl_context.specs.Contexts.{ContextView, held_for, is_stale, beyond_mark, of_transaction, has_number, without}
-use Rattle.mdl_context.specs.Holdings.{is_of, without_number}
+use Rattle.mdl_context.specs.Contexts.{ContextView, held_for, is_stale, beyond_mark, of_transaction, has_number, without, place_known}
+use Rattle.mdl_context.specs.Holdings.{is_at, without_number}
 use Rattle.mdl_context.specs.Requests.{Outcome}
 
 -- tickets are released, one after the other
@@ -46,9 +46,14 @@ releasing id context =
     unless (release_fault id context) context
     (Ask (Release context.who id) (λ _. Give (Ok tt, record context { kept = without_number id context.kept })))
 
+-- the tickets at the place of a key: none where that isn't known
+abbrev pub at_known_place : Option ℕ → List Kept → List Kept
+at_known_place None kept = []
+at_known_place (Some place) kept = filter (is_at place) kept
+
 -- all tickets of a key are released
 abbrev pub releasing_name : KeyName → ContextView → Program (Outcome (Unit {0}))
-releasing_name key context = unless (waiting_fault context) context (giving_up (filter (is_of key) context.kept) context)
+releasing_name key context = unless (waiting_fault context) context (giving_up (at_known_place (place_known key context.known) context.kept) context)
 
 -- the session goes back to a mark
 abbrev pub rolling_back : Mark → ContextView → Program (Outcome (Unit {0}))

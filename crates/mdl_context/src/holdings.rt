@@ -1,31 +1,34 @@
-//! The tickets that a context keeps, and its wait.
-ghost use Rattle.std.specs.Prelude.{◌≡◌, ℕ, true, false, Some, None, [], ◌∷◌, ◌++◌, map, filter, find, length, is_some, OnOk, slice_get, position, not, ◌≤◌};
+//! The tickets that a context keeps, the places that it knows, and its wait.
+ghost use Rattle.std.specs.Prelude.{◌≡◌, ℕ, true, Some, None, [], ◌∷◌, ◌++◌, map, filter, find, length, is_some, OnOk, OnErr, slice_get, position, not, ◌≤◌};
 ghost use Rattle.std.specs.Vec.{vec_capacity};
-ghost use Rattle.mdl_context.specs.Goings.{goes};
 ghost use Rattle.std.specs.Option.{option_copied, option_map};
 ghost use Rattle.mdl_key.specs.declared.mode.Duration.TheVariants.{Explicit};
-ghost use Rattle.mdl_key.specs.Keys.{KeyName};
 ghost use Rattle.mdl_system.specs.Strength.{covers};
-ghost use Rattle.mdl_context.specs.Contexts.{AreRising, lasts, held_for, has_number, held_of};
-ghost use Rattle.mdl_context.specs.Holdings.{without_number, is_of, is_ticket, numbers_among, IsIndexOf, has_room, earliest, kept_for, in_transaction, transactional, kept_of, wanted_of, with_wanted, search_over};
-ghost use Rattle.mdl_context.specs.Indexes.{is_listed, has_room_for};
-ghost use Rattle.mdl_context.specs.Requests.{suffices, is_reusable, is_searched};
+ghost use Rattle.mdl_context.specs.Contexts.{AreRising, lasts, held_for, has_number, held_of, place_known};
+ghost use Rattle.mdl_context.specs.Goings.{goes};
+ghost use Rattle.mdl_context.specs.Holdings.{without_number, is_at, is_ticket, IsIndexOf, has_room, earliest, kept_for, in_transaction, transactional, kept_of, wanted_of, with_wanted, search_over};
+ghost use Rattle.mdl_context.specs.Indexes.{has_room_for};
+ghost use Rattle.mdl_context.specs.Waits.{is_searched};
+ghost use Rattle.mdl_context.specs.Requests.{suffices, is_reusable};
 
-use crate::by_key::ByKey;
+use crate::by_place::ByPlace;
 use crate::{Kept, Request, Wanted};
+use indexmap::IndexMap;
 use mdl_key::{Duration, Key, Kind, Mode, at_least};
 use mdl_space::{Held, Place, TicketId};
 use std::alloc::{AllocError, Global};
 use std::marker::Model;
 
-/// The tickets that a context keeps, in order of gain, and its wait.
+/// The tickets that a context keeps, in order of gain, the keys whose places it knows, and its wait.
 ///
-/// The tickets of a key are found by an index, and a ticket by its number by a search by halves, so neither walks all
-/// tickets. While there is a wait, there is room for the ticket that is waited for, so taking it up takes no memory.
+/// A key is looked up once for each request, and never hashed after: tickets go by their places. The tickets at a place are
+/// found by an index, and a ticket by its number by a search by halves, so neither walks all tickets. While there is a wait,
+/// there is room for the ticket that is waited for, so taking it up takes no memory.
 #[derive(Drop)]
 pub(crate) struct Holdings {
     tickets: Vec<Kept>,
-    by_key: ByKey,
+    by_place: ByPlace,
+    known: IndexMap<Key, Place>,
     wait: Option<Wanted>,
 }
 
@@ -40,24 +43,27 @@ impl Model for Holdings {
 
     ghost view = { λ holdings. record {
       kept = holdings.tickets.items;
-      index = holdings.by_key;
+      known = holdings.known.entries;
+      index = holdings.by_place;
       wait = holdings.wait;
       has_place = nat_lt (length holdings.tickets.items) (vec_capacity holdings.tickets);
     } };
 
-    ghost invariant = { λ holdings. IsIndexOf holdings.tickets.items holdings.by_key
-        × IfSome holdings.wait (λ wanted. (length holdings.tickets.items < vec_capacity holdings.tickets) × (has_room_for wanted.key holdings.by_key ≡ true)) };
+    ghost invariant = { λ holdings. IsIndexOf holdings.tickets.items holdings.by_place
+        × IfSome holdings.wait (λ wanted. (length holdings.tickets.items < vec_capacity holdings.tickets) × (has_room_for wanted.place holdings.by_place ≡ true)) };
 }
 
 impl Holdings {
     /// Nothing. It takes no memory.
     pub(crate) fn new(alloc: Global) -> Holdings
         ensures kept { result.kept ≡ [] }
+        ensures known { result.known ≡ [] }
         ensures wait { result.wait ≡ None }
     {
         Holdings {
             tickets: Vec::new(alloc),
-            by_key: ByKey::new(alloc),
+            by_place: ByPlace::new(alloc),
+            known: IndexMap::new(alloc),
             wait: None,
         }
     }
@@ -67,6 +73,13 @@ impl Holdings {
         ensures { result.now ≡ self.now.kept }
     {
         &self.tickets
+    }
+
+    /// The wait.
+    pub(crate) fn wait(&self) -> Option<Wanted>
+        ensures { result ≡ self.now.wait }
+    {
+        self.wait
     }
 
     /// Whether there is a wait.
@@ -86,6 +99,7 @@ impl Holdings {
     /// The searches for deadlocks are over, if there is a wait.
     pub(crate) fn end_searches(&mut self)
         ensures kept { self.new.kept ≡ self.old.kept }
+        ensures known { self.new.known ≡ self.old.known }
         ensures wait { self.new.wait ≡ option_map search_over self.old.wait }
     {
         if let Some(wanted) = &mut self.wait {
@@ -93,42 +107,54 @@ impl Holdings {
         }
     }
 
-    /// Makes room for one more ticket of a key.
-    pub(crate) fn reserve(&mut self, key: &Key) -> Result<(), AllocError>
-        ensures room { OnOk result (has_room key.now self.new ≡ true) }
-        ensures kept { self.new.kept ≡ self.old.kept }
-        ensures wait { self.new.wait ≡ self.old.wait }
+    /// The place of a key, if it is known.
+    pub(crate) fn place_known(&self, key: &Key) -> Option<Place>
+        ensures { result ≡ place_known key.now self.now.known }
     {
-        self.tickets.reserve(1)?;
-        self.by_key.reserve(key)
+        self.known.get(key).copied()
     }
 
-    /// Gives the room for a ticket of a key up, if no ticket of the key is kept and there is no wait. It takes no memory.
-    pub(crate) fn give_room_up(&mut self, key: &Key)
+    /// Knows the place of a new key from now on.
+    pub(crate) fn remember(&mut self, key: &Key, place: Place) -> Result<(), AllocError>
+        requires { place_known key.now self.old.known ≡ None }
+        ensures done { OnOk result (self.new.known ≡ self.old.known ++ (key.now, place) ∷ []) }
+        ensures refused { OnErr result (self.new.known ≡ self.old.known) }
         ensures kept { self.new.kept ≡ self.old.kept }
         ensures wait { self.new.wait ≡ self.old.wait }
-        ensures gone { self.old.wait ≡ None → numbers_among key.now self.old.kept ≡ [] → is_listed key.now self.new.index ≡ false }
     {
-        if self.wait.is_none() && self.by_key.numbers(key).is_empty() {
-            self.by_key.unlist(key);
-        }
+        self.known.insert(key.clone()?, place)?;
+        Ok(())
+    }
+
+    /// Makes room for one more ticket at a place.
+    pub(crate) fn reserve(&mut self, place: Place) -> Result<(), AllocError>
+        requires { self.old.wait ≡ None }
+        ensures room { OnOk result (has_room place self.new ≡ true) }
+        ensures kept { self.new.kept ≡ self.old.kept }
+        ensures known { self.new.known ≡ self.old.known }
+        ensures wait { self.new.wait ≡ None }
+    {
+        self.tickets.reserve(1)?;
+        self.by_place.reserve(place)
     }
 
     /// Puts a new ticket last. It takes no memory.
     pub(crate) fn keep(&mut self, ticket: Kept)
-        requires room { has_room ticket.key self.old ≡ true }
+        requires room { has_room ticket.place self.old ≡ true }
         requires idle { self.old.wait ≡ None }
         ensures kept { self.new.kept ≡ self.old.kept ++ ticket ∷ [] }
+        ensures known { self.new.known ≡ self.old.known }
         ensures wait { self.new.wait ≡ None }
     {
-        self.by_key.push(&ticket.key, ticket.id);
+        self.by_place.push(ticket.place, ticket.id);
         self.tickets.push(ticket).unwrap();
     }
 
     /// Begins a wait.
     pub(crate) fn begin_wait(&mut self, wanted: Wanted)
-        requires { has_room wanted.key self.old ≡ true }
+        requires { has_room wanted.place self.old ≡ true }
         ensures kept { self.new.kept ≡ self.old.kept }
+        ensures known { self.new.known ≡ self.old.known }
         ensures wait { self.new.wait ≡ Some wanted }
     {
         self.wait = Some(wanted);
@@ -137,17 +163,17 @@ impl Holdings {
     /// Ends the wait, if there is one, with the ticket of this number. It takes no memory.
     pub(crate) fn take_up(&mut self, id: TicketId)
         ensures kept { self.new.kept ≡ with_wanted id self.old.wait self.old.kept }
+        ensures known { self.new.known ≡ self.old.known }
         ensures wait { self.new.wait ≡ None }
     {
         if let Some(wanted) = self.wait.take() {
             let ticket = Kept {
                 id,
-                key: wanted.key,
                 place: wanted.place,
                 mode: wanted.mode,
                 duration: wanted.duration,
             };
-            self.by_key.push(&ticket.key, id);
+            self.by_place.push(wanted.place, id);
             self.tickets.push(ticket).unwrap();
         }
     }
@@ -155,19 +181,19 @@ impl Holdings {
     /// Ends the wait, if there is one, without a ticket.
     pub(crate) fn drop_wait(&mut self)
         ensures kept { self.new.kept ≡ self.old.kept }
+        ensures known { self.new.known ≡ self.old.known }
         ensures wait { self.new.wait ≡ None }
     {
-        if let Some(wanted) = self.wait.take() {
-            self.give_room_up(&wanted.key);
-        }
+        self.wait = None;
     }
 
-    /// Whether there is a ticket of this number.
-    pub(crate) fn has(&self, id: TicketId) -> bool
+    /// Where the ticket of a number stands, if there is one.
+    pub(crate) fn position(&self, id: TicketId) -> Option<usize>
         requires { AreRising self.now.kept }
-        ensures { result ≡ has_number self.now.kept id }
+        ensures here { result ≡ position (is_ticket id) self.now.kept }
+        ensures has { is_some result ≡ has_number self.now.kept id }
     {
-        place_of(&self.tickets, id).is_some()
+        place_of(&self.tickets, id)
     }
 
     /// How many tickets are kept so long.
@@ -196,35 +222,33 @@ impl Holdings {
         None
     }
 
-    /// Takes the ticket of a number out, if there is one. It takes no memory.
-    pub(crate) fn remove(&mut self, id: TicketId)
-        requires { AreRising self.old.kept }
+    /// Takes the ticket of a number out, which stands here. It takes no memory.
+    pub(crate) fn remove(&mut self, at: usize, id: TicketId)
+        requires rising { AreRising self.old.kept }
+        requires here { position (is_ticket id) self.old.kept ≡ Some at }
         ensures kept { self.new.kept ≡ without_number id self.old.kept }
+        ensures known { self.new.known ≡ self.old.known }
         ensures wait { self.new.wait ≡ self.old.wait }
     {
-        if let Some(at) = place_of(&self.tickets, id) {
-            let ticket = self.tickets.remove(at);
-            self.by_key.remove(&ticket.key, id);
-            self.give_room_up(&ticket.key);
-        }
+        let ticket = self.tickets.remove(at);
+        self.by_place.remove(ticket.place, id);
     }
 
     /// Takes out the tickets that are given up. It takes no memory.
     pub(crate) fn remove_all(&mut self, going: &Going)
         requires { AreRising self.old.kept }
         ensures kept { self.new.kept ≡ filter (λ ticket. not (goes going.now ticket)) self.old.kept }
+        ensures known { self.new.known ≡ self.old.known }
         ensures wait { self.new.wait ≡ self.old.wait }
     {
-        drop_numbers(&mut self.by_key, &self.tickets, going);
+        drop_numbers(&mut self.by_place, &self.tickets, going);
         keep_others(&mut self.tickets, going);
-        if self.wait.is_none() {
-            self.by_key.unlist_empty();
-        }
     }
 
     /// Keeps all tickets until they are released.
     pub(crate) fn make_explicit(&mut self)
         ensures kept { self.new.kept ≡ map (kept_for Explicit) self.old.kept }
+        ensures known { self.new.known ≡ self.old.known }
         ensures wait { self.new.wait ≡ self.old.wait }
     {
         make_all_explicit(&mut self.tickets);
@@ -233,47 +257,38 @@ impl Holdings {
     /// Keeps the explicit tickets until the transaction ends.
     pub(crate) fn make_transactional(&mut self)
         ensures kept { self.new.kept ≡ map transactional self.old.kept }
+        ensures known { self.new.known ≡ self.old.known }
         ensures wait { self.new.wait ≡ self.old.wait }
     {
         make_all_transactional(&mut self.tickets);
     }
 
-    /// The earliest ticket that a request can use again.
-    pub(crate) fn reusable(&self, request: &Request) -> Option<Held>
+    /// The earliest ticket at a place that a request can use again.
+    pub(crate) fn reusable(&self, place: Place, request: &Request<'_>) -> Option<Held>
         requires { AreRising self.now.kept }
-        ensures { result ≡ earliest (is_reusable request.now) self.now.kept }
+        ensures { result ≡ earliest (is_reusable place request.now) self.now.kept }
     {
-        for id in self.by_key.numbers(&request.key) {
+        for id in self.by_place.numbers(place) {
             let ticket = numbered(&self.tickets, *id)?;
-            if request.can_reuse(ticket) {
+            if request.can_reuse(place, ticket) {
                 return Some(ticket.held());
             }
         }
         None
     }
 
-    /// The earliest ticket that suffices for a request.
-    pub(crate) fn sufficient(&self, request: &Request) -> Option<Held>
+    /// The earliest ticket at a place that suffices for a request.
+    pub(crate) fn sufficient(&self, place: Place, request: &Request<'_>) -> Option<Held>
         requires { AreRising self.now.kept }
-        ensures { result ≡ earliest (suffices request.now) self.now.kept }
+        ensures { result ≡ earliest (suffices place request.now) self.now.kept }
     {
-        for id in self.by_key.numbers(&request.key) {
+        for id in self.by_place.numbers(place) {
             let ticket = numbered(&self.tickets, *id)?;
-            if request.is_met_by(ticket) {
+            if request.is_met_by(place, ticket) {
                 return Some(ticket.held());
             }
         }
         None
-    }
-
-    /// The earliest ticket of a key.
-    pub(crate) fn of_key(&self, key: &Key) -> Option<Held>
-        requires { AreRising self.now.kept }
-        ensures { result ≡ earliest (is_of key.now) self.now.kept }
-    {
-        let id = self.by_key.numbers(key).first()?;
-        let ticket = numbered(&self.tickets, *id)?;
-        Some(ticket.held())
     }
 }
 
@@ -332,36 +347,36 @@ fn keep_others(tickets: &mut Vec<Kept>, going: &Going)
 }
 
 // Takes the numbers of the tickets that are given up out of the index.
-fn drop_numbers(by_key: &mut ByKey, tickets: &[Kept], going: &Going)
+fn drop_numbers(by_place: &mut ByPlace, tickets: &[Kept], going: &Going)
     requires rising { AreRising tickets.now }
-    requires index { IsIndexOf tickets.now by_key.old }
-    ensures index { IsIndexOf (filter (λ ticket. not (goes going.now ticket)) tickets.now) by_key.new }
-    ensures room { (key : KeyName) → has_room_for key by_key.old ≡ true → has_room_for key by_key.new ≡ true }
+    requires index { IsIndexOf tickets.now by_place.old }
+    ensures index { IsIndexOf (filter (λ ticket. not (goes going.now ticket)) tickets.now) by_place.new }
+    ensures room { (place : ℕ) → has_room_for place by_place.old ≡ true → has_room_for place by_place.new ≡ true }
 {
     for ticket in tickets {
         if going.names(ticket) {
-            by_key.remove(&ticket.key, ticket.id);
+            by_place.remove(ticket.place, ticket.id);
         }
     }
 }
 
 /// Which tickets are given up.
-#[derive(Drop)]
-pub(crate) enum Going<'a> {
+#[derive(Clone, Copy)]
+pub(crate) enum Going {
     /// Those of a duration from a number on.
     From(Duration, TicketId),
-    /// Those of a key.
-    OfKey(&'a Key),
+    /// Those at a place.
+    At(Place),
 }
 
-impl Going<'_> {
+impl Going {
     /// Whether a ticket is given up.
     pub(crate) fn names(&self, ticket: &Kept) -> bool
         ensures { result ≡ goes self.now ticket.now }
     {
         match self {
             Going::From(duration, id) => ticket.lasts(*duration) && *id <= ticket.id,
-            Going::OfKey(key) => ticket.key == **key,
+            Going::At(place) => ticket.place == *place,
         }
     }
 }
@@ -386,23 +401,31 @@ impl Kept {
     }
 }
 
-impl Request {
-    // Whether a ticket suffices for the request.
-    fn is_met_by(&self, ticket: &Kept) -> bool
-        ensures { result ≡ suffices self.now ticket.now }
+impl Request<'_> {
+    // Whether a ticket suffices for the request, whose key is at this place.
+    fn is_met_by(&self, place: Place, ticket: &Kept) -> bool
+        ensures { result ≡ suffices place self.now ticket.now }
     {
-        ticket.key == self.key
+        ticket.place == place
             && covers(ticket.mode, self.mode)
             && self.key.kind().has_mode(self.mode)
     }
 
+    // Whether a ticket can be used again for the request, whose key is at this place.
+    fn can_reuse(&self, place: Place, ticket: &Kept) -> bool
+        ensures { result ≡ is_reusable place self.now ticket.now }
+    {
+        self.is_met_by(place, ticket)
+            && ticket.lasts(self.duration)
+            && !ticket.lasts(Duration::Explicit)
+    }
+
     /// The ticket that the request gains.
-    pub(crate) fn into_kept(self, id: TicketId, place: Place) -> Kept
-        ensures { result ≡ kept_of id place self }
+    pub(crate) fn kept(&self, id: TicketId, place: Place) -> Kept
+        ensures { result ≡ kept_of id place self.now }
     {
         Kept {
             id,
-            key: self.key,
             place,
             mode: self.mode,
             duration: self.duration,
@@ -410,23 +433,15 @@ impl Request {
     }
 
     /// The ticket that the request waits for, and whether the searches for deadlocks are over.
-    pub(crate) fn into_wanted(self, place: Place, searched: bool) -> Wanted
-        ensures { result ≡ wanted_of place self searched }
+    pub(crate) fn wanted(&self, place: Place, searched: bool) -> Wanted
+        ensures { result ≡ wanted_of place self.now searched }
     {
         Wanted {
-            key: self.key,
             place,
             mode: self.mode,
             duration: self.duration,
             searched,
         }
-    }
-
-    // Whether a ticket can be used again for the request.
-    fn can_reuse(&self, ticket: &Kept) -> bool
-        ensures { result ≡ is_reusable self.now ticket.now }
-    {
-        self.is_met_by(ticket) && ticket.lasts(self.duration) && !ticket.lasts(Duration::Explicit)
     }
 }
 

@@ -1,5 +1,5 @@
 //! What a context keeps of a ticket, and of a wait.
-use mdl_key::{Duration, Key, Mode};
+use mdl_key::{Duration, Mode};
 use mdl_space::{Place, TicketId};
 
 /// A ticket that a session holds, and how long it keeps it.
@@ -7,9 +7,7 @@ use mdl_space::{Place, TicketId};
 pub struct Kept {
     /// The number that the session gave the ticket.
     pub id: TicketId,
-    /// What is locked.
-    pub key: Key,
-    /// The place of the key in the lock space.
+    /// The place of the key that is locked.
     pub place: Place,
     /// The mode in which it is locked.
     pub mode: Mode,
@@ -18,11 +16,9 @@ pub struct Kept {
 }
 
 /// A ticket that a session waits for.
-#[derive(Drop)]
+#[derive(Clone, Copy, Debug, PartialEq, Eq)]
 pub struct Wanted {
-    /// What is to be locked.
-    pub key: Key,
-    /// The place of the key in the lock space.
+    /// The place of the key that is to be locked.
     pub place: Place,
     /// The mode in which it is to be locked.
     pub mode: Mode,

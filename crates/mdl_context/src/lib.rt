@@ -1,17 +1,16 @@
 //! What a session keeps of its metadata locks: its tickets by how long they last.
 #![tactic(auto)]
 
-mod by_key;
+mod asking;
+mod by_place;
 mod context;
 mod context_error;
 mod holdings;
 mod kept;
 mod laws;
-mod releases;
+mod releasing;
 mod request;
-mod requests;
 mod searches;
-mod waits;
 
 pub use context::Context;
 pub use context_error::ContextError;

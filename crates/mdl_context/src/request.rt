@@ -5,10 +5,10 @@ use mdl_space::{Settled, TicketId};
 /// A wish for a lock.
 ///
 /// After MySQL 5.7, `MDL_request` of `sql/mdl.h`.
-#[derive(Drop)]
-pub struct Request {
+#[derive(Clone, Copy)]
+pub struct Request<'a> {
     /// What is to be locked.
-    pub key: Key,
+    pub key: &'a Key,
     /// How strongly.
     pub mode: Mode,
     /// For how long.

@@ -2,10 +2,10 @@
 ghost use Rattle.std.specs.Prelude.{◌≡◌, ℕ, true, IsOkUnless};
 ghost use Rattle.mdl_key.specs.Keys.{KeyName};
 ghost use Rattle.mdl_calls.specs.Words.{is_waiting, ending, Runs, seeking, most_searches};
-ghost use Rattle.mdl_context.specs.Requests.{abandoning};
+ghost use Rattle.mdl_context.specs.Gains.{abandoning};
 ghost use Rattle.mdl_context.specs.SearchEnds.{sought};
 
-use crate::releases::let_go;
+use crate::releasing::release;
 use mdl_space::{Ended, LockSpace, Search, SpaceError};
 
 // The most searches that are made at once.
@@ -42,6 +42,6 @@ pub(crate) fn abandon<S: LockSpace>(space: &mut S, who: u16)
 {
     space.settle_timeout(who).unwrap();
     if let Ended::Granted(id) = space.end_wait(who).unwrap() {
-        let_go(space, who, id);
+        release(space, who, id);
     }
 }

@@ -58,7 +58,7 @@ fn acquires_alike<S: LockSpace>(
     let duration = trial.chance.draw_duration();
     let wanted = trial.plain.acquire(who, &key, mode, duration);
     let request = Request {
-        key,
+        key: &key,
         mode,
         duration,
     };

@@ -1,6 +1,6 @@
 //! A lock space with the contexts of all its sessions.
 ghost use Rattle.std.specs.Prelude.{◌≡◌, ◌≤◌, length};
-ghost use Rattle.mdl_context.specs.Tests.Halls.{AreServed};
+ghost use Rattle.mdl_context_trials.specs.Halls.{AreServed};
 
 use crate::chance::SESSIONS;
 use crate::contexts::{Trial, acts_alike};
@@ -21,7 +21,7 @@ pub(crate) struct Hall {
 }
 
 impl Model for Hall {
-    ghost use Rattle.mdl_context.specs.Tests.Halls.{AreServed};
+    ghost use Rattle.mdl_context_trials.specs.Halls.{AreServed};
 
     ghost Value = { Unit };
 

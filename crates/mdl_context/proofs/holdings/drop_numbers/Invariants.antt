@@ -1,6 +1,5 @@
 -- The index is that of what is left so far, and the room stays.
-use Rattle.std.proofs.Common.{◌≡◌, true}
-use Rattle.mdl_key.specs.Keys.{KeyName}
+use Rattle.std.proofs.Common.{◌≡◌, ℕ, true}
 use Rattle.mdl_context.specs.Goings.{goes}
 use Rattle.mdl_context.specs.Holdings.{IsIndexOf}
 use Rattle.mdl_context.specs.Indexes.{has_room_for}
@@ -9,6 +8,6 @@ use Rattle.mdl_context.proofs.holdings.drop_numbers.Given as goal
 
 abbrev pub invariant-loop-ticket : goal.invariant-loop-ticket
 invariant-loop-ticket l = record {
-  index : IsIndexOf (left (goes l.going) l.ticket-index l.tickets) l.by_key;
-  room : (key : KeyName) → has_room_for key l.fn.by_key ≡ true → has_room_for key l.by_key ≡ true;
+  index : IsIndexOf (left (goes l.going) l.ticket-index l.tickets) l.by_place;
+  room : (place : ℕ) → has_room_for place l.fn.by_place ≡ true → has_room_for place l.by_place ≡ true;
 }

@@ -18,8 +18,8 @@ unwrap-requires-2 g c =
     let told = told-timed_out c.args.who c.unwrap.result in
     is_ok-ended told.0 _ (laws.agrees _ _ _ _ _ _ refl (laws.tells _ _ _ _ _ _ refl told.1 step) c.end_wait.ensures)
 
-pub let_go-requires-clause-held : goal.let_go-requires-clause-held
-let_go-requires-clause-held g c =
+pub release-requires-clause-held : goal.release-requires-clause-held
+release-requires-clause-held g c =
     let laws = g.met.S.LockSpace in
     let settled = laws.changes _ _ _ _ _ refl (rw c.unwrap.ensures at c.settle_timeout.ensures) in
     let won = laws.changes _ _ _ _ _ refl (rw (c.unwrap-2.ensures, c.in-Granted.is) at c.end_wait.ensures) in
@@ -33,7 +33,7 @@ returns-in-Granted-clause-own g c =
     let settled = laws.changes _ _ _ _ _ refl step in
     let won = laws.changes _ _ _ _ _ refl ended in
     let speaks = laws.keeps _ _ _ _ _ (laws.keeps _ _ _ _ _ c.requires.speaks step) ended in
-    c.let_go.ensures.own ∙ ap (giving_up c.in-Granted.id) won
+    c.release.ensures.own ∙ ap (giving_up c.in-Granted.id) won
     ∙ won-given_up c.in-Granted.id _ (ap is_waiting settled ∙ c.requires.waits) (rw won at (laws.rising _ _ speaks)) ∙ ap ending settled
 
 pub returns-in_default : goal.returns-in_default

@@ -1,6 +1,6 @@
 -- The space speaks for each session.
 use Rattle.std.proofs.Common.{arith}
-use Rattle.mdl_context.proofs.HallLemmas.{speaks_for_each}
+use Rattle.mdl_context_trials.proofs.HallLemmas.{speaks_for_each}
 use Rattle.mdl_trials.proofs.hall.hold_the_same.Goals as goal
 
 pub held-requires : goal.held-requires

@@ -2,7 +2,7 @@
 use Rattle.std.proofs.Common.{◌<◌, ◌-◌, ◌∙◌, length, arith, subst}
 use Rattle.mdl_core.specs.CoreJoins.{SpeaksFor, own_at, Knows}
 use Rattle.mdl_context.specs.Contexts.{LeavesOthers}
-use Rattle.mdl_context.proofs.HallLemmas.{served_at, served_then}
+use Rattle.mdl_context_trials.proofs.HallLemmas.{served_at, served_then}
 use Rattle.mdl_trials.proofs.hall.one_acts.Goals as goal
 
 pub acts_alike-requires : goal.acts_alike-requires

@@ -6,4 +6,4 @@ use Rattle.mdl_context.proofs.context.Context.make_explicit.Goals as goal
 
 pub returns-clause-attends : goal.returns-clause-attends
 returns-clause-attends g c =
-    rw (← c.self.view_is) (λ space attends. attends-changed (kept_for Explicit) (λ t. refl) (λ t. refl) space _ _ refl c.make_explicit.ensures.kept c.make_explicit.ensures.wait attends)
+    rw (← c.self.view_is) (λ space attends. attends-changed (kept_for Explicit) (λ t. refl) space _ _ refl c.make_explicit.ensures.known c.make_explicit.ensures.kept c.make_explicit.ensures.wait attends)

@@ -5,4 +5,4 @@ use Rattle.mdl_context.proofs.context.Context.make_transactional.Goals as goal
 
 pub returns-clause-attends : goal.returns-clause-attends
 returns-clause-attends g c =
-    rw (← c.self.view_is) (λ space attends. attends-changed transactional (λ t. refl) (λ t. refl) space _ _ refl c.make_transactional.ensures.kept c.make_transactional.ensures.wait attends)
+    rw (← c.self.view_is) (λ space attends. attends-changed transactional (λ t. refl) space _ _ refl c.make_transactional.ensures.known c.make_transactional.ensures.kept c.make_transactional.ensures.wait attends)

@@ -1,6 +1,6 @@
 -- The index has the new number too.
 use Rattle.std.proofs.Common.{◌≡◌, rules, [], ◌∷◌, ◌++◌}
-use Rattle.mdl_context.proofs.KeyLemmas.{index-more}
+use Rattle.mdl_context.proofs.PlaceLemmas.{index-more}
 use Rattle.mdl_context.proofs.holdings.Holdings.keep.Goals as goal
 
 pub invariant_of-self : goal.invariant_of-self

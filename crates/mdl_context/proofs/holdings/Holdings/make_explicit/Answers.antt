@@ -4,7 +4,7 @@ use Rattle.std.specs.Prelude.{map}
 use Rattle.std.proofs.lemmas.List.{length-map, take_at}
 use Rattle.mdl_key.specs.declared.mode.Duration.TheVariants.{Explicit}
 use Rattle.mdl_context.specs.Holdings.{kept_for}
-use Rattle.mdl_context.proofs.KeyLemmas.{numbers-changed}
+use Rattle.mdl_context.proofs.PlaceLemmas.{numbers-changed}
 use Rattle.mdl_context.proofs.holdings.Holdings.make_explicit.Goals as goal
 
 pub invariant_of-self : goal.invariant_of-self

@@ -3,7 +3,7 @@ use Rattle.std.proofs.Common.{◌≡◌, ◌++◌, take, drop, length, refl, sym
 use Rattle.std.specs.Prelude.{map}
 use Rattle.std.proofs.lemmas.List.{length-map, take_at}
 use Rattle.mdl_context.specs.Holdings.{transactional}
-use Rattle.mdl_context.proofs.KeyLemmas.{numbers-changed}
+use Rattle.mdl_context.proofs.PlaceLemmas.{numbers-changed}
 use Rattle.mdl_context.proofs.holdings.Holdings.make_transactional.Goals as goal
 
 pub invariant_of-self : goal.invariant_of-self

@@ -1,7 +1,7 @@
 -- A new space serves all sessions.
 use Rattle.std.proofs.Common.{ap, arith}
 use Rattle.mdl_core.specs.CoreJoins.{own_at}
-use Rattle.mdl_context.proofs.HallLemmas.{fresh}
+use Rattle.mdl_context_trials.proofs.HallLemmas.{fresh}
 use Rattle.mdl_trials.proofs.hall.Hall.new.Goals as goal
 
 pub invariant_of-result : goal.invariant_of-result

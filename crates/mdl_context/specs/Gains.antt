@@ -1,0 +1,77 @@
+-- How a space is asked for a lock at a place, after MySQL 5.7: `MDL_context::try_acquire_lock_impl`, `clone_ticket` and
+-- `acquire_lock` of sql/mdl.cc. That searches for deadlocks are cut off after so many is this project's own choice.
+use Rattle.std.specs.Prelude.{◌≡◌, ℕ, true, false, Option, Some, None, Result, Ok, Err}
+use Rattle.mdl_key.specs.declared.mode.Mode.{Mode}
+use Rattle.mdl_calls.specs.declared.answers.Held.{Held}
+use Rattle.mdl_calls.specs.declared.space_error.SpaceError.{SpaceError}
+use Rattle.mdl_calls.specs.declared.space_error.SpaceError.TheVariants.{WrongKind}
+use Rattle.mdl_calls.specs.Own as owned
+use Rattle.mdl_calls.specs.Words.{Own, Answer, Refused, Granted, Would_wait, Waits, Try_now, Begin_wait, Clone_ticket, Settle_timeout, End_wait, Release, Program, Give, Ask, ◌>>=◌, ◌>>◌, SearchEnd, Over, Cut_off, Failed, seeking, most_searches}
+use Rattle.mdl_context.specs.declared.asking.Got.{Got}
+use Rattle.mdl_context.specs.declared.asking.Got.TheVariants as got
+
+-- the refusal that an answer is. An answer that is none doesn't come here.
+abbrev pub refusal_of : Answer → SpaceError
+refusal_of (Refused refusal) = refusal
+refusal_of _ = WrongKind
+
+-- the end of a wait that isn't wanted any more is answered: a ticket that it gained is released
+abbrev pub unwanted_end_answered : ℕ → Answer → Program (Unit {0})
+unwanted_end_answered who (Granted id) = Ask (Release who id) (λ _. Give tt)
+unwanted_end_answered who _ = Give tt
+
+-- a wait is given up, unless it was settled before, and ended without a ticket
+abbrev pub abandoning : ℕ → Program (Unit {0})
+abandoning who = Ask (Settle_timeout who) (λ _. Ask (End_wait who) (unwanted_end_answered who))
+
+-- the copy of a ticket is answered
+abbrev pub copy_answered : Answer → Program (Result Got SpaceError)
+copy_answered (Granted id) = Give (Ok (got.Granted id))
+copy_answered answer = Give (Err (refusal_of answer))
+
+-- deadlocks were searched for after a wait began: where a search was refused, there is no wait
+abbrev pub wish_sought : ℕ → ℕ → SearchEnd → Program (Result Got SpaceError)
+wish_sought who number Over = Give (Ok (got.Waits number true))
+wish_sought who number Cut_off = Give (Ok (got.Waits number false))
+wish_sought who number (Failed refusal) = abandoning who >> Give (Err refusal)
+
+-- a wait has begun, and deadlocks are searched for
+abbrev pub waiting_on : ℕ → ℕ → Program (Result Got SpaceError)
+waiting_on who number = seeking most_searches who >>= wish_sought who number
+
+-- the wish for a ticket is answered: where it begins a wait, deadlocks are searched for
+abbrev pub wish_answered : ℕ → Answer → Program (Result Got SpaceError)
+wish_answered who (Granted id) = Give (Ok (got.Granted id))
+wish_answered who (Waits number) = waiting_on who number
+wish_answered who answer = Give (Err (refusal_of answer))
+
+-- the ticket is asked for, and waited for where it can't be had at once
+abbrev pub waiting_at : ℕ → ℕ → Mode → Program (Result Got SpaceError)
+waiting_at who place mode = Ask (Begin_wait who place mode) (wish_answered who)
+
+-- whether it can be had at once is answered
+abbrev pub try_answered : ℕ → ℕ → Mode → Answer → Program (Result Got SpaceError)
+try_answered who place mode (Granted id) = Give (Ok (got.Granted id))
+try_answered who place mode Would_wait = waiting_at who place mode
+try_answered who place mode answer = Give (Err (refusal_of answer))
+
+-- the ticket is asked for, without waiting first: that is where a space has its fast path
+abbrev pub asking_at : ℕ → ℕ → Mode → Program (Result Got SpaceError)
+asking_at who place mode = Ask (Try_now who place mode) (try_answered who place mode)
+
+-- a ticket is cloned where there is one, and else a new one is asked for
+abbrev pub gaining_from : Option Held → ℕ → ℕ → Mode → Program (Result Got SpaceError)
+gaining_from (Some ticket) who place mode = Ask (Clone_ticket who ticket.id mode) copy_answered
+gaining_from None who place mode = asking_at who place mode
+
+-- what the session has after a lock at a place was asked for
+abbrev pub own_got : ℕ → Mode → Result Got SpaceError → Own → Own
+own_got place mode (Ok (got.Granted id)) own = owned.gaining id place mode own
+own_got place mode (Ok (got.Waits number searched)) own = owned.waiting number place mode own
+own_got place mode (Err refusal) own = own
+
+-- and what it has that waited meanwhile, by a wait of this number
+abbrev pub OwnWaited : ℕ → Result Got SpaceError → Own → Own → Type 0
+OwnWaited number (Ok (got.Granted id)) before after = ⊥
+OwnWaited number (Ok (got.Waits n searched)) before after = (n ≡ number) × (after ≡ before)
+OwnWaited number (Err refusal) before after = after ≡ owned.ending before

@@ -1,0 +1,99 @@
+//! Locks asked for in a lock space, of any kind.
+ghost use Rattle.std.specs.Prelude.{◌≡◌, ℕ, Some, None, true};
+ghost use Rattle.std.specs.Option.{IfSome};
+ghost use Rattle.mdl_key.specs.Keys.{KeyName};
+ghost use Rattle.mdl_calls.specs.Words.{is_waiting, ticket_held, Runs};
+ghost use Rattle.mdl_context.specs.Gains.{gaining_from, asking_at, waiting_at, waiting_on, own_got, OwnWaited};
+
+use crate::searches::{abandon, seek};
+use mdl_key::Mode;
+use mdl_space::{Attempt, Begun, Held, LockSpace, Place, SpaceError, TicketId};
+
+/// What comes of asking for a lock.
+#[derive(Clone, Copy)]
+pub(crate) enum Got {
+    /// It is held, by the ticket of this number.
+    Granted(TicketId),
+    /// The session waits. This is the number of its wait, and whether the searches for deadlocks are over.
+    Waits(u64, bool),
+}
+
+/// Comes by a lock at a place: where there is a ticket to clone, by a clone of it.
+pub(crate) fn gain<S: LockSpace>(
+    space: &mut S,
+    who: u16,
+    ticket: Option<Held>,
+    place: Place,
+    mode: Mode,
+) -> Result<Got, SpaceError>
+    requires speaks { S.speaks_for space.old who }
+    requires idle { (S.own space.old who).wait ≡ None }
+    requires held { IfSome ticket (λ held. (ticket_held held.id (S.own space.old who) ≡ Some held) × (held.place ≡ place)) }
+    ensures run { Runs S.joins space.old (gaining_from ticket who place mode) result space.new }
+    ensures speaks { S.speaks_for space.new who }
+    ensures remembers { (at : ℕ) (key : KeyName) → S.knows space.old who at key → S.knows space.new who at key }
+    ensures own { S.own space.new who ≡ own_got place mode result (S.own space.old who) }
+{
+    match ticket {
+        Some(held) => match space.clone_ticket(who, held.id, mode) {
+            Ok(id) => Ok(Got::Granted(id)),
+            Err(refusal) => Err(refusal),
+        },
+        None => ask(space, who, place, mode),
+    }
+}
+
+// Asks for a lock, and begins to wait for it where it can't be had now.
+fn ask<S: LockSpace>(space: &mut S, who: u16, place: Place, mode: Mode) -> Result<Got, SpaceError>
+    requires speaks { S.speaks_for space.old who }
+    requires idle { (S.own space.old who).wait ≡ None }
+    ensures run { Runs S.joins space.old (asking_at who place mode) result space.new }
+    ensures speaks { S.speaks_for space.new who }
+    ensures remembers { (at : ℕ) (key : KeyName) → S.knows space.old who at key → S.knows space.new who at key }
+    ensures own { S.own space.new who ≡ own_got place mode result (S.own space.old who) }
+{
+    match space.try_now(who, place, mode) {
+        Ok(Attempt::Granted(id)) => Ok(Got::Granted(id)),
+        Ok(Attempt::WouldWait) => wait_at(space, who, place, mode),
+        Err(refusal) => Err(refusal),
+    }
+}
+
+// Begins to wait for a lock, unless it can be had now after all.
+fn wait_at<S: LockSpace>(
+    space: &mut S,
+    who: u16,
+    place: Place,
+    mode: Mode,
+) -> Result<Got, SpaceError>
+    requires speaks { S.speaks_for space.old who }
+    requires idle { (S.own space.old who).wait ≡ None }
+    ensures run { Runs S.joins space.old (waiting_at who place mode) result space.new }
+    ensures speaks { S.speaks_for space.new who }
+    ensures remembers { (at : ℕ) (key : KeyName) → S.knows space.old who at key → S.knows space.new who at key }
+    ensures own { S.own space.new who ≡ own_got place mode result (S.own space.old who) }
+{
+    match space.begin_wait(who, place, mode) {
+        Ok(Begun::Granted(id)) => Ok(Got::Granted(id)),
+        Ok(Begun::Waiting(number)) => wait_on(space, who, number),
+        Err(refusal) => Err(refusal),
+    }
+}
+
+// Searches for deadlocks once the session waits. It waits on, unless a search is refused.
+fn wait_on<S: LockSpace>(space: &mut S, who: u16, number: u64) -> Result<Got, SpaceError>
+    requires speaks { S.speaks_for space.old who }
+    requires waits { is_waiting (S.own space.old who) ≡ true }
+    ensures run { Runs S.joins space.old (waiting_on who number) result space.new }
+    ensures speaks { S.speaks_for space.new who }
+    ensures remembers { (at : ℕ) (key : KeyName) → S.knows space.old who at key → S.knows space.new who at key }
+    ensures own { OwnWaited number result (S.own space.old who) (S.own space.new who) }
+{
+    match seek(space, who) {
+        Ok(searched) => Ok(Got::Waits(number, searched)),
+        Err(refusal) => {
+            abandon(space, who);
+            Err(refusal)
+        }
+    }
+}

@@ -1,0 +1,106 @@
+//! How a session comes by its tickets.
+ghost use Rattle.std.specs.Prelude.{◌≡◌, Some, None, OnErr};
+ghost use Rattle.mdl_calls.specs.Words.{Runs};
+ghost use Rattle.mdl_context.specs.Contexts.{Attends, LeavesOthers, place_known};
+ghost use Rattle.mdl_context.specs.Requests.{acquiring, acquiring_at, finding, LearnsAtMost, WaitsAfter};
+
+use crate::asking::{Got, gain};
+use crate::{Acquire, Context, ContextError, Request};
+use mdl_space::{LockSpace, Place, SpaceError};
+
+impl<S: LockSpace> Context<S> {
+    /// Comes by a lock, for as long as the request says.
+    ///
+    /// The place of the key is asked for once, and known from then on; to remember it takes memory, as a new ticket does. Of the
+    /// tickets there that are at least as strong, the earliest that is kept just as long is used again, though never an explicit
+    /// one. Where there is none, the earliest of them all is cloned, and the clone is kept as the request says. Where there is
+    /// none of these either, a new ticket is asked for.
+    ///
+    /// Where that can't be had now, the session begins to wait. Then deadlocks are searched for, until none is left in which it
+    /// waits, it is a victim itself, or 1,024 searches were made; in the last case [`Context::resume`] searches on. Where a
+    /// search finds no memory, the wait is given up and the session has what it had before; the victims of earlier searches
+    /// stay settled.
+    ///
+    /// After MySQL 5.7, `MDL_context::acquire_lock` of `sql/mdl.cc`.
+    pub fn acquire(
+        &mut self,
+        space: &mut S,
+        request: Request<'_>,
+    ) -> Result<Acquire, ContextError>
+        requires { Attends S.speaks_for S.own S.knows space.old self.old }
+        ensures run { Runs S.joins space.old (acquiring request.entry self.old) (result, self.new) space.new }
+        ensures attends { Attends S.speaks_for S.own S.knows space.new self.new }
+        ensures others { LeavesOthers S.speaks_for S.own S.knows self.old.who space.old space.new }
+        ensures who { self.new.who ≡ self.old.who }
+        ensures unchanged { OnErr result (LearnsAtMost request.entry.key.now self.old self.new) }
+        ensures own { OnErr result (S.own space.new self.old.who ≡ S.own space.old self.old.who) }
+        ensures wait { WaitsAfter result self.old.wait self.new.wait }
+    {
+        if self.holdings.is_waiting() {
+            return Err(ContextError::Waiting);
+        }
+        match self.holdings.place_known(request.key) {
+            Some(place) => self.acquire_at(space, place, request),
+            None => self.look_up(space, request),
+        }
+    }
+
+    // Comes by a lock of a key whose place isn't known yet.
+    fn look_up(&mut self, space: &mut S, request: Request<'_>) -> Result<Acquire, ContextError>
+        requires attends { Attends S.speaks_for S.own S.knows space.old self.old }
+        requires idle { self.old.wait ≡ None }
+        requires new { place_known request.key.now self.old.known ≡ None }
+        ensures run { Runs S.joins space.old (finding None request.entry self.old) (result, self.new) space.new }
+        ensures attends { Attends S.speaks_for S.own S.knows space.new self.new }
+        ensures who { self.new.who ≡ self.old.who }
+        ensures unchanged { OnErr result (LearnsAtMost request.entry.key.now self.old self.new) }
+        ensures own { OnErr result (S.own space.new self.old.who ≡ S.own space.old self.old.who) }
+        ensures wait { WaitsAfter result None self.new.wait }
+    {
+        let place = match space.resolve(self.who, request.key) {
+            Ok(place) => place,
+            Err(refusal) => return Err(ContextError::Space(refusal)),
+        };
+        if self.holdings.remember(request.key, place).is_err() {
+            return Err(ContextError::Space(SpaceError::OutOfMemory));
+        }
+        self.acquire_at(space, place, request)
+    }
+
+    // Comes by a lock of a key whose place is known.
+    fn acquire_at(
+        &mut self,
+        space: &mut S,
+        place: Place,
+        request: Request<'_>,
+    ) -> Result<Acquire, ContextError>
+        requires attends { Attends S.speaks_for S.own S.knows space.old self.old }
+        requires idle { self.old.wait ≡ None }
+        requires known { place_known request.key.now self.old.known ≡ Some place }
+        ensures run { Runs S.joins space.old (acquiring_at place request.entry self.old) (result, self.new) space.new }
+        ensures attends { Attends S.speaks_for S.own S.knows space.new self.new }
+        ensures who { self.new.who ≡ self.old.who }
+        ensures unchanged { OnErr result (self.new ≡ self.old) }
+        ensures own { OnErr result (S.own space.new self.old.who ≡ S.own space.old self.old.who) }
+        ensures wait { WaitsAfter result None self.new.wait }
+    {
+        if let Some(ticket) = self.holdings.reusable(place, &request) {
+            return Ok(Acquire::Acquired(ticket.id));
+        }
+        if self.holdings.reserve(place).is_err() {
+            return Err(ContextError::Space(SpaceError::OutOfMemory));
+        }
+        let ticket = self.holdings.sufficient(place, &request);
+        match gain(space, self.who, ticket, place, request.mode) {
+            Ok(Got::Granted(id)) => {
+                self.holdings.keep(request.kept(id, place));
+                Ok(Acquire::Acquired(id))
+            }
+            Ok(Got::Waits(number, searched)) => {
+                self.holdings.begin_wait(request.wanted(place, searched));
+                Ok(Acquire::MustWait(number))
+            }
+            Err(refusal) => Err(ContextError::Space(refusal)),
+        }
+    }
+}

@@ -1,0 +1,180 @@
+//! How a session gives tickets up.
+ghost use Rattle.std.specs.Prelude.{◌≡◌, None, Ok};
+ghost use Rattle.mdl_key.specs.Refusals.{RefusesJust};
+ghost use Rattle.mdl_calls.specs.Words.{Runs};
+ghost use Rattle.mdl_context.specs.Contexts.{beyond, beyond_mark, held_for, of_transaction, without, Attends, LeavesOthers};
+ghost use Rattle.mdl_context.specs.Releases.{releasing_all, giving_up, waiting_fault, release_fault, rollback_fault, releasing, releasing_name, rolling_back, ending_statement, ending_transaction};
+ghost use Rattle.mdl_key.specs.declared.mode.Duration.TheVariants.{Statement};
+
+use crate::holdings::Going;
+use crate::releasing::{release, release_all};
+use crate::{Context, ContextError, Mark};
+use mdl_key::{Duration, Key};
+use mdl_space::{LockSpace, TicketId};
+
+// Where a session stands that has no tickets of a statement and none of a transaction.
+const START: Mark = Mark {
+    statement: 0,
+    transaction: 0,
+};
+
+impl<S: LockSpace> Context<S> {
+    /// Releases a ticket. It takes no memory.
+    ///
+    /// After MySQL 5.7, `MDL_context::release_lock` of `sql/mdl.cc`.
+    pub fn release(&mut self, space: &mut S, id: TicketId) -> Result<(), ContextError>
+        requires { Attends S.speaks_for S.own S.knows space.old self.old }
+        ensures refused { RefusesJust (release_fault id self.old) result }
+        ensures run { Runs S.joins space.old (releasing id self.old) (result, self.new) space.new }
+        ensures attends { Attends S.speaks_for S.own S.knows space.new self.new }
+        ensures others { LeavesOthers S.speaks_for S.own S.knows self.old.who space.old space.new }
+        ensures who { self.new.who ≡ self.old.who }
+    {
+        let Some(at) = self.holdings.position(id) else {
+            return Err(ContextError::NotHeld);
+        };
+        if self.holdings.is_waiting() {
+            return Err(ContextError::Waiting);
+        }
+        release(space, self.who, id);
+        self.holdings.remove(at, id);
+        Ok(())
+    }
+
+    /// Releases all tickets of a key, in order of gain. It takes no memory.
+    ///
+    /// After MySQL 5.7, `MDL_context::release_all_locks_for_name` of `sql/mdl.cc`.
+    pub fn release_name(&mut self, space: &mut S, key: &Key) -> Result<(), ContextError>
+        requires { Attends S.speaks_for S.own S.knows space.old self.old }
+        ensures refused { RefusesJust (waiting_fault self.old) result }
+        ensures run { Runs S.joins space.old (releasing_name key.now self.old) (result, self.new) space.new }
+        ensures attends { Attends S.speaks_for S.own S.knows space.new self.new }
+        ensures others { LeavesOthers S.speaks_for S.own S.knows self.old.who space.old space.new }
+        ensures who { self.new.who ≡ self.old.who }
+    {
+        if self.holdings.is_waiting() {
+            return Err(ContextError::Waiting);
+        }
+        let Some(place) = self.holdings.place_known(key) else {
+            return Ok(());
+        };
+        release_all(space, self.who, &mut self.holdings, &Going::At(place));
+        Ok(())
+    }
+
+    /// Goes back to where the session stood at a mark: of the tickets of the statement, and of those of the transaction, so many
+    /// stay as the mark counted, from the earliest on, and the others are released. It takes no memory.
+    ///
+    /// It goes by these two numbers alone. A ticket that was explicit at the mark and ends with the transaction now stands among
+    /// the others in order of gain, so where it is an early one, a later one that the mark counted is released.
+    ///
+    /// After MySQL 5.7, `MDL_context::rollback_to_savepoint` of `sql/mdl.cc`.
+    pub fn rollback_to(&mut self, space: &mut S, mark: Mark) -> Result<(), ContextError>
+        requires { Attends S.speaks_for S.own S.knows space.old self.old }
+        ensures refused { RefusesJust (rollback_fault mark self.old) result }
+        ensures run { Runs S.joins space.old (rolling_back mark self.old) (result, self.new) space.new }
+        ensures attends { Attends S.speaks_for S.own S.knows space.new self.new }
+        ensures others { LeavesOthers S.speaks_for S.own S.knows self.old.who space.old space.new }
+        ensures who { self.new.who ≡ self.old.who }
+    {
+        let stands = self.savepoint();
+        if stands.statement < mark.statement || stands.transaction < mark.transaction {
+            return Err(ContextError::StaleSavepoint);
+        }
+        if self.holdings.is_waiting() {
+            return Err(ContextError::Waiting);
+        }
+        self.return_to(space, mark);
+        Ok(())
+    }
+
+    /// Ends a statement: its tickets are released, in order of gain. It takes no memory.
+    ///
+    /// After MySQL 5.7, `MDL_context::release_statement_locks` of `sql/mdl.cc`.
+    pub fn end_statement(&mut self, space: &mut S) -> Result<(), ContextError>
+        requires { Attends S.speaks_for S.own S.knows space.old self.old }
+        ensures refused { RefusesJust (waiting_fault self.old) result }
+        ensures run { Runs S.joins space.old (ending_statement self.old) (result, self.new) space.new }
+        ensures attends { Attends S.speaks_for S.own S.knows space.new self.new }
+        ensures others { LeavesOthers S.speaks_for S.own S.knows self.old.who space.old space.new }
+        ensures who { self.new.who ≡ self.old.who }
+    {
+        if self.holdings.is_waiting() {
+            return Err(ContextError::Waiting);
+        }
+        self.finish_statement(space);
+        Ok(())
+    }
+
+    /// Ends a transaction: the tickets of the statement are released, and then those of the transaction. It takes no memory.
+    ///
+    /// After MySQL 5.7, `MDL_context::release_transactional_locks` of `sql/mdl.cc`.
+    pub fn end_transaction(&mut self, space: &mut S) -> Result<(), ContextError>
+        requires { Attends S.speaks_for S.own S.knows space.old self.old }
+        ensures refused { RefusesJust (waiting_fault self.old) result }
+        ensures run { Runs S.joins space.old (ending_transaction self.old) (result, self.new) space.new }
+        ensures attends { Attends S.speaks_for S.own S.knows space.new self.new }
+        ensures others { LeavesOthers S.speaks_for S.own S.knows self.old.who space.old space.new }
+        ensures who { self.new.who ≡ self.old.who }
+    {
+        if self.holdings.is_waiting() {
+            return Err(ContextError::Waiting);
+        }
+        self.finish_transaction(space);
+        Ok(())
+    }
+
+    /// As [`Context::rollback_to`], of a session that is known to have no wait. Where fewer tickets are kept than the mark
+    /// counted, all of these stay. It takes no memory.
+    pub fn return_to(&mut self, space: &mut S, mark: Mark)
+        requires attends { Attends S.speaks_for S.own S.knows space.old self.old }
+        requires idle { self.old.wait ≡ None }
+        ensures run { Runs S.joins space.old (giving_up (beyond_mark mark self.old.kept) self.old) (Ok tt, self.new) space.new }
+        ensures attends { Attends S.speaks_for S.own S.knows space.new self.new }
+        ensures others { LeavesOthers S.speaks_for S.own S.knows self.old.who space.old space.new }
+        ensures who { self.new.who ≡ self.old.who }
+        ensures wait { self.new.wait ≡ None }
+    {
+        self.release_beyond(space, Duration::Statement, mark.statement);
+        self.release_beyond(space, Duration::Transaction, mark.transaction);
+    }
+
+    /// As [`Context::end_statement`], of a session that is known to have no wait. It takes no memory.
+    pub fn finish_statement(&mut self, space: &mut S)
+        requires attends { Attends S.speaks_for S.own S.knows space.old self.old }
+        requires idle { self.old.wait ≡ None }
+        ensures run { Runs S.joins space.old (giving_up (held_for Statement self.old.kept) self.old) (Ok tt, self.new) space.new }
+        ensures attends { Attends S.speaks_for S.own S.knows space.new self.new }
+        ensures others { LeavesOthers S.speaks_for S.own S.knows self.old.who space.old space.new }
+        ensures who { self.new.who ≡ self.old.who }
+        ensures wait { self.new.wait ≡ None }
+    {
+        self.release_beyond(space, Duration::Statement, 0);
+    }
+
+    /// As [`Context::end_transaction`], of a session that is known to have no wait. It takes no memory.
+    pub fn finish_transaction(&mut self, space: &mut S)
+        requires attends { Attends S.speaks_for S.own S.knows space.old self.old }
+        requires idle { self.old.wait ≡ None }
+        ensures run { Runs S.joins space.old (giving_up (of_transaction self.old.kept) self.old) (Ok tt, self.new) space.new }
+        ensures attends { Attends S.speaks_for S.own S.knows space.new self.new }
+        ensures others { LeavesOthers S.speaks_for S.own S.knows self.old.who space.old space.new }
+        ensures who { self.new.who ≡ self.old.who }
+        ensures wait { self.new.wait ≡ None }
+    {
+        self.return_to(space, START);
+    }
+
+    // Releases the tickets of a duration behind so many.
+    fn release_beyond(&mut self, space: &mut S, duration: Duration, most: usize)
+        requires { Attends S.speaks_for S.own S.knows space.old self.old }
+        ensures run { Runs S.joins space.old (releasing_all self.old.who (beyond duration most self.old.kept)) tt space.new }
+        ensures kept { self.new ≡ record self.old { kept = without (beyond duration most self.old.kept) self.old.kept } }
+        ensures attends { Attends S.speaks_for S.own S.knows space.new self.new }
+    {
+        if let Some(first) = self.holdings.nth_for(duration, most) {
+            let going = Going::From(duration, first);
+            release_all(space, self.who, &mut self.holdings, &going);
+        }
+    }
+}

@@ -1,0 +1,43 @@
+//! Tickets released in a lock space, of any kind.
+ghost use Rattle.std.specs.Prelude.{◌≡◌, ℕ, true, not, map, filter};
+ghost use Rattle.mdl_key.specs.Keys.{KeyName};
+ghost use Rattle.mdl_calls.specs.Words.{Done, Release, holds, giving_up, Runs};
+ghost use Rattle.mdl_context.specs.Contexts.{held_of};
+ghost use Rattle.mdl_context.specs.Goings.{goes};
+ghost use Rattle.mdl_context.specs.Releases.{releasing_all};
+
+use crate::holdings::{Going, Holdings};
+use mdl_space::{LockSpace, TicketId};
+
+/// Releases a ticket that the session holds. It takes no memory.
+pub(crate) fn release<S: LockSpace>(space: &mut S, who: u16, id: TicketId)
+    requires speaks { S.speaks_for space.old who }
+    requires held { holds id (S.own space.old who) ≡ true }
+    ensures speaks { S.speaks_for space.new who }
+    ensures released { S.joins space.old (Release who id) Done space.new }
+    ensures remembers { (place : ℕ) (key : KeyName) → S.knows space.old who place key → S.knows space.new who place key }
+    ensures own { S.own space.new who ≡ giving_up id (S.own space.old who) }
+{
+    space.release(who, id).unwrap();
+}
+
+/// Releases the tickets that are given up, in order of gain. It takes no memory.
+pub(crate) fn release_all<S: LockSpace>(space: &mut S, who: u16, holdings: &mut Holdings, going: &Going)
+    requires speaks { S.speaks_for space.old who }
+    requires held { (S.own space.old who).held ≡ map held_of holdings.old.kept }
+    ensures speaks { S.speaks_for space.new who }
+    ensures remembers { (place : ℕ) (key : KeyName) → S.knows space.old who place key → S.knows space.new who place key }
+    ensures run { Runs S.joins space.old (releasing_all who (filter (goes going.now) holdings.old.kept)) tt space.new }
+    ensures kept { holdings.new.kept ≡ filter (λ ticket. not (goes going.now ticket)) holdings.old.kept }
+    ensures held { (S.own space.new who).held ≡ map held_of holdings.new.kept }
+    ensures known { holdings.new.known ≡ holdings.old.known }
+    ensures waits { holdings.new.wait ≡ holdings.old.wait }
+    ensures wait { (S.own space.new who).wait ≡ (S.own space.old who).wait }
+{
+    for ticket in holdings.tickets() {
+        if going.names(ticket) {
+            release(space, who, ticket.id);
+        }
+    }
+    holdings.remove_all(going);
+}

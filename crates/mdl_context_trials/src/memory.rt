@@ -1,0 +1,297 @@
+//! Growths refused in turn: where an allocation fails once, neither the context nor the space has lost anything, and both go on.
+//! What gives up takes no memory.
+//!
+//! `rt try --test --fail-alloc N` refuses the allocation of that number.
+ghost use Rattle.std.specs.Prelude.{◌≡◌, ◌≢◌, IfOk};
+ghost use Rattle.mdl_core.specs.CoreJoins.{SpeaksFor, own_at, Knows};
+ghost use Rattle.mdl_context.specs.Contexts.{Attends};
+
+use crate::acts::{Act, Lock, Reply, make};
+use crate::hall::new_space;
+use crate::rows::is_about;
+use mdl_context::{Context, Kept, Mark, Resume, Wanted};
+use mdl_key::{Duration, Key, KeyError, Mode};
+use mdl_space::{Attempt, CoreSpace, Held, LockSpace, NewError, Settled, SpaceError, TicketId};
+use std::alloc::Global;
+use std::test::Fail;
+
+// The session of the context.
+const WHO: u16 = 2;
+
+// The session that stands in its way.
+const OTHER: u16 = 1;
+
+// A key, at the second try, where memory was refused to the first.
+fn key_of(alloc: Global, lock: Lock) -> Result<Key, KeyError> {
+    match lock.key(alloc) {
+        Ok(key) => Ok(key),
+        Err(_) => lock.key(alloc),
+    }
+}
+
+// A space of four places and two sessions, and the context of its second session.
+fn start(alloc: Global) -> Result<(CoreSpace, Context<CoreSpace>), NewError>
+    ensures attends { IfOk result (λ pair. Attends SpeaksFor own_at Knows pair.0 pair.1) }
+    ensures who { IfOk result (λ pair. pair.1.who ≡ 2) }
+{
+    let space = new_space(alloc, 4, WHO)?;
+    Ok((space, Context::new(alloc, WHO)))
+}
+
+// Another session takes a lock that can be had now.
+fn take<S: LockSpace>(
+    space: &mut S,
+    context: &Context<S>,
+    other: u16,
+    key: &Key,
+) -> Result<Attempt, SpaceError>
+    requires attends { Attends S.speaks_for S.own S.knows space.old context.now }
+    requires speaks { S.speaks_for space.old other }
+    requires other { other ≢ context.now.who }
+    ensures attends { Attends S.speaks_for S.own S.knows space.new context.now }
+    ensures speaks { S.speaks_for space.new other }
+{
+    let _context = context;
+    let place = space.resolve(other, key)?;
+    space.try_now(other, place, Mode::SW)
+}
+
+// And gives it up.
+fn leave<S: LockSpace>(
+    space: &mut S,
+    context: &Context<S>,
+    other: u16,
+    id: TicketId,
+) -> Result<(), SpaceError>
+    requires attends { Attends S.speaks_for S.own S.knows space.old context.now }
+    requires speaks { S.speaks_for space.old other }
+    requires other { other ≢ context.now.who }
+    ensures { Attends S.speaks_for S.own S.knows space.new context.now }
+{
+    let _context = context;
+    space.release(other, id)
+}
+
+// The first session takes a lock, at the second try, where memory was refused to the first.
+fn stand_in_the_way(space: &mut CoreSpace, context: &Context<CoreSpace>, key: &Key) -> bool
+    requires attends { Attends SpeaksFor own_at Knows space.old context.now }
+    requires who { context.now.who ≡ 2 }
+    ensures { Attends SpeaksFor own_at Knows space.new context.now }
+{
+    let first = take(space, context, OTHER, key);
+    if first != Err(SpaceError::OutOfMemory) {
+        return first == Ok(Attempt::Granted(1));
+    }
+    take(space, context, OTHER, key) == Ok(Attempt::Granted(1))
+}
+
+// And gives it up, which takes no memory.
+fn get_out_of_the_way(space: &mut CoreSpace, context: &Context<CoreSpace>) -> bool
+    requires attends { Attends SpeaksFor own_at Knows space.old context.now }
+    requires who { context.now.who ≡ 2 }
+    ensures { Attends SpeaksFor own_at Knows space.new context.now }
+{
+    leave(space, context, OTHER, 1).is_ok()
+}
+
+// What a session holds, at the second try, where memory was refused to the first.
+fn held_by<S: LockSpace>(space: &S, who: u16) -> Result<Vec<Held>, SpaceError>
+    requires { S.speaks_for space.now who }
+{
+    match space.held(who) {
+        Err(SpaceError::OutOfMemory) => space.held(who),
+        outcome => outcome,
+    }
+}
+
+// How many tickets a context keeps, by duration and in all, and what it waits for.
+#[derive(Clone, Copy, PartialEq, Eq)]
+struct Standing {
+    mark: Mark,
+    tickets: usize,
+    wish: Option<Wanted>,
+}
+
+fn standing_of(context: &Context<CoreSpace>) -> Standing {
+    Standing {
+        mark: context.savepoint(),
+        tickets: context.kept().len(),
+        wish: context.wish(),
+    }
+}
+
+// Whether these tickets are kept.
+fn are_kept(kept: &[Kept], held: &[Held]) -> bool {
+    for (ticket, other) in kept.iter().zip(held.iter()) {
+        if ticket.id != other.id || ticket.place != other.place || ticket.mode != other.mode {
+            return false;
+        }
+    }
+    kept.len() == held.len()
+}
+
+// Whether a session has no wait.
+fn has_no_wait<S: LockSpace>(space: &mut S, context: &Context<S>, who: u16) -> bool
+    requires { Attends S.speaks_for S.own S.knows space.old context.now }
+    ensures { Attends S.speaks_for S.own S.knows space.new context.now }
+{
+    let _context = context;
+    space.wait_of(who).is_none()
+}
+
+// Whether a session waits, and the wait is killed now.
+fn kill_the_wait<S: LockSpace>(space: &mut S, context: &Context<S>, who: u16) -> bool
+    requires { Attends S.speaks_for S.own S.knows space.old context.now }
+    ensures { Attends S.speaks_for S.own S.knows space.new context.now }
+{
+    let _context = context;
+    match space.wait_of(who) {
+        Some(number) => space.kill(who, number),
+        None => false,
+    }
+}
+
+// Whether an act has this answer: at once, or at the second try, where memory was refused to the first, after which the
+// session held the same as before, both in the space and in the context, and had no wait.
+fn outlives(
+    alloc: Global,
+    space: &mut CoreSpace,
+    context: &mut Context<CoreSpace>,
+    act: Act,
+    wanted: Reply,
+) -> bool
+    requires attends { Attends SpeaksFor own_at Knows space.old context.old }
+    requires who { context.old.who ≡ 2 }
+    ensures attends { Attends SpeaksFor own_at Knows space.new context.new }
+    ensures who { context.new.who ≡ 2 }
+{
+    let Ok(before) = held_by(space, WHO) else {
+        return false;
+    };
+    let stood = standing_of(context);
+    let reply = make(alloc, space, context, act);
+    if reply.is_some() {
+        return is_about(reply, wanted);
+    }
+    let Ok(after) = held_by(space, WHO) else {
+        return false;
+    };
+    let is_same = after.as_slice() == before.as_slice() && standing_of(context) == stood;
+    let is_kept = are_kept(context.kept(), &after);
+    let is_idle = has_no_wait(space, context, WHO);
+    let again = make(alloc, space, context, act);
+    is_same && is_kept && is_idle && is_about(again, wanted)
+}
+
+// Whether each act of a row outlives it.
+fn all_outlive(
+    alloc: Global,
+    space: &mut CoreSpace,
+    context: &mut Context<CoreSpace>,
+    rows: &[(Act, Reply)],
+) -> bool
+    requires attends { Attends SpeaksFor own_at Knows space.old context.old }
+    requires who { context.old.who ≡ 2 }
+    ensures attends { Attends SpeaksFor own_at Knows space.new context.new }
+    ensures who { context.new.who ≡ 2 }
+{
+    for (act, wanted) in rows {
+        if !outlives(alloc, space, context, *act, *wanted) {
+            return false;
+        }
+    }
+    true
+}
+
+// Whether tickets up to this number can be had, beside the first ones, which are of one lock.
+fn clones(alloc: Global, space: &mut CoreSpace, context: &mut Context<CoreSpace>, most: u64) -> bool
+    requires attends { Attends SpeaksFor own_at Knows space.old context.old }
+    requires who { context.old.who ≡ 2 }
+    ensures attends { Attends SpeaksFor own_at Knows space.new context.new }
+    ensures who { context.new.who ≡ 2 }
+{
+    let act = Act::Acquire(Lock::A, Mode::SR, Duration::Explicit);
+    for number in 5..most {
+        if !outlives(alloc, space, context, act, Reply::Acquired(number)) {
+            return false;
+        }
+    }
+    true
+}
+
+const GAINS: &[(Act, Reply)] = &[
+    (
+        Act::Acquire(Lock::A, Mode::SR, Duration::Transaction),
+        Reply::Acquired(1),
+    ),
+    (
+        Act::Acquire(Lock::Global, Mode::IX, Duration::Statement),
+        Reply::Acquired(2),
+    ),
+    (
+        Act::Acquire(Lock::A, Mode::SW, Duration::Transaction),
+        Reply::Acquired(3),
+    ),
+    (
+        Act::Acquire(Lock::A, Mode::SH, Duration::Statement),
+        Reply::Acquired(4),
+    ),
+    (
+        Act::Acquire(Lock::A, Mode::SR, Duration::Transaction),
+        Reply::Acquired(1),
+    ),
+];
+
+const WAITS: &[(Act, Reply)] = &[
+    (
+        Act::Acquire(Lock::B, Mode::X, Duration::Transaction),
+        Reply::MustWait(1),
+    ),
+    (Act::Resume, Reply::Resumed(Resume::Waiting)),
+    (Act::GiveUp, Reply::Resumed(Resume::Lost(Settled::Timeout))),
+    (
+        Act::Acquire(Lock::B, Mode::X, Duration::Transaction),
+        Reply::MustWait(2),
+    ),
+];
+
+const LAST_WAIT: &[(Act, Reply)] = &[
+    (Act::Resume, Reply::Resumed(Resume::Lost(Settled::Killed))),
+    (
+        Act::Acquire(Lock::B, Mode::X, Duration::Statement),
+        Reply::MustWait(3),
+    ),
+];
+
+const ENDS: &[(Act, Reply)] = &[
+    (Act::Resume, Reply::Resumed(Resume::Acquired(42))),
+    (Act::Mark, Reply::Stands(3, 2)),
+    (Act::GoBack(2, 2), Reply::Done),
+    (Act::EndStatement, Reply::Done),
+    (Act::Release(39), Reply::Done),
+    (Act::MakeTransactional, Reply::Done),
+    (Act::Mark, Reply::Stands(0, 36)),
+    (Act::GoBack(0, 30), Reply::Done),
+    (Act::MakeExplicit, Reply::Done),
+    (Act::ReleaseName(Lock::Global), Reply::Done),
+    (Act::MakeTransactional, Reply::Done),
+    (Act::EndTransaction, Reply::Done),
+    (Act::Mark, Reply::Stands(0, 0)),
+];
+
+#[test]
+fn outlives_want_of_memory(rt: HostRuntime) -> Result<(), Fail> {
+    let alloc = rt.alloc();
+    let (mut space, mut context) = start(alloc)?;
+    let key = key_of(alloc, Lock::B)?;
+    assert!(rt; all_outlive(alloc, &mut space, &mut context, GAINS));
+    assert!(rt; clones(alloc, &mut space, &mut context, 40));
+    // Waits that are given up, killed and granted.
+    assert!(rt; stand_in_the_way(&mut space, &context, &key));
+    assert!(rt; all_outlive(alloc, &mut space, &mut context, WAITS));
+    assert!(rt; kill_the_wait(&mut space, &context, WHO));
+    assert!(rt; all_outlive(alloc, &mut space, &mut context, LAST_WAIT));
+    assert!(rt; get_out_of_the_way(&mut space, &context));
+    assert!(rt; all_outlive(alloc, &mut space, &mut context, ENDS));
+    Ok(())
+}
