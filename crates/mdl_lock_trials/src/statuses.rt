@@ -114,26 +114,16 @@ fn the_matrices_are_printed_without_input(rt: HostRuntime) {
     assert!(rt; seen.told.is_empty());
 }
 
-// What is said of words that ask for no run is told on the stream of errors alone, as far as that takes it.
+// What is said of words that ask for no run is told on the stream of errors alone, and no script is read.
 #[test]
 fn words_that_ask_for_no_run_are_refused(rt: HostRuntime) {
     let refusal: Asked = Err("requires a subcommand\n");
     let gone = Habit::steps_of(7).slips_after(0, Slip::Fails(ErrorKind::BrokenPipe));
-    let sound = Habit::steps_of(7);
     let mut source = Source::new(b"1 SR\n", gone);
     let seen = look_at(rt.alloc(), &refusal, &mut source, gone);
     assert_eq!(rt; seen.status, 2);
     assert!(rt; seen.written.is_empty());
     assert_eq!(rt; seen.told.as_slice(), b"requires a subcommand\n".as_slice());
-    for bytes in 0..20 {
-        let mut output = Vec::new(rt.alloc());
-        let mut errors = Target::new(rt.alloc(), sound.slips_after(bytes, Slip::MovesNothing));
-        let mut input = b"1 SR\n".as_slice();
-        let status = run_asked(rt.alloc(), &refusal, &mut input, &mut output, &mut errors);
-        assert_eq!(rt; status, 2);
-        assert!(rt; output.is_empty());
-        assert_eq!(rt; errors.taken.len(), bytes);
-    }
 }
 
 #[test]
