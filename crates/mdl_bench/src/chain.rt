@@ -1,7 +1,9 @@
 //! Waiters that are granted one after another.
 use crate::failure::Failure;
+use crate::figure::Work;
+use crate::table::new_book;
 use mdl_book::{Book, Sessions, Ticket};
-use mdl_key::{Key, Mode};
+use mdl_key::Mode;
 use mdl_word::Word;
 use std::alloc::Global;
 
@@ -11,44 +13,76 @@ const NO_FAST_TICKETS: Word = Word(0);
 // The session that all others wait for.
 const OWNER: u16 = 1;
 
-/// A lock that one session holds in X, and that many wait for in SR.
-#[derive(Drop)]
+/// A lock that one session holds in X, and that so many wait for in SR: once it is given up, all of them are granted.
+#[derive(Clone, Copy)]
 pub struct Chain {
-    book: Book,
-    everyone: Sessions,
+    pub alloc: Global,
+    pub waiters: u16,
 }
 
-impl Chain {
-    pub fn new(alloc: Global, waiters: u16) -> Result<Chain, Failure> {
-        let mut book = Book::new(alloc, Key::table(alloc, "test", "t")?);
-        queue(&mut book, waiters)?;
-        Ok(Chain {
-            book,
-            everyone: Sessions::all(),
-        })
-    }
-
-    /// The owner gives up the lock, and all waiters are granted, each as the next that can be.
-    pub fn grant_all(&mut self) -> Result<(), Failure> {
-        self.book.remove(OWNER, 1)?;
-        for _ in 0..u16::MAX {
-            let Some((session, number)) = self.book.next_grantable(NO_FAST_TICKETS, &self.everyone)
-            else {
-                break;
-            };
-            self.book.admit(session, number)?;
+impl Work for Chain {
+    fn run(&mut self, turns: u32) -> Result<u64, Failure> {
+        let mut granted = 0u64;
+        for _turn in 0..turns {
+            granted = granted.wrapping_add(grant_in_turn(self.alloc, self.waiters)?);
         }
-        Ok(())
+        Ok(granted)
+    }
+
+    // The locks with their waiters alone.
+    fn idle(&mut self, turns: u32) -> Result<u64, Failure> {
+        let mut waiting = 0u64;
+        for _turn in 0..turns {
+            waiting = waiting.wrapping_add(wait_in_turn(self.alloc, self.waiters)?);
+        }
+        Ok(waiting)
     }
 }
 
-// The owner has the lock, and so many wait for it.
-fn queue(book: &mut Book, waiters: u16) -> Result<(), Failure> {
+// So many wait, and are granted one after another: how many there were.
+fn grant_in_turn(alloc: Global, waiters: u16) -> Result<u64, Failure> {
+    match new_book(alloc) {
+        Ok(mut book) => queue_and_grant(&mut book, waiters),
+        Err(error) => Err(error),
+    }
+}
+
+// Likewise, in this book.
+fn queue_and_grant(book: &mut Book, waiters: u16) -> Result<u64, Failure> {
+    queue(book, waiters)?;
+    grant_all(book)
+}
+
+// So many wait: how many there are.
+fn wait_in_turn(alloc: Global, waiters: u16) -> Result<u64, Failure> {
+    match new_book(alloc) {
+        Ok(mut book) => queue(&mut book, waiters),
+        Err(error) => Err(error),
+    }
+}
+
+// The owner has the lock, and so many wait for it: how many there are.
+fn queue(book: &mut Book, waiters: u16) -> Result<u64, Failure> {
     book.grant(ticket(OWNER, Mode::X), NO_FAST_TICKETS)?;
     for waiter in 0..waiters {
         book.enqueue(ticket(waiter % 1000 + 2, Mode::SR))?;
     }
-    Ok(())
+    Ok(book.waiting().len() as u64)
+}
+
+// The owner gives up the lock, and each waiter is granted as the next that can be: how many there were.
+fn grant_all(book: &mut Book) -> Result<u64, Failure> {
+    let everyone = Sessions::all();
+    book.remove(OWNER, 1)?;
+    let mut granted = 0u64;
+    for _ in 0..u16::MAX {
+        let Some((session, number)) = book.next_grantable(NO_FAST_TICKETS, &everyone) else {
+            break;
+        };
+        book.admit(session, number)?;
+        granted = granted.wrapping_add(1);
+    }
+    Ok(granted)
 }
 
 // The one ticket of a session.
@@ -57,24 +91,5 @@ fn ticket(session: u16, mode: Mode) -> Ticket {
         session,
         number: 1,
         mode,
-    }
-}
-
-#[cfg(test)]
-mod tests {
-    use super::*;
-    use std::test::Fail;
-
-    #[test]
-    fn all_waiters_are_granted(rt: HostRuntime) -> Result<(), Fail> {
-        let Ok(mut chain) = Chain::new(rt.alloc(), 20) else {
-            return Err(Fail::from("no chain"));
-        };
-        if chain.grant_all().is_err() {
-            return Err(Fail::from("not granted"));
-        }
-        assert_eq!(rt; chain.book.granted().len(), 20);
-        assert!(rt; chain.book.waiting().is_empty());
-        Ok(())
     }
 }

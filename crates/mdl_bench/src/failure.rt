@@ -5,33 +5,73 @@ use mdl_key::KeyError;
 use mdl_space::{NewError, SpaceError};
 use std::alloc::AllocError;
 use std::io;
-use thiserror::Error;
 
 /// What can end a measurement.
-#[derive(Debug, Drop, Error)]
+#[derive(Clone, Copy)]
 pub enum Failure {
-    /// A key that can't be made.
-    #[error("{0}")]
-    Key(#[from] KeyError),
-    /// A call of a book that is refused.
-    #[error("{0}")]
-    Book(#[from] BookError),
-    /// A space that can't be made.
-    #[error("{0}")]
-    NewSpace(NewError),
-    /// A call of a space that is refused.
-    #[error("{0}")]
-    Space(#[from] SpaceError),
-    /// A call of a context that is refused.
-    #[error("{0}")]
-    Context(#[from] ContextError),
-    /// A call of a space or a context that answers something else than it should.
-    #[error("a call has an answer that it should not have")]
+    /// A key, or a space, that can't be made.
+    Unmade,
+    /// A call that is refused.
+    Refused,
+    /// A call that answers something else than it should.
     Unexpected,
     /// Memory ran out.
-    #[error("out of memory")]
-    Memory(#[from] AllocError),
-    /// The clock or the arguments can't be read.
-    #[error("{0}")]
-    Io(#[from] io::Error),
+    Memory,
+    /// The clock or the arguments can't be read, or nothing can be printed.
+    Device,
+}
+
+impl Failure {
+    /// What the program says of it.
+    pub fn text(self) -> &'static str {
+        match self {
+            Failure::Unmade => "a key or a space can't be made",
+            Failure::Refused => "a call is refused",
+            Failure::Unexpected => "a call has an answer that it should not have",
+            Failure::Memory => "out of memory",
+            Failure::Device => "the clock, the arguments or the output fail",
+        }
+    }
+}
+
+impl From<KeyError> for Failure {
+    fn from(_error: KeyError) -> Failure {
+        Failure::Unmade
+    }
+}
+
+impl From<NewError> for Failure {
+    fn from(_error: NewError) -> Failure {
+        Failure::Unmade
+    }
+}
+
+impl From<BookError> for Failure {
+    fn from(_error: BookError) -> Failure {
+        Failure::Refused
+    }
+}
+
+impl From<SpaceError> for Failure {
+    fn from(_error: SpaceError) -> Failure {
+        Failure::Refused
+    }
+}
+
+impl From<ContextError> for Failure {
+    fn from(_error: ContextError) -> Failure {
+        Failure::Refused
+    }
+}
+
+impl From<AllocError> for Failure {
+    fn from(_error: AllocError) -> Failure {
+        Failure::Memory
+    }
+}
+
+impl From<io::Error> for Failure {
+    fn from(_error: io::Error) -> Failure {
+        Failure::Device
+    }
 }

@@ -1,47 +1,171 @@
 //! A session that keeps many tickets, by its context.
-ghost use Rattle.std.specs.Prelude.{IfOk};
-ghost use Rattle.mdl_core.specs.CoreJoins.{SpeaksFor, own_at, Knows};
 ghost use Rattle.mdl_context.specs.Contexts.{Attends};
 
 use crate::failure::Failure;
+use crate::figure::Work;
 use mdl_context::{Acquire, Context, Request};
 use mdl_key::{Duration, Key, Mode};
 use mdl_space::{CoreSpace, LockSpace, TicketId};
-use std::alloc::{AllocError, Global};
+use std::alloc::Global;
+use std::marker::Model;
 
 const PLACES: u16 = 256;
 
 // The tables that are locked one after another, and then given up at once.
-const LOCKED: usize = 100;
+const LOCKED: u16 = 100;
 
-/// The keys of as many tables as a space has places.
-pub fn tables(alloc: Global) -> Result<Vec<Key>, Failure> {
+/// What is done by a context. Each request has a copy of its key.
+#[derive(Clone, Copy)]
+pub enum Job {
+    /// A table is locked and given up.
+    Keep,
+    /// A hundred tables are locked, and the session goes back to where it stood.
+    GoBack,
+}
+
+/// A space with as many tables as it has places, and the context of its one session, which the space speaks for.
+#[derive(Drop)]
+pub struct Session {
+    keys: Vec<Key>,
+    space: CoreSpace,
+    context: Context<CoreSpace>,
+    job: Job,
+}
+
+impl Model for Session {
+    ghost use Rattle.mdl_core.specs.CoreJoins.{SpeaksFor, own_at, Knows};
+    ghost use Rattle.mdl_context.specs.Contexts.{Attends};
+
+    ghost Value = { Unit };
+
+    ghost view = { λ _. tt };
+
+    ghost invariant = { λ session. Attends SpeaksFor own_at Knows session.space session.context };
+}
+
+impl Session {
+    /// The session keeps so many tickets, spread over all tables but the last.
+    pub fn new(alloc: Global, job: Job, tickets: u16) -> Result<Session, Failure> {
+        match tables(alloc) {
+            Ok(keys) => Session::open(alloc, keys, job, tickets),
+            Err(error) => Err(error),
+        }
+    }
+
+    // Likewise, of these tables.
+    fn open(alloc: Global, keys: Vec<Key>, job: Job, tickets: u16) -> Result<Session, Failure> {
+        match CoreSpace::new(alloc, PLACES, 1) {
+            Ok(space) => Session {
+                keys,
+                space,
+                context: Context::new(alloc, 1),
+                job,
+            }
+            .filled(tickets),
+            Err(_) => Err(Failure::Unmade),
+        }
+    }
+
+    // Likewise, where nothing is kept yet.
+    fn filled(mut self, tickets: u16) -> Result<Session, Failure> {
+        match self.fill(tickets) {
+            Ok(()) => Ok(self),
+            Err(error) => Err(error),
+        }
+    }
+
+    // Likewise.
+    fn fill(&mut self, tickets: u16) -> Result<(), Failure> {
+        for index in 0..tickets {
+            self.acquire(index % (PLACES - 1), Duration::Explicit)?;
+        }
+        Ok(())
+    }
+
+    // Comes by the lock of a table in SR.
+    fn acquire(&mut self, table: u16, duration: Duration) -> Result<TicketId, Failure> {
+        match self.copy(table) {
+            Ok(key) => acquire(&mut self.space, &mut self.context, key, duration),
+            Err(error) => Err(error),
+        }
+    }
+
+    // A copy of a table's key.
+    fn copy(&self, table: u16) -> Result<Key, Failure> {
+        match self.keys.get(usize::from(table)) {
+            Some(key) => Ok(key.clone()?),
+            None => Err(Failure::Unexpected),
+        }
+    }
+
+    // Locks the last table and gives it up.
+    fn take_and_release(&mut self) -> Result<(), Failure> {
+        let id = self.acquire(PLACES - 1, Duration::Transaction)?;
+        self.context.release(&mut self.space, id)?;
+        Ok(())
+    }
+
+    // Locks a hundred tables and goes back to where it stood.
+    fn go_back(&mut self) -> Result<(), Failure> {
+        let mark = self.context.savepoint();
+        for table in 0..LOCKED {
+            self.acquire(table, Duration::Transaction)?;
+        }
+        self.context.rollback_to(&mut self.space, mark)?;
+        Ok(())
+    }
+
+    // So many times: how often.
+    fn take_often(&mut self, turns: u32) -> Result<u64, Failure> {
+        let mut taken = 0u64;
+        for _turn in 0..turns {
+            self.take_and_release()?;
+            taken = taken.wrapping_add(1);
+        }
+        Ok(taken)
+    }
+
+    // So many times: how often.
+    fn go_back_often(&mut self, turns: u32) -> Result<u64, Failure> {
+        let mut gone = 0u64;
+        for _turn in 0..turns {
+            self.go_back()?;
+            gone = gone.wrapping_add(1);
+        }
+        Ok(gone)
+    }
+
+    // Copies so many keys: how many are of tables.
+    fn copy_often(&self, turns: u32, tables: u16) -> Result<u64, Failure> {
+        let mut copied = 0u64;
+        for _turn in 0..turns {
+            for table in 0..tables {
+                let key = self.copy(PLACES - 1 - table % PLACES)?;
+                copied = copied.wrapping_add(u64::from(key.kind().has_mode(Mode::SR)));
+            }
+        }
+        Ok(copied)
+    }
+}
+
+// The keys of as many tables as a space has places.
+fn tables(alloc: Global) -> Result<Vec<Key>, Failure> {
     let mut keys = Vec::new(alloc);
     for index in 0..PLACES {
         let name = format!(in alloc; "t{index}")?;
         let key = Key::table(alloc, "test", name.as_str())?;
         if keys.push(key).is_err() {
-            return Err(Failure::Memory(AllocError));
+            return Err(Failure::Memory);
         }
     }
     Ok(keys)
-}
-
-/// A space, and the context of its one session, which has nothing.
-pub fn open(alloc: Global) -> Result<(CoreSpace, Context<CoreSpace>), Failure>
-    ensures { IfOk result (λ pair. Attends SpeaksFor own_at Knows pair.0 pair.1) }
-{
-    match CoreSpace::new(alloc, PLACES, 1) {
-        Ok(space) => Ok((space, Context::new(alloc, 1))),
-        Err(error) => Err(Failure::NewSpace(error)),
-    }
 }
 
 // Comes by a lock in SR.
 fn acquire<S: LockSpace>(
     space: &mut S,
     context: &mut Context<S>,
-    key: &Key,
+    key: Key,
     duration: Duration,
 ) -> Result<TicketId, Failure>
     requires { Attends S.speaks_for S.own S.knows space.old context.old }
@@ -52,110 +176,26 @@ fn acquire<S: LockSpace>(
         mode: Mode::SR,
         duration,
     };
-    match context.acquire(space, request)? {
-        Acquire::Acquired(id) => Ok(id),
-        Acquire::MustWait(_) => Err(Failure::Unexpected),
+    match context.acquire(space, request) {
+        Ok(Acquire::Acquired(id)) => Ok(id),
+        Ok(Acquire::MustWait(_)) => Err(Failure::Unexpected),
+        Err(_) => Err(Failure::Refused),
     }
 }
 
-/// So many tickets, spread over all tables but the last.
-pub fn fill<S: LockSpace>(
-    space: &mut S,
-    context: &mut Context<S>,
-    keys: &[Key],
-    tickets: u16,
-) -> Result<(), Failure>
-    requires { Attends S.speaks_for S.own S.knows space.old context.old }
-    ensures { Attends S.speaks_for S.own S.knows space.new context.new }
-{
-    for index in 0..tickets {
-        let Some(key) = keys.get(usize::from(index % (PLACES - 1))) else {
-            return Err(Failure::Unexpected);
-        };
-        acquire(space, context, key, Duration::Explicit)?;
+impl Work for Session {
+    fn run(&mut self, turns: u32) -> Result<u64, Failure> {
+        match self.job {
+            Job::Keep => self.take_often(turns),
+            Job::GoBack => self.go_back_often(turns),
+        }
     }
-    Ok(())
-}
 
-/// Locks a table and gives it up, so many times.
-pub fn take_and_release<S: LockSpace>(
-    space: &mut S,
-    context: &mut Context<S>,
-    key: &Key,
-    turns: u32,
-) -> Result<(), Failure>
-    requires { Attends S.speaks_for S.own S.knows space.old context.old }
-    ensures { Attends S.speaks_for S.own S.knows space.new context.new }
-{
-    for _turn in 0..turns {
-        let id = acquire(space, context, key, Duration::Transaction)?;
-        context.release(space, id)?;
+    // The copies of the keys alone.
+    fn idle(&mut self, turns: u32) -> Result<u64, Failure> {
+        match self.job {
+            Job::Keep => self.copy_often(turns, 1),
+            Job::GoBack => self.copy_often(turns, LOCKED),
+        }
     }
-    Ok(())
-}
-
-// Locks each of these tables.
-fn lock_all<S: LockSpace>(
-    space: &mut S,
-    context: &mut Context<S>,
-    keys: &[Key],
-) -> Result<(), Failure>
-    requires { Attends S.speaks_for S.own S.knows space.old context.old }
-    ensures { Attends S.speaks_for S.own S.knows space.new context.new }
-{
-    for key in keys {
-        acquire(space, context, key, Duration::Transaction)?;
-    }
-    Ok(())
-}
-
-/// Locks a hundred tables and goes back to where it stood, so many times.
-pub fn go_back<S: LockSpace>(
-    space: &mut S,
-    context: &mut Context<S>,
-    keys: &[Key],
-    turns: u32,
-) -> Result<(), Failure>
-    requires { Attends S.speaks_for S.own S.knows space.old context.old }
-    ensures { Attends S.speaks_for S.own S.knows space.new context.new }
-{
-    let Some(locked) = keys.get(..LOCKED) else {
-        return Err(Failure::Unexpected);
-    };
-    for _turn in 0..turns {
-        let mark = context.savepoint();
-        lock_all(space, context, locked)?;
-        context.rollback_to(space, mark)?;
-    }
-    Ok(())
-}
-
-/// Locks the last of these tables and gives it up, so many times.
-pub fn take_and_release_last<S: LockSpace>(
-    space: &mut S,
-    context: &mut Context<S>,
-    keys: &[Key],
-    turns: u32,
-) -> Result<(), Failure>
-    requires { Attends S.speaks_for S.own S.knows space.old context.old }
-    ensures { Attends S.speaks_for S.own S.knows space.new context.new }
-{
-    let Some(key) = keys.last() else {
-        return Err(Failure::Unexpected);
-    };
-    take_and_release(space, context, key, turns)
-}
-
-/// Makes each call once.
-pub fn try_calls<S: LockSpace>(
-    space: &mut S,
-    context: &mut Context<S>,
-    keys: &[Key],
-) -> Result<(), Failure>
-    requires { Attends S.speaks_for S.own S.knows space.old context.old }
-    ensures { Attends S.speaks_for S.own S.knows space.new context.new }
-{
-    fill(space, context, keys, 1)?;
-    go_back(space, context, keys, 1)?;
-    take_and_release_last(space, context, keys, 1)
 }

@@ -1,11 +1,12 @@
 //! Sessions that wait for one another.
 use crate::failure::Failure;
+use crate::figure::Work;
+use crate::table::new_book;
 use mdl_book::{Book, Sessions, Ticket};
 use mdl_graph::{WaitGraph, victim};
-use mdl_key::{Key, Mode};
+use mdl_key::Mode;
 use mdl_word::Word;
 use std::alloc::{AllocError, Global};
-use std::fmt;
 
 // The word of a lock without fast tickets.
 const NO_FAST_TICKETS: Word = Word(0);
@@ -21,19 +22,29 @@ pub enum Shape {
     Dense,
 }
 
-impl fmt::Display for Shape {
-    fn fmt<W: fmt::Write>(&self, f: &mut fmt::Formatter<W>) -> fmt::Result {
-        f.write_str(match self {
-            Shape::Chain => "a chain",
-            Shape::Ring => "a ring",
-            Shape::Dense => "a dense graph",
-        })
+impl Shape {
+    // Its word in a figure's name.
+    pub fn name(self) -> &'static str {
+        match self {
+            Shape::Chain => "search_of_a_chain",
+            Shape::Ring => "search_of_a_ring",
+            Shape::Dense => "search_of_a_dense_graph",
+        }
+    }
+
+    /// Who has to give way where so many wait so, if anyone: the last one, as all wishes weigh the same.
+    pub fn victim(self, sessions: u16) -> u16 {
+        match self {
+            Shape::Chain => 0,
+            Shape::Ring | Shape::Dense => sessions,
+        }
     }
 }
 
 /// The books of locks that so many sessions hold and wait for.
 #[derive(Drop)]
 pub struct Tangle {
+    alloc: Global,
     books: Vec<Book>,
     sessions: u16,
 }
@@ -41,13 +52,28 @@ pub struct Tangle {
 impl Tangle {
     pub fn new(alloc: Global, shape: Shape, sessions: u16) -> Result<Tangle, Failure> {
         let mut books = Vec::new(alloc);
-        tie(alloc, &mut books, shape, sessions)?;
-        Ok(Tangle { books, sessions })
+        match tie(alloc, &mut books, shape, sessions) {
+            Ok(()) => Ok(Tangle {
+                alloc,
+                books,
+                sessions,
+            }),
+            Err(error) => Err(error),
+        }
     }
 
-    /// Looks for a deadlock of the last session, for which all others wait, directly or not: who has to give way.
-    pub fn search(&self, alloc: Global) -> Result<Option<u16>, Failure> {
-        let mut graph = WaitGraph::new(alloc, Sessions::new());
+    // A graph without a wait.
+    fn graph(&self) -> WaitGraph {
+        WaitGraph::new(self.alloc, Sessions::new())
+    }
+
+    // Looks for a deadlock of the last session, for which all others wait, directly or not: who has to give way.
+    fn search(&self) -> Result<Option<u16>, AllocError> {
+        self.search_in(&mut self.graph())
+    }
+
+    // Likewise, by this graph.
+    fn search_in(&self, graph: &mut WaitGraph) -> Result<Option<u16>, AllocError> {
         for book in &self.books {
             graph.add(book)?;
         }
@@ -55,6 +81,35 @@ impl Tangle {
             Some(cycle) => Ok(Some(victim(&cycle))),
             None => Ok(None),
         }
+    }
+
+    // Builds the graph of all waits, and no more.
+    fn build(&self, graph: &mut WaitGraph) -> Result<u64, AllocError> {
+        for book in &self.books {
+            graph.add(book)?;
+        }
+        Ok(1)
+    }
+}
+
+impl Work for Tangle {
+    fn run(&mut self, turns: u32) -> Result<u64, Failure> {
+        let mut victims = 0u64;
+        for _turn in 0..turns {
+            if let Some(victim) = self.search()? {
+                victims = victims.wrapping_add(u64::from(victim));
+            }
+        }
+        Ok(victims)
+    }
+
+    // The graphs without the searches.
+    fn idle(&mut self, turns: u32) -> Result<u64, Failure> {
+        let mut graphs = 0u64;
+        for _turn in 0..turns {
+            graphs = graphs.wrapping_add(self.build(&mut self.graph())?);
+        }
+        Ok(graphs)
     }
 }
 
@@ -82,15 +137,17 @@ fn link(alloc: Global, books: &mut Vec<Book>, sessions: u16) -> Result<(), Failu
 fn shelve(books: &mut Vec<Book>, book: Book) -> Result<(), Failure> {
     match books.push(book) {
         Ok(()) => Ok(()),
-        Err(_) => Err(Failure::Memory(AllocError)),
+        Err(_) => Err(Failure::Memory),
     }
 }
 
 // A lock that one session holds and another one waits for.
 fn contested(alloc: Global, holder: u16, waiter: u16) -> Result<Book, Failure> {
-    let mut book = Book::new(alloc, Key::table(alloc, "test", "t")?);
-    contest(&mut book, holder, waiter)?;
-    Ok(book)
+    let mut book = new_book(alloc)?;
+    match contest(&mut book, holder, waiter) {
+        Ok(()) => Ok(book),
+        Err(error) => Err(error),
+    }
 }
 
 // One session has the lock, and another one waits for it.
@@ -102,9 +159,11 @@ fn contest(book: &mut Book, holder: u16, waiter: u16) -> Result<(), Failure> {
 
 // A lock that all sessions hold, and that each waits for more strongly.
 fn crowded(alloc: Global, sessions: u16) -> Result<Book, Failure> {
-    let mut book = Book::new(alloc, Key::table(alloc, "test", "t")?);
-    crowd(&mut book, sessions)?;
-    Ok(book)
+    let mut book = new_book(alloc)?;
+    match crowd(&mut book, sessions) {
+        Ok(()) => Ok(book),
+        Err(error) => Err(error),
+    }
 }
 
 // All sessions have the lock, and each waits for it more strongly.
@@ -124,31 +183,5 @@ fn ticket(session: u16, number: u64, mode: Mode) -> Ticket {
         session,
         number,
         mode,
-    }
-}
-
-#[cfg(test)]
-mod tests {
-    use super::*;
-
-    #[test]
-    fn shapes_have_their_victims(rt: HostRuntime) {
-        for (shape, sessions, want) in [
-            (Shape::Chain, 2, None),
-            (Shape::Chain, 8, None),
-            (Shape::Ring, 2, Some(2)),
-            (Shape::Ring, 8, Some(8)),
-            (Shape::Dense, 2, Some(2)),
-            (Shape::Dense, 8, Some(8)),
-        ] {
-            let found = match Tangle::new(rt.alloc(), shape, sessions) {
-                Ok(tangle) => tangle.search(rt.alloc()),
-                Err(failure) => Err(failure),
-            };
-            assert!(rt;
-                found.is_ok_and(|victim| victim == want),
-                "{sessions} sessions"
-            );
-        }
     }
 }

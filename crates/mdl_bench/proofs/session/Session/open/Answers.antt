@@ -1,10 +1,10 @@
 -- A session that has nothing is served by a context that keeps nothing.
 use Rattle.std.proofs.Common.{refl, arith}
 use Rattle.std.proofs.lemmas.List.Elements.{All-nil}
-use Rattle.mdl_bench.proofs.session.open.Goals as goal
+use Rattle.mdl_bench.proofs.session.Session.open.Goals as goal
 
-pub returns-in-Ok : goal.returns-in-Ok
-returns-in-Ok c =
+pub invariant_of-filled : goal.invariant_of-filled
+invariant_of-filled c =
     rw c.new-in-Ok.ensures (record {
       speaks = c.in-Ok.ensures.speaks 1 (omega arith) (omega arith);
       serves = rw c.in-Ok.ensures.made (record { held = refl; wait = refl });

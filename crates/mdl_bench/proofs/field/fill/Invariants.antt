@@ -1,6 +1,0 @@
--- The space goes on to speak for all sessions.
-use Rattle.std.proofs.Common.{ℕ, ◌≤◌}
-use Rattle.mdl_bench.proofs.field.fill.Given as goal
-
-abbrev pub invariant-loop-index : goal.invariant-loop-index
-invariant-loop-index g l = (w : ℕ) → 1 ≤ w → w ≤ 64 → g.S.LockSpace.speaks_for l.space w

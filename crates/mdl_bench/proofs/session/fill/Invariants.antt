@@ -1,6 +1,0 @@
--- The context keeps what its session holds.
-use Rattle.mdl_context.specs.Contexts.{Attends}
-use Rattle.mdl_bench.proofs.session.fill.Given as goal
-
-abbrev pub invariant-loop-index : goal.invariant-loop-index
-invariant-loop-index g l = Attends g.S.LockSpace.speaks_for g.S.LockSpace.own g.S.LockSpace.knows l.space l.context
