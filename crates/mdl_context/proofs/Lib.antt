@@ -3,6 +3,7 @@ pub mod BeyondLemmas
 pub mod FrontLemmas
 pub mod GainLemmas
 pub mod IndexLemmas
+pub mod NameLemmas
 pub mod OthersLemmas
 pub mod PlaceLemmas
 pub mod ReleaseLemmas
