@@ -14,7 +14,7 @@ const PLACES: u16 = 256;
 // The tables that are locked one after another, and then given up at once.
 const LOCKED: u16 = 100;
 
-/// What is done by a context. Each request has a copy of its key.
+/// What is done by a context.
 #[derive(Clone, Copy)]
 pub enum Job {
     /// A table is locked and given up.
@@ -84,16 +84,8 @@ impl Session {
 
     // Comes by the lock of a table in SR.
     fn acquire(&mut self, table: u16, duration: Duration) -> Result<TicketId, Failure> {
-        match self.copy(table) {
-            Ok(key) => acquire(&mut self.space, &mut self.context, key, duration),
-            Err(error) => Err(error),
-        }
-    }
-
-    // A copy of a table's key.
-    fn copy(&self, table: u16) -> Result<Key, Failure> {
         match self.keys.get(usize::from(table)) {
-            Some(key) => Ok(key.clone()?),
+            Some(key) => acquire(&mut self.space, &mut self.context, key, duration),
             None => Err(Failure::Unexpected),
         }
     }
@@ -135,16 +127,20 @@ impl Session {
         Ok(gone)
     }
 
-    // Copies so many keys: how many are of tables.
-    fn copy_often(&self, turns: u32, tables: u16) -> Result<u64, Failure> {
-        let mut copied = 0u64;
+    // Looks so many keys up: how many are of tables.
+    fn look_often(&self, turns: u32, tables: u16) -> Result<u64, Failure> {
+        let mut found = 0u64;
         for _turn in 0..turns {
             for table in 0..tables {
-                let key = self.copy(PLACES - 1 - table % PLACES)?;
-                copied = copied.wrapping_add(u64::from(key.kind().has_mode(Mode::SR)));
+                match self.keys.get(usize::from(PLACES - 1 - table % PLACES)) {
+                    Some(key) => found = found.wrapping_add(u64::from(
+                        key.kind().has_mode(Mode::SR),
+                    )),
+                    None => return Err(Failure::Unexpected),
+                }
             }
         }
-        Ok(copied)
+        Ok(found)
     }
 }
 
@@ -165,7 +161,7 @@ fn tables(alloc: Global) -> Result<Vec<Key>, Failure> {
 fn acquire<S: LockSpace>(
     space: &mut S,
     context: &mut Context<S>,
-    key: Key,
+    key: &Key,
     duration: Duration,
 ) -> Result<TicketId, Failure>
     requires { Attends S.speaks_for S.own S.knows space.old context.old }
@@ -191,11 +187,11 @@ impl Work for Session {
         }
     }
 
-    // The copies of the keys alone.
+    // The keys alone are looked up.
     fn idle(&mut self, turns: u32) -> Result<u64, Failure> {
         match self.job {
-            Job::Keep => self.copy_often(turns, 1),
-            Job::GoBack => self.copy_often(turns, LOCKED),
+            Job::Keep => self.look_often(turns, 1),
+            Job::GoBack => self.look_often(turns, LOCKED),
         }
     }
 }
