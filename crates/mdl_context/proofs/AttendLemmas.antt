@@ -121,9 +121,9 @@ module _ {S : Type 0} {speaks_for : S → ℕ → Type 0} {own : S → ℕ → O
       (subst (ArePlaced before.known) (sym kept)
       (All-map (λ (t : Kept). is_known_place before.known t.place ≡ true) f before.kept (λ k d inside. placed-changed (slice_index_or before.kept k d) (attends.places k d inside))))
       (subst (IsPlaced before.known) (sym wait) attends.wish)
-      where
-        placed-changed : (t : Kept) → is_known_place before.known t.place ≡ true → is_known_place before.known (f t).place ≡ true
-        placed-changed t there = ap (λ (h : Held). is_known_place before.known h.place) (same t) ∙ there
+    where
+      placed-changed : (t : Kept) → is_known_place before.known t.place ≡ true → is_known_place before.known (f t).place ≡ true
+      placed-changed t there = ap (λ (h : Held). is_known_place before.known h.place) (same t) ∙ there
 
   -- one more place is known
   pub attends-learnt : (space : S) (key : KeyName) (place : ℕ) (before after : ContextView) → Attends speaks_for own knows space before → knows space before.who place key

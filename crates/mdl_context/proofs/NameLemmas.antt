@@ -45,6 +45,7 @@ module _ {S : Type 0} (speaks_for : S → ℕ → Type 0) (own : S → ℕ → O
           let one : key ≡ e.0 = one_key space who place key e.0 speaks knew there in
           absurd (grind (arith, differs, (key-Decides key e.0).1 one))
       other differs false same = refl
+
       go : (b : Bool) → key_eq key e.0 ≡ b → (place_known key es ≡ None → is_known_place es place ≡ false) → is_known_place (e ∷ es) place ≡ false
       go true same later = absurd (grind (arith, none, same))
       go false same later =

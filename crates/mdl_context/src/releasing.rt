@@ -22,7 +22,12 @@ pub(crate) fn release<S: LockSpace>(space: &mut S, who: u16, id: TicketId)
 }
 
 /// Releases the tickets that are given up, in order of gain. It takes no memory.
-pub(crate) fn release_all<S: LockSpace>(space: &mut S, who: u16, holdings: &mut Holdings, going: &Going)
+pub(crate) fn release_all<S: LockSpace>(
+    space: &mut S,
+    who: u16,
+    holdings: &mut Holdings,
+    going: &Going,
+)
     requires speaks { S.speaks_for space.old who }
     requires held { (S.own space.old who).held ≡ map held_of holdings.old.kept }
     ensures speaks { S.speaks_for space.new who }

@@ -22,11 +22,7 @@ impl<S: LockSpace> Context<S> {
     /// stay settled.
     ///
     /// After MySQL 5.7, `MDL_context::acquire_lock` of `sql/mdl.cc`.
-    pub fn acquire(
-        &mut self,
-        space: &mut S,
-        request: Request<'_>,
-    ) -> Result<Acquire, ContextError>
+    pub fn acquire(&mut self, space: &mut S, request: Request<'_>) -> Result<Acquire, ContextError>
         requires { Attends S.speaks_for S.own S.knows space.old self.old }
         ensures run { Runs S.joins space.old (acquiring request.entry self.old) (result, self.new) space.new }
         ensures attends { Attends S.speaks_for S.own S.knows space.new self.new }

@@ -32,7 +32,7 @@ returns-in_default-clause-run g c =
     let gone = at_known_place (place_known c.args.key.now before.known) before.kept in
     let none : gone ≡ [] = ap (λ place. at_known_place place before.kept) (sym c.place_known.ensures ∙ c.in_default.is) in
     let run = run-given-up joins gone before before c.args.space.now c.args.space.now (run-none joins before.who gone c.args.space.now none)
-        (ap (λ (kept : List Kept). let v : ContextView = record before { kept = kept } in v) (sym (ap (λ xs. without xs before.kept) none ∙ without-none before.kept))) in
+    (ap (λ (kept : List Kept). let v : ContextView = record before { kept = kept } in v) (sym (ap (λ xs. without xs before.kept) none ∙ without-none before.kept))) in
     rw (← c.self.view_is)
     (run-unless joins _ before (giving_up gone before) c.args.space.now c.args.space.now _ (no-wait before (sym c.is_waiting.ensures ∙ c.if-is_waiting.false)) run)
 
