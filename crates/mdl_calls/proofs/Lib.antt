@@ -1,3 +1,5 @@
+pub mod FaithfulLemmas
 pub mod LoneLemmas
 pub mod OwnLemmas
 pub mod RunLemmas
+pub mod SeekingLemmas

@@ -1,5 +1,5 @@
 -- Runs of programs: one after another, and what they keep.
-use Rattle.std.proofs.Common.{◌≡◌, inl, inr, subst, sym}
+use Rattle.std.proofs.Common.{inl, inr, subst, sym}
 use Rattle.mdl_calls.specs.Calls.{Call}
 use Rattle.mdl_calls.specs.Answers.{Answer}
 use Rattle.mdl_calls.specs.Runs.{Program, Give, Ask, Grow, ◌>>=◌, Runs}

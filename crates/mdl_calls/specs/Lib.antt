@@ -1,6 +1,7 @@
 pub mod Answers
 pub mod Calls
 pub mod Causes
+pub mod Faithful
 pub mod Own
 pub mod Runs
 pub mod Searches

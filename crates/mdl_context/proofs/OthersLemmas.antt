@@ -104,7 +104,7 @@ for_gaining : (ticket : Option Held) (who place : ℕ) (mode : Mode) → IsFor w
 for_gaining (Some ticket) who place mode = (refl, for_copy who)
 for_gaining None who place mode = (refl, for_try who place mode)
 
-for_reusing : (ticket : Option Held) (place : ℕ) (request : Request) (context : ContextView) → IsFor context.who (requests.reusing ticket place request context)
+pub for_reusing : (ticket : Option Held) (place : ℕ) (request : Request) (context : ContextView) → IsFor context.who (requests.reusing ticket place request context)
 for_reusing (Some ticket) place request context = tt
 for_reusing None place request context =
     (tt, for_bind context.who (gains.gaining_from (earliest (requests.suffices place request) context.kept) context.who place request.mode) _ (for_gaining _ context.who place request.mode) (λ _. tt))
@@ -115,12 +115,9 @@ for_place request context (At_place place) =
     (tt, for_reusing (earliest (requests.is_reusable place request) after.kept) place request after)
 for_place request context _ = tt
 
-for_finding : (place : Option ℕ) (request : Request) (context : ContextView) → IsFor context.who (requests.finding place request context)
+pub for_finding : (place : Option ℕ) (request : Request) (context : ContextView) → IsFor context.who (requests.finding place request context)
 for_finding (Some place) request context = for_reusing (earliest (requests.is_reusable place request) context.kept) place request context
 for_finding None request context = (refl, for_place request context)
-
-pub for_acquiring : (request : Request) (context : ContextView) → IsFor context.who (requests.acquiring request context)
-for_acquiring request context = either context.who (is_some context.wait) _ _ tt (for_finding _ request context)
 
 -- ---- waits
 
@@ -129,12 +126,15 @@ for_end context (Granted id) = tt
 for_end context (Lost how) = tt
 for_end context _ = tt
 
+pub for_ending : (context : ContextView) → IsFor context.who (waits.ending context)
+for_ending context = (refl, for_end context)
+
 for_poll : (context : ContextView) (answer : Answer) → IsFor context.who (waits.poll_answered context answer)
 for_poll context Pending = tt
 for_poll context (Is_settled how) = (refl, for_end context)
 for_poll context _ = tt
 
-for_looking : (context : ContextView) → IsFor context.who (waits.looking context)
+pub for_looking : (context : ContextView) → IsFor context.who (waits.looking context)
 for_looking context = (refl, for_poll context)
 
 for_wait_sought : (context : ContextView) (end : SearchEnd) → IsFor context.who (waits.wait_sought context end)
@@ -142,22 +142,8 @@ for_wait_sought context Over = for_looking (waits.searched context)
 for_wait_sought context Cut_off = for_looking context
 for_wait_sought context (Failed refusal) = for_bind context.who (gains.abandoning context.who) _ (for_abandoning context.who) (λ _. tt)
 
-for_cut_off : (context : ContextView) (answer : Answer) → IsFor context.who (waits.cut_off_answered context answer)
-for_cut_off context Pending =
-    for_bind context.who (seeking most_searches context.who) _ (for_seeking most_searches context.who) (for_wait_sought context)
-for_cut_off context (Is_settled how) = (refl, for_end context)
-for_cut_off context _ = tt
-
-for_going_on : (searched : Option Bool) (context : ContextView) → IsFor context.who (waits.going_on searched context)
-for_going_on None context = tt
-for_going_on (Some true) context = for_looking context
-for_going_on (Some false) context = (refl, for_cut_off context)
-
-pub for_resuming : (context : ContextView) → IsFor context.who (waits.resuming context)
-for_resuming context = for_going_on (waits.is_searched context.wait) context
-
-pub for_giving_up_wait : (context : ContextView) → IsFor context.who (waits.giving_up_wait context)
-for_giving_up_wait context = either context.who (is_some context.wait) _ _ (refl, λ _. (refl, for_end context)) tt
+pub for_searching_on : (context : ContextView) → IsFor context.who (waits.searching_on context)
+for_searching_on context = for_bind context.who (seeking most_searches context.who) _ (for_seeking most_searches context.who) (for_wait_sought context)
 
 -- ---- releases
 

@@ -1,6 +1,6 @@
 -- How a space is asked for a lock at a place, after MySQL 5.7: `MDL_context::try_acquire_lock_impl`, `clone_ticket` and
 -- `acquire_lock` of sql/mdl.cc. That searches for deadlocks are cut off after so many is this project's own choice.
-use Rattle.std.specs.Prelude.{ℕ, true, false, Option, Some, None, Result, Ok, Err}
+use Rattle.std.specs.Prelude.{◌≡◌, ℕ, true, false, Option, Some, None, Result, Ok, Err}
 use Rattle.mdl_key.specs.declared.mode.Mode.{Mode}
 use Rattle.mdl_calls.specs.declared.answers.Held.{Held}
 use Rattle.mdl_calls.specs.declared.space_error.SpaceError.{SpaceError}
@@ -70,7 +70,8 @@ own_got place mode (Ok (got.Granted id)) own = owned.gaining id place mode own
 own_got place mode (Ok (got.Waits number searched)) own = owned.waiting number place mode own
 own_got place mode (Err refusal) own = own
 
--- and what it has that waited meanwhile
-abbrev pub own_waited : Result Got SpaceError → Own → Own
-own_waited (Ok _) own = own
-own_waited (Err refusal) own = owned.ending own
+-- and what it has that waited meanwhile, by a wait of this number
+abbrev pub OwnWaited : ℕ → Result Got SpaceError → Own → Own → Type 0
+OwnWaited number (Ok (got.Granted id)) before after = ⊥
+OwnWaited number (Ok (got.Waits n searched)) before after = (n ≡ number) × (after ≡ before)
+OwnWaited number (Err refusal) before after = after ≡ owned.ending before

@@ -18,6 +18,8 @@ pub mod Effects
 pub mod KnownPlaces
 pub mod MadeCalls
 pub mod PairLemmas
+pub mod RefusalOrder
+pub mod RunOutcomes
 pub mod SearchRuns
 pub mod SessionHas
 pub mod SessionWaits

@@ -5,6 +5,8 @@ pub mod CoreJoins
 pub mod CoreLaws
 pub mod CoreSystems
 pub mod Cores
+pub mod RefusalLaws
+pub mod RunLaws
 pub mod SearchLaws
 pub mod Seats
 pub mod SessionLaws

@@ -8,6 +8,7 @@
 mod core_laws;
 mod new_error;
 mod pending;
+mod run_laws;
 mod session_laws;
 
 pub use core_laws::{
@@ -17,6 +18,8 @@ pub use core_laws::{
 };
 pub use new_error::NewError;
 pub use pending::Pending;
+pub use run_laws::{frugal_runs, outcomes_are_runs, sure_runs};
 pub use session_laws::{
-    kills_just_that_wait, refuses_for_cause, sessions_have_what_the_system_says,
+    kills_just_that_wait, refuses_clones_in_order, refuses_for_cause, refuses_wishes_in_order,
+    sessions_have_what_the_system_says,
 };

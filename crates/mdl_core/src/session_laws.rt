@@ -1,6 +1,7 @@
 //! Laws of what a session has in the space of one thread, and of what its calls are told. Each is proved as the contract of a
 //! function that does nothing.
 ghost use Rattle.mdl_core.specs.SessionLaws.{SessionsHaveWhatTheSystemSays, KillsJustThatWait, RefusesForCause};
+ghost use Rattle.mdl_core.specs.RefusalLaws.{RefusesWishesInOrder, RefusesClonesInOrder};
 
 /// What a session holds, and how its wait stands, is what the system of locks says of it, and nothing there is of what is no
 /// session.
@@ -17,4 +18,16 @@ pub fn kills_just_that_wait()
 /// No call is refused for want of a place, for a full lock or for a full counter where that limit isn't met.
 pub fn refuses_for_cause()
     ensures { RefusesForCause }
+{}
+
+/// A lock that is asked for is refused for want of its place before all else; then where the session waits; then in a mode that
+/// isn't of the place's kind; then where the session has used up its numbers, also of a full lock.
+pub fn refuses_wishes_in_order()
+    ensures { RefusesWishesInOrder }
+{}
+
+/// A second ticket is refused where the first isn't held; then where the session waits; then in a mode for which that one can't
+/// serve; then where the session has used up its numbers; and last of a full lock.
+pub fn refuses_clones_in_order()
+    ensures { RefusesClonesInOrder }
 {}

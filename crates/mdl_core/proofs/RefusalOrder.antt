@@ -1,0 +1,126 @@
+-- The first cause that stands against a call is answered.
+use Rattle.std.proofs.Common.{◌≡◌, ℕ, ◌-◌, ◌^◌, Bool, true, false, not, List, [], ◌∷◌, is_some, inl, inr, if◌then◌else◌, drop, refl, ap, ◌∙◌}
+use Rattle.std.proofs.lemmas.Bool.{le-leb}
+use Rattle.std.proofs.lemmas.Bool.Decides.{leb_tells}
+use Rattle.mdl_key.specs.declared.mode.Mode.{Mode}
+use Rattle.mdl_calls.specs.declared.answers.Held.{Held}
+use Rattle.mdl_calls.specs.declared.space_error.SpaceError.{SpaceError}
+use Rattle.mdl_calls.specs.declared.space_error.SpaceError.TheVariants.{NoPlace, AlreadyWaiting, BadMode, CounterFull, Full}
+use Rattle.mdl_calls.specs.Words.{Answer, Refused, Would_wait}
+use Rattle.mdl_core.specs.CoreCalls.{refused_or, first_cause, request_causes, clone_causes, queued_unless_full, granted_unless_full, is_counted_out, is_full}
+use Rattle.mdl_core.specs.Cores.{Core, seat_at, has_key, is_free}
+use Rattle.mdl_core.specs.declared.pending.Pending.{Pending}
+use Rattle.mdl_core.specs.RefusalLaws.{IsIdle, is_mode_at, serves_for, RefusesWishesInOrder, RefusesClonesInOrder}
+use Rattle.mdl_core.specs.SessionLaws.{HasWait, HasNoNumber, HasNoRoom}
+
+-- a cause that stands is answered, and one that doesn't is passed over
+module _ (core : Core) (end : Answer × Core) where
+  answered : (cause : Bool) (refusal : SpaceError) (later : List (Bool × SpaceError)) → cause ≡ true
+      → refused_or (first_cause ((cause, refusal) ∷ later)) core end ≡ (Refused refusal, core)
+  answered true refusal later stands = refl
+  answered false refusal later stands = cc
+
+  passed : (cause : Bool) (refusal : SpaceError) (later : List (Bool × SpaceError)) → cause ≡ false
+      → refused_or (first_cause ((cause, refusal) ∷ later)) core end ≡ refused_or (first_cause later) core end
+  passed true refusal later none = cc
+  passed false refusal later none = refl
+
+-- what the tests of a call say
+taken : {A : Type 0} (test : Bool) (x y : A) → test ≡ true → (if test then x else y) ≡ x
+taken true x y met = refl
+taken false x y met = cc
+
+counted-out : (core : Core) (who : ℕ) → HasNoNumber core who → is_counted_out who core ≡ true
+counted-out core who none = le-leb _ _ none
+
+not-counted_out : (core : Core) (who : ℕ) → (HasNoNumber core who → ⊥) → is_counted_out who core ≡ false
+not-counted_out core who some = elim (leb_tells (2 ^ 60 - 1) (seat_at who core).last_ticket) [
+  | inl none ↦ absurd (some none.1)
+  | inr few ↦ few.0
+]
+
+-- ---- a lock is asked for
+
+-- so many causes are passed over, and this would come of it if it weren't refused
+abbrev pub wished : ℕ → Core → ℕ → ℕ → Mode → Answer × Core → Answer × Core
+wished past core who place mode end = refused_or (first_cause (drop past (request_causes who place mode core))) core end
+
+module _ (core : Core) (who place : ℕ) (mode : Mode) (end : Answer × Core) where
+  no-place : has_key place core ≡ false → wished 0 core who place mode end ≡ (Refused NoPlace, core)
+  no-place absent = answered core end (not (has_key place core)) NoPlace (drop 1 (request_causes who place mode core)) (ap not absent)
+
+  past-place : has_key place core ≡ true → wished 0 core who place mode end ≡ wished 1 core who place mode end
+  past-place there = passed core end (not (has_key place core)) NoPlace (drop 1 (request_causes who place mode core)) (ap not there)
+
+  wish-waiting : has_key place core ≡ true → (wait : Pending) → HasWait core who wait
+      → wished 0 core who place mode end ≡ (Refused AlreadyWaiting, core)
+  wish-waiting there wait waits =
+      past-place there ∙ answered core end (is_some (seat_at who core).wait) AlreadyWaiting (drop 2 (request_causes who place mode core)) (ap is_some waits)
+
+  past-wait : has_key place core ≡ true → IsIdle core who → wished 0 core who place mode end ≡ wished 2 core who place mode end
+  past-wait there idle =
+      past-place there ∙ passed core end (is_some (seat_at who core).wait) AlreadyWaiting (drop 2 (request_causes who place mode core)) (ap is_some idle)
+
+  bad-mode : has_key place core ≡ true → IsIdle core who → is_mode_at place mode core ≡ false
+      → wished 0 core who place mode end ≡ (Refused BadMode, core)
+  bad-mode there idle bad =
+      past-wait there idle ∙ answered core end (not (is_mode_at place mode core)) BadMode (drop 3 (request_causes who place mode core)) (ap not bad)
+
+  no-number : has_key place core ≡ true → IsIdle core who → is_mode_at place mode core ≡ true → HasNoNumber core who
+      → wished 0 core who place mode end ≡ (Refused CounterFull, core)
+  no-number there idle fits none =
+      past-wait there idle ∙ passed core end (not (is_mode_at place mode core)) BadMode (drop 3 (request_causes who place mode core)) (ap not fits)
+      ∙ answered core end (is_counted_out who core) CounterFull [] (counted-out core who none)
+
+-- each call that asks for a lock
+pub refuses-wishes_in_order : RefusesWishesInOrder
+refuses-wishes_in_order core who place mode call asks = elim asks [
+  | inl now ↦ rw now (no-place core who place mode tried, wish-waiting core who place mode tried, bad-mode core who place mode tried, no-number core who place mode tried)
+  | inr later ↦ rw later (no-place core who place mode begun, wish-waiting core who place mode begun, bad-mode core who place mode begun, no-number core who place mode begun)
+]
+  where
+    tried : Answer × Core
+    tried = if not (is_free who place mode core) then (Would_wait, core) else granted_unless_full who place mode core
+
+    begun : Answer × Core
+    begun = if not (is_free who place mode core) then queued_unless_full who place mode core else granted_unless_full who place mode core
+
+-- ---- a second ticket is asked for
+
+-- so many causes are passed over, and else it is granted where there is room
+abbrev pub copied : ℕ → Core → ℕ → Mode → Held → Answer × Core
+copied past core who mode ticket =
+    refused_or (first_cause (drop past (clone_causes who mode ticket core))) core (granted_unless_full who ticket.place mode core)
+
+module _ (core : Core) (who id : ℕ) (mode : Mode) (ticket : Held) where
+  clone-waiting : (wait : Pending) → HasWait core who wait → copied 0 core who mode ticket ≡ (Refused AlreadyWaiting, core)
+  clone-waiting wait waits =
+      answered core (granted_unless_full who ticket.place mode core) (is_some (seat_at who core).wait) AlreadyWaiting (drop 1 (clone_causes who mode ticket core)) (ap is_some waits)
+
+  clone-idle : IsIdle core who → copied 0 core who mode ticket ≡ copied 1 core who mode ticket
+  clone-idle idle =
+      passed core (granted_unless_full who ticket.place mode core) (is_some (seat_at who core).wait) AlreadyWaiting (drop 1 (clone_causes who mode ticket core)) (ap is_some idle)
+
+  clone-unfit : IsIdle core who → serves_for ticket mode core ≡ false → copied 0 core who mode ticket ≡ (Refused BadMode, core)
+  clone-unfit idle unfit =
+      clone-idle idle ∙ answered core (granted_unless_full who ticket.place mode core) (not (serves_for ticket mode core)) BadMode (drop 2 (clone_causes who mode ticket core)) (ap not unfit)
+
+  clone-fit : IsIdle core who → serves_for ticket mode core ≡ true → copied 0 core who mode ticket ≡ copied 2 core who mode ticket
+  clone-fit idle fits =
+      clone-idle idle ∙ passed core (granted_unless_full who ticket.place mode core) (not (serves_for ticket mode core)) BadMode (drop 2 (clone_causes who mode ticket core)) (ap not fits)
+
+  clone-no_number : IsIdle core who → serves_for ticket mode core ≡ true → HasNoNumber core who → copied 0 core who mode ticket ≡ (Refused CounterFull, core)
+  clone-no_number idle fits none =
+      clone-fit idle fits ∙ answered core (granted_unless_full who ticket.place mode core) (is_counted_out who core) CounterFull [] (counted-out core who none)
+
+  clone-no_room : IsIdle core who → serves_for ticket mode core ≡ true → (HasNoNumber core who → ⊥) → HasNoRoom core ticket.place
+      → copied 0 core who mode ticket ≡ (Refused Full, core)
+  clone-no_room idle fits some full =
+      clone-fit idle fits ∙ passed core (granted_unless_full who ticket.place mode core) (is_counted_out who core) CounterFull [] (not-counted_out core who some)
+      ∙ taken (is_full ticket.place core) _ _ (le-leb _ _ full)
+
+pub refuses-clones_in_order : RefusesClonesInOrder
+refuses-clones_in_order core who id mode = (
+  λ none. rw none refl,
+  λ ticket held. rw held (clone-waiting core who id mode ticket, clone-unfit core who id mode ticket, clone-no_number core who id mode ticket, clone-no_room core who id mode ticket),
+)

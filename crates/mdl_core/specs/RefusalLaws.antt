@@ -1,0 +1,58 @@
+-- Which refusal the space of one thread answers where more than one could be: the first cause in the order of the refusals.
+use Rattle.std.specs.Prelude.{◌≡◌, ◌⊎◌, ℕ, Bool, true, false, ◌&&◌, Some, None}
+use Rattle.mdl_key.specs.declared.mode.Mode.{Mode}
+use Rattle.mdl_key.specs.Words.{kind_of, is_mode_of}
+use Rattle.mdl_calls.specs.declared.answers.Held.{Held}
+use Rattle.mdl_calls.specs.declared.space_error.SpaceError.{SpaceError}
+use Rattle.mdl_calls.specs.declared.space_error.SpaceError.TheVariants.{NoPlace, NotHeld, AlreadyWaiting, BadMode, CounterFull, Full}
+use Rattle.mdl_calls.specs.Words.{Refused, Call, Try_now, Begin_wait, Clone_ticket}
+use Rattle.mdl_core.specs.declared.pending.Pending.{Pending}
+use Rattle.mdl_core.specs.CoreCalls.{outcome, held_ticket}
+use Rattle.mdl_core.specs.Cores.{Core, seat_at, has_key, key_at}
+use Rattle.mdl_core.specs.SessionLaws.{HasWait, HasNoNumber, HasNoRoom}
+use Rattle.mdl_system.specs.Strength.{covers}
+
+-- the call is refused so, and nothing changes
+abbrev pub IsRefused : Core → Call → SpaceError → Type 0
+IsRefused core call refusal = outcome call core ≡ (Refused refusal, core)
+
+-- the call asks for a lock, and would wait for it or not
+abbrev pub AsksFor : ℕ → ℕ → Mode → Call → Type 0
+AsksFor who place mode call = (call ≡ Try_now who place mode) ⊎ (call ≡ Begin_wait who place mode)
+
+-- the session has no wait
+abbrev pub IsIdle : Core → ℕ → Type 0
+IsIdle core who = (seat_at who core).wait ≡ None
+
+-- whether the mode is one of the kind of the place's key
+abbrev pub is_mode_at : ℕ → Mode → Core → Bool
+is_mode_at place mode core = is_mode_of (kind_of (key_at place core).namespace) mode
+
+-- a lock that is asked for is refused for want of its place before all else, also to a session that waits; then to one that
+-- waits, in whatever mode; then in a mode that isn't of the place's kind; then to one that has used up its numbers, also where
+-- the lock is full
+abbrev pub RefusesWishesInOrder : Type 0
+RefusesWishesInOrder =
+    (core : Core) (who place : ℕ) (mode : Mode) (call : Call) → AsksFor who place mode call →
+    (has_key place core ≡ false → IsRefused core call NoPlace)
+    × (has_key place core ≡ true → (wait : Pending) → HasWait core who wait → IsRefused core call AlreadyWaiting)
+    × (has_key place core ≡ true → IsIdle core who → is_mode_at place mode core ≡ false → IsRefused core call BadMode)
+    × (has_key place core ≡ true → IsIdle core who → is_mode_at place mode core ≡ true → HasNoNumber core who →
+    IsRefused core call CounterFull)
+
+-- whether a held ticket can serve for a second one in the mode
+abbrev pub serves_for : Held → Mode → Core → Bool
+serves_for ticket mode core = covers ticket.mode mode && is_mode_at ticket.place mode core
+
+-- a second ticket is refused where the first isn't held; then to a session that waits; then in a mode for which that one can't
+-- serve; then to a session that has used up its numbers; and last where the lock is full
+abbrev pub RefusesClonesInOrder : Type 0
+RefusesClonesInOrder =
+    (core : Core) (who id : ℕ) (mode : Mode) → let call = Clone_ticket who id mode in
+    (held_ticket who id core ≡ None → IsRefused core call NotHeld)
+    × ((ticket : Held) → held_ticket who id core ≡ Some ticket →
+    ((wait : Pending) → HasWait core who wait → IsRefused core call AlreadyWaiting)
+    × (IsIdle core who → serves_for ticket mode core ≡ false → IsRefused core call BadMode)
+    × (IsIdle core who → serves_for ticket mode core ≡ true → HasNoNumber core who → IsRefused core call CounterFull)
+    × (IsIdle core who → serves_for ticket mode core ≡ true → (HasNoNumber core who → ⊥) → HasNoRoom core ticket.place →
+    IsRefused core call Full))
