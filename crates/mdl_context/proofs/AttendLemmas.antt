@@ -7,15 +7,19 @@ use Rattle.std.specs.Option.{IfSome}
 use Rattle.std.proofs.lemmas.Bool.Decides.{nat_tests}
 use Rattle.std.proofs.lemmas.List.Elements.{All-push, All-map, All-filter}
 use Rattle.mdl_key.specs.Keys.{KeyName, key_eq}
+use Rattle.mdl_system.proofs.Deciding.{key-Decides}
 use Rattle.mdl_calls.specs.declared.answers.Held.{Held}
 use Rattle.mdl_calls.specs.declared.answers.Settled.{Settled}
-use Rattle.mdl_calls.specs.Words.{Answer, Done, Granted, Lost, Call, End_wait, Unpin, caller, Own, own_after}
+use Rattle.mdl_calls.specs.Words.{Answer, Done, Granted, Lost, Call, End_wait, Unpin, caller, Own, own_after, gaining}
+use Rattle.mdl_calls.specs.Own.{waiting}
 use Rattle.mdl_context.specs.declared.kept.Kept.{Kept}
 use Rattle.mdl_context.specs.declared.kept.Wanted.{Wanted}
 use Rattle.mdl_context.specs.Contexts.{ContextView, Attends, Serves, held_of, place_known, is_known_place}
 use Rattle.mdl_context.specs.Holdings.{with_wanted}
-use Rattle.mdl_context.specs.Requests.{remembering}
-use Rattle.mdl_context.proofs.ServingLemmas.{serves-changed, serves-ending, serves-winning}
+use Rattle.mdl_context.specs.declared.request.Request.{Request}
+use Rattle.mdl_context.specs.Requests.{remembering, keeping, awaiting}
+use Rattle.mdl_context.specs.Waits.{without_wait}
+use Rattle.mdl_context.proofs.ServingLemmas.{serves-changed, serves-gaining, serves-waiting, serves-ending, serves-winning}
 
 -- whether a call gives a place up
 abbrev pub unpins : Call → Bool
@@ -48,6 +52,14 @@ known-place key (e ∷ es) place found = go (key_eq key e.0) refl (known-place k
 pub still-known-place : (known : List (KeyName × ℕ)) (e : KeyName × ℕ) (place : ℕ) → is_known_place known place ≡ true → is_known_place (known ++ e ∷ []) place ≡ true
 still-known-place [] e place there = cc
 still-known-place (x ∷ xs) e place there = grind (arith, nat_tests, still-known-place xs e place)
+
+-- the key that came to be known last is known
+pub known-last : (key : KeyName) (known : List (KeyName × ℕ)) (place : ℕ) → place_known key known ≡ None → place_known key (known ++ (key, place) ∷ []) ≡ Some place
+known-last key [] place none = rw ((key-Decides key key).1 refl) refl
+known-last key (e ∷ es) place none = go (key_eq key e.0) refl (known-last key es place) where
+  go : (b : Bool) → key_eq key e.0 ≡ b → (place_known key es ≡ None → place_known key (es ++ (key, place) ∷ []) ≡ Some place) → place_known key ((e ∷ es) ++ (key, place) ∷ []) ≡ Some place
+  go true same later = absurd (grind (arith, none, same))
+  go false same later = let there : place_known key (es ++ (key, place) ∷ []) ≡ Some place = later (grind (arith, none, same)) in rw same there
 
 -- with one more ticket
 pub placed-push : (known : List (KeyName × ℕ)) (kept now : List Kept) (ticket : Kept) → now ≡ kept ++ ticket ∷ [] → ArePlaced known kept → is_known_place known ticket.place ≡ true → ArePlaced known now
@@ -125,6 +137,25 @@ module _ {S : Type 0} {speaks_for : S → ℕ → Type 0} {own : S → ℕ → O
         wish = still-wished before.known (key, place) before.wait attends.wish;
       })
 
+  -- a ticket at a known place is gained
+  pub attends-granted : (a b : S) (before after : ContextView) (id place : ℕ) (request : Request) → Attends speaks_for own knows a before
+      → ((at : ℕ) (key : KeyName) → knows a before.who at key → knows b before.who at key) → speaks_for b before.who → own b before.who ≡ gaining id place request.mode (own a before.who)
+      → is_known_place before.known place ≡ true → after ≡ keeping id place request before → Attends speaks_for own knows b after
+  attends-granted a b before after id place request attends still speaks gains there is =
+      let then_after = keeping id place request before in
+      subst (Attends speaks_for own knows b) (sym is)
+      (attends-over a b before then_after attends still speaks (serves-gaining _ _ before then_after id place request attends.serves gains refl refl) refl refl
+      (placed-push before.known before.kept then_after.kept _ refl attends.places there) attends.wish)
+
+  -- a wait for a ticket at a known place begins
+  pub attends-awaiting : (a b : S) (before after : ContextView) (number place : ℕ) (request : Request) (searched : Bool) → Attends speaks_for own knows a before
+      → ((at : ℕ) (key : KeyName) → knows a before.who at key → knows b before.who at key) → speaks_for b before.who → own b before.who ≡ waiting number place request.mode (own a before.who)
+      → is_known_place before.known place ≡ true → after ≡ awaiting place request searched before → Attends speaks_for own knows b after
+  attends-awaiting a b before after number place request searched attends still speaks begins there is =
+      let then_after = awaiting place request searched before in
+      subst (Attends speaks_for own knows b) (sym is)
+      (attends-over a b before then_after attends still speaks (serves-waiting _ _ before then_after number place request searched attends.serves begins refl refl) refl refl attends.places there)
+
 -- ---- over a call
 
 module _ {S : Type 0} {speaks_for : S → ℕ → Type 0} {own : S → ℕ → Own} {knows : S → ℕ → ℕ → KeyName → Type 0} {joins : S → Call → Answer → S → Type 0}
@@ -160,8 +191,8 @@ module _ {S : Type 0} {speaks_for : S → ℕ → Type 0} {own : S → ℕ → O
       (placed-taken before.known id before.wait before.kept after.kept kept attends.places attends.wish) (placed-none before.known after.wait wait)
 
   -- a wait ends without it
-  pub attends-lost : (a b : S) (how : Settled) (before after : ContextView) → Attends speaks_for own knows a before → joins a (End_wait before.who) (Lost how) b
-      → after.who ≡ before.who → after.known ≡ before.known → after.kept ≡ before.kept → after.wait ≡ None → Attends speaks_for own knows b after
-  attends-lost a b how before after attends step same known kept wait =
-      attends-after a b _ _ before after attends refl refl step (serves-ending _ _ before after attends.serves refl kept wait) same known
-      (subst (ArePlaced before.known) (sym kept) attends.places) (placed-none before.known after.wait wait)
+  pub attends-lost : (a b : S) (how : Settled) (before after : ContextView) → Attends speaks_for own knows a before → joins a (End_wait before.who) (Lost how) b → after ≡ without_wait before
+      → Attends speaks_for own knows b after
+  attends-lost a b how before after attends step lost =
+      subst (Attends speaks_for own knows b) (sym lost)
+      (attends-after a b _ _ before (without_wait before) attends refl refl step (serves-ending _ _ before (without_wait before) attends.serves refl refl refl) refl refl attends.places tt)

@@ -1,12 +1,13 @@
--- Numbers that rise: one taken out.
-use Rattle.std.proofs.Common.{◌≡◌, ◌≢◌, ℕ, zero, suc, ◌<◌, ◌≤◌, List, [], ◌∷◌, length, get_or, Result, Ok, Err, refl, sym, ap, ◌∙◌, arith}
+-- Numbers by place: one taken out of numbers that rise, and lists without numbers.
+use Rattle.std.proofs.Common.{◌≡◌, ◌≢◌, ℕ, zero, suc, ◌<◌, ◌≤◌, List, [], ◌∷◌, ◌++◌, length, get_or, Result, Ok, Err, refl, sym, ap, ◌∙◌, arith}
 use Rattle.std.specs.Prelude.{nat_lt, IsTrue}
 use Rattle.std.specs.List.{list_all, remove}
 use Rattle.std.specs.List.Sorted.{IsBinarySearchResult}
 use Rattle.std.specs.Ordering.{nat_cmp}
 use Rattle.std.proofs.lemmas.Bool.Decides.{nat_tests}
 use Rattle.std.proofs.lemmas.List.Sorted.{searched}
-use Rattle.mdl_context.specs.Indexes.{rises, without_one}
+use Rattle.smallvec.specs.SmallVec.{SmallVec}
+use Rattle.mdl_context.specs.Indexes.{Index, numbers_of, rises, without_one}
 
 -- ---- a number among numbers that rise
 
@@ -55,3 +56,10 @@ missed_stays ns id (Ok at) rising told none = absurd (none at refl)
 missed_stays ns id (Err gap) rising told none =
     let parted = searched ns id (Err gap) told (none_falls ns rising) in
     not_among id ns (λ k below same. grind (arith, nat_tests, parted.1 k, parted.2 k))
+
+-- a list without numbers more changes none
+pub one_empty_more : (index : Index) (list : SmallVec ℕ) (place : ℕ) → list.items ≡ [] → numbers_of place (index ++ list ∷ []) ≡ numbers_of place index
+one_empty_more [] list zero none = none
+one_empty_more [] list (suc place) none = refl
+one_empty_more (x ∷ xs) list zero none = refl
+one_empty_more (x ∷ xs) list (suc place) none = one_empty_more xs list place none

@@ -1,8 +1,10 @@
 pub mod AttendLemmas
 pub mod BeyondLemmas
 pub mod FrontLemmas
+pub mod GainLemmas
 pub mod IndexLemmas
 pub mod MemoryLemmas
+pub mod NameLemmas
 pub mod OthersLemmas
 pub mod OwnCallLemmas
 pub mod PlaceLemmas

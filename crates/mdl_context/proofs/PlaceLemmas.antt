@@ -41,7 +41,7 @@ rising-numbers place (x ∷ xs) rising = grind (arith, nat_tests, above-numbers 
 
 -- ---- a ticket more, a ticket less
 
-equal : (a b : ℕ) → (a == b) ≡ true → a ≡ b
+pub equal : (a b : ℕ) → (a == b) ≡ true → a ≡ b
 equal a b e = grind (arith, nat_tests)
 
 one_more : (t : Kept) (q : ℕ) (xs : List Kept) → numbers_among q (xs ++ t ∷ []) ≡ (if (t.place == q) then numbers_among q xs ++ t.id ∷ [] else numbers_among q xs)

@@ -1,9 +1,11 @@
 -- Tickets released one after the other, and what the session holds after each.
-use Rattle.std.proofs.Common.{◌≡◌, ℕ, ◌+◌, ◌<◌, Bool, true, false, List, [], ◌∷◌, ◌++◌, length, get_or, take, drop, refl, sym, ap, ◌∙◌, arith, rules, append_assoc, Result, Ok, Err}
+use Rattle.std.proofs.Common.{◌≡◌, ℕ, zero, suc, ◌+◌, ◌<◌, Bool, true, false, List, [], ◌∷◌, ◌++◌, length, get_or, take, drop, refl, sym, ap, ◌∙◌, arith, rules, append_assoc, Result, Ok, Err}
 use Rattle.std.specs.Prelude.{not, map, filter, find, is_some, IsOk}
 use Rattle.std.proofs.lemmas.Bool.Decides.{nat_tests}
 use Rattle.std.proofs.lemmas.List.{drop_more, take_more}
 use Rattle.std.proofs.lemmas.List.Elements.{filter-append}
+use Rattle.mdl_key.specs.declared.mode.Mode.TheVariants.{IX}
+use Rattle.mdl_key.specs.declared.mode.Duration.TheVariants.{Statement}
 use Rattle.mdl_calls.specs.declared.space_error.SpaceError.{SpaceError}
 use Rattle.mdl_calls.specs.declared.space_error.SpaceError.TheVariants.{NotHeld}
 use Rattle.mdl_calls.specs.Words.{Answer, Done, done, Call, Release, Knowledge, IsCause, IsExplained, Own, IsRising, is_number, holds, giving_up, Runs}
@@ -41,6 +43,16 @@ without_mid (x ∷ F) D t rising = grind (arith, nat_tests, without_mid F D t, a
 holds_mid : (F D : List Kept) (t : Kept) → is_some (find (is_number t.id) (map held_of (F ++ t ∷ D))) ≡ true
 holds_mid [] D t = grind (arith, nat_tests)
 holds_mid (x ∷ F) D t = grind (arith, nat_tests, holds_mid F D t)
+
+-- the ticket that stands for none
+abbrev pub no_item : Kept
+no_item = record { id = 0; place = 0; mode = IX; duration = Statement }
+
+-- a ticket is the one that is there
+pub own_item : (xs : List Kept) (i : ℕ) (d : Kept) → i < length xs → get_or xs i d ≡ get_or xs i (get_or xs i d)
+own_item [] i d inside = absurd (omega arith)
+own_item (x ∷ xs) zero d inside = refl
+own_item (x ∷ xs) (suc i) d inside = own_item xs i d (omega (arith, inside))
 
 -- what is left once the first so many tickets were looked at
 abbrev pub left : (Kept → Bool) → ℕ → List Kept → List Kept

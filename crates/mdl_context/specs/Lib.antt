@@ -5,6 +5,7 @@ pub mod Goings
 pub mod Holdings
 pub mod Indexes
 pub mod MemoryLaws
+pub mod NameLaws
 pub mod Releases
 pub mod Requests
 pub mod SearchEnds

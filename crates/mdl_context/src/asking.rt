@@ -3,7 +3,7 @@ ghost use Rattle.std.specs.Prelude.{◌≡◌, ℕ, Some, None, true};
 ghost use Rattle.std.specs.Option.{IfSome};
 ghost use Rattle.mdl_key.specs.Keys.{KeyName};
 ghost use Rattle.mdl_calls.specs.Words.{is_waiting, ticket_held, Runs};
-ghost use Rattle.mdl_context.specs.Gains.{gaining_from, asking_at, waiting_at, waiting_on, own_got, own_waited};
+ghost use Rattle.mdl_context.specs.Gains.{gaining_from, asking_at, waiting_at, waiting_on, own_got, OwnWaited};
 
 use crate::searches::{abandon, seek};
 use mdl_key::Mode;
@@ -87,7 +87,7 @@ fn wait_on<S: LockSpace>(space: &mut S, who: u16, number: u64) -> Result<Got, Sp
     ensures run { Runs S.joins space.old (waiting_on who number) result space.new }
     ensures speaks { S.speaks_for space.new who }
     ensures remembers { (at : ℕ) (key : KeyName) → S.knows space.old who at key → S.knows space.new who at key }
-    ensures own { S.own space.new who ≡ own_waited result (S.own space.old who) }
+    ensures own { OwnWaited number result (S.own space.old who) (S.own space.new who) }
 {
     match seek(space, who) {
         Ok(searched) => Ok(Got::Waits(number, searched)),

@@ -1,6 +1,6 @@
 //! The numbers of a session's tickets, found by place.
-ghost use Rattle.std.specs.Prelude.{◌≡◌, ℕ, true, [], ◌∷◌, ◌++◌, ◌==◌, OnOk, IsTrue, if◌then◌else◌};
-ghost use Rattle.mdl_context.specs.Indexes.{numbers_of, has_room_for, rises, without_one};
+ghost use Rattle.std.specs.Prelude.{◌≡◌, ℕ, true, Some, [], ◌∷◌, ◌++◌, ◌==◌, OnOk, IsTrue, if◌then◌else◌};
+ghost use Rattle.mdl_context.specs.Indexes.{numbers_of, has_place, has_room_for, rises, without_one};
 
 use mdl_space::{Place, TicketId};
 use smallvec::SmallVec;
@@ -49,11 +49,7 @@ impl ByPlace {
         ensures numbers { (q : ℕ) → numbers_of q self.new ≡ numbers_of q self.old }
     {
         let at = usize::from(place);
-        for _list in self.lists.len()..at + 1 {
-            if self.lists.push(SmallVec::new(self.alloc)).is_err() {
-                return Err(AllocError);
-            }
-        }
+        list_up_to(&mut self.lists, place, self.alloc)?;
         match self.lists.get_mut(at) {
             Some(list) => list.reserve(1),
             None => Err(AllocError),
@@ -77,9 +73,35 @@ impl ByPlace {
         ensures stays { (q : ℕ) → has_room_for q self.old ≡ true → has_room_for q self.new ≡ true }
     {
         if let Some(list) = self.lists.get_mut(usize::from(place)) {
-            if let Ok(at) = list.binary_search(&id) {
-                list.remove(at);
-            }
+            take_out(list, id);
         }
     }
+}
+
+// Adds lists without numbers until there is one of this place.
+fn list_up_to(
+    lists: &mut Vec<SmallVec<TicketId, 1>>,
+    place: Place,
+    alloc: Global,
+) -> Result<(), AllocError>
+    ensures { (q : ℕ) → numbers_of q lists.new.items ≡ numbers_of q lists.old.items }
+{
+    for _list in lists.len()..usize::from(place) + 1 {
+        if lists.push(SmallVec::new(alloc)).is_err() {
+            return Err(AllocError);
+        }
+    }
+    Ok(())
+}
+
+// Takes a number out of those that rise. It takes no memory.
+fn take_out(list: &mut SmallVec<TicketId, 1>, id: TicketId)
+    requires { IsTrue (rises list.old.items) }
+    ensures numbers { list.new.items ≡ without_one id list.old.items }
+    ensures room { has_place (Some list.old) ≡ true → has_place (Some list.new) ≡ true }
+{
+    let Ok(at) = list.binary_search(&id) else {
+        return;
+    };
+    list.remove(at);
 }

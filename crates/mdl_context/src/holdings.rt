@@ -4,7 +4,7 @@ ghost use Rattle.std.specs.Vec.{vec_capacity};
 ghost use Rattle.std.specs.Option.{option_copied, option_map};
 ghost use Rattle.mdl_key.specs.declared.mode.Duration.TheVariants.{Explicit};
 ghost use Rattle.mdl_system.specs.Strength.{covers};
-ghost use Rattle.mdl_context.specs.Contexts.{AreRising, lasts, held_for, held_of, place_known};
+ghost use Rattle.mdl_context.specs.Contexts.{AreRising, lasts, held_for, has_number, held_of, place_known};
 ghost use Rattle.mdl_context.specs.Goings.{goes};
 ghost use Rattle.mdl_context.specs.Holdings.{without_number, is_at, is_ticket, IsIndexOf, has_room, earliest, kept_for, in_transaction, transactional, kept_of, wanted_of, with_wanted, search_over};
 ghost use Rattle.mdl_context.specs.Indexes.{has_room_for};
@@ -190,7 +190,8 @@ impl Holdings {
     /// Where the ticket of a number stands, if there is one.
     pub(crate) fn position(&self, id: TicketId) -> Option<usize>
         requires { AreRising self.now.kept }
-        ensures { result ≡ position (is_ticket id) self.now.kept }
+        ensures here { result ≡ position (is_ticket id) self.now.kept }
+        ensures has { is_some result ≡ has_number self.now.kept id }
     {
         place_of(&self.tickets, id)
     }

@@ -3,7 +3,7 @@ use mdl_key::{Duration, Mode};
 use mdl_space::{Place, TicketId};
 
 /// A ticket that a session holds, and how long it keeps it.
-#[derive(Clone, Copy, Debug, PartialEq, Eq)]
+#[derive(Drop)]
 pub struct Kept {
     /// The number that the session gave the ticket.
     pub id: TicketId,

@@ -1,5 +1,8 @@
-//! Laws of durations. Each is proved as the contract of a function that does nothing.
+//! Laws of durations and names. Each is proved as the contract of a function that does nothing.
 ghost use Rattle.mdl_context.specs.DurationLaws.{GoingBackKeepsFronts, GoingBackToNowKeepsAll, StatementsEndAlone, EndingLeavesExplicit};
+ghost use Rattle.mdl_context.specs.NameLaws.{NamesAreGivenUp};
+
+use mdl_space::LockSpace;
 
 /// Going back keeps so many tickets from the front of the statement's and of the transaction's, and all explicit ones.
 pub fn going_back_keeps_fronts()
@@ -19,4 +22,9 @@ pub fn statements_end_alone()
 /// The end of a transaction leaves just the explicit tickets.
 pub fn ending_leaves_explicit()
     ensures { EndingLeavesExplicit }
+{}
+
+/// Once the tickets of a key are given up by its name, none is left at any place that the session knows to be the key's.
+pub fn names_are_given_up<S: LockSpace>()
+    ensures { NamesAreGivenUp S.speaks_for S.own S.knows }
 {}

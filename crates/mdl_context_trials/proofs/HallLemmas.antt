@@ -55,14 +55,14 @@ served_then before after first (suc i) (y ∷ ys) x served inside who attends le
     )
 
 -- a new context of a session that has nothing
-pub fresh : (space : Core) (who : ℕ) (x : ContextView) → x ≡ record { who = who; kept = []; wait = None } → SpeaksFor space who
+pub fresh : (space : Core) (who : ℕ) (x : ContextView) → x ≡ record { who = who; kept = []; known = []; wait = None } → SpeaksFor space who
     → own_at space who ≡ record { held = []; wait = None } → (x.who ≡ who) × Attends SpeaksFor own_at Knows space x
 fresh space who x new speaks nothing =
-    rw new (refl, record { speaks = speaks; serves = rw nothing (record { held = refl; wait = refl }); keys = All-nil _; wish = tt })
+    rw new (refl, record { speaks = speaks; serves = rw nothing (record { held = refl; wait = refl }); known = All-nil _; places = All-nil _; wish = tt })
 
 -- so the space speaks for their sessions
 pub speaks_for_each : (space : Core) (who : ℕ) (xs : List ContextView) → AreServed space 1 xs → 1 ≤ who → who ≤ length xs → SpeaksFor space who
 speaks_for_each space who xs served least most =
-    let no_context : ContextView = record { who = 0; kept = []; wait = None } in
+    let no_context : ContextView = record { who = 0; kept = []; known = []; wait = None } in
     let at = served_at space 1 (who - 1) xs no_context served (omega (arith, least, most)) in
     subst (λ w. SpeaksFor space w) (at.0 ∙ omega (arith, least)) at.1.speaks

@@ -52,6 +52,7 @@ impl<S: LockSpace> Context<S> {
         requires new { place_known request.key.now self.old.known ≡ None }
         ensures run { Runs S.joins space.old (finding None request.entry self.old) (result, self.new) space.new }
         ensures attends { Attends S.speaks_for S.own S.knows space.new self.new }
+        ensures who { self.new.who ≡ self.old.who }
         ensures unchanged { OnErr result (LearnsAtMost request.entry.key.now self.old self.new) }
         ensures own { OnErr result (S.own space.new self.old.who ≡ S.own space.old self.old.who) }
         ensures wait { WaitsAfter result None self.new.wait }
@@ -78,6 +79,7 @@ impl<S: LockSpace> Context<S> {
         requires known { place_known request.key.now self.old.known ≡ Some place }
         ensures run { Runs S.joins space.old (acquiring_at place request.entry self.old) (result, self.new) space.new }
         ensures attends { Attends S.speaks_for S.own S.knows space.new self.new }
+        ensures who { self.new.who ≡ self.old.who }
         ensures unchanged { OnErr result (self.new ≡ self.old) }
         ensures own { OnErr result (S.own space.new self.old.who ≡ S.own space.old self.old.who) }
         ensures wait { WaitsAfter result None self.new.wait }

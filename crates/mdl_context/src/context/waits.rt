@@ -62,6 +62,7 @@ impl<S: LockSpace> Context<S> {
         ensures refused { IsOkUnless result (ContextError.Space SpaceError.OutOfMemory) }
         ensures run { Runs S.joins space.old (searching_on self.old) (result, self.new) space.new }
         ensures attends { Attends S.speaks_for S.own S.knows space.new self.new }
+        ensures who { self.new.who ≡ self.old.who }
         ensures lost { OnErr result (self.new ≡ without_wait self.old) }
         ensures wait { WaitsOn result self.new.wait }
     {
@@ -85,6 +86,7 @@ impl<S: LockSpace> Context<S> {
         requires waits { is_some self.old.wait ≡ true }
         ensures run { Runs S.joins space.old (looking self.old) (Ok result, self.new) space.new }
         ensures attends { Attends S.speaks_for S.own S.knows space.new self.new }
+        ensures who { self.new.who ≡ self.old.who }
         ensures wait { WaitsOn (Ok result) self.new.wait }
     {
         match space.poll_wait(self.who).unwrap() {
@@ -99,6 +101,7 @@ impl<S: LockSpace> Context<S> {
         requires settled { IsSettled S.is_settled space.old self.old.who }
         ensures run { Runs S.joins space.old (ending self.old) (Ok result, self.new) space.new }
         ensures attends { Attends S.speaks_for S.own S.knows space.new self.new }
+        ensures who { self.new.who ≡ self.old.who }
         ensures ended { self.new.wait ≡ None }
         ensures wait { WaitsOn (Ok result) self.new.wait }
     {

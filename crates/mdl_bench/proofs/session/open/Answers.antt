@@ -8,6 +8,7 @@ returns-in-Ok c =
     rw c.new-in-Ok.ensures (record {
       speaks = c.in-Ok.ensures.speaks 1 (omega arith) (omega arith);
       serves = rw c.in-Ok.ensures.made (record { held = refl; wait = refl });
-      keys = All-nil _;
+      known = All-nil _;
+      places = All-nil _;
       wish = tt;
     })

@@ -1,10 +1,11 @@
-use Rattle.std.proofs.Common.{ap, arith, get_or}
+use Rattle.std.proofs.Common.{arith, get_or}
 use Rattle.std.proofs.lemmas.List.Edits.{map_over_more}
 use Rattle.mdl_context.specs.Holdings.{transactional}
+use Rattle.mdl_context.proofs.ReleaseLemmas.{no_item, own_item}
 use Rattle.mdl_context.proofs.holdings.make_all_transactional.Goals as goal
 
 pub loop-ticket-preserved : goal.loop-ticket-preserved
 loop-ticket-preserved c =
     let i = c.loop-ticket.ticket-index in
-    rw c.in_transaction-ticket.ensures (map_over_more transactional c.args.tickets.now c.loop-ticket.tickets i (get_or c.loop-ticket.tickets i c.ticket-item.result)
-    (omega arith) c.loop-ticket.invariant (ap (get_or c.loop-ticket.tickets i) c.ticket-item.is))
+    rw c.in_transaction-ticket.ensures (map_over_more transactional c.args.tickets.now c.loop-ticket.tickets i (get_or c.loop-ticket.tickets i no_item)
+    (omega arith) c.loop-ticket.invariant (own_item c.loop-ticket.tickets i no_item (omega arith)))

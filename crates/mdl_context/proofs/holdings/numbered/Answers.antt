@@ -1,5 +1,5 @@
 -- The ticket is where the search by halves ends.
-use Rattle.std.proofs.Common.{rules, sym, ap, ◌∙◌, Some}
+use Rattle.std.proofs.Common.{rules, sym, ◌∙◌}
 use Rattle.mdl_context.specs.Holdings.{is_ticket}
 use Rattle.mdl_context.proofs.PlaceLemmas.{found_at, found_none}
 use Rattle.mdl_context.proofs.holdings.numbered.Goals as goal
@@ -10,6 +10,4 @@ returns-in_err-at c =
     search (rules, none)
 
 pub returns : goal.returns
-returns c =
-    let found = found_at (is_ticket c.args.id) c.args.tickets.now c.in_ok-at.at c.index-tickets-at.result (sym c.in_ok-at.was ∙ c.place_of.ensures) in
-    ap (λ ticket. Some ticket) c.index-tickets-at.is ∙ sym found.1
+returns c = sym (found_at (is_ticket c.args.id) c.args.tickets.now c.in_ok-at.at _ (sym c.in_ok-at.was ∙ c.place_of.ensures)).1

@@ -1,16 +1,16 @@
 -- Each ticket that goes is still held when it is its turn.
-use Rattle.std.proofs.Common.{sym, ap, ◌∙◌}
+use Rattle.std.proofs.Common.{get_or, sym, ap, ◌∙◌}
 use Rattle.std.specs.Prelude.{map}
 use Rattle.mdl_calls.specs.Own.{Own}
 use Rattle.mdl_context.specs.Contexts.{held_of}
 use Rattle.mdl_context.specs.Goings.{goes}
-use Rattle.mdl_context.proofs.ReleaseLemmas.{run-goes, run-stays, left-stays, holds-here, held-goes}
+use Rattle.mdl_context.proofs.ReleaseLemmas.{no_item, own_item, run-goes, run-stays, left-stays, holds-here, held-goes}
 use Rattle.mdl_context.proofs.releasing.release_all.Goals as goal
 use Rattle.mdl_context.proofs.releasing.release_all.Goals.{then-names, else-names}
 
 pub release-requires-clause-held : goal.release-requires-clause-held
 release-requires-clause-held g c =
-    holds-here (goes c.args.going.now) c.tickets-ticket-items.result.now c.loop-ticket.ticket-index c.ticket-item.result c.loop-ticket-test.true c.ticket-item.is
+    holds-here (goes c.args.going.now) c.tickets-ticket-items.result.now c.loop-ticket.ticket-index (get_or c.tickets-ticket-items.result.now c.loop-ticket.ticket-index no_item) c.loop-ticket-test.true (own_item c.tickets-ticket-items.result.now c.loop-ticket.ticket-index no_item c.loop-ticket-test.true)
     (g.S.LockSpace.own c.loop-ticket.space c.args.who) c.loop-ticket.invariant.held
 
 pub loop-ticket-preserved : goal.loop-ticket-preserved
@@ -18,7 +18,8 @@ loop-ticket-preserved g c =
     let p = goes c.args.going.now in
     let items = c.tickets-ticket-items.result.now in
     let i = c.loop-ticket.ticket-index in
-    let t = c.ticket-item.result in
+    let t = get_or items i no_item in
+    let is = own_item items i no_item c.loop-ticket-test.true in
     let now : Own = g.S.LockSpace.own c.loop-ticket.space c.args.who in
     let known = c.loop-ticket.invariant in
     elim c.if-names.branch [
@@ -27,9 +28,9 @@ loop-ticket-preserved g c =
           rw w.space-is (record {
             speaks = w.release.ensures.speaks;
             remembers = λ place key knew. w.release.ensures.remembers place key (known.remembers place key knew);
-            run = λ b rest. known.run b (run-goes p items i t c.loop-ticket-test.true c.ticket-item.is g.S.LockSpace.joins c.args.who c.loop-ticket.space w.release.new.space b goes_now w.release.ensures.released rest);
+            run = λ b rest. known.run b (run-goes p items i t c.loop-ticket-test.true is g.S.LockSpace.joins c.args.who c.loop-ticket.space w.release.new.space b goes_now w.release.ensures.released rest);
             held = ap (λ (own : Own). own.held) w.release.ensures.own
-                ∙ held-goes p items i t c.loop-ticket-test.true c.ticket-item.is now (g.met.S.LockSpace.rising _ _ known.speaks) known.held goes_now;
+                ∙ held-goes p items i t c.loop-ticket-test.true is now (g.met.S.LockSpace.rising _ _ known.speaks) known.held goes_now;
             wait = ap (λ (own : Own). own.wait) w.release.ensures.own ∙ known.wait;
           })
       | else-names w ↦
@@ -37,8 +38,8 @@ loop-ticket-preserved g c =
           rw w.space-is (record {
             speaks = known.speaks;
             remembers = known.remembers;
-            run = λ b rest. known.run b (run-stays p items i t c.loop-ticket-test.true c.ticket-item.is g.S.LockSpace.joins c.args.who c.loop-ticket.space b stays_now rest);
-            held = known.held ∙ sym (ap (map held_of) (left-stays p items i t c.loop-ticket-test.true c.ticket-item.is stays_now));
+            run = λ b rest. known.run b (run-stays p items i t c.loop-ticket-test.true is g.S.LockSpace.joins c.args.who c.loop-ticket.space b stays_now rest);
+            held = known.held ∙ sym (ap (map held_of) (left-stays p items i t c.loop-ticket-test.true is stays_now));
             wait = known.wait;
           })
     ]

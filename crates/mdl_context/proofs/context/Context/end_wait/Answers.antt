@@ -1,32 +1,38 @@
 -- A settled wait ends, with its ticket or without.
-use Rattle.std.proofs.Common.{refl}
+use Rattle.std.proofs.Common.{◌≡◌, ap, refl, subst, sym}
+use Rattle.mdl_context.specs.Contexts.{ContextView, Attends}
 use Rattle.mdl_context.proofs.AttendLemmas.{attends-won, attends-lost}
 use Rattle.mdl_context.proofs.WaitLemmas.{is_ok-ended}
 use Rattle.mdl_context.proofs.context.Context.end_wait.Goals as goal
 
 pub unwrap-requires : goal.unwrap-requires
-unwrap-requires g c = is_ok-ended c.requires.settled.0 _ (g.met.S.LockSpace.agrees _ _ _ _ _ _ refl c.requires.settled.1 c.end_wait.ensures)
+unwrap-requires g c =
+    let settled = rw (← c.self.view_is) at c.requires.settled in
+    is_ok-ended settled.0 _ (g.met.S.LockSpace.agrees _ _ _ _ _ _ refl settled.1 c.end_wait.ensures)
 
 pub returns-in-Granted-clause-attends : goal.returns-in-Granted-clause-attends
 returns-in-Granted-clause-attends g c =
     let laws = g.met.S.LockSpace in
     let step = rw (c.unwrap.ensures, c.in-Granted.is) at c.end_wait.ensures in
-    attends-won laws.keeps laws.changes laws.remembers _ _ _ _ _ (rw (← c.self.view_is) at c.requires.attends) step refl c.take_up.ensures.known c.take_up.ensures.kept c.take_up.ensures.wait
+    attends-won laws.keeps laws.changes laws.remembers _ _ _ _ _ (subst (Attends g.S.LockSpace.speaks_for g.S.LockSpace.own g.S.LockSpace.knows c.args.space.now) (sym c.self.view_is) c.requires.attends) step refl c.take_up.ensures.known c.take_up.ensures.kept c.take_up.ensures.wait
 
 pub returns-in-Victim-clause-attends : goal.returns-in-Victim-clause-attends
 returns-in-Victim-clause-attends g c =
+    let same : c.self.inside.who ≡ c.args.self.now.who = ap (λ (v : ContextView). v.who) c.self.view_is in
     let laws = g.met.S.LockSpace in
-    let step = rw (c.unwrap.ensures, c.in-Victim.is) at c.end_wait.ensures in
-    attends-lost laws.keeps laws.changes laws.remembers _ _ _ _ _ (rw (← c.self.view_is) at c.requires.attends) step refl c.lose.ensures.kept c.lose.ensures.wait
+    let step = rw (same, c.unwrap.ensures, c.in-Victim.is) at c.end_wait.ensures in
+    attends-lost laws.keeps laws.changes laws.remembers _ _ _ _ _ c.requires.attends step c.lose.ensures.lost
 
 pub returns-in-Timeout-clause-attends : goal.returns-in-Timeout-clause-attends
 returns-in-Timeout-clause-attends g c =
+    let same : c.self.inside.who ≡ c.args.self.now.who = ap (λ (v : ContextView). v.who) c.self.view_is in
     let laws = g.met.S.LockSpace in
-    let step = rw (c.unwrap.ensures, c.in-Timeout.is) at c.end_wait.ensures in
-    attends-lost laws.keeps laws.changes laws.remembers _ _ _ _ _ (rw (← c.self.view_is) at c.requires.attends) step refl c.lose-in-Timeout.ensures.kept c.lose-in-Timeout.ensures.wait
+    let step = rw (same, c.unwrap.ensures, c.in-Timeout.is) at c.end_wait.ensures in
+    attends-lost laws.keeps laws.changes laws.remembers _ _ _ _ _ c.requires.attends step c.lose-in-Timeout.ensures.lost
 
 pub returns-in-Killed-clause-attends : goal.returns-in-Killed-clause-attends
 returns-in-Killed-clause-attends g c =
+    let same : c.self.inside.who ≡ c.args.self.now.who = ap (λ (v : ContextView). v.who) c.self.view_is in
     let laws = g.met.S.LockSpace in
-    let step = rw (c.unwrap.ensures, c.in-Killed.is) at c.end_wait.ensures in
-    attends-lost laws.keeps laws.changes laws.remembers _ _ _ _ _ (rw (← c.self.view_is) at c.requires.attends) step refl c.lose-in-Killed.ensures.kept c.lose-in-Killed.ensures.wait
+    let step = rw (same, c.unwrap.ensures, c.in-Killed.is) at c.end_wait.ensures in
+    attends-lost laws.keeps laws.changes laws.remembers _ _ _ _ _ c.requires.attends step c.lose-in-Killed.ensures.lost

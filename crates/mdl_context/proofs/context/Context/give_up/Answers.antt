@@ -1,9 +1,13 @@
 -- To lose patience changes nothing that the session has, and settles its wait.
-use Rattle.std.proofs.Common.{refl, sym, ◌∙◌}
+use Rattle.std.proofs.Common.{Ok, ap, refl, sym, ◌∙◌, ◌≡◌}
 use Rattle.mdl_calls.specs.Causes.{Knowledge}
+use Rattle.mdl_context.specs.Contexts.{ContextView}
 use Rattle.mdl_context.proofs.AttendLemmas.{attends-still}
 use Rattle.mdl_context.proofs.ServingLemmas.{waits-there}
 use Rattle.mdl_context.proofs.WaitLemmas.{is_ok-timed_out}
+use Rattle.mdl_calls.specs.Words.{Ask, Settle_timeout}
+use Rattle.mdl_context.specs.Waits.{ending}
+use Rattle.mdl_context.proofs.OthersLemmas.{leaves, for_ending}
 use Rattle.mdl_context.proofs.context.Context.give_up.Goals as goal
 
 pub unwrap-requires : goal.unwrap-requires
@@ -14,5 +18,13 @@ unwrap-requires g c =
 
 pub end_wait-requires-clause-attends : goal.end_wait-requires-clause-attends
 end_wait-requires-clause-attends g c =
+    let same : c.self.inside.who ≡ c.args.self.now.who = ap (λ (v : ContextView). v.who) c.self.view_is in
     let laws = g.met.S.LockSpace in
-    attends-still laws.keeps laws.changes laws.remembers _ _ _ _ _ (rw (← c.self.view_is) at c.requires) refl refl refl (rw c.unwrap.ensures at c.settle_timeout.ensures)
+    attends-still laws.keeps laws.changes laws.remembers _ _ _ _ c.args.self.now c.requires refl refl refl (rw (same, c.unwrap.ensures) at c.settle_timeout.ensures)
+
+pub returns-clause-others : goal.returns-clause-others
+returns-clause-others g c =
+    let same : c.self.inside.who ≡ c.args.self.now.who = ap (λ (v : ContextView). v.who) c.self.view_is in
+    let laws = g.met.S.LockSpace in
+    leaves laws.keeps laws.others laws.remembers c.args.self.now.who (Ask (Settle_timeout c.args.self.now.who) (λ _. ending c.args.self.now)) _ _ (Ok c.end_wait.result, c.end_wait.new.self) (refl, λ _. for_ending c.args.self.now)
+    (_, _, rw same at c.settle_timeout.ensures, c.end_wait.ensures.run)

@@ -1,6 +1,7 @@
 -- To look after the wait changes nothing that the session has.
-use Rattle.std.proofs.Common.{refl}
+use Rattle.std.proofs.Common.{Ok, ap, refl, sym, ◌≡◌}
 use Rattle.mdl_calls.specs.Causes.{Knowledge}
+use Rattle.mdl_context.specs.Contexts.{ContextView}
 use Rattle.mdl_context.proofs.AttendLemmas.{attends-still}
 use Rattle.mdl_context.proofs.ServingLemmas.{waits-there}
 use Rattle.mdl_context.proofs.WaitLemmas.{is_ok-polled}
@@ -13,10 +14,12 @@ unwrap-requires g c =
 
 pub end_wait-requires-clause-attends : goal.end_wait-requires-clause-attends
 end_wait-requires-clause-attends g c =
+    let same : c.self.inside.who ≡ c.args.self.now.who = ap (λ (v : ContextView). v.who) c.self.view_is in
     let laws = g.met.S.LockSpace in
-    attends-still laws.keeps laws.changes laws.remembers _ _ _ _ _ (rw (← c.self.view_is) at c.requires.attends) refl refl refl (rw (c.unwrap.ensures, c.in-Settled.is) at c.poll_wait.ensures)
+    attends-still laws.keeps laws.changes laws.remembers _ _ _ _ c.args.self.now c.requires.attends refl refl refl (rw (same, c.unwrap.ensures, c.in-Settled.is) at c.poll_wait.ensures)
 
 pub returns-in-Pending-clause-attends : goal.returns-in-Pending-clause-attends
 returns-in-Pending-clause-attends g c =
+    let same : c.self.inside.who ≡ c.args.self.now.who = ap (λ (v : ContextView). v.who) c.self.view_is in
     let laws = g.met.S.LockSpace in
-    attends-still laws.keeps laws.changes laws.remembers _ _ _ _ _ (rw (← c.self.view_is) at c.requires.attends) refl refl refl (rw (c.unwrap.ensures, c.in-Pending.is) at c.poll_wait.ensures)
+    attends-still laws.keeps laws.changes laws.remembers _ _ _ _ c.args.self.now c.requires.attends refl refl refl (rw (same, c.unwrap.ensures, c.in-Pending.is) at c.poll_wait.ensures)

@@ -1,16 +1,14 @@
 -- What is kept is held.
 use Rattle.std.proofs.Common.{◌≡◌, true, refl, Some, sym, ap, ◌∙◌}
-use Rattle.std.specs.Prelude.{is_some, position}
-use Rattle.mdl_context.specs.Contexts.{AreRising, has_number}
-use Rattle.mdl_context.specs.Holdings.{is_ticket}
+use Rattle.std.specs.Prelude.{is_some}
+use Rattle.mdl_context.specs.Contexts.{has_number}
 use Rattle.mdl_context.proofs.AttendLemmas.{attends-left}
 use Rattle.mdl_context.proofs.BeyondLemmas.{holds-kept, serves-without}
-use Rattle.mdl_context.proofs.SearchLemmas.{placed}
 use Rattle.mdl_context.proofs.context.Context.release.Goals as goal
 
 pub release-requires-clause-held : goal.release-requires-clause-held
 release-requires-clause-held g c =
-    let has : has_number c.self.inside.holdings.kept c.args.id ≡ true = sym (placed c.args.id c.self.inside.holdings.kept c.position.result c.position.ensures) ∙ ap is_some c.in-Some.is in
+    let has : has_number c.self.inside.holdings.kept c.args.id ≡ true = sym c.position.ensures.has ∙ ap is_some c.in-Some.is in
     holds-kept c.args.id _ _ (rw (← c.self.view_is) at c.requires.serves) has
 
 pub returns-clause-attends : goal.returns-clause-attends

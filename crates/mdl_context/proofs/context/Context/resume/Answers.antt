@@ -1,9 +1,12 @@
 -- To look after the wait changes nothing that the session has.
-use Rattle.std.proofs.Common.{◌≡◌, true, refl}
+use Rattle.std.proofs.Common.{Ok, ap, refl, sym, true, ◌≡◌}
 use Rattle.std.specs.Prelude.{is_some}
 use Rattle.mdl_calls.specs.Causes.{Knowledge}
+use Rattle.mdl_context.specs.Contexts.{ContextView}
+use Rattle.mdl_calls.specs.Words.{Ask, Poll_wait}
+use Rattle.mdl_context.specs.Waits.{looking, ending, searching_on}
 use Rattle.mdl_context.proofs.AttendLemmas.{attends-still}
-use Rattle.mdl_context.proofs.OthersLemmas.{leaves, for_resuming}
+use Rattle.mdl_context.proofs.OthersLemmas.{leaves, for_looking, for_searching_on, for_ending}
 use Rattle.mdl_context.proofs.ServingLemmas.{waits-there, searched-waits}
 use Rattle.mdl_context.proofs.WaitLemmas.{is_ok-polled}
 use Rattle.mdl_context.proofs.context.Context.resume.Goals as goal
@@ -16,10 +19,31 @@ unwrap-requires g c =
 
 pub end_wait-requires-clause-attends : goal.end_wait-requires-clause-attends
 end_wait-requires-clause-attends g c =
+    let same : c.self.inside.who ≡ c.args.self.now.who = ap (λ (v : ContextView). v.who) c.self.view_is in
     let laws = g.met.S.LockSpace in
-    attends-still laws.keeps laws.changes laws.remembers _ _ _ _ _ (rw (← c.self.view_is) at c.requires) refl refl refl (rw (c.unwrap.ensures, c.in-Settled.is) at c.poll_wait.ensures)
+    attends-still laws.keeps laws.changes laws.remembers _ _ _ _ c.args.self.now c.requires refl refl refl (rw (same, c.unwrap.ensures, c.in-Settled.is) at c.poll_wait.ensures)
 
 pub search_on-requires-clause-attends : goal.search_on-requires-clause-attends
 search_on-requires-clause-attends g c =
+    let same : c.self.inside.who ≡ c.args.self.now.who = ap (λ (v : ContextView). v.who) c.self.view_is in
     let laws = g.met.S.LockSpace in
-    attends-still laws.keeps laws.changes laws.remembers _ _ _ _ _ (rw (← c.self.view_is) at c.requires) refl refl refl (rw (c.unwrap.ensures, c.in-Pending.is) at c.poll_wait.ensures)
+    attends-still laws.keeps laws.changes laws.remembers _ _ _ _ c.args.self.now c.requires refl refl refl (rw (same, c.unwrap.ensures, c.in-Pending.is) at c.poll_wait.ensures)
+
+pub returns-in-Some-true-clause-others : goal.returns-in-Some-true-clause-others
+returns-in-Some-true-clause-others g c =
+    let laws = g.met.S.LockSpace in
+    leaves laws.keeps laws.others laws.remembers c.args.self.now.who (looking c.args.self.now) _ _ (Ok c.look.result, c.look.new.self) (for_looking c.args.self.now) c.look.ensures.run
+
+pub returns-in-Pending-clause-others : goal.returns-in-Pending-clause-others
+returns-in-Pending-clause-others g c =
+    let same : c.self.inside.who ≡ c.args.self.now.who = ap (λ (v : ContextView). v.who) c.self.view_is in
+    let laws = g.met.S.LockSpace in
+    leaves laws.keeps laws.others laws.remembers c.args.self.now.who (Ask (Poll_wait c.args.self.now.who) (λ _. searching_on c.args.self.now)) _ _ (c.search_on.result, c.search_on.new.self) (refl, λ _. for_searching_on c.args.self.now)
+    (_, _, rw same at c.poll_wait.ensures, c.search_on.ensures.run)
+
+pub returns-in-Settled-clause-others : goal.returns-in-Settled-clause-others
+returns-in-Settled-clause-others g c =
+    let same : c.self.inside.who ≡ c.args.self.now.who = ap (λ (v : ContextView). v.who) c.self.view_is in
+    let laws = g.met.S.LockSpace in
+    leaves laws.keeps laws.others laws.remembers c.args.self.now.who (Ask (Poll_wait c.args.self.now.who) (λ _. ending c.args.self.now)) _ _ (Ok c.end_wait.result, c.end_wait.new.self) (refl, λ _. for_ending c.args.self.now)
+    (_, _, rw same at c.poll_wait.ensures, c.end_wait.ensures.run)

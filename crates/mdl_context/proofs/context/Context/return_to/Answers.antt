@@ -14,6 +14,8 @@ returns-clause-run g c =
 pub returns-clause-others : goal.returns-clause-others
 returns-clause-others g c =
     let laws = g.met.S.LockSpace in
+    let lock = g.S.LockSpace in
     let first = leaves laws.keeps laws.others laws.remembers _ _ _ _ _ (for_all _ _) c.release_beyond.ensures.run in
     let second = leaves laws.keeps laws.others laws.remembers _ _ _ _ _ (for_all _ _) c.release_beyond-2.ensures.run in
-    both-leave _ _ _ _ _ _ _ first (subst (λ who. LeavesOthers g.S.LockSpace.speaks_for g.S.LockSpace.own g.S.LockSpace.knows who c.release_beyond.new.space c.release_beyond-2.new.space) (ap (λ (v : ContextView). v.who) c.release_beyond.ensures.kept) second)
+    both-leave lock.speaks_for lock.own lock.knows c.args.self.now.who c.args.space.now c.release_beyond.new.space c.release_beyond-2.new.space first
+    (subst (λ who. LeavesOthers lock.speaks_for lock.own lock.knows who c.release_beyond.new.space c.release_beyond-2.new.space) (ap (λ (v : ContextView). v.who) c.release_beyond.ensures.kept) second)

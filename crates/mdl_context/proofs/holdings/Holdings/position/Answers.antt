@@ -1,5 +1,9 @@
 use Rattle.std.proofs.Common.{◌∙◌}
+use Rattle.mdl_context.proofs.SearchLemmas.{placed}
 use Rattle.mdl_context.proofs.holdings.Holdings.position.Goals as goal
 
-pub returns : goal.returns
-returns c = rw (← c.self.view_is) (rw c.deref.ensures.value at c.place_of.ensures)
+pub returns-clause-has : goal.returns-clause-has
+returns-clause-has c = rw (← c.self.view_is) (placed c.args.id c.self.inside.tickets.items c.place_of.result (rw c.deref.ensures.value at c.place_of.ensures))
+
+pub returns-clause-here : goal.returns-clause-here
+returns-clause-here c = rw (← c.self.view_is) (rw c.deref.ensures.value at c.place_of.ensures)

@@ -1,18 +1,20 @@
 -- To take the ticket out at its place is to keep the others.
-use Rattle.std.proofs.Common.{◌≡◌, ◌+◌, length, rules, Some, sym, ap, ◌∙◌}
+use Rattle.std.proofs.Common.{◌≡◌, ◌<◌, ◌+◌, length, rules, Some, sym, ap, ◌∙◌}
 use Rattle.std.specs.Prelude.{find}
 use Rattle.std.specs.Vec.{vec_capacity}
 use Rattle.mdl_context.specs.Contexts.{AreRising}
 use Rattle.mdl_context.specs.Holdings.{is_ticket, without_number}
 use Rattle.mdl_context.proofs.PlaceLemmas.{found_at, index-less, rising-numbers, room-stays}
-use Rattle.mdl_context.proofs.SearchLemmas.{without_at}
+use Rattle.mdl_context.proofs.SearchLemmas.{no_ticket, without_at}
 use Rattle.mdl_context.proofs.holdings.Holdings.remove.Goals as goal
 
-pub remove-requires : goal.remove-requires
-remove-requires c = (found_at (is_ticket c.args.id) c.self.inside.tickets.items c.args.at _ (sym (rw (← c.self.view_is) at c.requires.here))).0
+pub remove-ticket-requires : goal.remove-ticket-requires
+remove-ticket-requires c =
+    let inside : c.args.at < length c.self.inside.tickets.items = (found_at (is_ticket c.args.id) c.self.inside.tickets.items c.args.at no_ticket (sym (rw (← c.self.view_is) at c.requires.here))).0 in
+    search (rules, inside)
 
-pub remove-requires-2 : goal.remove-requires-2
-remove-requires-2 c =
+pub remove-requires : goal.remove-requires
+remove-requires c =
     let kept = c.self.inside.tickets.items in
     let rising : AreRising kept = rw (← c.self.view_is) at c.requires.rising in
     let place = c.remove-ticket.result.place in

@@ -1,0 +1,72 @@
+-- What a session has after it asked for a lock.
+use Rattle.std.proofs.Common.{inl, inr, arith, ◌≡◌, ℕ, Bool, true, false, Option, Some, None, Result, Ok, Err, List, [], ◌∷◌, ◌++◌, refl, sym, ap, ◌∙◌, subst}
+use Rattle.mdl_key.specs.declared.mode.Mode.{Mode}
+use Rattle.mdl_calls.specs.declared.space_error.SpaceError.{SpaceError}
+use Rattle.std.specs.Option.{IfSome, option_map}
+use Rattle.std.specs.Prelude.{find}
+use Rattle.mdl_calls.specs.declared.answers.Held.{Held}
+use Rattle.mdl_calls.specs.Own.{Own, Wait, IsRising, ticket_held, waiting, ending}
+use Rattle.mdl_calls.specs.Words.{Answer, Call, Runs, Give, ◌>>=◌}
+use Rattle.mdl_calls.proofs.RunLemmas.{runs_bind}
+use Rattle.mdl_context.specs.declared.kept.Kept.{Kept}
+use Rattle.mdl_context.specs.declared.kept.Wanted.{Wanted}
+use Rattle.mdl_context.specs.declared.request.Request.{Request}
+use Rattle.mdl_context.specs.declared.request.Acquire.{Acquire}
+use Rattle.mdl_context.specs.declared.context_error.ContextError.TheVariants.{Space}
+use Rattle.mdl_calls.specs.declared.space_error.SpaceError.TheVariants.{OutOfMemory}
+use Rattle.mdl_context.specs.Contexts.{ContextView, Serves, held_of, wish_there, wish_here}
+use Rattle.mdl_context.specs.Holdings.{earliest, is_at}
+use Rattle.mdl_context.specs.Requests.{Outcome, suffices, is_reusable, outcome_got, acquiring_at}
+use Rattle.mdl_context.proofs.PlaceLemmas.{suffices-at, equal}
+use Rattle.mdl_context.proofs.ServingLemmas.{earliest-held}
+use Rattle.mdl_context.specs.declared.asking.Got.{Got}
+use Rattle.mdl_context.specs.declared.asking.Got.TheVariants as got
+use Rattle.mdl_context.specs.Gains.{gaining_from, own_got, OwnWaited}
+
+-- a wait that began and was given up leaves nothing
+pub began-and-ended : (number place : ℕ) (mode : Mode) (own : Own) → own.wait ≡ None → ending (waiting number place mode own) ≡ own
+began-and-ended number place mode own none = ap (λ (wait : Option Wait). let o : Own = record { held = own.held; wait = wait } in o) (sym none)
+
+-- a wait that began goes on, or is given up
+pub own-waited : (number place : ℕ) (mode : Mode) (result : Result Got SpaceError) (before mid after : Own) → OwnWaited number result mid after → mid ≡ waiting number place mode before
+    → before.wait ≡ None → after ≡ own_got place mode result before
+own-waited number place mode (Ok (got.Granted id)) before mid after told began idle = absurd told
+own-waited number place mode (Ok (got.Waits n searched)) before mid after told began idle = told.1 ∙ began ∙ ap (λ m. waiting m place mode before) (sym told.0)
+own-waited number place mode (Err refusal) before mid after told began idle = told ∙ ap ending began ∙ began-and-ended number place mode before idle
+
+-- a session that has no wait here has none there
+idle-wait : (wait : Option Wait) (wanted : Option Wanted) → option_map wish_there wait ≡ option_map wish_here wanted → wanted ≡ None → wait ≡ None
+idle-wait None wanted same none = refl
+idle-wait (Some wait) None same none = cc
+idle-wait (Some wait) (Some wanted) same none = cc
+
+pub idle-there : (own : Own) (context : ContextView) → Serves own context → context.wait ≡ None → own.wait ≡ None
+idle-there own context serves none = idle-wait own.wait context.wait serves.wait none
+
+-- what is found at a place is there
+found-place : (p : Kept → Bool) (place : ℕ) (kept : List Kept) (held : Held) → ((t : Kept) → p t ≡ true → is_at place t ≡ true) → earliest p kept ≡ Some held → held.place ≡ place
+found-place p place [] held there found = cc
+found-place p place (x ∷ xs) held there found = go (p x) refl (found-place p place xs held there) where
+  go : (b : Bool) → p x ≡ b → (earliest p xs ≡ Some held → held.place ≡ place) → held.place ≡ place
+  go true e later = let here : held.place ≡ x.place = grind (arith, e, found) in here ∙ equal x.place place (there x e)
+  go false e later = later (grind (arith, e, found))
+
+-- a ticket that suffices is held, and at the place
+pub sufficient-held : (place : ℕ) (request : Request) (own : Own) (context : ContextView) (ticket : Option Held) → IsRising own → Serves own context
+    → ticket ≡ earliest (suffices place request) context.kept → IfSome ticket (λ held. (ticket_held held.id own ≡ Some held) × (held.place ≡ place))
+sufficient-held place request own context None rising serves is = tt
+sufficient-held place request own context (Some held) rising serves is =
+    (earliest-held (suffices place request) own context held rising serves (sym is), found-place (suffices place request) place context.kept held (suffices-at place request) (sym is))
+
+module _ {S : Type 0} (joins : S → Call → Answer → S → Type 0) (place : ℕ) (request : Request) (before : ContextView) (found : Option Held)
+    (is : found ≡ earliest (is_reusable place request) before.kept) where
+  -- no ticket can be used again, and one is gained
+  pub run-gained : (ticket : Option Held) (result : Result Got SpaceError) (reply : Outcome Acquire) (a b : S) → found ≡ None → ticket ≡ earliest (suffices place request) before.kept
+      → Runs joins a (gaining_from ticket before.who place request.mode) result b → outcome_got place request before result ≡ reply → Runs joins a (acquiring_at place request before) reply b
+  run-gained ticket result reply a b none enough run same =
+      rw (sym is ∙ none) (inr (runs_bind joins (gaining_from (earliest (suffices place request) before.kept) before.who place request.mode) (λ end. Give (outcome_got place request before end)) a b b result reply
+      (rw enough at run) (same, refl)))
+
+  -- or there is no room for one
+  pub run-starved : (after : ContextView) (a : S) → found ≡ None → after ≡ before → Runs joins a (acquiring_at place request before) (Err (Space OutOfMemory), after) a
+  run-starved after a none same = rw (sym is ∙ none) (inl (ap (λ context. (Err (Space OutOfMemory), context)) (sym same), refl))
