@@ -3,12 +3,15 @@ pub mod BeyondLemmas
 pub mod FrontLemmas
 pub mod GainLemmas
 pub mod IndexLemmas
+pub mod MemoryLemmas
 pub mod NameLemmas
 pub mod OthersLemmas
+pub mod OwnCallLemmas
 pub mod PlaceLemmas
 pub mod ReleaseLemmas
 pub mod SearchLemmas
 pub mod SeekLemmas
 pub mod ServingLemmas
 pub mod SoughtLemmas
+pub mod SureLemmas
 pub mod WaitLemmas

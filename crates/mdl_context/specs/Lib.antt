@@ -4,6 +4,7 @@ pub mod Gains
 pub mod Goings
 pub mod Holdings
 pub mod Indexes
+pub mod MemoryLaws
 pub mod NameLaws
 pub mod Releases
 pub mod Requests

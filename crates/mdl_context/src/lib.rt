@@ -8,6 +8,7 @@ mod context_error;
 mod holdings;
 mod kept;
 mod laws;
+mod memory_laws;
 mod releasing;
 mod request;
 mod searches;
@@ -18,5 +19,9 @@ pub use kept::{Kept, Wanted};
 pub use laws::{
     ending_leaves_explicit, going_back_keeps_fronts, going_back_to_now_keeps_all,
     names_are_given_up, statements_end_alone,
+};
+pub use memory_laws::{
+    contexts_call_for_their_session, endings_take_no_memory, sure_endings, sure_waits, sure_wishes,
+    waits_tell_of_want, wishes_tell_of_want,
 };
 pub use request::{Acquire, Mark, Request, Resume};

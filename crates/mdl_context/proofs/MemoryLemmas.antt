@@ -1,0 +1,172 @@
+-- A context's programs where memory is wanting: which of them take none, and that the others answer so.
+use Rattle.std.proofs.Common.{◌≡◌, ℕ, true, false, List, [], ◌∷◌, Option, Some, None, Result, Ok, Err, refl, sym, ap, subst}
+use Rattle.std.specs.Prelude.{Bool, is_some}
+use Rattle.mdl_key.specs.declared.mode.Mode.{Mode}
+use Rattle.mdl_calls.specs.declared.answers.Held.{Held}
+use Rattle.mdl_calls.specs.declared.space_error.SpaceError.{SpaceError}
+use Rattle.mdl_calls.specs.declared.space_error.SpaceError.TheVariants.{OutOfMemory, NoWait}
+use Rattle.mdl_calls.specs.Words.{Answer, At_place, Granted, Would_wait, Waits, Pending, Is_settled, Lost, Settle_timeout, Release, Program, Give, Ask, ◌>>◌, Each, IsFaithful, IsFrugal, SearchEnd, Over, Cut_off, Failed, IsStarvedSearch, seeking, most_searches}
+use Rattle.mdl_calls.proofs.FaithfulLemmas.{either, each_then, faithful_bind, frugal_bind, frugal_faithful}
+use Rattle.mdl_calls.proofs.SeekingLemmas.{faithful_seeking}
+use Rattle.mdl_context.specs.declared.asking.Got.{Got}
+use Rattle.mdl_context.specs.declared.context_error.ContextError.{ContextError}
+use Rattle.mdl_context.specs.declared.context_error.ContextError.TheVariants.{Waiting, Space}
+use Rattle.mdl_context.specs.declared.kept.Kept.{Kept}
+use Rattle.mdl_context.specs.declared.request.Acquire.{Acquire}
+use Rattle.mdl_context.specs.declared.request.Request.{Request}
+use Rattle.mdl_context.specs.declared.request.Resume.{Resume}
+use Rattle.mdl_context.specs.Contexts.{ContextView, without, place_known}
+use Rattle.mdl_context.specs.Gains as gains
+use Rattle.mdl_context.specs.Holdings.{earliest, without_number}
+use Rattle.mdl_context.specs.MemoryLaws.{IsStarved}
+use Rattle.mdl_context.specs.Releases as releases
+use Rattle.mdl_context.specs.Requests as requests
+use Rattle.mdl_context.specs.Requests.{Outcome}
+use Rattle.mdl_context.specs.Waits as waits
+
+-- ---- what takes no memory
+
+frugal_unwanted : (who : ℕ) (answer : Answer) → IsFrugal (gains.unwanted_end_answered who answer)
+frugal_unwanted who (Granted id) = (refl, λ _. tt)
+frugal_unwanted who _ = tt
+
+-- a wait is ended that isn't wanted any more, and then this is the reply
+frugal_abandoning : {A : Type 0} (who : ℕ) (reply : A) → IsFrugal (gains.abandoning who >> Give reply)
+frugal_abandoning who reply =
+    frugal_bind {A = Unit {0}} (gains.abandoning who) (λ _. Give reply) (refl, λ _. (refl, frugal_unwanted who)) (λ _. tt)
+
+frugal_end : (context : ContextView) (answer : Answer) → IsFrugal (waits.end_answered context answer)
+frugal_end context (Granted id) = tt
+frugal_end context (Lost how) = tt
+frugal_end context _ = tt
+
+frugal_poll : (context : ContextView) (answer : Answer) → IsFrugal (waits.poll_answered context answer)
+frugal_poll context Pending = tt
+frugal_poll context (Is_settled how) = (refl, frugal_end context)
+frugal_poll context _ = tt
+
+frugal_looking : (context : ContextView) → IsFrugal (waits.looking context)
+frugal_looking context = (refl, frugal_poll context)
+
+-- a wait for which the searches are over goes on
+pub frugal_resuming : (context : ContextView) → waits.is_searched context.wait ≡ Some true → IsFrugal (waits.resuming context)
+frugal_resuming context over = subst (λ searched. IsFrugal (waits.going_on searched context)) (sym over) (frugal_looking context)
+
+pub frugal_giving_up_wait : (context : ContextView) → IsFrugal (waits.giving_up_wait context)
+frugal_giving_up_wait context =
+    either {A = Outcome Resume} IsFrugal (is_some context.wait) (Ask (Settle_timeout context.who) (λ _. waits.ending context))
+    (Give (Err (Space NoWait), context)) (refl, λ _. (refl, frugal_end context)) tt
+
+frugal_all : (who : ℕ) (gone : List Kept) → IsFrugal (releases.releasing_all who gone)
+frugal_all who [] = tt
+frugal_all who (ticket ∷ tickets) = (refl, λ _. frugal_all who tickets)
+
+pub frugal_giving_up : (gone : List Kept) (context : ContextView) → IsFrugal (releases.giving_up gone context)
+frugal_giving_up gone context =
+    frugal_bind {A = Unit {0}} {B = Outcome (Unit {0})} (releases.releasing_all context.who gone)
+    (λ _. Give (Ok tt, record context { kept = without gone context.kept })) (frugal_all context.who gone) (λ _. tt)
+
+-- so does what may be refused first
+pub frugal_unless : (fault : Option ContextError) (context : ContextView) (program : Program (Outcome (Unit {0}))) → IsFrugal program → IsFrugal (releases.unless fault context program)
+frugal_unless (Some fault) context program made = tt
+frugal_unless None context program made = made
+
+pub frugal_releasing : (id : ℕ) (context : ContextView) → IsFrugal (releases.releasing id context)
+frugal_releasing id context =
+    frugal_unless (releases.release_fault id context) context
+    (Ask (Release context.who id) (λ _. Give (Ok tt, record context { kept = without_number id context.kept }))) (refl, λ _. tt)
+
+-- ---- wishes
+
+-- a lock at a place wasn't had for want of memory
+abbrev IsStarvedGain : Result Got SpaceError → Type 0
+IsStarvedGain end = end ≡ Err OutOfMemory
+
+faithful_copy : (answer : Answer) → IsFaithful IsStarvedGain (gains.copy_answered answer)
+faithful_copy (Granted id) = tt
+faithful_copy _ = tt
+
+faithful_wish_sought : (who number : ℕ) (end : SearchEnd) → IsFaithful IsStarvedGain (gains.wish_sought who number end)
+faithful_wish_sought who number Over = tt
+faithful_wish_sought who number Cut_off = tt
+faithful_wish_sought who number (Failed refusal) =
+    frugal_faithful {A = Result Got SpaceError} IsStarvedGain (gains.abandoning who >> Give (Err refusal)) (frugal_abandoning who (Err refusal))
+
+-- a search that found no memory, and so the wish
+each_wish_sought : (who number : ℕ) (end : SearchEnd) → IsStarvedSearch end → Each IsStarvedGain (gains.wish_sought who number end)
+each_wish_sought who number end e =
+    subst (λ x. Each IsStarvedGain (gains.wish_sought who number x)) (sym e)
+    (each_then {A = Unit {0}} {B = Result Got SpaceError} IsStarvedGain (gains.abandoning who) (λ _. Give (Err OutOfMemory)) (λ _. refl))
+
+faithful_wish : (who : ℕ) (answer : Answer) → IsFaithful IsStarvedGain (gains.wish_answered who answer)
+faithful_wish who (Granted id) = tt
+faithful_wish who (Waits number) =
+    faithful_bind {A = SearchEnd} {B = Result Got SpaceError} IsStarvedSearch IsStarvedGain (seeking most_searches who) (gains.wish_sought who number)
+    (faithful_seeking most_searches who) (each_wish_sought who number) (faithful_wish_sought who number)
+faithful_wish who _ = tt
+
+faithful_try : (who place : ℕ) (mode : Mode) (answer : Answer) → IsFaithful IsStarvedGain (gains.try_answered who place mode answer)
+faithful_try who place mode (Granted id) = tt
+faithful_try who place mode Would_wait = (λ _. refl, faithful_wish who)
+faithful_try who place mode _ = tt
+
+faithful_gaining : (ticket : Option Held) (who place : ℕ) (mode : Mode) → IsFaithful IsStarvedGain (gains.gaining_from ticket who place mode)
+faithful_gaining (Some ticket) who place mode = (λ _. refl, faithful_copy)
+faithful_gaining None who place mode = (λ _. refl, faithful_try who place mode)
+
+faithful_reusing : (ticket : Option Held) (place : ℕ) (request : Request) (context : ContextView) → IsFaithful IsStarved (requests.reusing ticket place request context)
+faithful_reusing (Some ticket) place request context = tt
+faithful_reusing None place request context =
+    let serving = earliest (requests.suffices place request) context.kept in (
+      refl,
+      faithful_bind {A = Result Got SpaceError} {B = Outcome Acquire} IsStarvedGain IsStarved (gains.gaining_from serving context.who place request.mode)
+          (λ end. Give (requests.outcome_got place request context end)) (faithful_gaining serving context.who place request.mode)
+          (λ end e. ap (λ x. (requests.outcome_got place request context x).0) e) (λ _. tt),
+    )
+
+faithful_place : (request : Request) (context : ContextView) (answer : Answer) → IsFaithful IsStarved (requests.place_answered request context answer)
+faithful_place request context (At_place place) =
+    let after = requests.remembering request.key.now place context in
+    (refl, faithful_reusing (earliest (requests.is_reusable place request) after.kept) place request after)
+faithful_place request context _ = tt
+
+faithful_finding : (place : Option ℕ) (request : Request) (context : ContextView) → IsFaithful IsStarved (requests.finding place request context)
+faithful_finding (Some place) request context = faithful_reusing (earliest (requests.is_reusable place request) context.kept) place request context
+faithful_finding None request context = (λ _. refl, faithful_place request context)
+
+pub faithful_acquiring : (request : Request) (context : ContextView) → IsFaithful IsStarved (requests.acquiring request context)
+faithful_acquiring request context =
+    let place = place_known request.key.now context.known in
+    either {A = Outcome Acquire} (IsFaithful IsStarved) (is_some context.wait) (Give (Err Waiting, context)) (requests.finding place request context)
+    tt (faithful_finding place request context)
+
+-- ---- waits that go on
+
+faithful_wait_sought : (context : ContextView) (end : SearchEnd) → IsFaithful IsStarved (waits.wait_sought context end)
+faithful_wait_sought context Over = frugal_faithful {A = Outcome Resume} IsStarved (waits.looking (waits.searched context)) (frugal_looking (waits.searched context))
+faithful_wait_sought context Cut_off = frugal_faithful {A = Outcome Resume} IsStarved (waits.looking context) (frugal_looking context)
+faithful_wait_sought context (Failed refusal) =
+    let reply : Outcome Resume = (Err (Space refusal), waits.without_wait context) in
+    frugal_faithful {A = Outcome Resume} IsStarved (gains.abandoning context.who >> Give reply) (frugal_abandoning context.who reply)
+
+-- a search that found no memory, and so the wait
+each_wait_sought : (context : ContextView) (end : SearchEnd) → IsStarvedSearch end → Each IsStarved (waits.wait_sought context end)
+each_wait_sought context end e =
+    subst (λ x. Each IsStarved (waits.wait_sought context x)) (sym e)
+    (each_then {A = Unit {0}} {B = Outcome Resume} IsStarved (gains.abandoning context.who)
+    (λ _. Give (Err (Space OutOfMemory), waits.without_wait context)) (λ _. refl))
+
+faithful_cut_off : (context : ContextView) (answer : Answer) → IsFaithful IsStarved (waits.cut_off_answered context answer)
+faithful_cut_off context Pending =
+    faithful_bind {A = SearchEnd} {B = Outcome Resume} IsStarvedSearch IsStarved (seeking most_searches context.who) (waits.wait_sought context)
+    (faithful_seeking most_searches context.who) (each_wait_sought context) (faithful_wait_sought context)
+faithful_cut_off context (Is_settled how) = frugal_faithful {A = Outcome Resume} IsStarved (waits.ending context) (refl, frugal_end context)
+faithful_cut_off context _ = tt
+
+faithful_going_on : (searched : Option Bool) (context : ContextView) → IsFaithful IsStarved (waits.going_on searched context)
+faithful_going_on None context = tt
+faithful_going_on (Some true) context = frugal_faithful {A = Outcome Resume} IsStarved (waits.looking context) (frugal_looking context)
+faithful_going_on (Some false) context = (λ takes. cc, faithful_cut_off context)
+
+pub faithful_resuming : (context : ContextView) → IsFaithful IsStarved (waits.resuming context)
+faithful_resuming context = faithful_going_on (waits.is_searched context.wait) context

@@ -1,0 +1,167 @@
+-- All calls of a context are made for its session, and the space of one thread has them.
+use Rattle.std.proofs.Common.{◌≡◌, ℕ, true, false, List, [], ◌∷◌, Option, Some, None, Result, Ok, Err, refl, sym, subst}
+use Rattle.std.specs.Prelude.{Bool, is_some}
+use Rattle.std.specs.Option.{IfSome}
+use Rattle.mdl_key.specs.declared.mode.Mode.{Mode}
+use Rattle.mdl_calls.specs.declared.answers.Held.{Held}
+use Rattle.mdl_calls.specs.declared.space_error.SpaceError.{SpaceError}
+use Rattle.mdl_calls.specs.declared.space_error.SpaceError.TheVariants.{NoWait}
+use Rattle.mdl_calls.specs.Words.{Answer, At_place, Granted, Would_wait, Waits, Pending, Is_settled, Lost, Call, Release, Settle_timeout, Program, Give, Ask, Grow, ◌>>◌, EachCall, SearchEnd, Over, Cut_off, Failed, seeking, most_searches}
+use Rattle.mdl_calls.proofs.FaithfulLemmas.{either, calls_bind}
+use Rattle.mdl_calls.proofs.SeekingLemmas.{calls_seeking}
+use Rattle.mdl_core.specs.RunLaws.{IsMadeFor}
+use Rattle.mdl_context.specs.declared.asking.Got.{Got}
+use Rattle.mdl_context.specs.declared.context_error.ContextError.{ContextError}
+use Rattle.mdl_context.specs.declared.context_error.ContextError.TheVariants.{Waiting, Space}
+use Rattle.mdl_context.specs.declared.kept.Kept.{Kept}
+use Rattle.mdl_context.specs.declared.request.Acquire.{Acquire}
+use Rattle.mdl_context.specs.declared.request.Request.{Request}
+use Rattle.mdl_context.specs.declared.request.Resume.{Resume}
+use Rattle.mdl_context.specs.Contexts.{ContextView, without, place_known}
+use Rattle.mdl_context.specs.Gains as gains
+use Rattle.mdl_context.specs.Holdings.{earliest, without_number}
+use Rattle.mdl_context.specs.MemoryLaws.{IsOwnCall}
+use Rattle.mdl_context.specs.Releases as releases
+use Rattle.mdl_context.specs.Requests as requests
+use Rattle.mdl_context.specs.Requests.{Outcome}
+use Rattle.mdl_context.specs.Waits as waits
+
+-- all calls of a program are made for a session
+abbrev AreOwn : {A : Type 0} → ℕ → Program A → Type 0
+AreOwn who program = EachCall (IsOwnCall who) program
+
+-- ---- a wait that is given up, and searches
+
+own_unwanted : (who : ℕ) (answer : Answer) → AreOwn who (gains.unwanted_end_answered who answer)
+own_unwanted who (Granted id) = ((refl, refl), λ _. tt)
+own_unwanted who _ = tt
+
+-- a wait is ended that isn't wanted any more, and then this is the reply
+own_abandoning : {A : Type 0} (who : ℕ) (reply : A) → AreOwn who (gains.abandoning who >> Give reply)
+own_abandoning who reply =
+    calls_bind {A = Unit {0}} (IsOwnCall who) (gains.abandoning who) (λ _. Give reply) ((refl, refl), λ _. ((refl, refl), own_unwanted who)) (λ _. tt)
+
+own_seeking : (n who : ℕ) → AreOwn who (seeking n who)
+own_seeking n who = calls_seeking (IsOwnCall who) who (refl, refl) n
+
+-- ---- wishes
+
+own_copy : (who : ℕ) (answer : Answer) → AreOwn who (gains.copy_answered answer)
+own_copy who (Granted id) = tt
+own_copy who _ = tt
+
+own_wish_sought : (who number : ℕ) (end : SearchEnd) → AreOwn who (gains.wish_sought who number end)
+own_wish_sought who number Over = tt
+own_wish_sought who number Cut_off = tt
+own_wish_sought who number (Failed refusal) = own_abandoning {A = Result Got SpaceError} who (Err refusal)
+
+own_wish : (who : ℕ) (answer : Answer) → AreOwn who (gains.wish_answered who answer)
+own_wish who (Granted id) = tt
+own_wish who (Waits number) =
+    calls_bind {A = SearchEnd} {B = Result Got SpaceError} (IsOwnCall who) (seeking most_searches who) (gains.wish_sought who number)
+    (own_seeking most_searches who) (own_wish_sought who number)
+own_wish who _ = tt
+
+own_try : (who place : ℕ) (mode : Mode) (answer : Answer) → AreOwn who (gains.try_answered who place mode answer)
+own_try who place mode (Granted id) = tt
+own_try who place mode Would_wait = ((refl, refl), own_wish who)
+own_try who place mode _ = tt
+
+own_gaining : (ticket : Option Held) (who place : ℕ) (mode : Mode) → AreOwn who (gains.gaining_from ticket who place mode)
+own_gaining (Some ticket) who place mode = ((refl, refl), own_copy who)
+own_gaining None who place mode = ((refl, refl), own_try who place mode)
+
+own_reusing : (ticket : Option Held) (place : ℕ) (request : Request) (context : ContextView) → AreOwn context.who (requests.reusing ticket place request context)
+own_reusing (Some ticket) place request context = tt
+own_reusing None place request context =
+    let serving = earliest (requests.suffices place request) context.kept in (
+      tt,
+      calls_bind {A = Result Got SpaceError} {B = Outcome Acquire} (IsOwnCall context.who) (gains.gaining_from serving context.who place request.mode)
+          (λ end. Give (requests.outcome_got place request context end)) (own_gaining serving context.who place request.mode) (λ _. tt),
+    )
+
+own_place : (request : Request) (context : ContextView) (answer : Answer) → AreOwn context.who (requests.place_answered request context answer)
+own_place request context (At_place place) =
+    let after = requests.remembering request.key.now place context in
+    (tt, own_reusing (earliest (requests.is_reusable place request) after.kept) place request after)
+own_place request context _ = tt
+
+own_finding : (place : Option ℕ) (request : Request) (context : ContextView) → AreOwn context.who (requests.finding place request context)
+own_finding (Some place) request context = own_reusing (earliest (requests.is_reusable place request) context.kept) place request context
+own_finding None request context = ((refl, refl), own_place request context)
+
+pub own_acquiring : (request : Request) (context : ContextView) → EachCall (IsOwnCall context.who) (requests.acquiring request context)
+own_acquiring request context =
+    let place = place_known request.key.now context.known in
+    either {A = Outcome Acquire} (AreOwn context.who) (is_some context.wait) (Give (Err Waiting, context)) (requests.finding place request context)
+    tt (own_finding place request context)
+
+-- ---- waits
+
+own_end : (context : ContextView) (answer : Answer) → AreOwn context.who (waits.end_answered context answer)
+own_end context (Granted id) = tt
+own_end context (Lost how) = tt
+own_end context _ = tt
+
+own_poll : (context : ContextView) (answer : Answer) → AreOwn context.who (waits.poll_answered context answer)
+own_poll context Pending = tt
+own_poll context (Is_settled how) = ((refl, refl), own_end context)
+own_poll context _ = tt
+
+own_wait_sought : (context : ContextView) (end : SearchEnd) → AreOwn context.who (waits.wait_sought context end)
+own_wait_sought context Over = ((refl, refl), own_poll (waits.searched context))
+own_wait_sought context Cut_off = ((refl, refl), own_poll context)
+own_wait_sought context (Failed refusal) = own_abandoning {A = Outcome Resume} context.who (Err (Space refusal), waits.without_wait context)
+
+own_cut_off : (context : ContextView) (answer : Answer) → AreOwn context.who (waits.cut_off_answered context answer)
+own_cut_off context Pending =
+    calls_bind {A = SearchEnd} {B = Outcome Resume} (IsOwnCall context.who) (seeking most_searches context.who) (waits.wait_sought context)
+    (own_seeking most_searches context.who) (own_wait_sought context)
+own_cut_off context (Is_settled how) = ((refl, refl), own_end context)
+own_cut_off context _ = tt
+
+own_going_on : (searched : Option Bool) (context : ContextView) → AreOwn context.who (waits.going_on searched context)
+own_going_on None context = tt
+own_going_on (Some true) context = ((refl, refl), own_poll context)
+own_going_on (Some false) context = ((refl, refl), own_cut_off context)
+
+pub own_resuming : (context : ContextView) → EachCall (IsOwnCall context.who) (waits.resuming context)
+own_resuming context = own_going_on (waits.is_searched context.wait) context
+
+pub own_giving_up_wait : (context : ContextView) → EachCall (IsOwnCall context.who) (waits.giving_up_wait context)
+own_giving_up_wait context =
+    either {A = Outcome Resume} (AreOwn context.who) (is_some context.wait) (Ask (Settle_timeout context.who) (λ _. waits.ending context))
+    (Give (Err (Space NoWait), context)) ((refl, refl), λ _. ((refl, refl), own_end context)) tt
+
+-- ---- releases
+
+own_all : (who : ℕ) (gone : List Kept) → AreOwn who (releases.releasing_all who gone)
+own_all who [] = tt
+own_all who (ticket ∷ tickets) = ((refl, refl), λ _. own_all who tickets)
+
+pub own_giving_up : (gone : List Kept) (context : ContextView) → EachCall (IsOwnCall context.who) (releases.giving_up gone context)
+own_giving_up gone context =
+    calls_bind {A = Unit {0}} {B = Outcome (Unit {0})} (IsOwnCall context.who) (releases.releasing_all context.who gone)
+    (λ _. Give (Ok tt, record context { kept = without gone context.kept })) (own_all context.who gone) (λ _. tt)
+
+pub own_unless : (fault : Option ContextError) (context : ContextView) (program : Program (Outcome (Unit {0}))) →
+    EachCall (IsOwnCall context.who) program → EachCall (IsOwnCall context.who) (releases.unless fault context program)
+own_unless (Some fault) context program made = tt
+own_unless None context program made = made
+
+pub own_releasing : (id : ℕ) (context : ContextView) → EachCall (IsOwnCall context.who) (releases.releasing id context)
+own_releasing id context =
+    own_unless (releases.release_fault id context) context
+    (Ask (Release context.who id) (λ _. Give (Ok tt, record context { kept = without_number id context.kept }))) ((refl, refl), λ _. tt)
+
+-- ---- for those who ask more, or less, of calls
+
+-- a call of the session is made for it or for nobody
+pub own_made : (who : ℕ) (call : Call) → IsOwnCall who call → IsMadeFor who call
+own_made who call own = (own.1, subst (λ maker. IfSome maker (λ w. w ≡ who)) (sym own.0) refl)
+
+-- what is so of each such call, is so of all calls of a program
+pub calls_weaker : {A : Type 0} (P Q : Call → Type 0) → ((call : Call) → P call → Q call) → (program : Program A) → EachCall P program → EachCall Q program
+calls_weaker P Q so (Give x) each = tt
+calls_weaker P Q so (Ask call next) each = (so call each.0, λ answer. calls_weaker P Q so (next answer) (each.1 answer))
+calls_weaker P Q so (Grow refused found) each = (calls_weaker P Q so refused each.0, calls_weaker P Q so found each.1)

@@ -1,0 +1,65 @@
+-- What is so of all that a context gives up by, and what of it follows over the space of one thread.
+use Rattle.std.proofs.Common.{ℕ, Option, List}
+use Rattle.mdl_key.specs.declared.mode.Duration.TheVariants.{Statement}
+use Rattle.mdl_calls.specs.Words.{EachCall, IsFrugal, Program}
+use Rattle.mdl_core.proofs.RunOutcomes.{sure-run, frugal-runs}
+use Rattle.mdl_context.specs.declared.context_error.ContextError.{ContextError}
+use Rattle.mdl_context.specs.declared.kept.Kept.{Kept}
+use Rattle.mdl_context.specs.declared.request.Acquire.{Acquire}
+use Rattle.mdl_context.specs.declared.request.Resume.{Resume}
+use Rattle.mdl_context.specs.Contexts.{ContextView, held_for, beyond_mark, of_transaction, place_known}
+use Rattle.mdl_context.specs.MemoryLaws.{IsStarved, IsOwnCall, EachEnding, EndingsTakeNoMemory, ContextsCallForTheirSession, IsSure, SureWishes, SureWaits, SureEndings}
+use Rattle.mdl_context.specs.Releases.{at_known_place, giving_up, releasing, unless, waiting_fault, rollback_fault}
+use Rattle.mdl_context.specs.Requests.{Outcome, acquiring}
+use Rattle.mdl_context.specs.Waits.{giving_up_wait, resuming}
+use Rattle.mdl_context.proofs.MemoryLemmas.{faithful_acquiring, faithful_resuming, frugal_giving_up_wait, frugal_giving_up, frugal_releasing, frugal_unless}
+use Rattle.mdl_context.proofs.OwnCallLemmas.{own_acquiring, own_resuming, own_giving_up_wait, own_giving_up, own_releasing, own_unless}
+
+-- what is so of the giving up of a wait, of one release and of any releases, and stays so where a refusal comes first, is so of
+-- all that gives something up
+each_ending : (P : (A : Type 0) → Program A → Type 0) (context : ContextView) →
+    P (Outcome Resume) (giving_up_wait context) → ((id : ℕ) → P (Outcome (Unit {0})) (releasing id context)) →
+    ((gone : List Kept) → P (Outcome (Unit {0})) (giving_up gone context)) →
+    ((fault : Option ContextError) (program : Program (Outcome (Unit {0}))) → P (Outcome (Unit {0})) program → P (Outcome (Unit {0})) (unless fault context program)) →
+    EachEnding P context
+each_ending P context waits one all refused =
+    let may_wait = λ (gone : List Kept). refused (waiting_fault context) (giving_up gone context) (all gone) in (
+      waits,
+      one,
+      λ key. may_wait (at_known_place (place_known key context.known) context.kept),
+      λ mark. refused (rollback_fault mark context) (giving_up (beyond_mark mark context.kept) context) (all (beyond_mark mark context.kept)),
+      may_wait (held_for Statement context.kept),
+      may_wait (of_transaction context.kept),
+      all,
+    )
+
+pub frugal_endings : EndingsTakeNoMemory
+frugal_endings context =
+    each_ending (λ A program. IsFrugal program) context (frugal_giving_up_wait context) (λ id. frugal_releasing id context)
+    (λ gone. frugal_giving_up gone context) (λ fault program made. frugal_unless fault context program made)
+
+pub own_calls : ContextsCallForTheirSession
+own_calls context = (
+  λ request. own_acquiring request context,
+  own_resuming context,
+  each_ending (λ A program. EachCall (IsOwnCall context.who) program) context (own_giving_up_wait context) (λ id. own_releasing id context)
+      (λ gone. own_giving_up gone context) (λ fault program made. own_unless fault context program made),
+)
+
+pub sure-wishes : SureWishes
+sure-wishes request context a b reply run sound =
+    sure-run {A = Outcome Acquire} IsStarved (acquiring request context) a b reply (faithful_acquiring request context) sound run
+
+pub sure-waits : SureWaits
+sure-waits context a b reply run sound = sure-run {A = Outcome Resume} IsStarved (resuming context) a b reply (faithful_resuming context) sound run
+
+-- what is so of one kind of programs is so of the other, where the one is the other
+each_weaker : (P Q : (A : Type 0) → Program A → Type 0) → ((A : Type 0) (program : Program A) → P A program → Q A program) →
+    (context : ContextView) → EachEnding P context → EachEnding Q context
+each_weaker P Q so context (waits, one, key, mark, statement, transaction, all) =
+    (so _ _ waits, λ id. so _ _ (one id), λ k. so _ _ (key k), λ m. so _ _ (mark m), so _ _ statement, so _ _ transaction, λ gone. so _ _ (all gone))
+
+pub sure-endings : SureEndings
+sure-endings context =
+    each_weaker (λ A program. IsFrugal program) (λ A program. IsSure program)
+    (λ A program frugal a b reply run. frugal-runs A program a b reply frugal run) context (frugal_endings context)

@@ -1,0 +1,82 @@
+-- What want of memory does to the calls of a context. Once memory was wanting, a wish for a lock answers that and nothing else,
+-- and so does a wait that goes on; all that gives something up takes no memory. So over the space of one thread each answer that
+-- isn't want of memory is the one that the definitions name.
+use Rattle.std.specs.Prelude.{◌≡◌, ℕ, true, List, Some, Err}
+use Rattle.mdl_key.specs.Keys.{KeyName}
+use Rattle.mdl_calls.specs.declared.space_error.SpaceError.TheVariants.{OutOfMemory}
+use Rattle.mdl_calls.specs.Words.{Call, caller, EachCall, IsFaithful, IsFrugal, Program, Runs, outcome_of}
+use Rattle.mdl_core.specs.CoreCalls.{has_call, outcome}
+use Rattle.mdl_core.specs.CoreJoins.{Joins}
+use Rattle.mdl_core.specs.Cores.{Core}
+use Rattle.mdl_context.specs.declared.context_error.ContextError.TheVariants.{Space}
+use Rattle.mdl_context.specs.declared.kept.Kept.{Kept}
+use Rattle.mdl_context.specs.declared.request.Mark.{Mark}
+use Rattle.mdl_context.specs.declared.request.Request.{Request}
+use Rattle.mdl_context.specs.Contexts.{ContextView}
+use Rattle.mdl_context.specs.Releases.{giving_up, releasing, releasing_name, rolling_back, ending_statement, ending_transaction}
+use Rattle.mdl_context.specs.Requests.{Outcome, acquiring}
+use Rattle.mdl_context.specs.Waits.{is_searched, resuming, giving_up_wait}
+
+-- a call of a context was refused for want of memory
+abbrev pub IsStarved : {A : Type 0} → Outcome A → Type 0
+IsStarved outcome = outcome.0 ≡ Err (Space OutOfMemory)
+
+-- this is so of each program by which a context gives up its wait or tickets: of those that may be refused, and of the one that
+-- can't be
+abbrev pub EachEnding : ((A : Type 0) → Program A → Type 0) → ContextView → Type 0
+EachEnding P context =
+    P _ (giving_up_wait context)
+    × ((id : ℕ) → P _ (releasing id context))
+    × ((key : KeyName) → P _ (releasing_name key context))
+    × ((mark : Mark) → P _ (rolling_back mark context))
+    × P _ (ending_statement context)
+    × P _ (ending_transaction context)
+    × ((gone : List Kept) → P _ (giving_up gone context))
+
+-- once memory was wanting, a wish for a lock answers that
+abbrev pub WishesTellOfWant : Type 0
+WishesTellOfWant = (request : Request) (context : ContextView) → IsFaithful IsStarved (acquiring request context)
+
+-- so does a wait that goes on, which takes no memory where its searches for deadlocks are over
+abbrev pub WaitsTellOfWant : Type 0
+WaitsTellOfWant =
+    (context : ContextView) →
+    IsFaithful IsStarved (resuming context) × (is_searched context.wait ≡ Some true → IsFrugal (resuming context))
+
+-- to give up a wait or tickets takes no memory
+abbrev pub EndingsTakeNoMemory : Type 0
+EndingsTakeNoMemory = (context : ContextView) → EachEnding (λ A program. IsFrugal program) context
+
+-- a call is made for this session, and one that the space of one thread has
+abbrev pub IsOwnCall : ℕ → Call → Type 0
+IsOwnCall who call = (caller call ≡ Some who) × (has_call call ≡ true)
+
+-- all calls of a context are such ones, of its session
+abbrev pub ContextsCallForTheirSession : Type 0
+ContextsCallForTheirSession =
+    (context : ContextView) →
+    ((request : Request) → EachCall (IsOwnCall context.who) (acquiring request context))
+    × EachCall (IsOwnCall context.who) (resuming context)
+    × EachEnding (λ A program. EachCall (IsOwnCall context.who) program) context
+
+-- over the space of one thread each run of a program is its outcome: its reply, and the space after it
+abbrev pub IsSure : {A : Type 0} → Program A → Type 0
+IsSure {A} program =
+    (a b : Core) (reply : A) → Runs Joins a program reply b → outcome_of outcome program a ≡ (reply, b)
+
+-- each run is, unless its reply is such a fault
+abbrev pub IsSureUnless : {A : Type 0} → (A → Type 0) → Program A → Type 0
+IsSureUnless {A} IsFault program =
+    (a b : Core) (reply : A) → Runs Joins a program reply b → (IsFault reply → ⊥) → outcome_of outcome program a ≡ (reply, b)
+
+-- what a wish for a lock answers, the context and the space after it are the outcome, unless memory was wanting
+abbrev pub SureWishes : Type 0
+SureWishes = (request : Request) (context : ContextView) → IsSureUnless IsStarved (acquiring request context)
+
+-- and so for a wait that goes on
+abbrev pub SureWaits : Type 0
+SureWaits = (context : ContextView) → IsSureUnless IsStarved (resuming context)
+
+-- where a wait or tickets are given up, they always are
+abbrev pub SureEndings : Type 0
+SureEndings = (context : ContextView) → EachEnding (λ A program. IsSure program) context
