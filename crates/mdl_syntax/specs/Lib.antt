@@ -1,5 +1,6 @@
 pub mod Forms
 pub mod KeyWords
+pub mod Laws
 pub mod Names
 pub mod Reading
 pub mod Scripts

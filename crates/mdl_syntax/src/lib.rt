@@ -7,6 +7,7 @@
 
 mod forms;
 mod key_words;
+mod laws;
 mod lines;
 mod name;
 mod no_statement;
@@ -16,6 +17,7 @@ mod table_names;
 mod tables;
 mod words;
 
+pub use laws::{line_numbers_rise, statements_are_within_limits};
 pub use lines::parse;
 pub use name::Name;
 pub use script::{Line, Script};

@@ -1,0 +1,53 @@
+-- Laws of what is read of a script. The limits are this project's own choice.
+use Rattle.std.specs.Prelude.{◌≡◌, ℕ, ◌+◌, ◌≤◌, List, [], ◌∷◌, length, None, IfOk}
+use Rattle.std.specs.List.{All, IsDistinct}
+use Rattle.mdl_key.specs.declared.namespace.Namespace.TheVariants.{Table}
+use Rattle.mdl_key.specs.Keys.{KeyName, key_eq, name_fault}
+use Rattle.mdl_lines.specs.Sessions.{IsScriptSession}
+use Rattle.mdl_syntax.specs.declared.script.Line.{Line}
+use Rattle.mdl_syntax.specs.declared.statement.Statement.{Statement}
+use Rattle.mdl_syntax.specs.declared.statement.Statement.TheVariants.{Begin, Commit, Rollback, Savepoint, RollbackTo, Select, Write, CreateTable, DropTables, KillQuery, Timeout}
+use Rattle.mdl_syntax.specs.Scripts.{parsed}
+
+-- a name of 1 to 64 bytes of a-z, 0-9 and _
+abbrev pub IsName : List ℕ → Type 0
+IsName name = name_fault name ≡ None
+
+-- the key of a table, with a name of its schema and its own
+abbrev pub IsTable : KeyName → Type 0
+IsTable key = (key.namespace ≡ Table) × IsName key.schema × IsName key.table
+
+-- 1 to 8 tables, no two the same
+abbrev pub AreTables : List KeyName → Type 0
+AreTables tables = (1 ≤ length tables) × (length tables ≤ 8) × IsDistinct key_eq tables × All IsTable tables
+
+-- 1 to 64 columns
+abbrev pub AreColumns : List (List ℕ) → Type 0
+AreColumns columns = (1 ≤ length columns) × (length columns ≤ 64) × All IsName columns
+
+-- a statement within the limits of the language
+abbrev pub IsWithinLimits : Statement → Type 0
+IsWithinLimits Begin = Unit {0}
+IsWithinLimits Commit = Unit {0}
+IsWithinLimits Rollback = Unit {0}
+IsWithinLimits (Savepoint name) = IsName name
+IsWithinLimits (RollbackTo name) = IsName name
+IsWithinLimits (Select tables) = AreTables tables
+IsWithinLimits (Write table priority) = IsTable table
+IsWithinLimits (CreateTable table columns) = IsTable table × AreColumns columns
+IsWithinLimits (DropTables tables) = AreTables tables
+IsWithinLimits (KillQuery session) = IsScriptSession session
+IsWithinLimits Timeout = Unit {0}
+
+-- every statement that is read is within the limits, and asked of a session that a script can name
+abbrev pub StatementsAreWithinLimits : Type 0
+StatementsAreWithinLimits = (text : List ℕ) → IfOk (parsed text) (All (λ line. IsScriptSession line.session × IsWithinLimits line.statement))
+
+-- lines whose numbers rise, from this one on
+abbrev pub RiseFrom : ℕ → List Line → Type 0
+RiseFrom number [] = Unit {0}
+RiseFrom number (line ∷ lines) = (number ≤ line.number) × RiseFrom (line.number + 1) lines
+
+-- the lines that are read stand in the order of their numbers, which are counted from 1
+abbrev pub LineNumbersRise : Type 0
+LineNumbersRise = (text : List ℕ) → IfOk (parsed text) (RiseFrom 1)
