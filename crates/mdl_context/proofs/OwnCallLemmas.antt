@@ -27,7 +27,7 @@ use Rattle.mdl_context.specs.Requests.{Outcome}
 use Rattle.mdl_context.specs.Waits as waits
 
 -- all calls of a program are made for a session
-abbrev AreOwn : {A : Type 0} → ℕ → Program A → Type 0
+abbrev pub AreOwn : {A : Type 0} → ℕ → Program A → Type 0
 AreOwn who program = EachCall (IsOwnCall who) program
 
 -- ---- a wait that is given up, and searches
@@ -71,7 +71,7 @@ own_gaining : (ticket : Option Held) (who place : ℕ) (mode : Mode) → AreOwn 
 own_gaining (Some ticket) who place mode = ((refl, refl), own_copy who)
 own_gaining None who place mode = ((refl, refl), own_try who place mode)
 
-own_reusing : (ticket : Option Held) (place : ℕ) (request : Request) (context : ContextView) → AreOwn context.who (requests.reusing ticket place request context)
+pub own_reusing : (ticket : Option Held) (place : ℕ) (request : Request) (context : ContextView) → AreOwn context.who (requests.reusing ticket place request context)
 own_reusing (Some ticket) place request context = tt
 own_reusing None place request context =
     let serving = earliest (requests.suffices place request) context.kept in (
@@ -86,7 +86,7 @@ own_place request context (At_place place) =
     (tt, own_reusing (earliest (requests.is_reusable place request) after.kept) place request after)
 own_place request context _ = tt
 
-own_finding : (place : Option ℕ) (request : Request) (context : ContextView) → AreOwn context.who (requests.finding place request context)
+pub own_finding : (place : Option ℕ) (request : Request) (context : ContextView) → AreOwn context.who (requests.finding place request context)
 own_finding (Some place) request context = own_reusing (earliest (requests.is_reusable place request) context.kept) place request context
 own_finding None request context = ((refl, refl), own_place request context)
 
@@ -103,26 +103,35 @@ own_end context (Granted id) = tt
 own_end context (Lost how) = tt
 own_end context _ = tt
 
+pub own_ending : (context : ContextView) → AreOwn context.who (waits.ending context)
+own_ending context = ((refl, refl), own_end context)
+
 own_poll : (context : ContextView) (answer : Answer) → AreOwn context.who (waits.poll_answered context answer)
 own_poll context Pending = tt
-own_poll context (Is_settled how) = ((refl, refl), own_end context)
+own_poll context (Is_settled how) = own_ending context
 own_poll context _ = tt
 
+pub own_looking : (context : ContextView) → AreOwn context.who (waits.looking context)
+own_looking context = ((refl, refl), own_poll context)
+
 own_wait_sought : (context : ContextView) (end : SearchEnd) → AreOwn context.who (waits.wait_sought context end)
-own_wait_sought context Over = ((refl, refl), own_poll (waits.searched context))
-own_wait_sought context Cut_off = ((refl, refl), own_poll context)
+own_wait_sought context Over = own_looking (waits.searched context)
+own_wait_sought context Cut_off = own_looking context
 own_wait_sought context (Failed refusal) = own_abandoning {A = Outcome Resume} context.who (Err (Space refusal), waits.without_wait context)
 
-own_cut_off : (context : ContextView) (answer : Answer) → AreOwn context.who (waits.cut_off_answered context answer)
-own_cut_off context Pending =
+pub own_searching_on : (context : ContextView) → AreOwn context.who (waits.searching_on context)
+own_searching_on context =
     calls_bind {A = SearchEnd} {B = Outcome Resume} (IsOwnCall context.who) (seeking most_searches context.who) (waits.wait_sought context)
     (own_seeking most_searches context.who) (own_wait_sought context)
-own_cut_off context (Is_settled how) = ((refl, refl), own_end context)
+
+own_cut_off : (context : ContextView) (answer : Answer) → AreOwn context.who (waits.cut_off_answered context answer)
+own_cut_off context Pending = own_searching_on context
+own_cut_off context (Is_settled how) = own_ending context
 own_cut_off context _ = tt
 
 own_going_on : (searched : Option Bool) (context : ContextView) → AreOwn context.who (waits.going_on searched context)
 own_going_on None context = tt
-own_going_on (Some true) context = ((refl, refl), own_poll context)
+own_going_on (Some true) context = own_looking context
 own_going_on (Some false) context = ((refl, refl), own_cut_off context)
 
 pub own_resuming : (context : ContextView) → EachCall (IsOwnCall context.who) (waits.resuming context)
@@ -135,7 +144,7 @@ own_giving_up_wait context =
 
 -- ---- releases
 
-own_all : (who : ℕ) (gone : List Kept) → AreOwn who (releases.releasing_all who gone)
+pub own_all : (who : ℕ) (gone : List Kept) → AreOwn who (releases.releasing_all who gone)
 own_all who [] = tt
 own_all who (ticket ∷ tickets) = ((refl, refl), λ _. own_all who tickets)
 
