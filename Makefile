@@ -8,14 +8,14 @@ PROGRAM = crates/mdlsim/out/mdlsim
 
 BENCH = crates/mdl_bench/out/mdl_bench
 
-.PHONY: run test bench examples build kit
+.PHONY: run test bench examples growths build kit
 
 # Builds mdlsim, proved, and prints its answers to the script.
 run: build
 	@$(PROGRAM) lock $(OPTIONS) < $(SCRIPT)
 
-# The gate: the examples have their answers, and everything is proved and tested from nothing.
-test: examples
+# The gate: the examples have their answers, refused growths lose nothing, and everything is proved and tested from nothing.
+test: examples growths
 	@rt ci
 
 # Lines a second and peak memory of scripts of three sizes; what calls cost on books of four sizes, and chains of grants.
@@ -28,6 +28,10 @@ bench: build
 # Each example gives the answers that lie beside it.
 examples: kit
 	@sh examples/check.sh
+
+# Short lives of the crates go well where any one of their allocations is refused.
+growths: kit
+	@sh growths/check.sh
 
 # Proves mdlsim and what it stands on, and builds it.
 build: kit

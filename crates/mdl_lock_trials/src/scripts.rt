@@ -264,25 +264,3 @@ fn a_write_that_fails_leaves_a_beginning(rt: HostRuntime) -> Result<(), Fail> {
     }
     Ok(())
 }
-
-// Where an allocation is refused, this sees to it that memory is what is told.
-#[test]
-fn lack_of_memory_is_told(rt: HostRuntime) -> Result<(), Fail> {
-    let script = b"1 X\n2 SR\n3 SW\n1 RELEASE\n";
-    let answers =
-        b"1 GRANTED X\n2 WAITS SR\n3 WAITS SW\n1 RELEASED X\n2 GRANTED SR\n3 GRANTED SW\n";
-    let mut reader = script.as_slice();
-    let mut room = [0u8; 100];
-    let mut writer = room.as_mut_slice();
-    let result = drive(rt.alloc(), Kind::Object, &mut reader, &mut writer);
-    let written = match result {
-        Ok(()) => answers.len(),
-        Err(fault) => {
-            assert_eq!(rt; fault, Fault::Memory);
-            0
-        }
-    };
-    assert_eq!(rt; room.get(..written), answers.get(..written));
-    assert_eq!(rt; room.get(written), Some(&0));
-    Ok(())
-}

@@ -1,0 +1,70 @@
+//! `mdl_growth_trials` leads short lives of the crates below, and says which of them went wrong.
+//!
+//! Each life is a row of public calls. Where a call is refused for want of memory, it is seen that nothing has changed, and
+//! the call is made again, so a life bears that any one of its allocations is refused. Which one that is the word of the
+//! command line says: before the lives, the program makes as many allocations as the word has bytes, so one that is refused by
+//! its number in the whole run comes so much the earlier in the lives.
+#![tactic(auto)]
+
+mod books;
+mod definitions;
+mod scripts;
+
+use std::alloc::Global;
+use std::process::ExitCode;
+
+fn main(rt: HostRuntime) -> ExitCode {
+    let lead = match lead_of(&rt) {
+        Ok(lead) => lead,
+        Err(error) => {
+            let _ = eprintln!(rt; "{error}");
+            return ExitCode::FAILURE;
+        }
+    };
+    spend(rt.alloc(), lead);
+    match first_wrong(rt.alloc()) {
+        None => {
+            let _ = println!(rt; "all went well");
+            ExitCode::SUCCESS
+        }
+        Some(life) => {
+            let _ = println!(rt; "{life} went wrong");
+            ExitCode::FAILURE
+        }
+    }
+}
+
+// How many bytes the words of the command line have, the program's name left out.
+fn lead_of(rt: &HostRuntime) -> std::io::Result<usize> {
+    let words = std::env::args(rt)?;
+    let mut bytes = 0usize;
+    for word in words.skip(1) {
+        bytes = bytes.saturating_add(word.len());
+    }
+    Ok(bytes)
+}
+
+// Makes so many allocations, one of which may be refused.
+fn spend(alloc: Global, count: usize) {
+    for _ in 0..count {
+        let mut bytes = Vec::new(alloc);
+        let _ = bytes.push(0u8);
+    }
+}
+
+// The first life that goes wrong.
+fn first_wrong(alloc: Global) -> Option<&'static str> {
+    if !books::rings_are_found(alloc) {
+        return Some("a ring of locks");
+    }
+    if !definitions::changes_are_made(alloc) {
+        return Some("a table's definition");
+    }
+    if !scripts::statements_are_read(alloc) {
+        return Some("a script of statements");
+    }
+    if !scripts::locks_are_driven(alloc) {
+        return Some("a lock's script");
+    }
+    None
+}

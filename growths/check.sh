@@ -1,0 +1,27 @@
+#!/bin/sh
+# Leads the lives of mdl_growth_trials once for each of their allocations, which is refused: they have to go well all the same.
+# The program makes as many allocations before its lives as its word has bytes, and to each run the allocation of the same
+# number is refused, so each word has another one of the lives refused. It is built here without its proof, which `rt ci` gives.
+# Usage: sh growths/check.sh
+growths=$(cd "$(dirname "$0")" && pwd)
+made=$(mktemp -d)
+trap 'rm -rf "$made"' EXIT
+
+# The number of the allocation that is refused. It has to be more than a run makes: 105, those that read the word included.
+refused=140
+
+cd "$growths/../crates/mdl_growth_trials" || exit 1
+mkdir "$made/cases"
+word=
+for bytes in $(seq 1 $refused); do
+    word="${word}x"
+    : > "$made/cases/$bytes"
+    echo "$word" > "$made/cases/$bytes.args"
+    cp stdout "$made/cases/$bytes.stdout"
+done
+
+if ! rt try --fail-alloc $refused --cases "$made/cases" > "$made/log" 2>&1; then
+    cat "$made/log" >&2
+    exit 1
+fi
+echo "each growth was refused once, and nothing was lost"
