@@ -37,9 +37,10 @@ calls_bind P (Grow refused found) next each later = (calls_bind P refused next e
 pub faithful_bind : {A B : Type 0} (F : A → Type 0) (G : B → Type 0) (first : Program A) (next : A → Program B) →
     IsFaithful F first → ((x : A) → F x → Each G (next x)) → ((x : A) → IsFaithful G (next x)) → IsFaithful G (first >>= next)
 faithful_bind F G (Give x) next made passes later = later x
-faithful_bind F G (Ask call more) next made passes later =
-    (λ takes. each_bind F G (more (Refused OutOfMemory)) next (made.0 takes) passes,
-     λ answer. faithful_bind F G (more answer) next (made.1 answer) passes later)
+faithful_bind F G (Ask call more) next made passes later = (
+  λ takes. each_bind F G (more (Refused OutOfMemory)) next (made.0 takes) passes,
+  λ answer. faithful_bind F G (more answer) next (made.1 answer) passes later,
+)
 faithful_bind F G (Grow refused found) next made passes later =
     (each_bind F G refused next made.0 passes, faithful_bind F G found next made.1 passes later)
 
@@ -98,7 +99,10 @@ pub runs_outcome : {S A : Type 0} (joins : S → Call → Answer → S → Type 
     (program : Program A) (a : S) → I a → EachCall P program → Runs joins a program (outcome_of step program a).0 (outcome_of step program a).1
 runs_outcome joins step I P makes keeps (Give x) a start each = (refl, refl)
 runs_outcome joins step I P makes keeps (Ask call next) a start each =
-    let made = makes a call start each.0 in
-    ((step call a).0, (step call a).1, made,
-     runs_outcome joins step I P makes keeps (next (step call a).0) (step call a).1 (keeps a _ call _ start made) (each.1 (step call a).0))
+    let made = makes a call start each.0 in (
+      (step call a).0,
+      (step call a).1,
+      made,
+      runs_outcome joins step I P makes keeps (next (step call a).0) (step call a).1 (keeps a _ call _ start made) (each.1 (step call a).0),
+    )
 runs_outcome joins step I P makes keeps (Grow refused found) a start each = inr (runs_outcome joins step I P makes keeps found a start each.1)
