@@ -1,24 +1,33 @@
 #!/bin/sh
 # Runs each example by mdlsim, and compares what it answers with the answers that lie beside it.
-# A script NAME.scoped.lock is one of a scoped lock. mdlsim is built here without its proof, which `rt ci` gives.
-# Usage: sh examples/check.sh            all examples, some side by side
+# A script NAME.scoped.lock is one of a scoped lock. mdlsim is built here once, without its proof, which `rt ci` gives.
+# Usage: sh examples/check.sh            all examples
 #        sh examples/check.sh SCRIPT     one of them
 examples=$(cd "$(dirname "$0")" && pwd)
+made=$(mktemp -d)
+trap 'rm -rf "$made"' EXIT
+mkdir "$made/cases"
+
+# Lays a script, its words and its answers side by side, as the kit wants its cases.
+lay() {
+    name=$(basename "$1" .lock)
+    case "$1" in
+        *.scoped.lock) printf 'lock\n--scoped\n' ;;
+        *) printf 'lock\n' ;;
+    esac > "$made/cases/$name.args"
+    cp "$1" "$made/cases/$name" && cp "${1%.lock}.answers" "$made/cases/$name.stdout"
+}
 
 if [ $# -eq 0 ]; then
-    printf '%s\n' "$examples"/*.lock | xargs -P 4 -n 1 sh "$examples/check.sh" || exit 1
-    echo "each example has its answers"
-    exit 0
+    set -- "$examples"/*.lock
 fi
+for script in "$@"; do
+    lay "$script" || exit 1
+done
 
-script=$1
-answers="${script%.lock}.answers"
-case "$script" in
-    *.scoped.lock) set -- lock --scoped ;;
-    *) set -- lock ;;
-esac
 cd "$examples/../crates/mdlsim" || exit 1
-if ! rt try -- "$@" < "$script" 2> /dev/null | cmp -s - "$answers"; then
-    echo "$script: the answers are not those of $answers" >&2
+if ! rt try --cases "$made/cases" > "$made/log" 2>&1; then
+    cat "$made/log" >&2
     exit 1
 fi
+echo "each example has its answers"
