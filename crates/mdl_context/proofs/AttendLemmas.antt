@@ -1,8 +1,6 @@
 -- A context goes on to attend to its session over each call.
 use Rattle.std.proofs.Common.{◌≡◌, ℕ, Bool, true, false, List, [], ◌∷◌, ◌++◌, Option, Some, None, refl, sym, ap, ◌∙◌, subst, arith}
-use Rattle.std.specs.Prelude.{◌==◌, ◌||◌, All, filter, map, slice_index_or}
-use Rattle.std.specs.List.{list_any}
-use Rattle.std.specs.Map.{lookup}
+use Rattle.std.specs.Prelude.{All, filter, map, slice_index_or}
 use Rattle.std.specs.Option.{IfSome}
 use Rattle.std.proofs.lemmas.Bool.Decides.{nat_tests}
 use Rattle.std.proofs.lemmas.List.Elements.{All-push, All-map, All-filter}

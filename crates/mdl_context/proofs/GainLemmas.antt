@@ -1,12 +1,11 @@
 -- What a session has after it asked for a lock.
-use Rattle.std.proofs.Common.{inl, inr, arith, ◌≡◌, ℕ, Bool, true, false, Option, Some, None, Result, Ok, Err, List, [], ◌∷◌, ◌++◌, refl, sym, ap, ◌∙◌, subst}
+use Rattle.std.proofs.Common.{inl, inr, arith, ◌≡◌, ℕ, Bool, true, false, Option, Some, None, Result, Ok, Err, List, [], ◌∷◌, refl, sym, ap, ◌∙◌}
 use Rattle.mdl_key.specs.declared.mode.Mode.{Mode}
 use Rattle.mdl_calls.specs.declared.space_error.SpaceError.{SpaceError}
 use Rattle.std.specs.Option.{IfSome, option_map}
-use Rattle.std.specs.Prelude.{find}
 use Rattle.mdl_calls.specs.declared.answers.Held.{Held}
 use Rattle.mdl_calls.specs.Own.{Own, Wait, IsRising, ticket_held, waiting, ending}
-use Rattle.mdl_calls.specs.Words.{Answer, Call, Runs, Give, ◌>>=◌}
+use Rattle.mdl_calls.specs.Words.{Answer, Call, Runs, Give}
 use Rattle.mdl_calls.proofs.RunLemmas.{runs_bind}
 use Rattle.mdl_context.specs.declared.kept.Kept.{Kept}
 use Rattle.mdl_context.specs.declared.kept.Wanted.{Wanted}
@@ -14,7 +13,7 @@ use Rattle.mdl_context.specs.declared.request.Request.{Request}
 use Rattle.mdl_context.specs.declared.request.Acquire.{Acquire}
 use Rattle.mdl_context.specs.declared.context_error.ContextError.TheVariants.{Space}
 use Rattle.mdl_calls.specs.declared.space_error.SpaceError.TheVariants.{OutOfMemory}
-use Rattle.mdl_context.specs.Contexts.{ContextView, Serves, held_of, wish_there, wish_here}
+use Rattle.mdl_context.specs.Contexts.{ContextView, Serves, wish_there, wish_here}
 use Rattle.mdl_context.specs.Holdings.{earliest, is_at}
 use Rattle.mdl_context.specs.Requests.{Outcome, suffices, is_reusable, outcome_got, acquiring_at}
 use Rattle.mdl_context.proofs.PlaceLemmas.{suffices-at, equal}

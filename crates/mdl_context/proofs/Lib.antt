@@ -15,3 +15,4 @@ pub mod ServingLemmas
 pub mod SoughtLemmas
 pub mod SureLemmas
 pub mod WaitLemmas
+pub mod WishLemmas

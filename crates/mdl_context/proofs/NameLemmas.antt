@@ -1,13 +1,12 @@
 -- A key has one place, and a place has one key: so the tickets of a key are those at its known place.
 use Rattle.std.proofs.Common.{◌≡◌, ℕ, Bool, true, false, List, [], ◌∷◌, Option, Some, None, refl, sym, ap, ◌∙◌, subst, arith}
 use Rattle.std.specs.Prelude.{◌==◌, not, All, filter}
-use Rattle.std.proofs.lemmas.Bool.Decides.{nat_tests}
 use Rattle.std.proofs.lemmas.List.Elements.{All-head, All-tail}
 use Rattle.mdl_key.specs.Keys.{KeyName, key_eq}
 use Rattle.mdl_system.proofs.Deciding.{key-Decides}
 use Rattle.mdl_calls.specs.Own.{Own, IsRising}
 use Rattle.mdl_context.specs.declared.kept.Kept.{Kept}
-use Rattle.mdl_context.specs.Contexts.{ContextView, Attends, AreRising, place_known, is_known_place, without}
+use Rattle.mdl_context.specs.Contexts.{AreRising, place_known, is_known_place, without}
 use Rattle.mdl_context.specs.Holdings.{is_at}
 use Rattle.mdl_context.specs.NameLaws.{NamesAreGivenUp}
 use Rattle.mdl_context.specs.Releases.{at_known_place}

@@ -10,3 +10,4 @@ pub mod Releases
 pub mod Requests
 pub mod SearchEnds
 pub mod Waits
+pub mod WishLaws

@@ -12,6 +12,7 @@ mod memory_laws;
 mod releasing;
 mod request;
 mod searches;
+mod wish_laws;
 
 pub use context::Context;
 pub use context_error::ContextError;
@@ -25,3 +26,4 @@ pub use memory_laws::{
     waits_tell_of_want, wishes_tell_of_want,
 };
 pub use request::{Acquire, Mark, Request, Resume};
+pub use wish_laws::{explicit_wishes_gain, tickets_are_used_again, wishes_are_met};

@@ -1,12 +1,12 @@
 -- What suffices is held, and what is gained or waited for is at a known place.
-use Rattle.std.proofs.Common.{◌≡◌, true, List, Some, None, Ok, Err, [], ◌∷◌, ◌++◌, refl, sym, ap, ◌∙◌, subst}
+use Rattle.std.proofs.Common.{◌≡◌, true, List, Some, Ok, Err, [], ◌∷◌, ◌++◌, sym, ap, ◌∙◌}
 use Rattle.mdl_context.specs.declared.kept.Kept.{Kept}
 use Rattle.mdl_context.specs.declared.context_error.ContextError.TheVariants.{Space}
 use Rattle.mdl_context.specs.declared.request.Acquire.TheVariants.{Acquired, MustWait}
-use Rattle.mdl_context.specs.Contexts.{ContextView, Attends, is_known_place}
-use Rattle.mdl_context.specs.Holdings.{earliest, kept_of, wanted_of, context_of}
-use Rattle.mdl_context.specs.Requests.{suffices, keeping, awaiting}
-use Rattle.mdl_context.proofs.AttendLemmas.{known-place, attends-same, attends-granted, attends-awaiting}
+use Rattle.mdl_context.specs.Contexts.{ContextView, is_known_place}
+use Rattle.mdl_context.specs.Holdings.{earliest, context_of}
+use Rattle.mdl_context.specs.Requests.{suffices}
+use Rattle.mdl_context.proofs.AttendLemmas.{known-place, attends-granted, attends-awaiting}
 use Rattle.mdl_context.proofs.BeyondLemmas.{same-context}
 use Rattle.mdl_context.proofs.GainLemmas.{sufficient-held, run-gained}
 use Rattle.mdl_context.proofs.context.Context.acquire_at.Goals as goal

@@ -1,5 +1,5 @@
 -- To look after the wait changes nothing that the session has.
-use Rattle.std.proofs.Common.{Ok, ap, refl, sym, ◌≡◌}
+use Rattle.std.proofs.Common.{ap, refl, ◌≡◌}
 use Rattle.mdl_calls.specs.Causes.{Knowledge}
 use Rattle.mdl_context.specs.Contexts.{ContextView}
 use Rattle.mdl_context.proofs.AttendLemmas.{attends-still}

@@ -1,5 +1,5 @@
 -- To ask for a place changes nothing that the session has, and then the place is known.
-use Rattle.std.proofs.Common.{rules, ◌≡◌, None, Some, [], ◌∷◌, ◌++◌, refl, sym, ap, ◌∙◌, subst}
+use Rattle.std.proofs.Common.{rules, ◌≡◌, [], ◌∷◌, ◌++◌, refl, sym, ap, ◌∙◌, subst}
 use Rattle.mdl_context.specs.Contexts.{ContextView, Attends, place_known}
 use Rattle.mdl_context.specs.Requests.{remembering}
 use Rattle.mdl_context.proofs.AttendLemmas.{attends-still, attends-learnt, known-last}

@@ -1,5 +1,5 @@
 -- What is kept is held.
-use Rattle.std.proofs.Common.{◌≡◌, true, refl, Some, sym, ap, ◌∙◌}
+use Rattle.std.proofs.Common.{◌≡◌, true, refl, sym, ap, ◌∙◌}
 use Rattle.std.specs.Prelude.{is_some}
 use Rattle.mdl_context.specs.Contexts.{has_number}
 use Rattle.mdl_context.proofs.AttendLemmas.{attends-left}

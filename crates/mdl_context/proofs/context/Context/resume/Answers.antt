@@ -1,5 +1,5 @@
 -- To look after the wait changes nothing that the session has.
-use Rattle.std.proofs.Common.{Ok, ap, refl, sym, true, ◌≡◌}
+use Rattle.std.proofs.Common.{Ok, ap, refl, true, ◌≡◌}
 use Rattle.std.specs.Prelude.{is_some}
 use Rattle.mdl_calls.specs.Causes.{Knowledge}
 use Rattle.mdl_context.specs.Contexts.{ContextView}

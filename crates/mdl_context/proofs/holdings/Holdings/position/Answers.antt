@@ -1,4 +1,3 @@
-use Rattle.std.proofs.Common.{◌∙◌}
 use Rattle.mdl_context.proofs.SearchLemmas.{placed}
 use Rattle.mdl_context.proofs.holdings.Holdings.position.Goals as goal
 
