@@ -178,6 +178,11 @@ const TIED: &[Tied] = &[
         &[(1, 2), (2, 3), (3, 4), (4, 5), (5, 6), (6, 1)],
         (4, &[4, 5, 6, 1, 2, 3], 6),
     ),
+    // The greatest numbers.
+    (
+        &[(1024, 1023), (1023, 65), (65, 1024)],
+        (1024, &[1024, 1023, 65], 1024),
+    ),
     // A deadlock of others, and none at all.
     (&[(1, 2), (2, 3), (3, 2)], (1, &[], 0)),
     (&[(1, 2), (2, 3)], (1, &[], 0)),
@@ -244,13 +249,16 @@ fn goes_round_a_ring(rt: HostRuntime) -> Result<(), Fail> {
     Ok(())
 }
 
+// The sessions of a crowd.
+const CROWD: u16 = 1024;
+
 // A table at which all sessions each wait for all others.
 fn crowd(alloc: Global) -> Result<WaitGraph, Fail> {
     let mut book = Book::new(alloc, Key::table(alloc, "test", "t")?);
-    for session in 1..=MOST {
+    for session in 1..=CROWD {
         put(&mut book, At::Holds(session, Mode::SR))?;
     }
-    for session in 1..=MOST {
+    for session in 1..=CROWD {
         put(&mut book, At::Waits(session, Mode::X))?;
     }
     let mut graph = WaitGraph::new(alloc, Sessions::new());
@@ -262,7 +270,8 @@ const IN_A_CROWD: &[Found] = &[
     (1, &[1, 2], 2),
     (2, &[2, 1], 2),
     (64, &[64, 1], 64),
-    (65, &[], 0),
+    (1024, &[1024, 1], 1024),
+    (1025, &[], 0),
 ];
 
 #[test]
