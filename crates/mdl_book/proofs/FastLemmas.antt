@@ -15,7 +15,7 @@ use Rattle.mdl_key.specs.Words.{class_of, clashes}
 use Rattle.mdl_word.specs.Words.{counts_of, count_with, blocks_by}
 use Rattle.mdl_word.proofs.BlockLemmas.{blocks_by-from_clash, clash_from_blocks_by}
 use Rattle.mdl_book.specs.declared.ticket.Ticket.{Ticket}
-use Rattle.mdl_book.specs.declared.lists.Lists.{Lists}
+use Rattle.mdl_book.specs.declared.book_view.BookView.{BookView}
 use Rattle.mdl_book.specs.Books.{lock_kind, AreOfNoWaiter, is_ready, is_ready_beside, next_grantable, next_grantable_beside}
 use Rattle.mdl_book.specs.FastTickets.{is_of_class, CountsFastTickets, CoversFastTickets, AreOfOthers, may_stand, can_be_granted}
 use Rattle.mdl_book.specs.Granting.{stands_beside, is_compatible, goes_first, is_grantable, is_lawful}
@@ -131,7 +131,7 @@ module _ {kind : Kind} {word : ℕ} {fast : List Ticket} (covers : CoversFastTic
       lawful_changed-beside kind session number mode fast granted (may_stand-covered granted session mode stands) lawful
 
   -- whoever is next waits, is unsettled and grantable
-  pub next_grantable-covered : (unsettled : set.FinSet nat_cmp) (lists : Lists) (ticket : Ticket) → lock_kind lists ≡ kind → next_grantable word unsettled lists ≡ Some ticket
+  pub next_grantable-covered : (unsettled : set.FinSet nat_cmp) (lists : BookView) (ticket : Ticket) → lock_kind lists ≡ kind → next_grantable word unsettled lists ≡ Some ticket
       → Contains lists.waiting ticket × (set.contains unsettled ticket.session ≡ true) × (is_grantable kind (fast ++ lists.granted) lists.waiting ticket.session ticket.mode ≡ true)
   next_grantable-covered unsettled lists ticket same next =
       let ready = find-passes (is_ready word unsettled lists) lists.waiting ticket next in
@@ -182,7 +182,7 @@ module _ {kind : Kind} {word : ℕ} {fast : List Ticket} (counts : CountsFastTic
   can_be_granted-fast granted waiting session mode others = ap (λ b. b && goes_first kind waiting session mode) (may_stand-fast granted session mode others)
 
   -- the next waiter to grant is the same
-  pub next_grantable-fast : (unsettled : set.FinSet nat_cmp) (lists : Lists) → lock_kind lists ≡ kind → AreOfNoWaiter lists fast → next_grantable word unsettled lists ≡ next_grantable_beside fast unsettled lists
+  pub next_grantable-fast : (unsettled : set.FinSet nat_cmp) (lists : BookView) → lock_kind lists ≡ kind → AreOfNoWaiter lists fast → next_grantable word unsettled lists ≡ next_grantable_beside fast unsettled lists
   next_grantable-fast unsettled lists same others =
       find-same (is_ready word unsettled lists) (is_ready_beside fast unsettled lists) lists.waiting (λ i d inside.
       let ticket : Ticket = get_or lists.waiting i d in
@@ -205,5 +205,5 @@ may_stand-none kind granted session mode = may_stand-fast (counts_none kind) gra
 pub can_be_granted-none : (kind : Kind) (granted waiting : List Ticket) (session : ℕ) (mode : Mode) → can_be_granted kind granted waiting 0 session mode ≡ is_grantable kind granted waiting session mode
 can_be_granted-none kind granted waiting session mode = can_be_granted-fast (counts_none kind) granted waiting session mode (All-nil _)
 
-pub next_grantable-none : (unsettled : set.FinSet nat_cmp) (lists : Lists) → next_grantable 0 unsettled lists ≡ next_grantable_beside [] unsettled lists
+pub next_grantable-none : (unsettled : set.FinSet nat_cmp) (lists : BookView) → next_grantable 0 unsettled lists ≡ next_grantable_beside [] unsettled lists
 next_grantable-none unsettled lists = next_grantable-fast (counts_none (lock_kind lists)) unsettled lists refl (λ _ _ _. All-nil _)

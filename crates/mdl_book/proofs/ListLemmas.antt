@@ -1,4 +1,4 @@
--- Lists behind a gap.
+-- BookView behind a gap.
 use Rattle.std.proofs.Common.{◌≡◌, ℕ, suc, zero, ◌+◌, ◌≤◌, List, [], ◌∷◌, ◌++◌, length, drop, arith, ap, ◌∙◌}
 use Rattle.std.specs.List.{remove, refill}
 use Rattle.std.proofs.lemmas.List.{append-nil, drop_all, take_all}

@@ -14,7 +14,7 @@ use Rattle.mdl_key.specs.declared.namespace.Kind.{Kind}
 use Rattle.mdl_key.specs.declared.mode.Mode.{Mode}
 use Rattle.mdl_key.specs.Matrices.{clashes, waits_behind}
 use Rattle.mdl_book.specs.declared.ticket.Ticket.{Ticket}
-use Rattle.mdl_book.specs.declared.lists.Lists.{Lists}
+use Rattle.mdl_book.specs.declared.book_view.BookView.{BookView}
 use Rattle.mdl_book.specs.Books.{lock_kind, granting, admitting, enqueueing, is_ready_beside, next_grantable_beside, NoneForgotten}
 use Rattle.mdl_book.specs.Granting.{stands_beside, overtakes, is_compatible, goes_first, is_grantable, is_lawful, IsGrantable}
 use Rattle.mdl_book.specs.Tickets.{is_ticket, ticket_of, without}
@@ -96,7 +96,7 @@ without-among who number waiting t among =
 
 -- ---- who is forgotten
 
-module _ (fast : List Ticket) (unsettled : set.FinSet nat_cmp) (lists : Lists) (none : NoneForgotten fast unsettled lists) where
+module _ (fast : List Ticket) (unsettled : set.FinSet nat_cmp) (lists : BookView) (none : NoneForgotten fast unsettled lists) where
   kept-by_granting : (ticket : Ticket) → AreAmong (fast ++ lists.granted) (fast ++ (lists.granted ++ ticket ∷ []))
   kept-by_granting ticket t among = elim (Contains-append_cases fast lists.granted t among) [
     | inl left ↦ Contains-append_left fast (lists.granted ++ ticket ∷ []) t left
@@ -152,7 +152,7 @@ none-found {X} p xs = (fails, absent)
     ] refl
 
 -- so no waiter is ready beside the fast tickets exactly where nobody is forgotten
-pub none-ready : (fast : List Ticket) (unsettled : set.FinSet nat_cmp) (lists : Lists) → (next_grantable_beside fast unsettled lists ≡ None) ↔ NoneForgotten fast unsettled lists
+pub none-ready : (fast : List Ticket) (unsettled : set.FinSet nat_cmp) (lists : BookView) → (next_grantable_beside fast unsettled lists ≡ None) ↔ NoneForgotten fast unsettled lists
 none-ready fast unsettled lists =
     let each = none-found (is_ready_beside fast unsettled lists) lists.waiting in (
       (λ next t among waits grantable. each.0 next t among (and_from _ _ waits grantable)),

@@ -1,6 +1,7 @@
 pub mod Books
 pub mod FastTickets
 pub mod Granting
+pub mod KeptStandings
 pub mod Laws
 pub mod SessionBits
 pub mod SessionSets

@@ -1,23 +1,26 @@
 //! The book of one lock.
 ghost use Rattle.std.specs.Prelude.{◌≡◌, ◌++◌, [], ◌∷◌, OnOk, OnErr, IfOk, ◌+◌, length, is_ok, if◌then◌else◌, ◌≤◌, nat_le, Some, None, List, IsTrue};
-ghost use Rattle.std.specs.Option.{ok_or, option_map};
+ghost use Rattle.std.specs.Option.{ok_or, option_map, option_copied};
 ghost use Rattle.mdl_key.specs.Refusals.{Refuses, RefusesJust};
+ghost use Rattle.mdl_defs.specs.Standings.{standing_fault};
 ghost use Rattle.mdl_book.specs.Tickets.{ticket_id, ticket_of, without};
 ghost use Rattle.mdl_book.specs.FastTickets.{CountsFastTickets, CoversFastTickets, AreOfOthers, may_stand, can_be_granted};
 ghost use Rattle.mdl_book.specs.Granting.{is_grantable, is_compatible, goes_first, IsGrantable, IsLawful};
-ghost use Rattle.mdl_book.specs.Books.{lock_kind, empty_book, grant_fault, change_fault, full_fault, ticket_count, granting, enqueueing, admitting, cancelling, removing, changing, next_grantable, AreOfNoWaiter, next_grantable_beside, has_obtrusive, has_tickets};
+ghost use Rattle.mdl_book.specs.Books.{lock_kind, empty_book, grant_fault, change_fault, full_fault, ticket_count, granting, enqueueing, admitting, cancelling, removing, changing, redefining, next_grantable, AreOfNoWaiter, next_grantable_beside, has_obtrusive, has_tickets};
 
+use crate::kept_standing::KeptStanding;
 use crate::ticket_list::TicketList;
-use crate::{BookError, Lists, Needs, Sessions, Ticket};
+use crate::{BookError, BookView, Needs, Sessions, Ticket};
+use mdl_defs::{Change, ChangeError, Definition, Standing};
 use mdl_key::{Key, Kind, Mode};
 use mdl_word::Word;
-use std::alloc::Global;
+use std::alloc::{AllocError, Global};
 use std::marker::Model;
 
 // The most tickets that a book can have.
 const MOST_TICKETS: usize = 65_535;
 
-/// The book of one lock: who holds it, and who waits for it.
+/// The book of one lock: who holds it, who waits for it, and what stands under its key.
 ///
 /// A book has at most 65,535 tickets. Whatever waits has room among the granted tickets, so granting it takes no memory.
 /// After MySQL 5.7, `MDL_lock` of `sql/mdl.cc`.
@@ -26,15 +29,21 @@ pub struct Book {
     key: Key,
     granted: TicketList,
     waiting: TicketList,
+    standing: KeptStanding,
 }
 
 impl Model for Book {
     ghost use Rattle.std.specs.Prelude.{◌+◌, ◌≤◌, length};
-    ghost use Rattle.mdl_book.specs.declared.lists.Lists.{Lists};
+    ghost use Rattle.mdl_book.specs.declared.book_view.BookView.{BookView};
 
-    ghost Value = { Lists };
+    ghost Value = { BookView };
 
-    ghost view = { λ book. record { key = book.key; granted = book.granted.tickets; waiting = book.waiting.tickets } };
+    ghost view = { λ book. record {
+      key = book.key;
+      granted = book.granted.tickets;
+      waiting = book.waiting.tickets;
+      standing = book.standing;
+    } };
 
     ghost invariant = { λ book. record {
       limit : length book.granted.tickets + length book.waiting.tickets ≤ 65535;
@@ -43,7 +52,7 @@ impl Model for Book {
 }
 
 impl Book {
-    /// The book of a lock that nobody holds and nobody waits for. It takes no memory.
+    /// The book of a lock that nobody holds and nobody waits for, and under whose key nothing ever stood. It takes no memory.
     pub fn new(alloc: Global, key: Key) -> Book
         ensures { result ≡ empty_book key }
     {
@@ -51,6 +60,7 @@ impl Book {
             key,
             granted: TicketList::new(alloc),
             waiting: TicketList::new(alloc),
+            standing: KeptStanding::new(alloc),
         }
     }
 
@@ -73,6 +83,39 @@ impl Book {
         ensures { result.now ≡ self.now.waiting }
     {
         self.waiting.as_slice()
+    }
+
+    /// How often what stands under the lock's key was changed.
+    pub fn version(&self) -> u64
+        ensures { result ≡ self.now.standing.version }
+    {
+        self.standing.version()
+    }
+
+    /// What stands under the lock's key, if anything does.
+    pub fn definition(&self) -> Option<&Definition>
+        ensures { option_copied result ≡ self.now.standing.definition }
+    {
+        self.standing.definition()
+    }
+
+    /// A copy of what stands under the lock's key, with its version.
+    pub fn read(&self) -> Result<Standing, AllocError>
+        ensures { IfOk result (λ standing. standing ≡ self.now.standing) }
+    {
+        self.standing.read()
+    }
+
+    /// Changes what stands under the lock's key, and answers the new version. Who may do that is the caller's to know. `Drop`
+    /// takes no memory.
+    pub fn redefine(&mut self, change: &Change) -> Result<u64, ChangeError>
+        ensures done { IfOk result (λ version. (self.new ≡ redefining change.now self.old) × (version ≡ self.new.standing.version)) }
+        ensures unchanged { OnErr result (self.new ≡ self.old) }
+        ensures refused { Refuses (standing_fault self.old.key.namespace change.now self.old.standing) ChangeError.OutOfMemory result }
+        ensures drop { change.now ≡ Change.Drop
+            → RefusesJust (standing_fault self.old.key.namespace change.now self.old.standing) result }
+    {
+        self.standing.change(self.key.namespace(), change)
     }
 
     /// Whether a session's wish for a mode can be granted now, the lock's word being `word`. The fast tickets that it counts

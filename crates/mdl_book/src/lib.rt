@@ -2,7 +2,7 @@
 //!
 //! A [`Book`] says who holds a lock and who waits for it. It grants a wish where no granted ticket of another session
 //! clashes with it and no waiting one goes before it ([`Book::can_grant`]), keeps those that wait ([`Book::enqueue`]),
-//! and names the next of them that can be granted ([`Book::next_grantable`]). Contracts see it as its [`Lists`].
+//! and names the next of them that can be granted ([`Book::next_grantable`]). Contracts see it as its [`BookView`].
 //!
 //! Fast tickets stand in no list: whoever asks brings the lock's packed [`Word`](mdl_word::Word), which counts them, and
 //! they are taken for tickets of other sessions. What the word's flags have to say is [`Book::needs`].
@@ -10,8 +10,9 @@
 
 mod book;
 mod book_error;
+mod book_view;
+mod kept_standing;
 mod laws;
-mod lists;
 mod mode_counts;
 mod needs;
 mod sessions;
@@ -21,12 +22,12 @@ mod ticket_queue;
 
 pub use book::Book;
 pub use book_error::BookError;
+pub use book_view::BookView;
 pub use laws::{
     admitting_forgets_nobody, enqueueing_forgets_nobody, grantable_by_members,
     granting_forgets_nobody, lawful_by_members, nobody_is_next_where_none_is_forgotten,
     settling_forgets_nobody, who_is_next_is_grantable,
 };
-pub use lists::Lists;
 pub use needs::Needs;
 pub use sessions::Sessions;
 pub use ticket::Ticket;

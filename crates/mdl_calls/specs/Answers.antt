@@ -2,6 +2,7 @@
 use Rattle.std.specs.Prelude.{ℕ, Bool, true, false, List, Option, Result, Ok, Err, Vec}
 use Rattle.mdl_key.specs.Keys.{KeyName}
 use Rattle.mdl_defs.specs.declared.definition.Definition.{Definition}
+use Rattle.mdl_defs.specs.declared.standing.Standing.{Standing}
 use Rattle.mdl_calls.specs.declared.space_error.SpaceError.{SpaceError}
 use Rattle.mdl_calls.specs.declared.space_error.SpaceError.TheVariants.{OutOfMemory}
 use Rattle.mdl_calls.specs.declared.answers.Held.{Held}
@@ -130,3 +131,11 @@ cloned (Err refusal) = Refused refusal
 abbrev pub listed : {Z : Type 0} → Result (Vec Held Z) SpaceError → Answer
 listed (Ok tickets) = Holds tickets.items
 listed (Err refusal) = Refused refusal
+
+abbrev pub read : Result Standing SpaceError → Answer
+read (Ok standing) = Reads standing.version standing.definition
+read (Err refusal) = Refused refusal
+
+abbrev pub redefined : Result ℕ SpaceError → Answer
+redefined (Ok version) = Changed version
+redefined (Err refusal) = Refused refusal

@@ -3,6 +3,7 @@ pub mod Calls
 pub mod Causes
 pub mod Faithful
 pub mod Own
+pub mod Reads
 pub mod Runs
 pub mod Searches
 pub mod Tests

@@ -3,7 +3,7 @@
 use Rattle.std.proofs.Common.{◌≡◌, ◌≢◌, ◌↔◌, ℕ, true, inl, inr, map, Option, refl, sym, ap, subst, ◌∙◌}
 use Rattle.std.specs.Prelude.{Contains}
 use Rattle.mdl_key.specs.Keys.{KeyName}
-use Rattle.mdl_book.specs.declared.lists.Lists.{Lists}
+use Rattle.mdl_book.specs.declared.book_view.BookView.{BookView}
 use Rattle.mdl_book.specs.declared.ticket.Ticket.{Ticket}
 use Rattle.mdl_calls.specs.declared.answers.Held.{Held}
 use Rattle.mdl_core.specs.declared.pending.Pending.{Pending}
@@ -31,7 +31,7 @@ use Rattle.mdl_core.proofs.TiedWrites.{held_at, waiting-own, written, had_key, a
 abbrev pub waits_as : ℕ → Option Pending → Held → Waiter
 waits_as who wait ticket = waiter_of (in_book_of who ticket) wait
 
-module _ (core : Core) (who place : ℕ) (seat : SeatView) (book : Lists) (tied : IsTied core) (session : has_session who core ≡ true) (key : has_key place core ≡ true)
+module _ (core : Core) (who place : ℕ) (seat : SeatView) (book : BookView) (tied : IsTied core) (session : has_session who core ≡ true) (key : has_key place core ≡ true)
     (same_key : book.key ≡ key_at place core) (after : IsTied (written core who place book seat session key)) where
   abbrev now : Core
   now = written core who place book seat session key
@@ -78,13 +78,13 @@ module _ (core : Core) (who place : ℕ) (seat : SeatView) (book : Lists) (tied 
             let t = in_book held in
             subst (λ (h : Holding). Contains (system_of now).granted h ↔ After (mapped (of_lock here) effect) h (Contains (system_of core).granted h))
             (λ i. record { session = held.session; number = held.number; key = sym k i; mode = held.mode })
-            (through (subst (λ (b : Lists). Contains (system_of now).granted (of_lock here t) ↔ Contains b.granted t) book-now (by (of_lock here t)))
+            (through (subst (λ (b : BookView). Contains (system_of now).granted (of_lock here t) ↔ Contains b.granted t) book-now (by (of_lock here t)))
             (through (members t) (back (after-mapped (of_lock here) t (Contains (system_of core).granted (of_lock here t)) (Contains (book_at place core).granted t) effect
             (each-all (λ y. of_lock here t ≡ of_lock here y → t ≡ y) (λ y e. ap in_book e) effect)
-            (subst (λ (b : Lists). Contains (system_of core).granted (of_lock here t) ↔ Contains b.granted t) book-then (before (of_lock here t))))))))
+            (subst (λ (b : BookView). Contains (system_of core).granted (of_lock here t) ↔ Contains b.granted t) book-then (before (of_lock here t))))))))
         | inr other ↦
             through (by held)
-            (through (subst (λ (b : Lists). Contains b.granted (in_book held) ↔ Contains (system_of core).granted held) (sym (book-other held.key other)) (back (before held)))
+            (through (subst (λ (b : BookView). Contains b.granted (in_book held) ↔ Contains (system_of core).granted held) (sym (book-other held.key other)) (back (before held)))
             (back (after-other held (Contains (system_of core).granted held) (mapped (of_lock here) effect)
             (each-mapped (λ y. held ≢ y) (of_lock here) (λ t e. other (ap (λ (h : Holding). h.key) e)) effect))))
       ]
@@ -113,7 +113,7 @@ module _ (core : Core) (who place : ℕ) (seat : SeatView) (book : Lists) (tied 
 
     waiting-elsewhere : SameElsewhere here (system_of core).waiting (system_of now).waiting
     waiting-elsewhere other apart =
-        ap (λ (b : Lists). map (waiter_in now) b.waiting) (book-other other apart)
+        ap (λ (b : BookView). map (waiter_in now) b.waiting) (book-other other apart)
         ∙ map-agree (waiter_in now) (waiter_in core) (book_of other core).waiting (λ ticket among.
         let there = ticket-there core other ticket tied.keys among in
         waiter-kept there.0 ticket there.1 there.3 (λ own.
@@ -130,8 +130,8 @@ module _ (core : Core) (who place : ℕ) (seat : SeatView) (book : Lists) (tied 
         subst (λ (s : SeatView). InOrder (turned (waits_as who (seat_at who core).wait) (waits_as who s.wait) effect) ((system_of core).waiting here) ((system_of now).waiting here))
         (seated-same core who seat session)
         (subst (λ e. InOrder e ((system_of core).waiting here) ((system_of now).waiting here)) (turned-mapped (in_book_of who) (waiter_in core) (waiter_in now) effect)
-        (subst (λ (b : Lists). InOrder (turned (waiter_in core) (waiter_in now) (mapped (in_book_of who) effect)) (map (waiter_in core) b.waiting) ((system_of now).waiting here)) (sym book-then)
-        (subst (λ (b : Lists). InOrder (turned (waiter_in core) (waiter_in now) (mapped (in_book_of who) effect)) (map (waiter_in core) (book_at place core).waiting) (map (waiter_in now) b.waiting)) (sym book-now) waiters)))
+        (subst (λ (b : BookView). InOrder (turned (waiter_in core) (waiter_in now) (mapped (in_book_of who) effect)) (map (waiter_in core) b.waiting) ((system_of now).waiting here)) (sym book-then)
+        (subst (λ (b : BookView). InOrder (turned (waiter_in core) (waiter_in now) (mapped (in_book_of who) effect)) (map (waiter_in core) (book_at place core).waiting) (map (waiter_in now) b.waiting)) (sym book-now) waiters)))
 
 -- ---- all of it
 

@@ -6,7 +6,7 @@ use Rattle.std.specs.Option.{option_to_list}
 use Rattle.std.proofs.lemmas.Bool.Decides.{nat_tests}
 use Rattle.std.proofs.lemmas.List.{set-get_or}
 use Rattle.mdl_key.specs.Keys.{global_key}
-use Rattle.mdl_book.specs.declared.lists.Lists.{Lists}
+use Rattle.mdl_book.specs.declared.book_view.BookView.{BookView}
 use Rattle.mdl_book.specs.declared.ticket.Ticket.{Ticket}
 use Rattle.mdl_book.specs.Books.{empty_book, lock_kind}
 use Rattle.mdl_book.specs.Tickets.{is_ticket, ticket_id, ticket_of, without}
@@ -116,7 +116,7 @@ by-session : Names session_of
 by-session one other e = e.0
 
 -- what a change makes of the book
-pub record BookMade (core : Core) (who place : ℕ) (change : Change) (seat : SeatView) (old new : Lists) : Type 0 where
+pub record BookMade (core : Core) (who place : ℕ) (change : Change) (seat : SeatView) (old new : BookView) : Type 0 where
   pub written : changing who place change core ≡ booking place new (seating who (seat_after place change seat) core)
   pub key : new.key ≡ old.key
   pub granted : InOrder (mapped (in_book_of who) (has_effect place change seat)) old.granted new.granted
@@ -126,7 +126,7 @@ module _ (core : Core) (who place : ℕ) (tied : IsTied core) where
   abbrev seat : SeatView
   seat = seat_at who core
 
-  abbrev book : Lists
+  abbrev book : BookView
   book = book_at place core
 
   -- where the book stays
@@ -176,7 +176,7 @@ module _ (core : Core) (who place : ℕ) (tied : IsTied core) where
 -- ---- all of it
 
 -- what a change makes of the seat and of both lists of the book
-pub record Made (core : Core) (who place : ℕ) (change : Change) (seat : SeatView) (old new : Lists) : Type 0 where
+pub record Made (core : Core) (who place : ℕ) (change : Change) (seat : SeatView) (old new : BookView) : Type 0 where
   pub seats : SeatMade who place (lock_kind old) change seat
   pub books : BookMade core who place change seat old new
   pub granted : ListMade ticket_id who place (Fitting (lock_kind old) seat) (has_effect place change seat) old.granted new.granted (Has seat) (Has (seat_after place change seat))

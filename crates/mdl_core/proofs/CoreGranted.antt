@@ -3,7 +3,7 @@ use Rattle.std.proofs.Common.{◌≡◌, ◌↔◌, ℕ, suc, ◌+◌, ◌-◌, 
 use Rattle.std.specs.Prelude.{Contains, MatchOption, slice_index_or}
 use Rattle.mdl_key.specs.Keys.{global_key}
 use Rattle.mdl_key.specs.declared.mode.Mode.{Mode}
-use Rattle.mdl_book.specs.declared.lists.Lists.{Lists}
+use Rattle.mdl_book.specs.declared.book_view.BookView.{BookView}
 use Rattle.mdl_book.specs.declared.ticket.Ticket.{Ticket}
 use Rattle.mdl_book.specs.Books.{empty_book}
 use Rattle.mdl_book.specs.Granting as book
@@ -37,13 +37,13 @@ granted-place core held among =
     let k : ℕ = in_list.0 in
     let lt : k < length core.books = in_list.1 in
     let here : suc k - 1 ≡ k = omega arith in
-    let at : Lists = slice_index_or core.books k (empty_book global_key) in
+    let at : BookView = slice_index_or core.books k (empty_book global_key) in
     let there : at ≡ book_at (suc k) core = ap (λ n. slice_index_or core.books n (empty_book global_key)) (sym here) in
     let from = Contains-map_from (of_lock at.key) at.granted held in_list.2 in (
       suc k,
       of_within (suc k) (length core.books) (omega arith) (omega arith),
-      sym (ap (λ (h : Holding). h.key) from.2 ∙ ap (λ (b : Lists). b.key) there),
-      subst (λ (b : Lists). Contains b.granted (in_book held)) there (subst (Contains at.granted) (sym (ap in_book from.2)) from.1),
+      sym (ap (λ (h : Holding). h.key) from.2 ∙ ap (λ (b : BookView). b.key) there),
+      subst (λ (b : BookView). Contains b.granted (in_book held)) there (subst (Contains at.granted) (sym (ap in_book from.2)) from.1),
     )
 
 -- and what stands there is granted
@@ -62,7 +62,7 @@ by_lists core tied held = (
   (λ among.
       let at = granted-place core held among in
       let same : book_of held.key core ≡ book_at at.0 core = book-there core at.0 held.key tied.keys at.1 at.2 in
-      subst (λ (b : Lists). Contains b.granted (in_book held)) (sym same) at.3),
+      subst (λ (b : BookView). Contains b.granted (in_book held)) (sym same) at.3),
   λ among. from (index_of held.key core.books) refl among,
 )
   where
@@ -86,7 +86,7 @@ free-grantable core who place mode tied has =
     (map (λ (waiter : Waiter). waiter.ticket) (map (waiter_in core) (book_of (key_at place core) core).waiting)) who mode
     ≡ is_free who place mode core =
     ap (λ ts. book.is_grantable (lock_kind (key_at place core)) (book_of (key_at place core) core).granted ts who mode) (waiting-tickets core (book_of (key_at place core) core).waiting)
-    ∙ ap (λ (b : Lists). book.is_grantable (lock_kind (key_at place core)) b.granted b.waiting who mode) here in
+    ∙ ap (λ (b : BookView). book.is_grantable (lock_kind (key_at place core)) b.granted b.waiting who mode) here in
     ((λ free. by.1 (same ∙ free)), λ grantable. sym same ∙ by.0 grantable)
 
 -- ---- what a session has

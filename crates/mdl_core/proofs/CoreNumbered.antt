@@ -3,7 +3,7 @@ use Rattle.std.proofs.Common.{◌≡◌, ◌≢◌, ◌⊎◌, ℕ, ◌<◌, ◌
 use Rattle.std.specs.Prelude.{Contains, AllPairs, MatchOption}
 use Rattle.std.proofs.lemmas.List.{get_or-map, length-map}
 use Rattle.mdl_key.specs.Keys.{KeyName}
-use Rattle.mdl_book.specs.declared.lists.Lists.{Lists}
+use Rattle.mdl_book.specs.declared.book_view.BookView.{BookView}
 use Rattle.mdl_book.specs.declared.ticket.Ticket.{Ticket}
 use Rattle.mdl_calls.specs.declared.answers.Held.{Held}
 use Rattle.mdl_calls.specs.declared.answers.Settled.TheVariants as settled_as
@@ -127,9 +127,9 @@ module _ (core : Core) (sound : IsSound core) where
 
   once : (key : KeyName) → AllPairs (λ (one other : Waiter). one.ticket.session ≢ other.ticket.session) ((system_of core).waiting key)
   once key = elim (place_told core key) [
-    | inl at ↦ subst (λ (b : Lists). AllPairs (λ (one other : Waiter). one.ticket.session ≢ other.ticket.session) (map (waiter_in core) b.waiting))
+    | inl at ↦ subst (λ (b : BookView). AllPairs (λ (one other : Waiter). one.ticket.session ≢ other.ticket.session) (map (waiter_in core) b.waiting))
         (sym (book-there core at.0 key sound.tied.keys at.1 at.2)) (waiters-apart core (book_at at.0 core).waiting (sound.tied.waiting_once at.0 at.1))
-    | inr nowhere ↦ subst (λ (b : Lists). AllPairs (λ (one other : Waiter). one.ticket.session ≢ other.ticket.session) (map (waiter_in core) b.waiting))
+    | inr nowhere ↦ subst (λ (b : BookView). AllPairs (λ (one other : Waiter). one.ticket.session ≢ other.ticket.session) (map (waiter_in core) b.waiting))
         (sym (book-nowhere core key nowhere)) (waiters-apart core [] (λ i j d lt short. absurd (omega arith)))
   ]
 

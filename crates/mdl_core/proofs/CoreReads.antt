@@ -8,7 +8,7 @@ use Rattle.std.proofs.lemmas.List.Quantifiers.{position-Some}
 use Rattle.std.proofs.lemmas.List.Sums.{position_or_len_is}
 use Rattle.mdl_system.proofs.Deciding.{key_told, key-Decides}
 use Rattle.mdl_key.specs.Keys.{KeyName, key_eq, global_key}
-use Rattle.mdl_book.specs.declared.lists.Lists.{Lists}
+use Rattle.mdl_book.specs.declared.book_view.BookView.{BookView}
 use Rattle.mdl_book.specs.Books.{empty_book}
 use Rattle.mdl_core.specs.Cores.{Core, book_at, seat_at, key_at, has_key, has_session, index_of, booking, seating}
 use Rattle.mdl_core.specs.Seats.{SeatView, empty_seat}
@@ -22,15 +22,15 @@ of_within n most least fits = grind (arith, nat_tests)
 
 -- ---- books
 
-pub has_key-booking : (core : Core) (place other : ℕ) (book : Lists) → has_key other (booking place book core) ≡ has_key other core
+pub has_key-booking : (core : Core) (place other : ℕ) (book : BookView) → has_key other (booking place book core) ≡ has_key other core
 has_key-booking core place other book = ap (λ n. nat_le 1 other && nat_le other n) (length-set core.books (place - 1) book)
 
-pub booked-same : (core : Core) (place : ℕ) (book : Lists) → has_key place core ≡ true → book_at place (booking place book core) ≡ book
+pub booked-same : (core : Core) (place : ℕ) (book : BookView) → has_key place core ≡ true → book_at place (booking place book core) ≡ book
 booked-same core place book has =
     let fits = within place (length core.books) has in
     get_or-set_same core.books (place - 1) book (empty_book global_key) (omega arith)
 
-pub booked-other : (core : Core) (place other : ℕ) (book : Lists) → has_key place core ≡ true → has_key other core ≡ true → other ≢ place
+pub booked-other : (core : Core) (place other : ℕ) (book : BookView) → has_key place core ≡ true → has_key other core ≡ true → other ≢ place
     → book_at other (booking place book core) ≡ book_at other core
 booked-other core place other book has has_other apart =
     let here = within place (length core.books) has in
@@ -63,7 +63,7 @@ pub found-at : (core : Core) (place : ℕ)
 found-at core place unique has =
     let books = core.books in
     let none = empty_book global_key in
-    let test : Lists → Bool = λ book. key_eq book.key (key_at place core) in
+    let test : BookView → Bool = λ book. key_eq book.key (key_at place core) in
     let fits = within place (length books) has in
     let before : (k : ℕ) → k < place - 1 → test (slice_index_or books k none) ≡ false = λ k lt. elim (key_told (slice_index_or books k none).key (key_at place core)) [
       | inl same ↦ absurd (
@@ -81,14 +81,14 @@ found-at core place unique has =
     is_false true n = absurd (n refl)
     is_false false n = refl
 
-    position-at : (p : Lists → Bool) (xs : List Lists) (i : ℕ) → position_or_len p xs ≡ i → i < length xs → position p xs ≡ Some i
+    position-at : (p : BookView → Bool) (xs : List BookView) (i : ℕ) → position_or_len p xs ≡ i → i < length xs → position p xs ≡ Some i
     position-at p xs i e lt = grind (arith, nat_tests)
 
 -- what is found is there
 pub found : (core : Core) (key : KeyName) (index : ℕ) → index_of key core.books ≡ Some index
     → (has_key (index + 1) core ≡ true) × (key_at (index + 1) core ≡ key)
 found core key index e =
-    let at = position-Some (λ (book : Lists). key_eq book.key key) core.books index (empty_book global_key) e in
+    let at = position-Some (λ (book : BookView). key_eq book.key key) core.books index (empty_book global_key) e in
     let here : index + 1 - 1 ≡ index = omega arith in (
       of_within (index + 1) (length core.books) (omega arith) (omega arith),
       ap (λ n. (slice_index_or core.books n (empty_book global_key)).key) here ∙ (key-Decides _ _).0 at.1,

@@ -7,7 +7,7 @@ use Rattle.std.proofs.lemmas.List.Elements.{All-nil, All-cons, Contains-append_l
 use Rattle.mdl_key.specs.Keys.{KeyName}
 use Rattle.mdl_defs.specs.declared.definition.Definition.{Definition}
 use Rattle.mdl_book.specs.declared.ticket.Ticket.{Ticket}
-use Rattle.mdl_book.specs.declared.lists.Lists.{Lists}
+use Rattle.mdl_book.specs.declared.book_view.BookView.{BookView}
 use Rattle.mdl_book.proofs.TicketLemmas.{find-passes}
 use Rattle.mdl_calls.specs.declared.answers.Settled.TheVariants as settled_as
 use Rattle.mdl_system.specs.Words.{IsGrantAt, Event, GrantWaiter, Happens, LeavesOrder, IsGrantable, NoneForgottenAt, Unsettled, Waiter}
@@ -97,7 +97,7 @@ first-ready : (core : Core) (place : ℕ) (ticket : Ticket) → IsTied core → 
 first-ready core place ticket tied key ready =
     let parted = found-parted (is_ready place core) (book_at place core).waiting ticket ready in
     let waiters : (system_of core).waiting (key_at place core) ≡ map (waiter_in core) parted.0 ++ waiter_in core ticket ∷ map (waiter_in core) parted.1 =
-    ap (λ (book : Lists). map (waiter_in core) book.waiting) (book_of-at core place tied key) ∙ ap (map (waiter_in core)) parted.2
+    ap (λ (book : BookView). map (waiter_in core) book.waiting) (book_of-at core place tied key) ∙ ap (map (waiter_in core)) parted.2
     ∙ map-append (waiter_in core) parted.0 (ticket ∷ parted.1) in
     let earlier : (waiter : Waiter) → Contains (map (waiter_in core) parted.0) waiter → is_ready place core waiter.ticket ≡ false = λ waiter among.
     let from = Contains-map_from (waiter_in core) parted.0 waiter among in
@@ -111,7 +111,7 @@ waiting-length : (core : Core) (place : ℕ) → IsTied core → has_key place c
     → length ((system_of core).waiting (key_at place core)) ≡ length (book_at place core).waiting
 waiting-length core place tied key =
     length-map (book_of (key_at place core) core).waiting (waiter_in core)
-    ∙ ap (λ (book : Lists). length book.waiting) (book_of-at core place tied key)
+    ∙ ap (λ (book : BookView). length book.waiting) (book_of-at core place tied key)
 
 module _ {C : Type 0} (apply : KeyName → C → Option Definition → Option (Option Definition)) where
   -- what granting waiters of a place leads to

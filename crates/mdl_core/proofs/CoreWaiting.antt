@@ -2,7 +2,7 @@
 use Rattle.std.proofs.Common.{◌≡◌, ◌≢◌, ◌⊎◌, ℕ, ◌+◌, ◌-◌, ◌&&◌, true, not, inl, inr, length, map, Option, Some, None, refl, sym, ap, subst, ◌∙◌, arith}
 use Rattle.std.specs.Prelude.{Contains, MatchOption, is_some}
 use Rattle.mdl_key.specs.Keys.{KeyName}
-use Rattle.mdl_book.specs.declared.lists.Lists.{Lists}
+use Rattle.mdl_book.specs.declared.book_view.BookView.{BookView}
 use Rattle.mdl_book.specs.declared.ticket.Ticket.{Ticket}
 use Rattle.mdl_book.specs.Books.{empty_book}
 use Rattle.mdl_calls.specs.declared.answers.Held.{Held}
@@ -53,8 +53,8 @@ not_there core key place keyed none has e =
 pub ticket-there : (core : Core) (key : KeyName) (ticket : Ticket) → IsKeyed core → Contains (book_of key core).waiting ticket
     → (place : ℕ) × (has_key place core ≡ true) × (key_at place core ≡ key) × Contains (book_at place core).waiting ticket
 ticket-there core key ticket keyed among = elim (place_told core key) [
-  | inl at ↦ (at.0, at.1, at.2, subst (λ (b : Lists). Contains b.waiting ticket) (book-there core at.0 key keyed at.1 at.2) among)
-  | inr none ↦ absurd (let lt = (subst (λ (b : Lists). Contains b.waiting ticket) (book-nowhere core key none) among).1 in omega arith)
+  | inl at ↦ (at.0, at.1, at.2, subst (λ (b : BookView). Contains b.waiting ticket) (book-there core at.0 key keyed at.1 at.2) among)
+  | inr none ↦ absurd (let lt = (subst (λ (b : BookView). Contains b.waiting ticket) (book-nowhere core key none) among).1 in omega arith)
 ]
 
 -- ---- waiting tickets and waits
@@ -120,7 +120,7 @@ pub waiter-found : (core : Core) (place : ℕ) (waiter : Waiter) → IsTied core
     → Contains ((system_of core).waiting (key_at place core)) waiter → Contains (book_at place core).waiting waiter.ticket × (waiter ≡ waiter_in core waiter.ticket)
 waiter-found core place waiter tied has among =
     let book = book-there core place (key_at place core) tied.keys has refl in
-    let h = Contains-map_from (waiter_in core) (book_at place core).waiting waiter (subst (λ (b : Lists). Contains (map (waiter_in core) b.waiting) waiter) book among) in
+    let h = Contains-map_from (waiter_in core) (book_at place core).waiting waiter (subst (λ (b : BookView). Contains (map (waiter_in core) b.waiting) waiter) book among) in
     let own : waiter.ticket ≡ h.0 = ap (λ (w : Waiter). w.ticket) h.2 ∙ ticket_of-waiter h.0 (seat_at h.0.session core).wait in
     (subst (λ t. Contains (book_at place core).waiting t) (sym own) h.1, h.2 ∙ ap (waiter_in core) (sym own))
 
@@ -147,7 +147,7 @@ no_wait core who tied has none = (waits_nowhere, unended_none)
     waits_nowhere key waiter among = elim (place_told core key) [
       | inl at ↦ (let there = waiter-found core at.0 waiter tied at.1 (subst (λ k. Contains ((system_of core).waiting k) waiter) (sym at.2) among) in
           none-waiting core who at.0 waiter.ticket tied none at.1 there.0)
-      | inr nowhere ↦ absurd (let lt = (subst (λ (b : Lists). Contains (map (waiter_in core) b.waiting) waiter) (book-nowhere core key nowhere) among).1 in omega arith)
+      | inr nowhere ↦ absurd (let lt = (subst (λ (b : BookView). Contains (map (waiter_in core) b.waiting) waiter) (book-nowhere core key nowhere) among).1 in omega arith)
     ]
 
     unended_none : (wait : GrantedWait) → Contains (system_of core).unended wait → wait.session ≢ who

@@ -6,7 +6,7 @@ use Rattle.std.proofs.lemmas.Bool.{and_parts, and_from, eqb-true, eq-eqb, false�
 use Rattle.std.proofs.lemmas.List.Elements.{All-contains, Contains-get_or}
 use Rattle.std.proofs.lemmas.List.Kept.{AllPairs-cons}
 use Rattle.mdl_key.specs.Words.{weight_of, global_key}
-use Rattle.mdl_book.specs.declared.lists.Lists.{Lists}
+use Rattle.mdl_book.specs.declared.book_view.BookView.{BookView}
 use Rattle.mdl_book.specs.declared.ticket.Ticket.{Ticket}
 use Rattle.mdl_book.specs.Books.{empty_book}
 use Rattle.mdl_graph.specs.declared.cycle.Member.{Member}
@@ -87,7 +87,7 @@ module _ (core : Core) (tied : IsTied core) where
 
   -- ---- weights
 
-  same-at : (books : List Lists) (k : ℕ) (d e : Lists) → k < length books → slice_index_or books k d ≡ slice_index_or books k e
+  same-at : (books : List BookView) (k : ℕ) (d e : BookView) → k < length books → slice_index_or books k d ≡ slice_index_or books k e
   same-at [] k d e inside = absurd (omega (arith, inside))
   same-at (book ∷ books) zero d e inside = refl
   same-at (book ∷ books) (suc k) d e inside = same-at books k d e (omega (arith, inside))
@@ -101,7 +101,7 @@ module _ (core : Core) (tied : IsTied core) where
       let at : book_at place core ≡ book =
       ap (λ n. slice_index_or core.books n (empty_book global_key)) index ∙ same-at core.books k (empty_book global_key) book inside ∙ here in
       let ticket : Ticket = found.1 in
-      let among : Contains (book_at place core).waiting ticket = subst (λ (b : Lists). Contains b.waiting ticket) (sym at) (found.0, found.2, found.3) in
+      let among : Contains (book_at place core).waiting ticket = subst (λ (b : BookView). Contains b.waiting ticket) (sym at) (found.0, found.2, found.3) in
       let own : ticket.session ≡ member.session = sym (ap (λ (m : Member). m.session) found.4) in (
         key_at place core,
         waiter_in core ticket,

@@ -6,7 +6,7 @@ use Rattle.std.proofs.lemmas.Bool.{and_parts, and_from, or_cases, eqb-true, eq-e
 use Rattle.std.proofs.lemmas.Bool.Decides.{eqb_tells}
 use Rattle.std.proofs.lemmas.List.Folds.{list_any_at}
 use Rattle.mdl_key.specs.Words.{KeyName, global_key, clashes, Clashes, waits_behind}
-use Rattle.mdl_book.specs.declared.lists.Lists.{Lists}
+use Rattle.mdl_book.specs.declared.book_view.BookView.{BookView}
 use Rattle.mdl_book.specs.declared.ticket.Ticket.{Ticket}
 use Rattle.mdl_book.specs.Books.{empty_book}
 use Rattle.mdl_graph.specs.WaitsFor.{waits_for, waits_at, is_tied, holds_against, waits_ahead}
@@ -44,7 +44,7 @@ any-at test (x ∷ xs) d found = elim (or_cases (test x) (list_any test xs) foun
 ]
 
 -- the book of some place
-pub any-place : (core : Core) (test : Lists → Bool) → list_any test core.books ≡ true
+pub any-place : (core : Core) (test : BookView → Bool) → list_any test core.books ≡ true
     → (place : ℕ) × (has_key place core ≡ true) × (test (book_at place core) ≡ true)
 any-place core test found =
     let h = any-at test core.books (empty_book global_key) found in
@@ -56,7 +56,7 @@ any-place core test found =
       subst (λ n. test (slice_index_or core.books n (empty_book global_key)) ≡ true) here h.2,
     )
 
-pub any-from_place : (core : Core) (test : Lists → Bool) (place : ℕ) → has_key place core ≡ true → test (book_at place core) ≡ true
+pub any-from_place : (core : Core) (test : BookView → Bool) (place : ℕ) → has_key place core ≡ true → test (book_at place core) ≡ true
     → list_any test core.books ≡ true
 any-from_place core test place has passes =
     let fits = within place (length core.books) has in
@@ -98,7 +98,7 @@ module _ (core : Core) (tied : IsTied core) where
   wishes-from place ticket session has among own unsettled =
       let h = wait-at core place ticket tied has among in
       let still : is_some h.0.settled ≡ false = sym (settled-of core place ticket h.0 h.1) ∙ ap (has_settled core) own ∙ unsettled in (
-        subst (λ (b : Lists). Contains (map (waiter_in core) b.waiting) (waiter_in core ticket)) (sym (book-there core place (key_at place core) tied.keys has refl))
+        subst (λ (b : BookView). Contains (map (waiter_in core) b.waiting) (waiter_in core ticket)) (sym (book-there core place (key_at place core) tied.keys has refl))
             (Contains-map (waiter_in core) (book_at place core).waiting ticket among),
         ap (λ (t : Ticket). t.session) (waiter-ticket core ticket) ∙ own,
         ap (λ o. (waiter_of ticket o).state) h.1.waits ∙ state-unsettled h.0.settled still,
@@ -119,7 +119,7 @@ module _ (core : Core) (tied : IsTied core) where
       → (place : ℕ) × (has_key place core ≡ true) × (key_at place core ≡ key)
   wishes-place session key wish (among, own, unsettled) = elim (place_told core key) [
     | inl at ↦ at
-    | inr none ↦ absurd (let lt = (subst (λ (b : Lists). Contains (map (waiter_in core) b.waiting) wish) (book-nowhere core key none) among).1 in omega arith)
+    | inr none ↦ absurd (let lt = (subst (λ (b : BookView). Contains (map (waiter_in core) b.waiting) wish) (book-nowhere core key none) among).1 in omega arith)
   ]
 
   -- ---- from the books to the system
@@ -161,7 +161,7 @@ module _ (core : Core) (tied : IsTied core) where
   pub waits-found : (waiter other : ℕ) → waits_for (has_settled core) core.books waiter other ≡ true → WaitsFor (system_of core) waiter other
   waits-found waiter other found =
       let at = any-place core (λ book. waits_at (has_settled core) book waiter other) found in
-      let book : Lists = book_at at.0 core in
+      let book : BookView = book_at at.0 core in
       let test : Ticket → Bool = λ wish. wish.session == waiter && is_tied (has_settled core) book other wish in
       let parts = and_parts (not (has_settled core waiter)) (list_any test book.waiting) at.2 in
       let h = any-found test book.waiting parts.1 in
@@ -209,7 +209,7 @@ module _ (core : Core) (tied : IsTied core) where
       → HoldsAgainst (system_of core) (key_at place core) wish other ⊎ WaitsAhead (system_of core) (key_at place core) wish other
       → waits_for (has_settled core) core.books waiter other ≡ true
   waits-there place wish waiter other has apart wishes blocks =
-      let book : Lists = book_at place core in
+      let book : BookView = book_at place core in
       let h = wishes-there place waiter wish has wishes in
       let holds = holds_against book wish.ticket.mode other in
       let ahead = waits_ahead (has_settled core) book wish.ticket.mode other in

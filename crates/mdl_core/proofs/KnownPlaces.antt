@@ -7,7 +7,7 @@ use Rattle.std.proofs.lemmas.List.{length-append, get_or_append_left}
 use Rattle.std.proofs.lemmas.List.Sums.{fails_before_first}
 use Rattle.std.proofs.Math.Seq.{get_or-append_seam}
 use Rattle.mdl_book.specs.Books.{empty_book}
-use Rattle.mdl_book.specs.declared.lists.Lists.{Lists}
+use Rattle.mdl_book.specs.declared.book_view.BookView.{BookView}
 use Rattle.mdl_key.specs.Keys.{KeyName, global_key, key_eq}
 use Rattle.mdl_calls.specs.declared.answers.Held.{Held}
 use Rattle.mdl_calls.specs.declared.answers.Settled.{Settled}
@@ -35,7 +35,7 @@ pub unplaced : (a : Core) (w place : ℕ) (key : KeyName) → index_of key a.boo
 unplaced a w place key none knows =
     let h = within place (length a.books) knows.0 in
     let differs : key_eq (key_at place a) key ≡ false =
-    none_passes (λ (book : Lists). key_eq book.key key) a.books (place - 1) (empty_book global_key) none (omega (arith, h.0, h.1)) in
+    none_passes (λ (book : BookView). key_eq book.key key) a.books (place - 1) (empty_book global_key) none (omega (arith, h.0, h.1)) in
     let same : key_eq (key_at place a) key ≡ true = (key-Decides (key_at place a) key).1 knows.1 in
     cc
 
@@ -52,7 +52,7 @@ module _ (a : Core) (key : KeyName) where
       let at : length a.books + 1 - 1 ≡ length a.books = omega arith in (
         grind (arith, nat_tests, e),
         ap (λ n. (get_or (a.books ++ empty_book key ∷ []) n (empty_book global_key)).key) at
-            ∙ ap (λ (x : Lists). x.key) (get_or-append_seam a.books (empty_book key) [] (empty_book global_key)),
+            ∙ ap (λ (x : BookView). x.key) (get_or-append_seam a.books (empty_book key) [] (empty_book global_key)),
       )
 
   -- and leaves all else
@@ -63,7 +63,7 @@ module _ (a : Core) (key : KeyName) where
         let h = within place (length a.books) knows.0 in
         let e = longer in (
           grind (arith, nat_tests, h.0, h.1, e),
-          ap (λ (x : Lists). x.key) (get_or_append_left a.books (empty_book key ∷ []) (empty_book global_key) (place - 1) (omega (arith, h.0, h.1))) ∙ knows.1,
+          ap (λ (x : BookView). x.key) (get_or_append_left a.books (empty_book key ∷ []) (empty_book global_key) (place - 1) (omega (arith, h.0, h.1))) ∙ knows.1,
         ));
     seats = λ w is. record { own = refl; numbers = refl; settled = λ how settled. settled };
   }

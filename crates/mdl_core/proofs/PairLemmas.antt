@@ -1,4 +1,4 @@
--- Lists any two members of which are in a relation, the one member that passes a test, and lists of rising numbers.
+-- BookView any two members of which are in a relation, the one member that passes a test, and lists of rising numbers.
 use Rattle.std.proofs.Common.{◌≡◌, ◌⊎◌, ℕ, suc, ◌<◌, Bool, true, false, cond, inl, inr, List, [], ◌∷◌, ◌++◌, get_or, map, refl, sym, ap, subst, ◌∙◌, arith}
 use Rattle.std.specs.Prelude.{All, AllPairs, Contains, IsTrue, filter, nat_lt}
 use Rattle.std.specs.List.{list_all, before_first, after_first, position_or_len}

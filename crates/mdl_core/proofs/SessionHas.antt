@@ -3,7 +3,7 @@ use Rattle.std.proofs.Common.{◌≡◌, ◌≢◌, ◌↔◌, ℕ, ◌<◌, tru
 use Rattle.std.specs.Prelude.{Contains, AllPairs, MatchOption}
 use Rattle.std.proofs.lemmas.List.Kept.{AllPairs-cons}
 use Rattle.mdl_key.specs.Keys.{KeyName}
-use Rattle.mdl_book.specs.declared.lists.Lists.{Lists}
+use Rattle.mdl_book.specs.declared.book_view.BookView.{BookView}
 use Rattle.mdl_book.specs.declared.ticket.Ticket.{Ticket}
 use Rattle.mdl_calls.specs.declared.answers.Held.{Held}
 use Rattle.mdl_calls.specs.declared.answers.Settled.{Settled}
@@ -55,7 +55,7 @@ module _ (core : Core) (who : ℕ) (tied : IsTied core) (has : has_session who c
         let ticket : waiter.ticket ≡ record { session = who; number = h.0.id; mode = h.0.mode } =
         sym h.1.stands ∙ ap (λ n. record { session = n; number = h.0.id; mode = h.0.mode }) own in
         (h.0, its, h.1.not_granted, ap (λ n. key_at n core) h.1.there ∙ at.2, there ∙ ap (λ t. waiter_of t (Some h.0)) ticket))
-    | inr nowhere ↦ absurd (let lt = (subst (λ (b : Lists). Contains (map (waiter_in core) b.waiting) waiter) (book-nowhere core key nowhere) among).1 in omega arith)
+    | inr nowhere ↦ absurd (let lt = (subst (λ (b : BookView). Contains (map (waiter_in core) b.waiting) waiter) (book-nowhere core key nowhere) among).1 in omega arith)
   ]
 
   waits-to : (key : KeyName) (waiter : Waiter) → WaitsAt core who key waiter
@@ -68,7 +68,7 @@ module _ (core : Core) (who : ℕ) (tied : IsTied core) (has : has_session who c
       let mapped : Contains (map (waiter_in core) (book_at wait.place core).waiting) (waiter_in core ticket) =
       Contains-map (waiter_in core) (book_at wait.place core).waiting ticket at.1 in
       let same : waiter_in core ticket ≡ waiter = ap (waiter_of ticket) waiting.1 ∙ sym waiting.4 in (
-        subst (λ (b : Lists). Contains (map (waiter_in core) b.waiting) waiter) (sym book)
+        subst (λ (b : BookView). Contains (map (waiter_in core) b.waiting) waiter) (sym book)
             (subst (Contains (map (waiter_in core) (book_at wait.place core).waiting)) same mapped),
         ap (λ (w : Waiter). w.ticket.session) waiting.4,
       )
@@ -148,7 +148,7 @@ waiter-session core key waiter tied among = elim (place_told core key) [
   | inl at ↦ (
       let found = waiter-found core at.0 waiter tied at.1 (subst (λ k. Contains ((system_of core).waiting k) waiter) (sym at.2) among) in
       (tied.waiting_by at.0 at.1 waiter.ticket found.0).0)
-  | inr nowhere ↦ absurd (let lt = (subst (λ (b : Lists). Contains (map (waiter_in core) b.waiting) waiter) (book-nowhere core key nowhere) among).1 in omega arith)
+  | inr nowhere ↦ absurd (let lt = (subst (λ (b : BookView). Contains (map (waiter_in core) b.waiting) waiter) (book-nowhere core key nowhere) among).1 in omega arith)
 ]
 
 has-nothing : (core : Core) (who : ℕ) → IsTied core → has_session who core ≡ false → HasNothing (system_of core) who

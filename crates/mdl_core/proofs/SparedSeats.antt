@@ -1,7 +1,7 @@
 -- What a change in the space of one thread leaves to the sessions: seats, keys, and waits that were settled.
 use Rattle.std.proofs.Common.{◌≡◌, ◌≢◌, ◌⊎◌, ℕ, ◌-◌, Bool, true, false, not, ◌&&◌, nat_le, length, Option, Some, None, MatchOption, is_some, slice_index_or, slice_set, refl, sym, ap, subst, ◌∙◌, inl, inr, if◌then◌else◌}
 use Rattle.std.proofs.lemmas.Bool.Decides.{eqb_tells}
-use Rattle.mdl_book.specs.declared.lists.Lists.{Lists}
+use Rattle.mdl_book.specs.declared.book_view.BookView.{BookView}
 use Rattle.mdl_key.specs.Keys.{KeyName}
 use Rattle.mdl_calls.specs.declared.answers.Settled.{Settled}
 use Rattle.mdl_calls.specs.Own.{Wait}
@@ -118,7 +118,7 @@ module _ (a : Core) (who place : ℕ) (change : Change) (may : May who place cha
   abbrev seat : SeatView
   seat = seat_after place change (seat_at who a)
 
-  abbrev book : Lists
+  abbrev book : BookView
   book = book_after who (seat_at who a) change (book_at place a)
 
   -- the one seat is written
@@ -149,8 +149,8 @@ module _ (a : Core) (who place : ℕ) (change : Change) (may : May who place cha
       told : (other ≡ place) ⊎ (other ≢ place) → key_at other (booking place book (seating who seat a)) ≡ key_at other a
       told (inl same) =
           subst (λ p. key_at p (booking place book (seating who seat a)) ≡ key_at p a) (sym same)
-          (ap (λ (x : Lists). x.key) (booked-same (seating who seat a) place book may.key) ∙ same_key change)
-      told (inr apart) = ap (λ (x : Lists). x.key) (booked-other (seating who seat a) place other book may.key has apart)
+          (ap (λ (x : BookView). x.key) (booked-same (seating who seat a) place book may.key) ∙ same_key change)
+      told (inr apart) = ap (λ (x : BookView). x.key) (booked-other (seating who seat a) place other book may.key has apart)
 
       by : (t : Bool) → (has_key other (booked_if t place book (seating who seat a)) ≡ true)
           × (key_at other (booked_if t place book (seating who seat a)) ≡ key_at other a)

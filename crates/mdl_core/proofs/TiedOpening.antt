@@ -7,7 +7,7 @@ use Rattle.std.proofs.lemmas.Bool.Decides.{leb_tells}
 use Rattle.std.proofs.lemmas.Grind.{flat_map-append}
 use Rattle.std.proofs.lemmas.List.{append-nil, get_or-replicate, get_or_append_left, get_or_push, length-replicate, length_push}
 use Rattle.mdl_key.specs.Words.{KeyName, global_key, is_mode_of}
-use Rattle.mdl_book.specs.declared.lists.Lists.{Lists}
+use Rattle.mdl_book.specs.declared.book_view.BookView.{BookView}
 use Rattle.mdl_book.specs.declared.ticket.Ticket.{Ticket}
 use Rattle.mdl_book.specs.Books.{lock_kind, empty_book}
 use Rattle.mdl_book.specs.Tickets.{ticket_id}
@@ -67,7 +67,7 @@ module _ (key : KeyName) (core : Core) (tied : IsTied core) (new : index_of key 
       get_or_append_left core.books (empty_book key ∷ []) (empty_book global_key) (place - 1) (omega arith)
 
   -- each place is an old one with its book, or the new one
-  by-place : (P : ℕ → Lists → Type 0) → ((place : ℕ) → has_key place core ≡ true → P place (book_at place core)) → P (length core.books + 1) (empty_book key)
+  by-place : (P : ℕ → BookView → Type 0) → ((place : ℕ) → has_key place core ≡ true → P place (book_at place core)) → P (length core.books + 1) (empty_book key)
       → (place : ℕ) → has_key place (opening key core) ≡ true → P place (book_at place (opening key core))
   by-place P old newest place has =
       let long = length_push core.books (empty_book key) in
@@ -92,7 +92,7 @@ module _ (key : KeyName) (core : Core) (tied : IsTied core) (new : index_of key 
   not-last : (place : ℕ) → has_key place core ≡ true → length core.books + 1 ≡ place → ⊥
   not-last place has e = let fits = within place (length core.books) has in omega arith
 
-  matches : (list : Lists → List Ticket) (has : SeatView → Held → Type 0) → list (empty_book key) ≡ []
+  matches : (list : BookView → List Ticket) (has : SeatView → Held → Type 0) → list (empty_book key) ≡ []
       → ((who : ℕ) (ticket : Held) → has_session who core ≡ true → has_key ticket.place core ≡ true → Contains (list (book_at ticket.place core)) (in_book_of who ticket) ↔ has (seat_at who core) ticket)
       → ((who : ℕ) (ticket : Held) → has_session who core ≡ true → has (seat_at who core) ticket → has_key ticket.place core ≡ true)
       → (who : ℕ) (ticket : Held) → has_session who core ≡ true → has_key ticket.place (opening key core) ≡ true
@@ -129,14 +129,14 @@ module _ (key : KeyName) (core : Core) (tied : IsTied core) (new : index_of key 
   -- the system is the same
   waiting-opened : IsTied (opening key core) → (k : KeyName) → (book_of k (opening key core)).waiting ≡ (book_of k core).waiting
   waiting-opened after k = elim (place_told core k) [
-    | inl at ↦ ap (λ (b : Lists). b.waiting) (
-        book-there (opening key core) at.0 k after.keys (still at.0 at.1) (ap (λ (b : Lists). b.key) (book-still at.0 at.1) ∙ at.2)
+    | inl at ↦ ap (λ (b : BookView). b.waiting) (
+        book-there (opening key core) at.0 k after.keys (still at.0 at.1) (ap (λ (b : BookView). b.key) (book-still at.0 at.1) ∙ at.2)
         ∙ book-still at.0 at.1 ∙ sym (book-there core at.0 k tied.keys at.1 at.2))
     | inr nowhere ↦ elim (place_told (opening key core) k) [
-      | inl at ↦ ap (λ (b : Lists). b.waiting) (book-there (opening key core) at.0 k after.keys at.1 at.2)
+      | inl at ↦ ap (λ (b : BookView). b.waiting) (book-there (opening key core) at.0 k after.keys at.1 at.2)
           ∙ by-place (λ p b. b.key ≡ k → b.waiting ≡ []) (λ p has e. absurd (not_there core k p tied.keys nowhere has e)) (λ e. refl) at.0 at.1 at.2
-      | inr still ↦ ap (λ (b : Lists). b.waiting) (book-nowhere (opening key core) k still)
-    ] ∙ sym (ap (λ (b : Lists). b.waiting) (book-nowhere core k nowhere))
+      | inr still ↦ ap (λ (b : BookView). b.waiting) (book-nowhere (opening key core) k still)
+    ] ∙ sym (ap (λ (b : BookView). b.waiting) (book-nowhere core k nowhere))
   ]
 
   pub system-opened : SameSystem (system_of core) (system_of (opening key core))

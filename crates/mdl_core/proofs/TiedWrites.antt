@@ -3,7 +3,7 @@
 use Rattle.std.proofs.Common.{◌≡◌, ◌≢◌, ◌⊎◌, ◌↔◌, ℕ, inl, inr, List, true, refl, sym, subst, ◌∙◌}
 use Rattle.std.specs.Prelude.{Contains, AllPairs, IsTrue}
 use Rattle.mdl_key.specs.Modes.{is_mode_of, kind_of}
-use Rattle.mdl_book.specs.declared.lists.Lists.{Lists}
+use Rattle.mdl_book.specs.declared.book_view.BookView.{BookView}
 use Rattle.mdl_book.specs.declared.ticket.Ticket.{Ticket}
 use Rattle.mdl_book.specs.Books.{lock_kind}
 use Rattle.mdl_book.specs.Tickets.{ticket_id}
@@ -49,7 +49,7 @@ pub record Follows (who place : ℕ) (old new : List Ticket) (had has : Held →
   pub elsewhere : (ticket : Held) → ticket.place ≢ place → has ticket ↔ had ticket
 
 -- a book and a seat that can be written together
-pub record Fits (core : Core) (who place : ℕ) (book : Lists) (seat : SeatView) : Type 0 where
+pub record Fits (core : Core) (who place : ℕ) (book : BookView) (seat : SeatView) : Type 0 where
   pub same_key : book.key ≡ key_at place core
   pub granted : Follows who place (book_at place core).granted book.granted (Has (seat_at who core)) (Has seat)
   pub waiting : Follows who place (book_at place core).waiting book.waiting (Awaits (seat_at who core)) (Awaits seat)
@@ -60,7 +60,7 @@ pub record Fits (core : Core) (who place : ℕ) (book : Lists) (seat : SeatView)
   pub waiting_once : AllPairs (λ (one other : Ticket). one.session ≢ other.session) book.waiting
   pub numbered : IsNumbered seat
 
-module _ (core : Core) (who place : ℕ) (book : Lists) (seat : SeatView) (session : has_session who core ≡ true) (key : has_key place core ≡ true) where
+module _ (core : Core) (who place : ℕ) (book : BookView) (seat : SeatView) (session : has_session who core ≡ true) (key : has_key place core ≡ true) where
   abbrev pub written : Core
   written = booking place book (seating who seat core)
 
@@ -71,7 +71,7 @@ module _ (core : Core) (who place : ℕ) (book : Lists) (seat : SeatView) (sessi
   had_session other has = sym (has_session-seating core who other seat) ∙ has
 
   -- what is so at this place and at others is so at each
-  pub at_place : (P : ℕ → Lists → Type 0) → P place book → ((other : ℕ) → has_key other core ≡ true → other ≢ place → P other (book_at other core))
+  pub at_place : (P : ℕ → BookView → Type 0) → P place book → ((other : ℕ) → has_key other core ≡ true → other ≢ place → P other (book_at other core))
       → (other : ℕ) → has_key other core ≡ true → P other (book_at other written)
   at_place P here elsewhere other has = elim (nat_told other place) [
     | inl e ↦ subst (λ p. P p (book_at p written)) (sym e) (subst (P place) (sym (booked-same (seating who seat core) place book key)) here)
@@ -88,7 +88,7 @@ module _ (core : Core) (who place : ℕ) (book : Lists) (seat : SeatView) (sessi
 
   -- keys and kinds are as before
   pub key-same : book.key ≡ key_at place core → (other : ℕ) → has_key other core ≡ true → key_at other written ≡ key_at other core
-  key-same same = at_place (λ p (b : Lists). b.key ≡ key_at p core) same (λ other has apart. refl)
+  key-same same = at_place (λ p (b : BookView). b.key ≡ key_at p core) same (λ other has apart. refl)
 
   module _ (tied : IsTied core) (fits : Fits core who place book seat) where
     -- own tickets of this place are of its kind
@@ -115,10 +115,10 @@ module _ (core : Core) (who place : ℕ) (book : Lists) (seat : SeatView) (sessi
     ]
 
     -- how books and sessions match
-    abbrev Match : (Lists → List Ticket) → (SeatView → Held → Type 0) → ℕ → Lists → Type 0
+    abbrev Match : (BookView → List Ticket) → (SeatView → Held → Type 0) → ℕ → BookView → Type 0
     Match list has at b = (w : ℕ) (ticket : Held) → has_session w core ≡ true → ticket.place ≡ at → Contains (list b) (in_book_of w ticket) ↔ has (seat_at w written) ticket
 
-    matches : (list : Lists → List Ticket) (has : SeatView → Held → Type 0)
+    matches : (list : BookView → List Ticket) (has : SeatView → Held → Type 0)
         → Follows who place (list (book_at place core)) (list book) (has (seat_at who core)) (has seat)
         → ((w : ℕ) (ticket : Held) → has_session w core ≡ true → has_key ticket.place core ≡ true → Contains (list (book_at ticket.place core)) (in_book_of w ticket) ↔ has (seat_at w core) ticket)
         → (w : ℕ) (ticket : Held) → has_session w written ≡ true → has_key ticket.place written ≡ true
@@ -146,10 +146,10 @@ module _ (core : Core) (who place : ℕ) (book : Lists) (seat : SeatView) (sessi
       ])
     ]
 
-    abbrev By : (Lists → List Ticket) → ℕ → Lists → Type 0
+    abbrev By : (BookView → List Ticket) → ℕ → BookView → Type 0
     By list at b = (ticket : Ticket) → Contains (list b) ticket → (has_session ticket.session core ≡ true) × IsTrue (is_mode_of (lock_kind (book_at at core)) ticket.mode)
 
-    by : (list : Lists → List Ticket) → ((at : ℕ) → has_key at core ≡ true → By list at (book_at at written)) → (at : ℕ) → has_key at written ≡ true → (ticket : Ticket)
+    by : (list : BookView → List Ticket) → ((at : ℕ) → has_key at core ≡ true → By list at (book_at at written)) → (at : ℕ) → has_key at written ≡ true → (ticket : Ticket)
         → Contains (list (book_at at written)) ticket → (has_session ticket.session written ≡ true) × IsTrue (is_mode_of (lock_kind (book_at at written)) ticket.mode)
     by list before at has ticket among =
         let had = had_key at has in

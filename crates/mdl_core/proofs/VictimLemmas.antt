@@ -7,7 +7,7 @@ use Rattle.std.proofs.lemmas.Bool.{and_parts}
 use Rattle.std.proofs.lemmas.List.{get_or_default}
 use Rattle.std.proofs.lemmas.List.Folds.{Any-from_list_any}
 use Rattle.mdl_key.specs.Keys.{global_key}
-use Rattle.mdl_book.specs.declared.lists.Lists.{Lists}
+use Rattle.mdl_book.specs.declared.book_view.BookView.{BookView}
 use Rattle.mdl_book.specs.declared.ticket.Ticket.{Ticket}
 use Rattle.mdl_book.specs.Books.{empty_book}
 use Rattle.mdl_graph.specs.declared.cycle.Member.{Member}
@@ -40,7 +40,7 @@ weakest-among wishes first (next ∷ rest) =
     ]
 
 -- so the victim of a deadlock waits for somebody
-victim-waits_for : (settled : SessionTest) (books : List Lists) (from victim : ℕ) → victim_in settled books from ≡ Some victim
+victim-waits_for : (settled : SessionTest) (books : List BookView) (from victim : ℕ) → victim_in settled books from ≡ Some victim
     → (other : ℕ) × (waits_for settled books victim other ≡ true)
 victim-waits_for settled books from victim found = by (chosen_cycle waits sessions from) refl found
   where
@@ -80,9 +80,9 @@ is_false false e = refl
 waits_for-somewhere : (core : Core) (waiter other : ℕ) → waits_for (has_settled core) core.books waiter other ≡ true → WaitsSomewhere core waiter
 waits_for-somewhere core waiter other waits =
     let settled : SessionTest = has_settled core in
-    let at = Any-from_list_any (λ (book : Lists). waits_at settled book waiter other) core.books waits in
+    let at = Any-from_list_any (λ (book : BookView). waits_at settled book waiter other) core.books waits in
     let k : ℕ = at.0 in
-    let book : Lists = at.1 in
+    let book : BookView = at.1 in
     let lt : k < length core.books = at.2 in
     let tests = and_parts (is_unsettled settled waiter) (list_any (λ (wish : Ticket). wish.session == waiter && is_tied settled book other wish) book.waiting) at.4 in
     let wish = Any-from_list_any (λ (wish : Ticket). wish.session == waiter && is_tied settled book other wish) book.waiting tests.1 in
@@ -94,7 +94,7 @@ waits_for-somewhere core waiter other waits =
       place = suc k;
       ticket = wish.1;
       key = of_within (suc k) (length core.books) (omega arith) (omega (arith, lt));
-      among = subst (λ (b : Lists). Contains b.waiting wish.1) (sym there) (wish.0, wish.2, wish.3);
+      among = subst (λ (b : BookView). Contains b.waiting wish.1) (sym there) (wish.0, wish.2, wish.3);
       own = eqb-true _ _ own.0;
       unsettled = is_false (settled waiter) tests.0;
     }

@@ -2,7 +2,7 @@
 use Rattle.std.specs.Prelude.{◌≡◌, ◌≢◌, ℕ, zero, suc, ◌+◌, Bool, true, false, ◌&&◌, [], ◌∷◌, ◌++◌, length, find, Option, Some, None, Contains}
 use Rattle.mdl_key.specs.declared.mode.Mode.{Mode}
 use Rattle.mdl_key.specs.Words.{KeyName, is_mode_of}
-use Rattle.mdl_book.specs.declared.lists.Lists.{Lists}
+use Rattle.mdl_book.specs.declared.book_view.BookView.{BookView}
 use Rattle.mdl_book.specs.declared.ticket.Ticket.{Ticket}
 use Rattle.mdl_book.specs.Books.{lock_kind, empty_book, granting, enqueueing, admitting, cancelling, removing}
 use Rattle.mdl_calls.specs.declared.answers.Held.{Held}
@@ -46,7 +46,7 @@ seat_after place (Leave wait) seat = without_wait seat
 seat_after place (Take_up wait) seat = with_ticket_of wait seat
 
 -- the place's book after it
-abbrev pub book_after : ℕ → SeatView → Change → Lists → Lists
+abbrev pub book_after : ℕ → SeatView → Change → BookView → BookView
 book_after who seat (Gain mode) book = granting (ticket_after who mode seat) book
 book_after who seat (Lose ticket) book = removing who ticket.id book
 book_after who seat (Queue mode) book = enqueueing (ticket_after who mode seat) book
@@ -61,7 +61,7 @@ is_of_book (Settle how) = false
 is_of_book (Take_up wait) = false
 is_of_book _ = true
 
-abbrev pub booked_if : Bool → ℕ → Lists → Core → Core
+abbrev pub booked_if : Bool → ℕ → BookView → Core → Core
 booked_if true place book core = booking place book core
 booked_if false place book core = core
 
@@ -72,7 +72,7 @@ changing who place change core =
     (seating who (seat_after place change (seat_at who core)) core)
 
 -- what a change asks of the session's seat and of the place's book
-abbrev pub Allows : ℕ → ℕ → Change → SeatView → Lists → Type 0
+abbrev pub Allows : ℕ → ℕ → Change → SeatView → BookView → Type 0
 Allows who place (Gain mode) seat book = (seat.wait ≡ None) × (is_mode_of (lock_kind book) mode ≡ true)
 Allows who place (Lose ticket) seat book = Contains seat.held ticket × (ticket.place ≡ place)
 Allows who place (Queue mode) seat book = (seat.wait ≡ None) × (is_mode_of (lock_kind book) mode ≡ true)

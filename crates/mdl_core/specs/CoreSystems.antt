@@ -2,7 +2,7 @@
 use Rattle.std.specs.Prelude.{ℕ, ◌+◌, List, [], ◌∷◌, ◌++◌, map, flat_map, Option, Some, None}
 use Rattle.std.specs.Option.{option_to_list}
 use Rattle.mdl_key.specs.Keys.{KeyName}
-use Rattle.mdl_book.specs.declared.lists.Lists.{Lists}
+use Rattle.mdl_book.specs.declared.book_view.BookView.{BookView}
 use Rattle.mdl_book.specs.declared.ticket.Ticket.{Ticket}
 use Rattle.mdl_book.specs.Books.{empty_book}
 use Rattle.mdl_defs.specs.declared.definition.Definition.{Definition}
@@ -14,15 +14,15 @@ use Rattle.mdl_core.specs.Cores.{Core, index_of, seat_at, book_at}
 use Rattle.mdl_core.specs.Seats.{SeatView}
 
 -- the granted tickets of a lock
-abbrev pub granted_in : Lists → List Holding
+abbrev pub granted_in : BookView → List Holding
 granted_in book = map (of_lock book.key) book.granted
 
 -- the book of a key
-abbrev pub book_found : KeyName → Option ℕ → Core → Lists
+abbrev pub book_found : KeyName → Option ℕ → Core → BookView
 book_found key None core = empty_book key
 book_found key (Some index) core = book_at (index + 1) core
 
-abbrev pub book_of : KeyName → Core → Lists
+abbrev pub book_of : KeyName → Core → BookView
 book_of key core = book_found key (index_of key core.books) core
 
 -- how a wait stands of which a ticket still waits

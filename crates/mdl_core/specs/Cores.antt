@@ -4,13 +4,13 @@ use Rattle.mdl_key.specs.declared.mode.Mode.{Mode}
 use Rattle.mdl_key.specs.Keys.{KeyName, key_eq, global_key}
 use Rattle.mdl_book.specs.Books.{lock_kind, empty_book}
 use Rattle.mdl_book.specs.Granting.{is_grantable}
-use Rattle.mdl_book.specs.declared.lists.Lists.{Lists}
+use Rattle.mdl_book.specs.declared.book_view.BookView.{BookView}
 use Rattle.mdl_core.specs.Seats.{SeatView, empty_seat}
 
 -- the books of the places that have a key, from place 1, what is kept of the sessions, from session 1, and how many places
 -- there can be
 pub record Core : Type 0 where
-  pub books : List Lists
+  pub books : List BookView
   pub seats : List SeatView
   pub places : ℕ
 
@@ -19,7 +19,7 @@ abbrev pub empty_core : ℕ → ℕ → Core
 empty_core places sessions = record { books = []; seats = replicate sessions empty_seat; places = places }
 
 -- the book of a place
-abbrev pub book_at : ℕ → Core → Lists
+abbrev pub book_at : ℕ → Core → BookView
 book_at place core = slice_index_or core.books (place - 1) (empty_book global_key)
 
 -- what is kept of a session
@@ -35,7 +35,7 @@ abbrev pub has_session : ℕ → Core → Bool
 has_session who core = nat_le 1 who && nat_le who (length core.seats)
 
 -- where the book of a key stands
-abbrev pub index_of : KeyName → List Lists → Option ℕ
+abbrev pub index_of : KeyName → List BookView → Option ℕ
 index_of key books = position (λ book. key_eq book.key key) books
 
 -- the key of a place
@@ -48,7 +48,7 @@ is_free who place mode core =
     let book = book_at place core in is_grantable (lock_kind book) book.granted book.waiting who mode
 
 -- with another book at a place
-abbrev pub booking : ℕ → Lists → Core → Core
+abbrev pub booking : ℕ → BookView → Core → Core
 booking place book core = record core { books = slice_set core.books (place - 1) book }
 
 -- with another seat for a session

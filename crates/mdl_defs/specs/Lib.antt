@@ -2,3 +2,4 @@ pub mod Changes
 pub mod Columns
 pub mod Definitions
 pub mod Laws
+pub mod Standings

@@ -1,17 +1,22 @@
 //! Definitions of schemas and tables, and how they are changed.
 //!
 //! Under a name stands a [`Definition`], or none: a schema, or a table with its [`Columns`] in order. A statement that
-//! creates, drops or alters asks for a [`Change`], and [`apply`] gives what stands after it, or why it is refused.
+//! creates, drops or alters asks for a [`Change`], and [`apply`] gives what stands after it, or why it is refused. A [`Standing`]
+//! counts the changes of what stands under one key.
 #![tactic(auto)]
 
 mod change;
+mod change_error;
 mod columns;
 mod def_error;
 mod definition;
 mod laws;
+mod standing;
 
 pub use change::{Change, apply};
+pub use change_error::ChangeError;
 pub use columns::{Column, Columns};
 pub use def_error::DefError;
 pub use definition::Definition;
 pub use laws::changes_keep_well_formed;
+pub use standing::Standing;

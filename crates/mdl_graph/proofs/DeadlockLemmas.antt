@@ -5,7 +5,7 @@ use Rattle.std.specs.Option.{option_map}
 use Rattle.std.specs.List.{Contains}
 use Rattle.std.proofs.lemmas.Bool.{not-true, not_from_false, and_parts, eqb-true, eq-eqb, false≢true}
 use Rattle.std.proofs.lemmas.List.{length-map}
-use Rattle.mdl_book.specs.declared.lists.Lists.{Lists}
+use Rattle.mdl_book.specs.declared.book_view.BookView.{BookView}
 use Rattle.mdl_book.specs.declared.ticket.Ticket.{Ticket}
 use Rattle.mdl_graph.specs.declared.cycle.Member.{Member}
 use Rattle.mdl_graph.proofs.MemberLemmas.{mapped, flat_mapped, among_map, among_flat_map, among_filter, among_filtered, contained, among_these}
@@ -20,7 +20,7 @@ use Rattle.mdl_graph.proofs.WaitingLemmas.{waits_by}
 
 -- ---- who waits has a wish
 
-waiter_wishes : (settled : SessionTest) (books : List Lists) (waiter other : ℕ) → waits_for settled books waiter other ≡ true
+waiter_wishes : (settled : SessionTest) (books : List BookView) (waiter other : ℕ) → waits_for settled books waiter other ≡ true
     → Contains (map (λ wish. wish.session) (wishes_in settled books)) waiter
 waiter_wishes settled books waiter other e =
     let told = (waits_by settled books waiter other).0 e in
@@ -40,7 +40,7 @@ waiter_wishes settled books waiter other e =
 
 -- ---- a wish is a waiting ticket's
 
-wish_waits : (settled : SessionTest) (books : List Lists) (wish : Member) → Among wish (wishes_in settled books) → IsWaiting settled books wish
+wish_waits : (settled : SessionTest) (books : List BookView) (wish : Member) → Among wish (wishes_in settled books) → IsWaiting settled books wish
 wish_waits settled books wish among =
     let at_lock = flat_mapped (wishes_at settled) wish books among in
     let book = at_lock.0 in
@@ -48,7 +48,7 @@ wish_waits settled books wish among =
     let ticket = by_ticket.0 in
     let stands = among_filtered (λ (ticket : Ticket). is_unsettled settled ticket.session) ticket book.waiting by_ticket.1 in (
       ap (λ (member : Member). settled member.session) by_ticket.2 ∙ not-true (settled ticket.session) stands.1,
-      any_among (λ (book : Lists). Any (λ ticket. wish ≡ wish_of book ticket) book.waiting) book books at_lock.1
+      any_among (λ (book : BookView). Any (λ ticket. wish ≡ wish_of book ticket) book.waiting) book books at_lock.1
           (any_among (λ (ticket : Ticket). wish ≡ wish_of book ticket) ticket book.waiting stands.0 by_ticket.2),
     )
 
@@ -72,14 +72,14 @@ sessions_are : (wishes : List Member) (cycle : List ℕ) → sessions_of (map (m
 sessions_are wishes [] = refl
 sessions_are wishes (session ∷ cycle) = ap (λ (rest : List ℕ). session ∷ rest) (sessions_are wishes cycle)
 
-two_members : (settled : SessionTest) (books : List Lists) (from : ℕ) (cycle : List ℕ) → IsCycleThrough (waits_for settled books) from cycle → 2 ≤ length cycle
+two_members : (settled : SessionTest) (books : List BookView) (from : ℕ) (cycle : List ℕ) → IsCycleThrough (waits_for settled books) from cycle → 2 ≤ length cycle
 two_members settled books from [] is = absurd (false≢true is)
 two_members settled books from (session ∷ []) is =
     let parts = and_parts (session == from && true) (waits_for settled books session from) is in
     absurd (((waits_by settled books session from).0 parts.1).0 (eqb-true session from (and_parts (session == from) true parts.0).0))
 two_members settled books from (session ∷ next ∷ rest) is = omega arith
 
-pub deadlock_chosen : (settled : SessionTest) (books : List Lists) (from : ℕ)
+pub deadlock_chosen : (settled : SessionTest) (books : List BookView) (from : ℕ)
     → MatchOption (deadlock_in settled books from) (IsFree settled books from) (IsChosen settled books from)
 deadlock_chosen settled books from =
     let waiting = waits_for settled books in
@@ -99,7 +99,7 @@ deadlock_chosen settled books from =
           }
     ] refl
 
-pub cycle_waits : (settled : SessionTest) (books : List Lists) (from : ℕ) (cycle : List ℕ)
+pub cycle_waits : (settled : SessionTest) (books : List BookView) (from : ℕ) (cycle : List ℕ)
     → IsCycleThrough (waits_for settled books) from cycle → All (HasWish settled books) cycle
 cycle_waits settled books from cycle is = all_among (HasWish settled books) cycle (λ session among.
     let to = member_of_cycle_waits (waits_for settled books) from cycle session is (contained cycle session among) in
@@ -107,7 +107,7 @@ cycle_waits settled books from cycle is = all_among (HasWish settled books) cycl
     let found = told.2.4 in
     (told.1, (told.2.0, told.2.1, told.2.2, told.2.3, (found.0, found.1, found.2, found.3, found.4.0))))
 
-pub deadlock_waits : (settled : SessionTest) (books : List Lists) (from : ℕ)
+pub deadlock_waits : (settled : SessionTest) (books : List BookView) (from : ℕ)
     → MatchOption (deadlock_in settled books from) (Unit {0}) (All (IsWaiting settled books))
 deadlock_waits settled books from =
     let waiting = waits_for settled books in
@@ -126,7 +126,7 @@ deadlock_waits settled books from =
           subst (IsWaiting settled books) (sym by_session.2) (wish_waits settled books (member_of wishes session) wish))
     ] refl
 
-pub graph_finds : (settled : SessionTest) (books : List Lists) (graph : GraphView) (from : ℕ)
+pub graph_finds : (settled : SessionTest) (books : List BookView) (graph : GraphView) (from : ℕ)
     → IsGraphOf settled books graph → deadlock graph from ≡ deadlock_in settled books from
 graph_finds settled books graph from is =
     ap (λ (wishes : List Member). cycle_found wishes (waits graph) from) is.same_wishes

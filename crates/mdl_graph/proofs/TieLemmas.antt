@@ -9,7 +9,7 @@ use Rattle.std.proofs.lemmas.Grind.{flat_map-append}
 use Rattle.std.proofs.lemmas.List.{append-nil, map-append}
 use Rattle.std.proofs.lemmas.List.Elements.{Contains-append_left, Contains-append_right}
 use Rattle.std.proofs.lemmas.List.Folds.{list_any-append}
-use Rattle.mdl_book.specs.declared.lists.Lists.{Lists}
+use Rattle.mdl_book.specs.declared.book_view.BookView.{BookView}
 use Rattle.mdl_book.specs.declared.ticket.Ticket.{Ticket}
 use Rattle.mdl_graph.specs.declared.cycle.Member.{Member}
 use Rattle.mdl_graph.specs.Graphs.{GraphView, IsGraphOf, is_settled, waits}
@@ -27,11 +27,11 @@ abbrev sessions_of : List Member → List ℕ
 sessions_of wishes = map (λ wish. wish.session) wishes
 
 -- the wishes of the unsettled of these tickets
-abbrev wishes_of : SessionTest → Lists → List Ticket → List Member
+abbrev wishes_of : SessionTest → BookView → List Ticket → List Member
 wishes_of settled book tickets = map (wish_of book) (filter (λ ticket. is_unsettled settled ticket.session) tickets)
 
 -- an unsettled session with a ticket has a wish
-has_wish : (settled : SessionTest) (book : Lists) (other waiter : ℕ) → is_unsettled settled waiter ≡ true → (tickets : List Ticket)
+has_wish : (settled : SessionTest) (book : BookView) (other waiter : ℕ) → is_unsettled settled waiter ≡ true → (tickets : List Ticket)
     → list_any (λ wish. wish.session == waiter && is_tied settled book other wish) tickets ≡ true → Among waiter (sessions_of (wishes_of settled book tickets))
 has_wish settled book other waiter open_still [] tied = absurd (false≢true tied)
 has_wish settled book other waiter open_still (ticket ∷ tickets) tied =
@@ -52,7 +52,7 @@ has_wish settled book other waiter open_still (ticket ∷ tickets) tied =
     ] refl
 
 -- a lock more leaves each waiter with a wish
-pub wished-more : (settled : SessionTest) (book : Lists) (wishes more_wishes : List Member) (rows more_rows : ℕ) (waits stands more_waits more_stands : Pairs)
+pub wished-more : (settled : SessionTest) (book : BookView) (wishes more_wishes : List Member) (rows more_rows : ℕ) (waits stands more_waits more_stands : Pairs)
     → AreWished wishes rows waits stands
     → more_wishes ≡ wishes ++ wishes_at settled book
     → ((waiter other : ℕ) → are_joined more_waits more_stands waiter other ≡ (are_joined waits stands waiter other || waits_at settled book waiter other))
@@ -77,7 +77,7 @@ same_tests : (one two : SessionTest) → ((session : ℕ) → one session ≡ tw
 same_tests one two same = λ i session. same session i
 
 -- the graph of some locks is that of one more once it is added
-pub graph-more : (settled : SessionTest) (books : List Lists) (book : Lists) (old new : GraphView) → IsGraphOf settled books old
+pub graph-more : (settled : SessionTest) (books : List BookView) (book : BookView) (old new : GraphView) → IsGraphOf settled books old
     → new.settled ≡ old.settled
     → new.wishes ≡ old.wishes ++ wishes_at (is_settled old) book
     → ((waiter other : ℕ) → waits new waiter other ≡ (waits old waiter other || waits_at (is_settled old) book waiter other))

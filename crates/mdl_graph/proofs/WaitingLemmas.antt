@@ -5,7 +5,7 @@ use Rattle.std.specs.List.{list_any, Any}
 use Rattle.std.proofs.lemmas.Bool.{and_parts, and_from, or_cases, or_left, or_right, not-true, not_from_false, eqb-true, eq-eqb, ne_eqb, false≢true}
 use Rattle.mdl_key.specs.declared.mode.Mode.{Mode}
 use Rattle.mdl_key.specs.Matrices.{clashes, waits_behind}
-use Rattle.mdl_book.specs.declared.lists.Lists.{Lists}
+use Rattle.mdl_book.specs.declared.book_view.BookView.{BookView}
 use Rattle.mdl_book.specs.declared.ticket.Ticket.{Ticket}
 use Rattle.mdl_book.specs.Books.{lock_kind}
 use Rattle.mdl_graph.specs.WaitsFor.{SessionTest, WaitsFor, holds_against, waits_ahead, is_tied, waits_at}
@@ -19,13 +19,13 @@ both a b test = (
   λ h. and_from (a == b) test (eq-eqb a b h.0) h.1,
 )
 
-holds_by : (book : Lists) (wish : Mode) (session : ℕ) → (holds_against book wish session ≡ true) ↔ HoldsAgainst book wish session
+holds_by : (book : BookView) (wish : Mode) (session : ℕ) → (holds_against book wish session ≡ true) ↔ HoldsAgainst book wish session
 holds_by book wish session =
     any_by (λ (held : Ticket). held.session == session && clashes (lock_kind book) wish held.mode)
     (λ (held : Ticket). (held.session ≡ session) × (clashes (lock_kind book) wish held.mode ≡ true))
     (λ held. both held.session session (clashes (lock_kind book) wish held.mode)) book.granted
 
-pending_by : (book : Lists) (wish : Mode) (session : ℕ)
+pending_by : (book : BookView) (wish : Mode) (session : ℕ)
     → (list_any (λ pending. pending.session == session && waits_behind (lock_kind book) wish pending.mode) book.waiting ≡ true)
     ↔ Any (λ pending. (pending.session ≡ session) × (waits_behind (lock_kind book) wish pending.mode ≡ true)) book.waiting
 pending_by book wish session =
@@ -33,7 +33,7 @@ pending_by book wish session =
     (λ (pending : Ticket). (pending.session ≡ session) × (waits_behind (lock_kind book) wish pending.mode ≡ true))
     (λ pending. both pending.session session (waits_behind (lock_kind book) wish pending.mode)) book.waiting
 
-ahead_by : (settled : SessionTest) (book : Lists) (wish : Mode) (session : ℕ)
+ahead_by : (settled : SessionTest) (book : BookView) (wish : Mode) (session : ℕ)
     → (waits_ahead settled book wish session ≡ true) ↔ WaitsAhead settled book wish session
 ahead_by settled book wish session =
     let waits = list_any (λ pending. pending.session == session && waits_behind (lock_kind book) wish pending.mode) book.waiting in (
@@ -42,7 +42,7 @@ ahead_by settled book wish session =
       λ h. and_from (not (settled session)) waits (not_from_false (settled session) h.0) ((pending_by book wish session).1 h.1),
     )
 
-against_by : (settled : SessionTest) (book : Lists) (wish : Mode) (session : ℕ)
+against_by : (settled : SessionTest) (book : BookView) (wish : Mode) (session : ℕ)
     → ((holds_against book wish session || waits_ahead settled book wish session) ≡ true)
     ↔ (HoldsAgainst book wish session ⊎ WaitsAhead settled book wish session)
 against_by settled book wish session =
@@ -58,7 +58,7 @@ against_by settled book wish session =
       ],
     )
 
-wish_by : (settled : SessionTest) (book : Lists) (waiter other : ℕ) (wish : Ticket)
+wish_by : (settled : SessionTest) (book : BookView) (waiter other : ℕ) (wish : Ticket)
     → ((wish.session == waiter && is_tied settled book other wish) ≡ true)
     ↔ ((wish.session ≡ waiter) × (waiter ≢ other) × (HoldsAgainst book wish.mode other ⊎ WaitsAhead settled book wish.mode other))
 wish_by settled book waiter other wish =
@@ -79,7 +79,7 @@ wish_by settled book waiter other wish =
     )
 
 -- at one lock
-at_by : (settled : SessionTest) (waiter other : ℕ) (book : Lists)
+at_by : (settled : SessionTest) (waiter other : ℕ) (book : BookView)
     → (waits_at settled book waiter other ≡ true)
     ↔ ((waiter ≢ other) × IsFalse (settled waiter) × IsBlockedAt settled waiter other book)
 at_by settled waiter other book =
@@ -96,12 +96,12 @@ at_by settled waiter other book =
     )
 
 -- at some locks
-pub waits_by : (settled : SessionTest) (books : List Lists) (waiter other : ℕ)
+pub waits_by : (settled : SessionTest) (books : List BookView) (waiter other : ℕ)
     → WaitsFor settled books waiter other
     ↔ ((waiter ≢ other) × IsFalse (settled waiter) × Any (IsBlockedAt settled waiter other) books)
 waits_by settled books waiter other =
-    let locks = any_by (λ (book : Lists). waits_at settled book waiter other)
-    (λ (book : Lists). (waiter ≢ other) × IsFalse (settled waiter) × IsBlockedAt settled waiter other book)
+    let locks = any_by (λ (book : BookView). waits_at settled book waiter other)
+    (λ (book : BookView). (waiter ≢ other) × IsFalse (settled waiter) × IsBlockedAt settled waiter other book)
     (at_by settled waiter other) books in (
       λ e. let found = locks.0 e in (found.4.0, found.4.1, (found.0, found.1, found.2, found.3, found.4.2)),
       λ h. locks.1 (h.2.0, h.2.1, h.2.2, h.2.3, (h.0, h.1, h.2.4)),

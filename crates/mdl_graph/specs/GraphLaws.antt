@@ -4,7 +4,7 @@ use Rattle.std.specs.FinSet as set
 use Rattle.std.specs.Ordering.{nat_cmp}
 use Rattle.mdl_key.specs.declared.mode.Mode.{Mode}
 use Rattle.mdl_key.specs.Matrices.{Clashes, WaitsBehind}
-use Rattle.mdl_book.specs.declared.lists.Lists.{Lists}
+use Rattle.mdl_book.specs.declared.book_view.BookView.{BookView}
 use Rattle.mdl_book.specs.Books.{lock_kind}
 use Rattle.mdl_graph.specs.declared.cycle.Member.{Member}
 use Rattle.mdl_graph.specs.Cycles.{IsCycleThrough, is_chosen_before}
@@ -15,17 +15,17 @@ use Rattle.mdl_graph.specs.Graphs.{GraphView, IsGraphOf, empty_graph, deadlock, 
 -- ---- who waits for whom
 
 -- a session holds a ticket of the lock that clashes with a wish
-abbrev pub HoldsAgainst : Lists → Mode → ℕ → Type 0
+abbrev pub HoldsAgainst : BookView → Mode → ℕ → Type 0
 HoldsAgainst book wish session = Any (λ held. (held.session ≡ session) × Clashes (lock_kind book) wish held.mode) book.granted
 
 -- a session is unsettled and waits there in a mode that the wish waits behind
-abbrev pub WaitsAhead : SessionTest → Lists → Mode → ℕ → Type 0
+abbrev pub WaitsAhead : SessionTest → BookView → Mode → ℕ → Type 0
 WaitsAhead settled book wish session =
     IsFalse (settled session)
     × Any (λ pending. (pending.session ≡ session) × WaitsBehind (lock_kind book) wish pending.mode) book.waiting
 
 -- a session waits at the lock by a ticket which another one stands against
-abbrev pub IsBlockedAt : SessionTest → ℕ → ℕ → Lists → Type 0
+abbrev pub IsBlockedAt : SessionTest → ℕ → ℕ → BookView → Type 0
 IsBlockedAt settled waiter other book =
     Any (λ wish. (wish.session ≡ waiter) × (HoldsAgainst book wish.mode other ⊎ WaitsAhead settled book wish.mode other)) book.waiting
 
@@ -34,7 +34,7 @@ IsBlockedAt settled waiter other book =
 -- unsettled too
 abbrev pub WaitingIsBeingBlocked : Type 0
 WaitingIsBeingBlocked =
-    (settled : SessionTest) (books : List Lists) (waiter other : ℕ) →
+    (settled : SessionTest) (books : List BookView) (waiter other : ℕ) →
     WaitsFor settled books waiter other
     ↔ ((waiter ≢ other) × IsFalse (settled waiter) × Any (IsBlockedAt settled waiter other) books)
 
@@ -57,47 +57,47 @@ abbrev pub sessions_of : List Member → List ℕ
 sessions_of members = map (λ member. member.session) members
 
 -- the chosen cycle of some locks: a cycle of two at least, that comes before all others
-pub record IsChosen (settled : SessionTest) (books : List Lists) (from : ℕ) (members : List Member) : Type 0 where
+pub record IsChosen (settled : SessionTest) (books : List BookView) (from : ℕ) (members : List Member) : Type 0 where
   pub cycle : IsCycleThrough (waits_for settled books) from (sessions_of members)
   pub two : 2 ≤ length members
   pub first : (other : List ℕ) → IsCycleThrough (waits_for settled books) from other → IsTrue (is_chosen_before (sessions_of members) other)
 
 -- no list is a cycle through a session
-abbrev pub IsFree : SessionTest → List Lists → ℕ → Type 0
+abbrev pub IsFree : SessionTest → List BookView → ℕ → Type 0
 IsFree settled books from = (cycle : List ℕ) → IsCycleThrough (waits_for settled books) from cycle → ⊥
 
 -- where a deadlock is found, it is the cycle that comes before all others; where none is, there is no cycle
 abbrev pub DeadlocksAreChosenCycles : Type 0
 DeadlocksAreChosenCycles =
-    (settled : SessionTest) (books : List Lists) (from : ℕ) →
+    (settled : SessionTest) (books : List BookView) (from : ℕ) →
     MatchOption (deadlock_in settled books from) (IsFree settled books from) (IsChosen settled books from)
 
 -- a session is unsettled, and a ticket of it waits at one of the locks
-abbrev pub HasWish : SessionTest → List Lists → ℕ → Type 0
+abbrev pub HasWish : SessionTest → List BookView → ℕ → Type 0
 HasWish settled books session = IsFalse (settled session) × Any (λ book. Any (λ ticket. ticket.session ≡ session) book.waiting) books
 
 -- so it is with each member of a cycle
 abbrev pub MembersOfCyclesWait : Type 0
 MembersOfCyclesWait =
-    (settled : SessionTest) (books : List Lists) (from : ℕ) (cycle : List ℕ) →
+    (settled : SessionTest) (books : List BookView) (from : ℕ) (cycle : List ℕ) →
     IsCycleThrough (waits_for settled books) from cycle → All (HasWish settled books) cycle
 
 -- where those who are settled were all settled before, a cycle stays one
 abbrev pub FewerSettledKeepCycles : Type 0
 FewerSettledKeepCycles =
-    (settled fewer : SessionTest) (books : List Lists) (from : ℕ) (cycle : List ℕ) →
+    (settled fewer : SessionTest) (books : List BookView) (from : ℕ) (cycle : List ℕ) →
     ((session : ℕ) → IsTrue (fewer session) → IsTrue (settled session)) →
     IsCycleThrough (waits_for settled books) from cycle → IsCycleThrough (waits_for fewer books) from cycle
 
 -- a member is unsettled, and waits at one of the locks by a ticket that weighs as much
-abbrev pub IsWaiting : SessionTest → List Lists → Member → Type 0
+abbrev pub IsWaiting : SessionTest → List BookView → Member → Type 0
 IsWaiting settled books member =
     IsFalse (settled member.session) × Any (λ book. Any (λ ticket. member ≡ wish_of book ticket) book.waiting) books
 
 -- so it is with each member of a deadlock
 abbrev pub MembersOfDeadlocksWait : Type 0
 MembersOfDeadlocksWait =
-    (settled : SessionTest) (books : List Lists) (from : ℕ) →
+    (settled : SessionTest) (books : List BookView) (from : ℕ) →
     MatchOption (deadlock_in settled books from) (Unit {0}) (All (IsWaiting settled books))
 
 -- at the first place where two lists differ, the one is less
@@ -135,5 +135,5 @@ GraphsBeginEmpty = (settled : set.FinSet nat_cmp) → IsGraphOf (set.contains se
 -- the graph of some locks finds their deadlocks
 abbrev pub GraphsFindDeadlocks : Type 0
 GraphsFindDeadlocks =
-    (settled : SessionTest) (books : List Lists) (graph : GraphView) (from : ℕ) →
+    (settled : SessionTest) (books : List BookView) (graph : GraphView) (from : ℕ) →
     IsGraphOf settled books graph → deadlock graph from ≡ deadlock_in settled books from

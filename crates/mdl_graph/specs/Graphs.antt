@@ -5,7 +5,7 @@ use Rattle.std.specs.FinSet as set
 use Rattle.std.specs.List.{list_any}
 use Rattle.std.specs.Option.{option_map}
 use Rattle.std.specs.Ordering.{nat_cmp}
-use Rattle.mdl_book.specs.declared.lists.Lists.{Lists}
+use Rattle.mdl_book.specs.declared.book_view.BookView.{BookView}
 use Rattle.mdl_graph.specs.declared.cycle.Member.{Member}
 use Rattle.mdl_graph.specs.Cycles.{chosen_cycle}
 use Rattle.mdl_graph.specs.Victims.{victim_of}
@@ -46,7 +46,7 @@ abbrev pub empty_graph : set.FinSet nat_cmp → GraphView
 empty_graph settled = record { settled = settled; wishes = []; ties = [] }
 
 -- the graph of these locks, where these sessions are settled
-pub record IsGraphOf (settled : SessionTest) (books : List Lists) (graph : GraphView) : Type 0 where
+pub record IsGraphOf (settled : SessionTest) (books : List BookView) (graph : GraphView) : Type 0 where
   pub same_settled : (session : ℕ) → is_settled graph session ≡ settled session
   pub same_wishes : graph.wishes ≡ wishes_in settled books
   pub same_waits : (waiter other : ℕ) → waits graph waiter other ≡ waits_for settled books waiter other
@@ -70,9 +70,9 @@ abbrev pub deadlock : GraphView → ℕ → Option (List Member)
 deadlock graph from = cycle_found graph.wishes (waits graph) from
 
 -- and that of these locks
-abbrev pub deadlock_in : SessionTest → List Lists → ℕ → Option (List Member)
+abbrev pub deadlock_in : SessionTest → List BookView → ℕ → Option (List Member)
 deadlock_in settled books from = cycle_found (wishes_in settled books) (waits_for settled books) from
 
 -- the victim of the chosen cycle through a session
-abbrev pub victim_in : SessionTest → List Lists → ℕ → Option ℕ
+abbrev pub victim_in : SessionTest → List BookView → ℕ → Option ℕ
 victim_in settled books from = option_map victim_of (deadlock_in settled books from)

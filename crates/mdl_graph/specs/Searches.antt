@@ -4,7 +4,7 @@ use Rattle.std.specs.FinSet as set
 use Rattle.std.specs.Ordering.{nat_cmp}
 use Rattle.std.specs.List.{list_any, count_by, Contains}
 use Rattle.std.specs.Option.{option_or, unwrap_or}
-use Rattle.mdl_book.specs.declared.lists.Lists.{Lists}
+use Rattle.mdl_book.specs.declared.book_view.BookView.{BookView}
 use Rattle.mdl_key.specs.declared.mode.Mode.{Mode}
 use Rattle.mdl_key.specs.Modes.{mode_rank}
 use Rattle.mdl_graph.specs.declared.cycle.Member.{Member}
@@ -41,11 +41,11 @@ pub record AreWished (wishes : List Member) (rows : ℕ) (waits stands : Pairs) 
   pub fresh : (row session : ℕ) → rows ≤ row → holds stands session row ≡ false
 
 -- whether a session stands against a wish at a lock
-abbrev pub stands_against : SessionTest → Lists → Mode → ℕ → Bool
+abbrev pub stands_against : SessionTest → BookView → Mode → ℕ → Bool
 stands_against settled book mode session = holds_against book mode session || waits_ahead settled book mode session
 
 -- the rows of a lock, from the first one on, have those who stand against a wish for their mode
-abbrev pub AreOfModes : SessionTest → Lists → ℕ → List ℕ → Pairs → Type 0
+abbrev pub AreOfModes : SessionTest → BookView → ℕ → List ℕ → Pairs → Type 0
 AreOfModes settled book first ranks stands =
     (row : ℕ) → first ≤ row → row < length ranks → (mode : Mode) → mode_rank mode ≡ slice_index ranks row → (session : ℕ)
     → holds stands session row ≡ stands_against settled book mode session

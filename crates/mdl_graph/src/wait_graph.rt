@@ -1,6 +1,6 @@
 //! Which session waits for which.
 ghost use Rattle.std.specs.Prelude.{◌≡◌, ℕ, ◌||◌, ◌++◌, [], ◌∷◌, List, false, None, OnOk, OnErr, IfOk};
-ghost use Rattle.mdl_book.specs.declared.lists.Lists.{Lists};
+ghost use Rattle.mdl_book.specs.declared.book_view.BookView.{BookView};
 ghost use Rattle.mdl_graph.specs.Graphs.{empty_graph, is_settled, waits, IsGraphOf, deadlock};
 ghost use Rattle.mdl_graph.specs.WaitsFor.{SessionTest, waits_at, wishes_at};
 
@@ -69,7 +69,7 @@ impl WaitGraph {
         ensures wishes { OnOk result (self.new.wishes ≡ self.old.wishes ++ wishes_at (is_settled self.old) book.now) }
         ensures waits { OnOk result ((waiter other : ℕ) → waits self.new waiter other
             ≡ (waits self.old waiter other || waits_at (is_settled self.old) book.now waiter other)) }
-        ensures graph { OnOk result ((settled : SessionTest) (books : List Lists)
+        ensures graph { OnOk result ((settled : SessionTest) (books : List BookView)
             → IsGraphOf settled books self.old → IsGraphOf settled (books ++ book.now ∷ []) self.new) }
         ensures unchanged { OnErr result (self.new ≡ self.old) }
     {
@@ -89,7 +89,7 @@ impl WaitGraph {
         ensures wishes { OnOk result (self.new.wishes ≡ self.old.wishes ++ wishes_at (is_settled self.old) book.now) }
         ensures waits { OnOk result ((waiter other : ℕ) → waits self.new waiter other
             ≡ (waits self.old waiter other || waits_at (is_settled self.old) book.now waiter other)) }
-        ensures graph { OnOk result ((settled : SessionTest) (books : List Lists)
+        ensures graph { OnOk result ((settled : SessionTest) (books : List BookView)
             → IsGraphOf settled books self.old → IsGraphOf settled (books ++ book.now ∷ []) self.new) }
         ensures unchanged { OnErr result (self.new ≡ self.old) }
     {

@@ -11,7 +11,7 @@ use Rattle.std.specs.Ordering.{nat_cmp}
 use Rattle.mdl_book.specs.declared.ticket.Ticket.{Ticket}
 use Rattle.mdl_book.specs.Tickets.{is_ticket, ticket_id, ticket_of}
 use Rattle.mdl_book.specs.SessionSets.{is_session, IsEverySession}
-use Rattle.mdl_book.specs.declared.lists.Lists.{Lists}
+use Rattle.mdl_book.specs.declared.book_view.BookView.{BookView}
 use Rattle.mdl_book.specs.Books.{lock_kind, next_grantable, admitting}
 use Rattle.mdl_book.proofs.FastLemmas.{next_grantable-none}
 use Rattle.mdl_key.specs.declared.namespace.Kind.{Kind}
@@ -71,17 +71,17 @@ pub grants_more : (kind : Kind) (n m : ℕ) (lock : Lock) (ticket : Ticket) → 
 grants_more kind n m lock ticket same some = rw (same, some)
 
 -- what a book names as next, where all sessions are asked for
-pub next-lock_of : (everyone : set.FinSet nat_cmp) (lists : Lists) → IsEverySession everyone → IsOrderly (lock_of lists)
+pub next-lock_of : (everyone : set.FinSet nat_cmp) (lists : BookView) → IsEverySession everyone → IsOrderly (lock_of lists)
     → next_grantable 0 everyone lists ≡ next_waiter (lock_kind lists) (lock_of lists)
 next-lock_of everyone lists every orderly = next_grantable-none everyone lists ∙ find-numbered everyone _ lists.waiting every orderly.waiters
 
 -- the waiter that a session and a number name
-pub record IsNamed (lists : Lists) (id : ℕ × ℕ) (ticket : Ticket) : Type 0 where
+pub record IsNamed (lists : BookView) (id : ℕ × ℕ) (ticket : Ticket) : Type 0 where
   pub next : next_waiter (lock_kind lists) (lock_of lists) ≡ Some ticket
   pub there : ticket_of id.0 id.1 lists.waiting ≡ Some ticket
   pub admits : lock_of (admitting id.0 id.1 lists) ≡ admitted ticket (lock_of lists)
 
-named_by : (lists : Lists) (id : ℕ × ℕ) (next : Option Ticket) → next_waiter (lock_kind lists) (lock_of lists) ≡ next → IsOrderly (lock_of lists)
+named_by : (lists : BookView) (id : ℕ × ℕ) (next : Option Ticket) → next_waiter (lock_kind lists) (lock_of lists) ≡ next → IsOrderly (lock_of lists)
     → Some id ≡ option_map ticket_id next → (ticket : Ticket) × IsNamed lists id ticket
 named_by lists id None is orderly named = cc
 named_by lists id (Some ticket) is orderly named =
@@ -91,7 +91,7 @@ named_by lists id (Some ticket) is orderly named =
     let there : ticket_of id.0 id.1 lists.waiting ≡ Some ticket = rw same (ticket_of-found _ lists.waiting ticket one is) in
     (ticket, record { next = is; there = there; admits = rw (there, same) })
 
-pub named-next : (everyone : set.FinSet nat_cmp) (lists : Lists) (id : ℕ × ℕ) → IsEverySession everyone → IsOrderly (lock_of lists)
+pub named-next : (everyone : set.FinSet nat_cmp) (lists : BookView) (id : ℕ × ℕ) → IsEverySession everyone → IsOrderly (lock_of lists)
     → Some id ≡ option_map ticket_id (next_grantable 0 everyone lists) → (ticket : Ticket) × IsNamed lists id ticket
 named-next everyone lists id every orderly named = named_by lists id _ refl orderly (rw (← next-lock_of everyone lists every orderly) named)
 
@@ -100,7 +100,7 @@ map_none f None e = refl
 map_none f (Some x) e = cc
 
 -- a book of this kind names no waiter, so there is none to grant
-pub none-next : (kind : Kind) (everyone : set.FinSet nat_cmp) (lists : Lists) → lock_kind lists ≡ kind → IsEverySession everyone → IsOrderly (lock_of lists)
+pub none-next : (kind : Kind) (everyone : set.FinSet nat_cmp) (lists : BookView) → lock_kind lists ≡ kind → IsEverySession everyone → IsOrderly (lock_of lists)
     → None ≡ option_map ticket_id (next_grantable 0 everyone lists) → next_waiter kind (lock_of lists) ≡ None
 none-next kind everyone lists same every orderly named =
     subst (λ k. next_waiter k (lock_of lists) ≡ None) same (sym (next-lock_of everyone lists every orderly) ∙ map_none ticket_id _ named)

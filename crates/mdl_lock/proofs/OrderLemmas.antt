@@ -11,7 +11,7 @@ use Rattle.mdl_book.specs.declared.ticket.Ticket.{Ticket}
 use Rattle.mdl_key.specs.Refusals.{Refuses}
 use Rattle.mdl_book.specs.declared.book_error.BookError.{BookError}
 use Rattle.mdl_book.specs.declared.book_error.BookError.TheVariants.{OutOfMemory}
-use Rattle.mdl_book.specs.declared.lists.Lists.{Lists}
+use Rattle.mdl_book.specs.declared.book_view.BookView.{BookView}
 use Rattle.mdl_book.specs.Books.{lock_kind, full_fault, grant_fault}
 use Rattle.mdl_book.specs.Granting.{is_compatible}
 use Rattle.mdl_book.specs.Tickets.{is_ticket, without}
@@ -178,7 +178,7 @@ pub never_full : (lock : Lock) → IsOrderly lock → full_fault (length lock.gr
 never_full lock orderly = let few = at_most_64 lock orderly in grind (arith, nat_tests)
 
 -- nor is a ticket refused that doesn't clash
-pub never_refused : (lists : Lists) (ticket : Ticket) → IsOrderly (lock_of lists) → is_compatible (lock_kind lists) lists.granted ticket.session ticket.mode ≡ true
+pub never_refused : (lists : BookView) (ticket : Ticket) → IsOrderly (lock_of lists) → is_compatible (lock_kind lists) lists.granted ticket.session ticket.mode ≡ true
     → grant_fault ticket 0 lists ≡ None
 never_refused lists ticket orderly compatible = rw (may_stand-none (lock_kind lists) lists.granted ticket.session ticket.mode, compatible) (never_full (lock_of lists) orderly)
 

@@ -6,7 +6,7 @@ use Rattle.mdl_key.specs.declared.namespace.Kind.{Kind}
 use Rattle.mdl_lock.specs.declared.script_command.ScriptCommand.{ScriptCommand}
 use Rattle.mdl_lock.specs.declared.answer.Answer.{Answer}
 use Rattle.mdl_lock.specs.Answering.{answer_text, text_of}
-use Rattle.mdl_book.specs.declared.lists.Lists.{Lists}
+use Rattle.mdl_book.specs.declared.book_view.BookView.{BookView}
 use Rattle.mdl_book.specs.Books.{lock_kind}
 use Rattle.mdl_lock.specs.Answers.{Lock, Outcome, free_lock, after_answers, obeyed, all_obeyed}
 use Rattle.mdl_lock.specs.Locks.{lock_of}
@@ -38,7 +38,7 @@ pub text_of-append : (xs ys : List Answer) → text_of (xs ++ ys) ≡ text_of xs
 text_of-append xs ys = flat_map-append (λ answer. answer_text answer ++ 10 ∷ []) xs ys
 
 -- a command that a book obeys adds its answers to what was told
-pub told_so_far : (kind : Kind) (commands : List ScriptCommand) (i : ℕ) (d : ScriptCommand) (lists : Lists) (text told : List ℕ)
+pub told_so_far : (kind : Kind) (commands : List ScriptCommand) (i : ℕ) (d : ScriptCommand) (lists : BookView) (text told : List ℕ)
     → i < length commands → lock_kind lists ≡ kind → lock_of lists ≡ (so_far kind commands i).lock → text ≡ text_of (so_far kind commands i).answers
     → told ≡ text ++ text_of (obeyed (lock_kind lists) (get_or commands i d) (lock_of lists)).answers
     → told ≡ text_of (so_far kind commands (i + 1)).answers
@@ -53,7 +53,7 @@ told_so_far kind commands i d lists text told inside same left before line =
     e ∙ sym (text_of-append so.answers last.answers) ∙ ap (λ o. text_of o.answers) (sym (so_far_more kind commands i d inside))
 
 -- and leaves the lock that it leaves
-pub left_so_far : (kind : Kind) (commands : List ScriptCommand) (i : ℕ) (d : ScriptCommand) (lists : Lists) (next : Lock)
+pub left_so_far : (kind : Kind) (commands : List ScriptCommand) (i : ℕ) (d : ScriptCommand) (lists : BookView) (next : Lock)
     → i < length commands → lock_kind lists ≡ kind → lock_of lists ≡ (so_far kind commands i).lock
     → next ≡ (obeyed (lock_kind lists) (get_or commands i d) (lock_of lists)).lock
     → next ≡ (so_far kind commands (i + 1)).lock

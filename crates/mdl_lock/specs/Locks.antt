@@ -1,6 +1,6 @@
 -- What is true of a lock while sessions have one ticket or one wait each, and how a book is seen as a lock.
 use Rattle.std.specs.Prelude.{◌≡◌, ℕ, ◌+◌, ◌≤◌, All, count_by}
-use Rattle.mdl_book.specs.declared.lists.Lists.{Lists}
+use Rattle.mdl_book.specs.declared.book_view.BookView.{BookView}
 use Rattle.mdl_book.specs.declared.ticket.Ticket.{Ticket}
 use Rattle.mdl_book.specs.Tickets.{is_ticket}
 use Rattle.mdl_lines.specs.Sessions.{IsScriptSession}
@@ -8,7 +8,7 @@ use Rattle.mdl_lock.specs.declared.script_command.ScriptCommand.{ScriptCommand}
 use Rattle.mdl_lock.specs.Answers.{Lock}
 
 -- the lists of a book, as a lock
-abbrev pub lock_of : Lists → Lock
+abbrev pub lock_of : BookView → Lock
 lock_of lists = record { granted = lists.granted; waiting = lists.waiting }
 
 -- a command of such a session

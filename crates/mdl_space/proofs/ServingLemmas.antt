@@ -7,7 +7,7 @@ use Rattle.std.specs.Ordering.{nat_cmp}
 use Rattle.std.specs.Cmp.{nat_cmp_total, unsigned_tied}
 use Rattle.std.proofs.lemmas.Bool.Decides.{nat_tests}
 use Rattle.std.proofs.lemmas.List.{get_or_default, get_or-set_same, get_or-set_other}
-use Rattle.mdl_book.specs.declared.lists.Lists.{Lists}
+use Rattle.mdl_book.specs.declared.book_view.BookView.{BookView}
 use Rattle.mdl_book.specs.declared.ticket.Ticket.{Ticket}
 use Rattle.mdl_book.specs.Books as book
 use Rattle.mdl_key.specs.Keys.{global_key}
@@ -182,7 +182,7 @@ key-stays at place (Some ticket) core =
 -- ---- books and seats in their lists
 
 -- what is read at the place of a book or of a seat
-pub book_here : (core : Core) (books : List Lists) (place i : ℕ) (lists : Lists) → books ≡ core.books → has_key place core ≡ true → i ≡ place
+pub book_here : (core : Core) (books : List BookView) (place i : ℕ) (lists : BookView) → books ≡ core.books → has_key place core ≡ true → i ≡ place
     → lists ≡ get_or books (i - 1) lists → lists ≡ book_at place core
 book_here core books place i lists view has same is =
     let bounds = key-bounds place core has in
@@ -197,12 +197,12 @@ seat_here core seats who i seat view has same is =
     is ∙ get_or_default seats (i - 1) seat empty_seat inside ∙ rw (view, same) refl
 
 -- what is written there
-pub written : (core view : Core) (place who i j : ℕ) (new lists : Lists) (later seat : SeatView) → view ≡ core → i ≡ place → new ≡ lists → j ≡ who → later ≡ seat
+pub written : (core view : Core) (place who i j : ℕ) (new lists : BookView) (later seat : SeatView) → view ≡ core → i ≡ place → new ≡ lists → j ≡ who → later ≡ seat
     → record view { books = set_at view.books (i - 1) new; seats = set_at view.seats (j - 1) later } ≡ booking place lists (seating who seat core)
 written core view place who i j new lists later seat same at is there will = rw (same, at, is, there, will) refl
 
 -- once a wait is granted its session is no longer among them
-module _ (sessions : set.FinSet nat_cmp) (core : Core) (place one : ℕ) (lists : Lists) (has : has_session one core ≡ true)
+module _ (sessions : set.FinSet nat_cmp) (core : Core) (place one : ℕ) (lists : BookView) (has : has_session one core ≡ true)
     (before : (who : ℕ) → set.contains sessions who ≡ is_unsettled who core) where
   after : Core
   after = booking place lists (seating one (settling settled_as.Granted (seat_at one core)) core)

@@ -8,7 +8,7 @@ use Rattle.mdl_key.specs.Modes.{is_mode_of}
 use Rattle.mdl_book.specs.Books.{lock_kind}
 use Rattle.mdl_book.specs.Granting.{is_compatible}
 use Rattle.mdl_book.specs.Tickets.{is_ticket, ticket_of}
-use Rattle.mdl_book.specs.declared.lists.Lists.{Lists}
+use Rattle.mdl_book.specs.declared.book_view.BookView.{BookView}
 use Rattle.mdl_calls.specs.declared.answers.Held.{Held}
 use Rattle.mdl_calls.specs.declared.answers.Settled.{Settled}
 use Rattle.mdl_calls.specs.declared.answers.Settled.TheVariants as settled_as
@@ -97,7 +97,7 @@ pub clone-compatible : (core : Core) (who : ℕ) (ticket : Held) (mode : Mode) �
 clone-compatible core who ticket mode speaks held strong fit =
     let tied : IsTied core = speaks.1.tied in
     let key : has_key ticket.place core ≡ true = tied.placed who ticket speaks.0 (inl (inl held)) in
-    let lists : Lists = book_at ticket.place core in
+    let lists : BookView = book_at ticket.place core in
     let own_fits = (tied.granted_by ticket.place key (in_book_of who ticket) ((tied.granted who ticket speaks.0 key).1 (inl held))).1 in
     let clashes_none = compatible-from_weaker (system_of core) speaks.1.lawful (holding_of who ticket core) mode (granted-of_held core who ticket tied speaks.0 held)
     (covers-at_least (lock_kind lists) ticket.mode mode own_fits fit strong) in

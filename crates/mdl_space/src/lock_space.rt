@@ -1,12 +1,18 @@
 //! What every lock space does, for whoever stands on it.
-ghost use Rattle.std.specs.Prelude.{◌≡◌, ℕ, Some, true, false, List, Option, Contains};
+ghost use Rattle.std.specs.Prelude.{◌≡◌, ◌≤◌, ℕ, Some, true, false, List, Option, Contains};
 ghost use Rattle.std.specs.Option.{IfSome};
-ghost use Rattle.mdl_key.specs.Keys.{KeyName};
+ghost use Rattle.mdl_key.specs.Words.{KeyName, same_mode};
+ghost use Rattle.mdl_key.specs.declared.mode.Mode.TheVariants.{X};
+ghost use Rattle.mdl_defs.specs.declared.change.Change.{Change};
+ghost use Rattle.mdl_defs.specs.declared.definition.Definition.{Definition};
+ghost use Rattle.mdl_defs.specs.declared.standing.Standing.{Standing};
+ghost use Rattle.mdl_defs.specs.Standings.{MayStand, standing_after};
 ghost use Rattle.mdl_calls.specs.declared.answers.Settled.{Settled};
 ghost use Rattle.mdl_calls.specs.declared.answers.Held.{Held};
-ghost use Rattle.mdl_calls.specs.Words.{Call, Resolve, Try_now, Begin_wait, Search as Search_by, Poll_wait, Settle_timeout, End_wait, Wait_of, Kill, Release, Clone_ticket, List_held, Unpin, caller, Answer, Done, At_place, Victim_is, Has_wait, Has_killed, Holds, is_answer_of, placed, attempted, begun, searched, polled, timed_out, ended, done, cloned, listed, Own, Wait, Numbers, own_after, wait_number, is_waiting, IsRising, Draws, IsExplained, told, IsToldOf};
+ghost use Rattle.mdl_calls.specs.Words.{Call, Resolve, Try_now, Begin_wait, Search as Search_by, Poll_wait, Settle_timeout, End_wait, Wait_of, Kill, Release, Clone_ticket, List_held, Read_definition, Change_definition, Unpin, caller, Answer, Changed, Done, Reads, At_place, Victim_is, Has_wait, Has_killed, Holds, is_answer_of, placed, attempted, begun, searched, polled, timed_out, ended, done, cloned, listed, Own, Wait, Numbers, own_after, wait_number, is_waiting, IsRising, Draws, IsExplained, told, IsToldOf, HoldsAt, IsChangeOf, read, read_under, redefined, redefined_place, ticket_held};
 
 use crate::{Attempt, Begun, Ended, Held, Place, Poll, Search, SpaceError, TicketId, TimedOut};
+use mdl_defs::{Change, Standing};
 use mdl_key::{Key, Mode};
 
 /// A lock space: keys at their places, and the tickets and waits of numbered sessions.
@@ -31,6 +37,12 @@ pub trait LockSpace {
 
     // The last numbers that a session's tickets and waits were given.
     ghost numbers: { Self → ℕ → Numbers };
+
+    // This is what stands at a place: a session has read it, or made it, and it can't have changed since.
+    ghost has_read: { Self → ℕ → ℕ → Standing → Type 0 };
+
+    // What stands at a place had this version already as a session read it.
+    ghost has_seen: { Self → ℕ → ℕ → ℕ → Type 0 };
 
     // A call and its answer join the space before to the space after.
     ghost joins: { Self → Call → Answer → Self → Type 0 };
@@ -92,6 +104,22 @@ pub trait LockSpace {
     fn clone_ticket(&mut self, who: u16, id: TicketId, mode: Mode) -> Result<TicketId, SpaceError>
         requires { speaks_for self.old who }
         ensures { joins self.old (Clone_ticket who id mode) (cloned result) self.new };
+
+    /// What stands under the key of a held ticket's place, and its version.
+    fn read_definition(&mut self, who: u16, id: TicketId) -> Result<Standing, SpaceError>
+        requires { speaks_for self.old who }
+        ensures { joins self.old (Read_definition who id) (read result) self.new };
+
+    /// Changes what stands under the key of the place of a ticket that is held exclusively, and answers the new version, which
+    /// is one greater. `Drop` takes no memory.
+    fn change_definition(
+        &mut self,
+        who: u16,
+        id: TicketId,
+        change: &Change,
+    ) -> Result<u64, SpaceError>
+        requires { speaks_for self.old who }
+        ensures { joins self.old (Change_definition who id change.now) (redefined result) self.new };
 
     /// The tickets that the session holds, in order of gain.
     fn held(&self, who: u16) -> Result<Vec<Held>, SpaceError>
@@ -193,4 +221,48 @@ pub trait LockSpace {
     // The others are given no numbers.
     ghost others_draw: { (a b : Self) (call : Call) (answer : Answer) (w : ℕ) → speaks_for a w → (caller call ≡ Some w → ⊥)
         → joins a call answer b → numbers b w ≡ numbers a w };
+
+    // Whoever reads under a ticket has read what stands at its place.
+    ghost reads: { (a b : Self) (call : Call) (who id version : ℕ) (definition : Option Definition) (ticket : Held)
+        → caller call ≡ Some who → read_under call ≡ Some id → ticket_held id (own a who) ≡ Some ticket
+        → joins a call (Reads version definition) b
+        → has_read b who ticket.place (record { version = version; definition = definition }) };
+
+    // Whoever changes what stands there knows what stands there then, which has the version that was answered.
+    ghost redefines: { (a b : Self) (who id version : ℕ) (change : Change) (ticket : Held)
+        → ticket_held id (own a who) ≡ Some ticket → joins a (Change_definition who id change) (Changed version) b
+        → (definition : Option Definition)
+        × has_read b who ticket.place (record { version = version; definition = definition }) };
+
+    // Where it was read before, it is what the change makes of that, or the change is refused for what stands there.
+    ghost redefines_so: { (a b : Self) (who id : ℕ) (change : Change) (answer : Answer) (ticket : Held) (key : KeyName) (standing : Standing)
+        → ticket_held id (own a who) ≡ Some ticket → same_mode ticket.mode X ≡ true → knows a who ticket.place key
+        → has_read a who ticket.place standing → joins a (Change_definition who id change) answer b
+        → IsChangeOf key change standing answer
+        × ((version : ℕ) → answer ≡ Changed version → has_read b who ticket.place (standing_after change standing)) };
+
+    // One thing stands at a place.
+    ghost reads_one: { (a : Self) (w place : ℕ) (one other : Standing) → speaks_for a w → has_read a w place one
+        → has_read a w place other → one ≡ other };
+
+    // What was read stands as long as a ticket of its place is held, unless the session itself changes it.
+    ghost stands: { (a b : Self) (call : Call) (answer : Answer) (w place : ℕ) (standing : Standing) → speaks_for a w
+        → (caller call ≡ Some w → redefined_place call answer (own a w) ≡ Some place → ⊥) → HoldsAt place (own b w)
+        → joins a call answer b → has_read a w place standing → has_read b w place standing };
+
+    // What stands may stand under its key.
+    ghost reads_fit: { (a : Self) (w place : ℕ) (key : KeyName) (standing : Standing) → speaks_for a w → knows a w place key
+        → has_read a w place standing → MayStand key.namespace standing };
+
+    // What is read is seen.
+    ghost sees: { (a : Self) (w place : ℕ) (standing : Standing) → speaks_for a w → has_read a w place standing
+        → has_seen a w place standing.version };
+
+    // What was seen was seen.
+    ghost seen_stays: { (a b : Self) (call : Call) (answer : Answer) (w place version : ℕ) → speaks_for a w
+        → joins a call answer b → has_seen a w place version → has_seen b w place version };
+
+    // No version is read below one that was seen.
+    ghost seen_below: { (a : Self) (w place version : ℕ) (standing : Standing) → speaks_for a w → has_seen a w place version
+        → has_read a w place standing → version ≤ standing.version };
 }

@@ -1,4 +1,4 @@
--- Lists of waiters of different sessions.
+-- BookView of waiters of different sessions.
 use Rattle.std.proofs.Common.{◌≡◌, ◌≢◌, suc, inl, inr, List, [], ◌∷◌, ◌++◌, get_or, sym, subst, arith}
 use Rattle.std.specs.Prelude.{Contains, All, AllPairs}
 use Rattle.std.proofs.lemmas.List.Elements.{All-contains, Contains-get_or}

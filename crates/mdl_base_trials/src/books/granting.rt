@@ -12,11 +12,11 @@ const LIFE: Steps = &[
     (Step::Remove(1, 7), Answer::Gives(1, 7, Mode::SR)),
     (Step::Next(NO_FAST, &[]), Answer::Finds(2, 1)),
     (Step::Admit(2, 1), Answer::Gives(2, 1, Mode::X)),
-    (Step::Lists(&[(2, 1, Mode::X)], &[(3, 4, Mode::SR)]), YES),
+    (Step::BookView(&[(2, 1, Mode::X)], &[(3, 4, Mode::SR)]), YES),
     (Step::Next(NO_FAST, &[]), Answer::FindsNobody),
     (Step::Cancel(3, 4), Answer::Gives(3, 4, Mode::SR)),
     (Step::Remove(2, 1), Answer::Gives(2, 1, Mode::X)),
-    (Step::Lists(&[], &[]), YES),
+    (Step::BookView(&[], &[]), YES),
 ];
 
 const IN_TURN: Steps = &[
@@ -38,7 +38,7 @@ const IN_TURN: Steps = &[
     (Step::Remove(2, 1), Answer::Gives(2, 1, Mode::S)),
     (Step::Next(NO_FAST, &[]), Answer::Finds(3, 1)),
     (Step::Admit(3, 1), Answer::Gives(3, 1, Mode::IX)),
-    (Step::Lists(&[(3, 1, Mode::IX)], &[]), YES),
+    (Step::BookView(&[(3, 1, Mode::IX)], &[]), YES),
 ];
 
 const BESIDE_OTHERS: Steps = &[
@@ -67,7 +67,7 @@ const OVERTAKEN: Steps = &[
     (Step::Grant(1, 2, Mode::SR, NO_FAST), Answer::Done),
     (Step::Grant(2, 2, Mode::X, NO_FAST), CONFLICT),
     (
-        Step::Lists(&[(1, 1, Mode::SR), (1, 2, Mode::SR)], &[(2, 1, Mode::X)]),
+        Step::BookView(&[(1, 1, Mode::SR), (1, 2, Mode::SR)], &[(2, 1, Mode::X)]),
         YES,
     ),
 ];

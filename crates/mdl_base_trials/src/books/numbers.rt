@@ -26,7 +26,7 @@ const TWINS: Steps = &[
     (Step::Remove(3, 1), NOT_HERE),
     (Step::Grant(3, 1, Mode::X, NO_FAST), CONFLICT),
     (
-        Step::Lists(
+        Step::BookView(
             &[(1, 1, Mode::S), (1, 2, Mode::SH), (1, 2, Mode::SR)],
             &[(2, 1, Mode::X), (2, 2, Mode::SU), (2, 2, Mode::SW)],
         ),
@@ -37,7 +37,7 @@ const TWINS: Steps = &[
     (Step::Admit(2, 2), Answer::Gives(2, 2, Mode::SU)),
     (Step::Cancel(2, 1), Answer::Gives(2, 1, Mode::X)),
     (
-        Step::Lists(
+        Step::BookView(
             &[(1, 1, Mode::S), (1, 2, Mode::SR), (2, 2, Mode::SU)],
             &[(2, 2, Mode::SW)],
         ),
@@ -68,7 +68,7 @@ const FROM_EACH_PLACE: Steps = &[
     (Step::SetMode(2, 7, Mode::X, NO_FAST), NOT_HERE),
     (Step::SetMode(1, 7, Mode::S, NO_FAST), Answer::Done),
     (
-        Step::Lists(&[(2, 1, Mode::SW), (1, 7, Mode::S), (1, 8, Mode::SH)], &[]),
+        Step::BookView(&[(2, 1, Mode::SW), (1, 7, Mode::S), (1, 8, Mode::SH)], &[]),
         YES,
     ),
     (Step::Remove(1, 7), Answer::Gives(1, 7, Mode::S)),
@@ -93,7 +93,7 @@ const CHANGED: Steps = &[
     (Step::SetMode(1, 2, Mode::SNW, FAST_SW), CONFLICT),
     (Step::SetMode(2, 1, Mode::SNW, NO_FAST), CONFLICT),
     (
-        Step::Lists(
+        Step::BookView(
             &[
                 (2, 1, Mode::S),
                 (1, 1, Mode::SR),
@@ -107,7 +107,7 @@ const CHANGED: Steps = &[
     // Neither the session's own SR nor the waiting X stands in the way.
     (Step::SetMode(1, 2, Mode::SNRW, FAST_S), Answer::Done),
     (
-        Step::Lists(
+        Step::BookView(
             &[
                 (2, 1, Mode::S),
                 (1, 1, Mode::SR),
@@ -124,7 +124,7 @@ const CHANGED: Steps = &[
     (Step::SetMode(1, 2, Mode::X, NO_FAST), Answer::Done),
     (Step::SetMode(1, 2, Mode::SU, NO_FAST), Answer::Done),
     (
-        Step::Lists(&[(1, 1, Mode::SR), (1, 2, Mode::SU)], &[(4, 1, Mode::X)]),
+        Step::BookView(&[(1, 1, Mode::SR), (1, 2, Mode::SU)], &[(4, 1, Mode::X)]),
         YES,
     ),
 ];

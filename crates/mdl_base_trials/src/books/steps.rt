@@ -23,7 +23,7 @@ pub(crate) enum Step {
     // With the waits of these sessions settled.
     Next(Word, &'static [u16]),
     Needs,
-    Lists(&'static [Row], &'static [Row]),
+    BookView(&'static [Row], &'static [Row]),
 }
 
 /// What it answers.
@@ -131,7 +131,7 @@ pub(crate) fn make(book: &mut Book, step: Step) -> Answer {
         Step::CanGrant(session, mode, word) => Answer::Is(book.can_grant(session, mode, word)),
         Step::Next(word, settled) => next(book, word, settled),
         Step::Needs => needs(book),
-        Step::Lists(granted, waiting) => {
+        Step::BookView(granted, waiting) => {
             Answer::Is(are_listed(book.granted(), granted) && are_listed(book.waiting(), waiting))
         }
     }

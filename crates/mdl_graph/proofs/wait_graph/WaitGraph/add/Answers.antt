@@ -1,7 +1,7 @@
 -- Room changes nothing of the graph.
 use Rattle.std.proofs.Common.{◌≡◌, ◌++◌, ℕ, [], ◌∷◌, List, subst}
 use Rattle.std.specs.Prelude.{◌||◌, OnOk, OnErr}
-use Rattle.mdl_book.specs.declared.lists.Lists.{Lists}
+use Rattle.mdl_book.specs.declared.book_view.BookView.{BookView}
 use Rattle.mdl_graph.specs.Graphs.{GraphView, IsGraphOf, is_settled, waits}
 use Rattle.mdl_graph.specs.Searches.{ties_of}
 use Rattle.mdl_graph.specs.WaitsFor.{SessionTest, waits_at}
@@ -18,7 +18,7 @@ pub returns-clause-graph : goal.returns-clause-graph
 returns-clause-graph c =
     let roomy : GraphView = record { settled = c.self.inside.settled; wishes = c.make_room.new.wishes.items; ties = ties_of c.make_room.new.waits.items c.make_room.new.stands.items } in
     let same : roomy ≡ c.args.self.now = rw (c.make_room.ensures.wishes, c.make_room.ensures.waits, c.make_room.ensures.stands) c.self.view_is in
-    subst (λ (graph : GraphView). OnOk c.add_reserved.result ((settled : SessionTest) (books : List Lists)
+    subst (λ (graph : GraphView). OnOk c.add_reserved.result ((settled : SessionTest) (books : List BookView)
     → IsGraphOf settled books graph → IsGraphOf settled (books ++ c.args.book.now ∷ []) c.add_reserved.new.self)) same c.add_reserved.ensures.graph
 
 pub returns-clause-unchanged : goal.returns-clause-unchanged

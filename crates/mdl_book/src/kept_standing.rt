@@ -1,0 +1,93 @@
+//! What stands under a key, out of the way of its book.
+ghost use Rattle.std.specs.Prelude.{◌≡◌, IfOk, OnErr};
+ghost use Rattle.std.specs.Option.{option_copied};
+ghost use Rattle.mdl_key.specs.Refusals.{Refuses, RefusesJust};
+ghost use Rattle.mdl_defs.specs.Standings.{nothing_yet, standing_fault, standing_after};
+
+use mdl_defs::{Change, ChangeError, Definition, Standing};
+use mdl_key::Namespace;
+use std::alloc::{AllocError, Global};
+use std::marker::Model;
+
+/// What stands under a key. It is boxed, so that a book stays small, and not before it is changed for the first time.
+#[derive(Drop)]
+pub(crate) struct KeptStanding {
+    alloc: Global,
+    standing: Option<Box<Standing>>,
+}
+
+impl Model for KeptStanding {
+    ghost use Rattle.mdl_defs.specs.declared.standing.Standing.{Standing};
+    ghost use Rattle.mdl_book.specs.KeptStandings.{standing_of};
+
+    ghost Value = { Standing };
+
+    ghost view = { λ kept. standing_of kept.standing };
+}
+
+impl KeptStanding {
+    /// Nothing stands, and nothing ever did. It takes no memory.
+    pub(crate) fn new(alloc: Global) -> KeptStanding
+        ensures { result ≡ nothing_yet }
+    {
+        KeptStanding {
+            alloc,
+            standing: None,
+        }
+    }
+
+    /// How often it was changed.
+    pub(crate) fn version(&self) -> u64
+        ensures { result ≡ self.now.version }
+    {
+        match &self.standing {
+            Some(standing) => standing.version,
+            None => 0,
+        }
+    }
+
+    /// The definition, if one stands.
+    pub(crate) fn definition(&self) -> Option<&Definition>
+        ensures { option_copied result ≡ self.now.definition }
+    {
+        match &self.standing {
+            Some(standing) => standing.definition.as_ref(),
+            None => None,
+        }
+    }
+
+    /// A copy of it.
+    pub(crate) fn read(&self) -> Result<Standing, AllocError>
+        ensures { IfOk result (λ standing. standing ≡ self.now) }
+    {
+        match &self.standing {
+            Some(standing) => Ok((**standing).clone()?),
+            None => Ok(Standing::new()),
+        }
+    }
+
+    /// Makes a change under a key of this namespace, and answers the new version. `Drop` takes no memory.
+    pub(crate) fn change(
+        &mut self,
+        namespace: Namespace,
+        change: &Change,
+    ) -> Result<u64, ChangeError>
+        ensures done { IfOk result (λ version. (self.new ≡ standing_after change.now self.old) × (version ≡ self.new.version)) }
+        ensures unchanged { OnErr result (self.new ≡ self.old) }
+        ensures refused { Refuses (standing_fault namespace change.now self.old) ChangeError.OutOfMemory result }
+        ensures drop { change.now ≡ Change.Drop → RefusesJust (standing_fault namespace change.now self.old) result }
+    {
+        if let Some(standing) = &mut self.standing {
+            return standing.change(self.alloc, namespace, change);
+        }
+        let mut standing = Standing::new();
+        let version = standing.change(self.alloc, namespace, change)?;
+        match Box::new(self.alloc, standing) {
+            Ok(standing) => {
+                self.standing = Some(standing);
+                Ok(version)
+            }
+            Err(_) => Err(ChangeError::OutOfMemory),
+        }
+    }
+}

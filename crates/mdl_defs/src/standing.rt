@@ -1,0 +1,96 @@
+//! What stands under a key.
+ghost use Rattle.std.specs.Prelude.{◌≡◌, IfOk, OnErr};
+ghost use Rattle.mdl_key.specs.Refusals.{Refuses, RefusesJust};
+ghost use Rattle.mdl_defs.specs.Standings.{nothing_yet, standing_fault, standing_after, suits, fits};
+
+use crate::{Change, ChangeError, DefError, Definition, apply};
+use mdl_key::Namespace;
+use std::alloc::{AllocError, Global};
+
+// The most versions of what stands under a key.
+const MOST_VERSIONS: u64 = 1_000_000;
+
+/// What stands under a key, and how often that was changed.
+#[derive(Drop, PartialEq, Eq)]
+pub struct Standing {
+    /// How often it was changed: at most 1,000,000 times.
+    pub version: u64,
+    /// The definition, if one stands.
+    pub definition: Option<Definition>,
+}
+
+impl Standing {
+    /// Nothing stands, and nothing ever did.
+    pub fn new() -> Standing
+        ensures { result ≡ nothing_yet }
+    {
+        Standing {
+            version: 0,
+            definition: None,
+        }
+    }
+
+    /// Makes a change under a key of this namespace, and answers the new version. `Drop` takes no memory.
+    ///
+    /// A schema stands under the key of a schema, a table under that of a table, and nothing under other keys.
+    pub fn change(
+        &mut self,
+        alloc: Global,
+        namespace: Namespace,
+        change: &Change,
+    ) -> Result<u64, ChangeError>
+        ensures done { IfOk result (λ version. (self.new ≡ standing_after change.now self.old) × (version ≡ self.new.version)) }
+        ensures unchanged { OnErr result (self.new ≡ self.old) }
+        ensures refused { Refuses (standing_fault namespace change.now self.old) ChangeError.OutOfMemory result }
+        ensures drop { change.now ≡ Change.Drop → RefusesJust (standing_fault namespace change.now self.old) result }
+    {
+        if self.version >= MOST_VERSIONS {
+            return Err(ChangeError::VersionFull);
+        }
+        if !suits(namespace, change) {
+            return Err(ChangeError::WrongKind);
+        }
+        match apply(alloc, &self.definition, change) {
+            Ok(definition) => {
+                self.version += 1;
+                self.definition = definition;
+                Ok(self.version)
+            }
+            Err(DefError::OutOfMemory) => Err(ChangeError::OutOfMemory),
+            Err(fault) => Err(ChangeError::Def(fault)),
+        }
+    }
+}
+
+impl Clone for Standing {
+    ghost is_clone = { λ standing copy. copy ≡ standing };
+
+    fn clone(&self) -> Result<Standing, AllocError> {
+        Ok(Standing {
+            version: self.version,
+            definition: self.definition.clone()?,
+        })
+    }
+}
+
+// Whether a change can be asked for under a key of this namespace.
+fn suits(namespace: Namespace, change: &Change) -> bool
+    ensures { result ≡ suits namespace change.now }
+{
+    match change {
+        Change::Create(definition) | Change::Put(definition) => fits(namespace, definition),
+        Change::Drop | Change::AddColumn(_) | Change::DropColumn(_) => {
+            matches!(namespace, Namespace::Schema | Namespace::Table)
+        }
+    }
+}
+
+// Whether a definition can stand under a key of this namespace.
+fn fits(namespace: Namespace, definition: &Definition) -> bool
+    ensures { result ≡ fits namespace definition.now }
+{
+    match (namespace, definition) {
+        (Namespace::Schema, Definition::Schema) | (Namespace::Table, Definition::Table(_)) => true,
+        _ => false,
+    }
+}
