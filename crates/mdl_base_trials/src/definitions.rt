@@ -1,5 +1,6 @@
 //! Definitions and their changes.
 mod columns;
+mod standings;
 
 use crate::texts::first_misprinted;
 use columns::{Names, columns};
