@@ -1,5 +1,5 @@
 -- What is read and changed under a ticket, as the system of locks says it.
-use Rattle.std.proofs.Common.{◌≡◌, ℕ, ◌+◌, Bool, true, false, not, Option, Some, None, Contains, if◌then◌else◌, inl, inr, refl, sym, ap, subst, ◌∙◌, eqb-true}
+use Rattle.std.proofs.Common.{◌≡◌, ℕ, ◌+◌, Bool, true, false, not, Option, Some, None, Contains, if◌then◌else◌, inl, inr, refl, sym, ap, ◌∙◌, eqb-true}
 use Rattle.mdl_key.specs.declared.mode.Mode.TheVariants.{X}
 use Rattle.mdl_key.specs.Words.{same_mode}
 use Rattle.mdl_defs.specs.declared.change.Change.{Change}
