@@ -1,10 +1,13 @@
 -- What a call changes in the lock space of one thread: the seat of one session, and the book of one place.
 use Rattle.std.specs.Prelude.{◌≡◌, ◌≢◌, ℕ, zero, suc, ◌+◌, Bool, true, false, ◌&&◌, [], ◌∷◌, ◌++◌, length, find, Option, Some, None, Contains}
 use Rattle.mdl_key.specs.declared.mode.Mode.{Mode}
+use Rattle.mdl_key.specs.declared.mode.Mode.TheVariants.{X}
 use Rattle.mdl_key.specs.Words.{KeyName, is_mode_of}
 use Rattle.mdl_book.specs.declared.book_view.BookView.{BookView}
 use Rattle.mdl_book.specs.declared.ticket.Ticket.{Ticket}
-use Rattle.mdl_book.specs.Books.{lock_kind, empty_book, granting, enqueueing, admitting, cancelling, removing}
+use Rattle.mdl_book.specs.Books.{lock_kind, empty_book, granting, enqueueing, admitting, cancelling, removing, redefining}
+use Rattle.mdl_defs.specs.declared.change.Change.{Change as Redefinition}
+use Rattle.mdl_defs.specs.Standings.{standing_fault}
 use Rattle.mdl_calls.specs.declared.answers.Held.{Held}
 use Rattle.mdl_calls.specs.declared.answers.Settled.{Settled}
 use Rattle.mdl_calls.specs.declared.answers.Settled.TheVariants as settled_as
@@ -30,6 +33,8 @@ pub data Change : Type 0 where
   Leave : Pending → Change
   -- a granted wait ends, and its ticket is held
   Take_up : Pending → Change
+  -- what stands under the key is changed, under a held ticket
+  Redefine : Held → Redefinition → Change
 
 -- the next ticket that a session gains or waits for
 abbrev pub ticket_after : ℕ → Mode → SeatView → Ticket
@@ -44,6 +49,7 @@ seat_after place (Admit ticket) seat = settling settled_as.Granted seat
 seat_after place (Settle how) seat = settling how seat
 seat_after place (Leave wait) seat = without_wait seat
 seat_after place (Take_up wait) seat = with_ticket_of wait seat
+seat_after place (Redefine ticket change) seat = seat
 
 -- the place's book after it
 abbrev pub book_after : ℕ → SeatView → Change → BookView → BookView
@@ -54,6 +60,7 @@ book_after who seat (Admit ticket) book = admitting ticket.session ticket.number
 book_after who seat (Settle how) book = book
 book_after who seat (Leave wait) book = cancelling who wait.id book
 book_after who seat (Take_up wait) book = book
+book_after who seat (Redefine ticket change) book = redefining change book
 
 -- whether it is one of the book, too, and not of the seat alone
 abbrev pub is_of_book : Change → Bool
@@ -82,6 +89,9 @@ Allows who place (Settle how) seat book =
     ((wait : Pending) × (seat.wait ≡ Some wait) × (wait.settled ≡ None) × (wait.place ≡ place)) × (how ≢ settled_as.Granted)
 Allows who place (Leave wait) seat book = (seat.wait ≡ Some wait) × (wait.settled ≢ Some settled_as.Granted) × (wait.place ≡ place)
 Allows who place (Take_up wait) seat book = (seat.wait ≡ Some wait) × (wait.settled ≡ Some settled_as.Granted) × (wait.place ≡ place)
+Allows who place (Redefine ticket change) seat book =
+    Contains seat.held ticket × (ticket.place ≡ place) × (ticket.mode ≡ X)
+    × (standing_fault book.key.namespace change book.standing ≡ None)
 
 -- it may be made
 pub record May (who place : ℕ) (change : Change) (core : Core) : Type 0 where
@@ -122,6 +132,10 @@ leaving who wait core = changing who wait.place (Leave wait) core
 -- a session gives up a ticket, which it holds at its place
 abbrev pub freeing : ℕ → Held → Core → Core
 freeing who ticket core = changing who ticket.place (Lose ticket) core
+
+-- what stands under the key of a place is changed
+abbrev pub redefining_at : ℕ → Redefinition → Core → Core
+redefining_at place change core = booking place (redefining change (book_at place core)) core
 
 -- ---- waiters
 

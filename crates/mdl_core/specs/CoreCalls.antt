@@ -2,7 +2,11 @@
 use Rattle.std.specs.Prelude.{◌≡◌, ℕ, ◌+◌, ◌-◌, ◌^◌, ◌⊎◌, Bool, true, false, not, ◌&&◌, ◌==◌, nat_le, List, [], ◌∷◌, length, find, Option, Some, None, is_some, if◌then◌else◌}
 use Rattle.std.specs.Option.{option_map}
 use Rattle.mdl_key.specs.declared.mode.Mode.{Mode}
-use Rattle.mdl_key.specs.Words.{KeyName, is_mode_of}
+use Rattle.mdl_key.specs.declared.mode.Mode.TheVariants.{X}
+use Rattle.mdl_key.specs.Words.{KeyName, is_mode_of, same_mode}
+use Rattle.mdl_defs.specs.declared.change.Change.{Change}
+use Rattle.mdl_defs.specs.declared.change_error.ChangeError.{ChangeError}
+use Rattle.mdl_defs.specs.Standings.{standing_fault}
 use Rattle.mdl_book.specs.Books.{lock_kind, ticket_count}
 use Rattle.mdl_book.specs.declared.book_error.BookError.{BookError}
 use Rattle.mdl_book.specs.declared.book_error.BookError.TheVariants as book_error
@@ -10,15 +14,15 @@ use Rattle.mdl_graph.specs.Graphs.{victim_in}
 use Rattle.mdl_core.specs.declared.new_error.NewError.{NewError}
 use Rattle.mdl_core.specs.declared.new_error.NewError.TheVariants.{BadPlaces, BadSessions}
 use Rattle.mdl_calls.specs.declared.space_error.SpaceError.{SpaceError}
-use Rattle.mdl_calls.specs.declared.space_error.SpaceError.TheVariants.{NoPlace, NotHeld, AlreadyWaiting, BadMode, NoWait, Unsettled, CounterFull, Full, OutOfMemory}
+use Rattle.mdl_calls.specs.declared.space_error.SpaceError.TheVariants.{NoPlace, NotHeld, NotExclusive, AlreadyWaiting, BadMode, NoWait, Unsettled, CounterFull, Full, OutOfMemory}
 use Rattle.mdl_calls.specs.declared.answers.Held.{Held}
 use Rattle.mdl_calls.specs.declared.answers.Settled.{Settled}
 use Rattle.mdl_calls.specs.declared.answers.Settled.TheVariants as settled_as
 use Rattle.mdl_calls.specs.declared.answers.TimedOut.TheVariants.{ByThisCall, Already}
 use Rattle.mdl_core.specs.declared.pending.Pending.{Pending}
-use Rattle.mdl_calls.specs.Words.{Answer, Refused, Done, At_place, Granted, Would_wait, Waits, No_cycle, Victim_is, Pending as Is_pending, Is_settled, Timed_out, Lost, Has_wait, Has_killed, Holds, Call, Resolve, Try_now, Begin_wait, Search, Poll_wait, Settle_timeout, End_wait, Wait_of, Kill, Release, Clone_ticket, List_held, is_number}
-use Rattle.mdl_core.specs.Cores.{Core, book_at, seat_at, has_key, has_session, index_of, is_free}
-use Rattle.mdl_core.specs.Changes.{opening, granting_to, queueing, losing, taking_up, leaving, freeing, serving}
+use Rattle.mdl_calls.specs.Words.{Answer, Refused, Done, At_place, Granted, Would_wait, Waits, No_cycle, Victim_is, Pending as Is_pending, Is_settled, Timed_out, Lost, Has_wait, Has_killed, Holds, Reads, Changed, Call, Resolve, Try_now, Begin_wait, Search, Poll_wait, Settle_timeout, End_wait, Wait_of, Kill, Release, Clone_ticket, Read_definition, Change_definition, List_held, is_number, cause_of}
+use Rattle.mdl_core.specs.Cores.{Core, book_at, seat_at, key_at, standing_at, has_key, has_session, index_of, is_free}
+use Rattle.mdl_core.specs.Changes.{opening, granting_to, queueing, losing, taking_up, leaving, freeing, redefining_at, serving}
 use Rattle.mdl_core.specs.Seats.{is_open, is_closed}
 use Rattle.mdl_system.specs.Strength.{covers}
 
@@ -209,6 +213,37 @@ victim_at who core = victim_in (has_settled core) core.books who
 abbrev pub searching : ℕ → Core → Answer × Core
 searching who core = searching_of (victim_at who core) core
 
+-- ---- definitions
+
+-- what stands under the key of this ticket
+abbrev pub reading_of : Option Held → Core → Answer × Core
+reading_of None core = (Refused NotHeld, core)
+reading_of (Some ticket) core = (Reads (standing_at ticket.place core).version (standing_at ticket.place core).definition, core)
+
+-- what stands under the key of the ticket of this number
+abbrev pub reading : ℕ → ℕ → Core → Answer × Core
+reading who id core = reading_of (held_ticket who id core) core
+
+-- why what stands under the key of a place can't be changed so
+abbrev pub redefining_fault : ℕ → Change → Core → Option ChangeError
+redefining_fault place change core = standing_fault (key_at place core).namespace change (standing_at place core)
+
+-- refused for this cause, where there is one, and else changed, to the next version
+abbrev pub redefined_unless : Option ChangeError → ℕ → Change → Core → Answer × Core
+redefined_unless (Some why) place change core = (Refused (cause_of why), core)
+redefined_unless None place change core = (Changed ((standing_at place core).version + 1), redefining_at place change core)
+
+-- what stands under the key of this ticket is changed, where the ticket is exclusive
+abbrev pub redefining_of : Option Held → Change → Core → Answer × Core
+redefining_of None change core = (Refused NotHeld, core)
+redefining_of (Some ticket) change core =
+    if not (same_mode ticket.mode X) then (Refused NotExclusive, core)
+    else redefined_unless (redefining_fault ticket.place change core) ticket.place change core
+
+-- what stands under the key of the ticket of this number is changed
+abbrev pub redefining : ℕ → ℕ → Change → Core → Answer × Core
+redefining who id change core = redefining_of (held_ticket who id core) change core
+
 -- ---- lists
 
 -- what a session holds
@@ -230,6 +265,8 @@ has_call (Wait_of _) = true
 has_call (Kill _ _) = true
 has_call (Release _ _) = true
 has_call (Clone_ticket _ _ _) = true
+has_call (Read_definition _ _) = true
+has_call (Change_definition _ _ _) = true
 has_call (List_held _) = true
 has_call _ = false
 
@@ -246,6 +283,8 @@ outcome (Wait_of target) core = looking_after target core
 outcome (Kill target number) core = killing target number core
 outcome (Release who id) core = releasing who id core
 outcome (Clone_ticket who id mode) core = cloning who id mode core
+outcome (Read_definition who id) core = reading who id core
+outcome (Change_definition who id change) core = redefining who id change core
 outcome (List_held who) core = listing who core
 outcome _ core = (Refused OutOfMemory, core)
 

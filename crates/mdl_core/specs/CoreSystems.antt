@@ -10,6 +10,7 @@ use Rattle.mdl_calls.specs.declared.answers.Settled.{Settled}
 use Rattle.mdl_calls.specs.declared.answers.Settled.TheVariants as settled_as
 use Rattle.mdl_core.specs.declared.pending.Pending.{Pending}
 use Rattle.mdl_system.specs.Words.{of_lock, WaitState, Unsettled, Victim, TimedOut, Killed, Holding, Waiter, GrantedWait, System}
+use Rattle.mdl_system.specs.Systems.{Versioned}
 use Rattle.mdl_core.specs.Cores.{Core, index_of, seat_at, book_at}
 use Rattle.mdl_core.specs.Seats.{SeatView}
 
@@ -54,11 +55,15 @@ abbrev pub unended_from : ℕ → List SeatView → List GrantedWait
 unended_from who [] = []
 unended_from who (seat ∷ seats) = option_to_list (unended_of who seat.wait) ++ unended_from (who + 1) seats
 
--- the system. Nothing is defined in it as yet
+-- what stands under the key of a book
+abbrev pub defined_in : BookView → Versioned Definition
+defined_in book = record { version = book.standing.version; definition = book.standing.definition }
+
+-- the system
 abbrev pub system_of : Core → System Definition
 system_of core = record {
   granted = flat_map granted_in core.books;
   waiting = λ key. map (waiter_in core) (book_of key core).waiting;
   unended = unended_from 1 core.seats;
-  definitions = λ _. record { version = 0; definition = None };
+  definitions = λ key. defined_in (book_of key core);
 }

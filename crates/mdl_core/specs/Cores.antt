@@ -5,6 +5,7 @@ use Rattle.mdl_key.specs.Keys.{KeyName, key_eq, global_key}
 use Rattle.mdl_book.specs.Books.{lock_kind, empty_book}
 use Rattle.mdl_book.specs.Granting.{is_grantable}
 use Rattle.mdl_book.specs.declared.book_view.BookView.{BookView}
+use Rattle.mdl_defs.specs.declared.standing.Standing.{Standing}
 use Rattle.mdl_core.specs.Seats.{SeatView, empty_seat}
 
 -- the books of the places that have a key, from place 1, what is kept of the sessions, from session 1, and how many places
@@ -41,6 +42,10 @@ index_of key books = position (λ book. key_eq book.key key) books
 -- the key of a place
 abbrev pub key_at : ℕ → Core → KeyName
 key_at place core = (book_at place core).key
+
+-- what stands under the key of a place
+abbrev pub standing_at : ℕ → Core → Standing
+standing_at place core = (book_at place core).standing
 
 -- whether a session's wish for a lock can be granted
 abbrev pub is_free : ℕ → ℕ → Mode → Core → Bool
