@@ -1,5 +1,8 @@
 -- By the causes that stand against a call, and by the tests that it makes.
-use Rattle.std.proofs.Common.{◌≡◌, Bool, true, false, not, List, [], ◌∷◌, Option, Some, None, refl, if◌then◌else◌}
+use Rattle.std.proofs.Common.{◌≡◌, ◌≢◌, Bool, true, false, not, List, [], ◌∷◌, Option, Some, None, refl, if◌then◌else◌}
+use Rattle.mdl_key.specs.declared.mode.Mode.{Mode}
+use Rattle.mdl_key.specs.declared.mode.Mode.TheVariants.{X}
+use Rattle.mdl_key.specs.Words.{same_mode}
 use Rattle.mdl_calls.specs.declared.space_error.SpaceError.{SpaceError}
 use Rattle.mdl_calls.specs.Answers.{Answer, Refused}
 use Rattle.mdl_core.specs.CoreCalls.{refused_or, first_cause}
@@ -22,6 +25,15 @@ not_false false e = cc
 pub not_true : (b : Bool) → not b ≡ true → b ≡ false
 not_true true e = cc
 not_true false e = refl
+
+-- a mode that passes for X is X
+pub exclusive-is : (mode : Mode) → same_mode mode X ≡ true → mode ≡ X
+exclusive-is X e = refl
+exclusive-is _ e = cc
+
+pub not-exclusive : (mode : Mode) → mode ≢ X → same_mode mode X ≡ false
+not-exclusive X other = absurd (other refl)
+not-exclusive _ other = refl
 
 module _ (P : Answer × Core → Type 0) (a : Core) (outcome : Answer × Core) where
   -- what holds of each refusal where its cause is the first that stands, and of the outcome where none does

@@ -3,12 +3,13 @@ use Rattle.std.proofs.Common.{◌≡◌, ℕ, zero, suc, Bool, true, false, ◌|
 use Rattle.std.proofs.Math.Bool.{or-false, and-not_self}
 use Rattle.std.proofs.lemmas.Bool.{false≢true}
 use Rattle.mdl_key.specs.Keys.{KeyName}
+use Rattle.mdl_defs.specs.declared.change.Change.{Change}
 use Rattle.mdl_calls.specs.declared.answers.TimedOut.TheVariants.{ByThisCall}
-use Rattle.mdl_calls.specs.Words.{Answer, Done, Granted, Waits, Victim_is, Timed_out, Lost, Has_killed, Call, Try_now, Begin_wait, Search, Settle_timeout, End_wait, Kill, Release, Clone_ticket, Runs, Over, seeking}
+use Rattle.mdl_calls.specs.Words.{Answer, Done, Granted, Waits, Victim_is, Timed_out, Lost, Has_killed, Changed, Call, Try_now, Begin_wait, Search, Settle_timeout, End_wait, Kill, Release, Clone_ticket, Change_definition, Runs, Over, seeking}
 use Rattle.mdl_core.specs.CoreJoins.{Joins, SpeaksFor}
 use Rattle.mdl_core.specs.CoreLaws.{IsEventOf, GrantsInOrder}
 use Rattle.mdl_core.specs.Cores.{Core}
-use Rattle.mdl_core.specs.CoreSystems.{system_of}
+use Rattle.mdl_core.specs.CoreSystems.{applies, system_of}
 use Rattle.mdl_core.specs.SearchLaws.{begins_wait, OnlyNewWaitsMakeDeadlocks, SearchingEndsDeadlocks, WaitingLeavesNoDeadlock}
 use Rattle.mdl_system.specs.DeadlockLaws as events
 use Rattle.mdl_system.specs.Words.{DeadlocksGoThrough, Event, Run, System}
@@ -21,7 +22,7 @@ use Rattle.mdl_core.proofs.SearchRuns.{over-whole, none-joined, over-cut, search
 -- ---- which events a call is
 
 -- by the event that a call is, a session begins to wait where it does by the call
-of-call : {C : Type 0} (a : Core) (call : Call) (answer : Answer) (event : Event C) → IsEventOf a call answer event
+of-call : (a : Core) (call : Call) (answer : Answer) (event : Event Change) → IsEventOf a call answer event
     → (session : ℕ) → events.begins_wait event session ≡ begins_wait call answer session
 of-call a (Try_now who place mode) (Granted id) event is session = ap (λ e. events.begins_wait e session) is
 of-call a (Begin_wait who place mode) (Granted id) event is session = ap (λ e. events.begins_wait e session) is
@@ -33,6 +34,7 @@ of-call a (End_wait who) (Lost how) event (key, waiter, own, state, is) session 
 of-call a (Kill target number) (Has_killed true) event (key, waiter, own, wait, is) session = ap (λ e. events.begins_wait e session) is
 of-call a (Release who id) Done event (ticket, own, number, is) session = ap (λ e. events.begins_wait e session) is
 of-call a (Clone_ticket who id mode) (Granted copy) event (ticket, own, number, is) session = ap (λ e. events.begins_wait e session) is
+of-call a (Change_definition who id change) (Changed version) event (ticket, own, number, is) session = ap (λ e. events.begins_wait e session) is
 of-call a _ _ event is session = absurd is
 
 -- by the grants of waiters after it none does
@@ -47,12 +49,12 @@ grants-run apply key (event ∷ grants) a b (waiter, between, is, first, happens
 
 -- the events of a call, by which a session begins to wait where it does by the call
 call-run : (a b : Core) (call : Call) (answer : Answer) → IsSound a → Joins a call answer b
-    → (all : List (Event (Unit {0}))) × Run (λ _ _ _. None) all (system_of a) (system_of b)
+    → (all : List (Event Change)) × Run applies all (system_of a) (system_of b)
     × ((session : ℕ) → events.begins_to_wait all session ≡ true → begins_wait call answer session ≡ true)
-call-run a b call answer sound joins = elim (calls_are-events (Unit {0}) (λ _ _ _. None) a b call answer sound joins) [
+call-run a b call answer sound joins = elim (calls_are-events a b call answer sound joins) [
   | inl same ↦ ([], same.1, λ session e. absurd (false≢true e))
   | inr (event, grants, between, key, is, about, happens, order) ↦ (
-      let after = grants-run (λ _ _ _. None) key grants between (system_of b) order in (
+      let after = grants-run applies key grants between (system_of b) order in (
         event ∷ grants,
         (between, happens, after.0),
         λ session e.
@@ -66,7 +68,7 @@ only-new_waits a b call answer sessions sound joins through =
     let all = call-run a b call answer sound joins in
     through-more (system_of b) (λ session. sessions session || events.begins_to_wait all.0 session) (λ session. sessions session || begins_wait call answer session)
     (λ session. or-more (sessions session) (events.begins_to_wait all.0 session) (begins_wait call answer session) (all.2 session))
-    (run-through (λ _ _ _. None) all.0 (system_of a) (system_of b) sessions (sound-well_numbered a sound) all.1 through)
+    (run-through applies all.0 (system_of a) (system_of b) sessions (sound-well_numbered a sound) all.1 through)
   where
     or-more : (p q r : Bool) → (q ≡ true → r ≡ true) → (p || q) ≡ true → (p || r) ≡ true
     or-more true q r more e = refl

@@ -48,20 +48,20 @@ memory-told a (Unpin _ _) who takes = cc
 memory-told a _ who takes = (tt, λ how. tt)
 
 -- whatever a call answers comes of it
-pub joins-comes : (C : Type 0) (a b : Core) (call : Call) (answer : Answer) → IsTied a → Joins a call answer b → Comes C a call (answer, b)
-joins-comes C a b call answer tied (speaks, has, makes) = by makes
+pub joins-comes : (a b : Core) (call : Call) (answer : Answer) → IsTied a → Joins a call answer b → Comes a call (answer, b)
+joins-comes a b call answer tied (speaks, has, makes) = by makes
   where
     sessions : (o : Option ℕ) → IfSome o (SpeaksFor a) → IfSome o (λ who. has_session who a ≡ true)
     sessions None speaks = tt
     sessions (Some who) speaks = speaks.0
 
-    by : Makes (takes_memory call) (outcome call) a answer b → Comes C a call (answer, b)
+    by : Makes (takes_memory call) (outcome call) a answer b → Comes a call (answer, b)
     by (inl (takes, out, same)) =
         let who = some_caller call takes in
         let told = memory-told a call who.0 takes in
-        subst (λ r. Comes C a call (r, b)) (sym out) (subst (λ c. Comes C a call (Refused OutOfMemory, c)) (sym same)
-        (refused C a who.0 OutOfMemory who.1 told.0 (λ how has. told.1 how) tt))
-    by (inr e) = subst (Comes C a call) e (made C a tied call has (sessions (caller call) speaks))
+        subst (λ r. Comes a call (r, b)) (sym out) (subst (λ c. Comes a call (Refused OutOfMemory, c)) (sym same)
+        (refused a who.0 OutOfMemory who.1 told.0 (λ how has. told.1 how) tt))
+    by (inr e) = subst (Comes a call) e (made a tied call has (sessions (caller call) speaks))
 
 -- ---- what a call leaves to the sessions
 
@@ -85,7 +85,7 @@ left-spared a call way same spares = record {
 
 module _ (a : Core) (call : Call) (answer : Answer) (tied : IsTied a) where
   -- a change that the caller makes
-  left-made : (who place : ℕ) (change : Change) → IsMade (Unit {0}) a call answer who place change → caller call ≡ Some who
+  left-made : (who place : ℕ) (change : Change) → IsMade a call answer who place change → caller call ≡ Some who
       → (is_end change ≡ true → call ≡ End_wait who) → IsLeft a call (Make who place change) (space_by (Make who place change) a)
   left-made who place change made mine ends = record {
     sessions = λ w. late.sessions w ∙ sessions-changed a who place change made.may w;
@@ -116,7 +116,7 @@ module _ (a : Core) (call : Call) (answer : Answer) (tied : IsTied a) where
         where
           by : (room : Bool) → Spares mid (served_if room place mid)
           by false = spares-same mid
-          by true = (serves {C = Unit {0}} (λ _ _ _. None) mid place (tied-changing a who place change tied made.may)
+          by true = (serves mid place (tied-changing a who place change tied made.may)
               (keys-changed a who place change made.may place made.may.key).0).spares
 
       stays : (w : ℕ) (how : Settled) → has_session w a ≡ true → (call ≡ End_wait w → ⊥) → HasSettled (seat_at w a) how → HasSettled (seat_at w mid) how
@@ -132,7 +132,7 @@ module _ (a : Core) (call : Call) (answer : Answer) (tied : IsTied a) where
               (λ h. subst (λ s. HasSettled s how) (sym (seat-changed a who place change made.may)) (settled-changed a who place change made.may e how h)) has
 
   -- any way
-  way-left : (way : Way) → Made (Unit {0}) a call answer way → IsLeft a call way (space_by way a)
+  way-left : (way : Way) → Made a call answer way → IsLeft a call way (space_by way a)
   way-left Stay made = left-spared a call Stay (λ w. refl) (spares-same a)
   way-left (Open key) made = left-spared a call (Open key) (λ w. refl) (spares-opening a key)
   way-left (Settle_wait who place how) made =
@@ -145,13 +145,13 @@ module _ (a : Core) (call : Call) (answer : Answer) (tied : IsTied a) where
 -- the space after a call is one of its way
 record IsJoined (a b : Core) (call : Call) (answer : Answer) : Type 0 where
   way : Way
-  is : Made (Unit {0}) a call answer way
+  is : Made a call answer way
   so : IsSo a call answer b
   left : IsLeft a call way b
 
 joined : (a b : Core) (call : Call) (answer : Answer) → IsTied a → Joins a call answer b → IsJoined a b call answer
 joined a b call answer tied joins =
-    let h = joins-comes (Unit {0}) a b call answer tied joins in
+    let h = joins-comes a b call answer tied joins in
     record {
       way = h.way;
       is = h.is;

@@ -15,7 +15,7 @@ use Rattle.mdl_calls.specs.declared.answers.Held.{Held}
 use Rattle.mdl_calls.specs.declared.answers.Settled.{Settled}
 use Rattle.mdl_calls.specs.declared.answers.Settled.TheVariants as settled_as
 use Rattle.mdl_core.specs.declared.pending.Pending.{Pending}
-use Rattle.mdl_core.specs.Changes.{Change, Gain, Lose, Queue, Admit, Settle, Leave, Take_up, seat_after, Allows, May}
+use Rattle.mdl_core.specs.Changes.{Change, Gain, Lose, Queue, Admit, Settle, Leave, Take_up, Redefine, seat_after, Allows, May}
 use Rattle.mdl_core.specs.Cores.{Core, book_at, seat_at}
 use Rattle.mdl_core.specs.CoreSystems.{waiter_of, unended_at, unended_of}
 use Rattle.mdl_core.specs.Seats.{SeatView, without_ticket, ticket_of_wait}
@@ -376,3 +376,11 @@ module _ (core : Core) (who place : ℕ) (tied : IsTied core) where
       made (Settle how) allows = let wait = allows.0 in with (Settle how) (Some wait.0) wait.1 (settle who place kind seat wait.0 wait.3 how wait.2 allows.1)
       made (Leave wait) allows = with (Leave wait) (Some wait) allows.0 (leave who place kind seat wait allows.2 allows.1)
       made (Take_up wait) allows = with (Take_up wait) (Some wait) allows.0 (take_up who place kind seat wait allows.2 allows.1)
+      made (Redefine ticket change) allows = record {
+        has = stays (λ ticket. same);
+        waits = stays (λ ticket. same);
+        unended = λ won. same;
+        own = tt;
+        keeps = λ ticket waits other. refl;
+        numbered = tied.numbered who may.session;
+      }

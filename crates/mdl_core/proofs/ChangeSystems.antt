@@ -1,5 +1,5 @@
--- What each change makes of the system of locks: of its granted tickets, of those that wait, and of the granted waits that aren't
--- ended.
+-- What each change makes of the system of locks: of its granted tickets, of those that wait, of the granted waits that aren't
+-- ended, and of what is defined.
 use Rattle.std.proofs.Common.{◌≡◌, ◌≢◌, ◌↔◌, ℕ, true, inl, inr, map, Option, refl, sym, ap, subst, ◌∙◌}
 use Rattle.std.specs.Prelude.{Contains}
 use Rattle.mdl_key.specs.Keys.{KeyName}
@@ -9,7 +9,7 @@ use Rattle.mdl_calls.specs.declared.answers.Held.{Held}
 use Rattle.mdl_core.specs.declared.pending.Pending.{Pending}
 use Rattle.mdl_core.specs.Changes.{Change, seat_after, book_after, changing, May}
 use Rattle.mdl_core.specs.Cores.{Core, book_at, seat_at, key_at, has_key, has_session, seating}
-use Rattle.mdl_core.specs.CoreSystems.{book_of, waiter_of, waiter_in, system_of}
+use Rattle.mdl_core.specs.CoreSystems.{book_of, waiter_of, waiter_in, defined_in, system_of}
 use Rattle.mdl_core.specs.Seats.{SeatView}
 use Rattle.mdl_core.specs.Ties.{Awaits, in_book_of, IsTied}
 use Rattle.mdl_core.proofs.ChangeSeats.{has_effect, wait_effect, unended_effect, Unended}
@@ -89,6 +89,10 @@ module _ (core : Core) (who place : ℕ) (seat : SeatView) (book : BookView) (ti
             (each-mapped (λ y. held ≢ y) (of_lock here) (λ t e. other (ap (λ (h : Holding). h.key) e)) effect))))
       ]
 
+  -- what is defined under other keys
+  defined-elsewhere : SameElsewhere here (system_of core).definitions (system_of now).definitions
+  defined-elsewhere other apart = ap defined_in (book-other other apart)
+
   -- its granted waits that aren't ended
   unended-made : (effect : Effect GrantedWait) → Each (λ (wait : GrantedWait). wait.session ≡ who) effect → Becomes effect (Unended who (seat_at who core)) (Unended who seat)
       → Becomes effect (Contains (system_of core).unended) (Contains (system_of now).unended)
@@ -142,6 +146,9 @@ pub record SystemMade (core : Core) (who place : ℕ) (change : Change) (seat : 
       ((system_of core).waiting (key_at place core)) ((system_of new).waiting (key_at place core))
   pub elsewhere : SameElsewhere (key_at place core) (system_of core).waiting (system_of new).waiting
   pub unended : Becomes (unended_effect who place change seat) (Contains (system_of core).unended) (Contains (system_of new).unended)
+  pub before : (system_of core).definitions (key_at place core) ≡ defined_in (book_at place core)
+  pub defined : (system_of new).definitions (key_at place core) ≡ defined_in (book_after who seat change (book_at place core))
+  pub defined_elsewhere : SameElsewhere (key_at place core) (system_of core).definitions (system_of new).definitions
 
 -- a change that may be made does that to the system
 pub system-made : (core : Core) (who place : ℕ) (change : Change) → IsTied core → May who place change core
@@ -158,12 +165,14 @@ system-made core who place change tied may =
           (tied.waiting_once place may.key) is.waiting.joins is.waiting.order;
       elsewhere = waiting-elsewhere core who place seat book tied may.session may.key is.books.key after (wait_effect place change old) is.seats.waits.at is.seats.keeps;
       unended = unended-made core who place seat book tied may.session may.key is.books.key after (unended_effect who place change old) is.seats.own is.seats.unended;
+      before = ap defined_in (book-then core who place seat book tied may.session may.key is.books.key after);
+      defined = ap defined_in (book-now core who place seat book tied may.session may.key is.books.key after);
+      defined_elsewhere = defined-elsewhere core who place seat book tied may.session may.key is.books.key after;
     })
 
--- where none comes, goes or turns, those of all keys wait as before
-pub waiting-same : (core new : Core) (key : KeyName) → (system_of new).waiting key ≡ (system_of core).waiting key
-    → SameElsewhere key (system_of core).waiting (system_of new).waiting → SameAt (system_of core).waiting (system_of new).waiting
-waiting-same core new key same elsewhere other = elim (key_told other key) [
-  | inl e ↦ subst (λ k. (system_of new).waiting k ≡ (system_of core).waiting k) (sym e) same
+-- where it is the same under one key, and under all others, it is under each
+pub same-at : {T : Type 0} (old new : KeyName → T) (key : KeyName) → new key ≡ old key → SameElsewhere key old new → SameAt old new
+same-at old new key same elsewhere other = elim (key_told other key) [
+  | inl e ↦ subst (λ k. new k ≡ old k) (sym e) same
   | inr apart ↦ elsewhere other apart
 ]

@@ -10,15 +10,17 @@ use Rattle.mdl_book.specs.declared.book_view.BookView.{BookView}
 use Rattle.mdl_book.specs.declared.ticket.Ticket.{Ticket}
 use Rattle.mdl_book.specs.Books.{empty_book, lock_kind}
 use Rattle.mdl_book.specs.Tickets.{is_ticket, ticket_id, ticket_of, without}
+use Rattle.mdl_defs.specs.Standings.{MayStand}
+use Rattle.mdl_defs.proofs.StandingLemmas.{changes-keep_standing}
 use Rattle.mdl_calls.specs.declared.answers.Held.{Held}
-use Rattle.mdl_core.specs.Changes.{Change, Gain, Lose, Queue, Admit, Settle, Leave, Take_up, seat_after, book_after, changing, Allows, May}
-use Rattle.mdl_core.specs.Cores.{Core, book_at, seat_at, booking, seating}
+use Rattle.mdl_core.specs.Changes.{Change, Gain, Lose, Queue, Admit, Settle, Leave, Take_up, Redefine, seat_after, book_after, changing, Allows, May}
+use Rattle.mdl_core.specs.Cores.{Core, book_at, seat_at, key_at, standing_at, booking, seating}
 use Rattle.mdl_core.specs.Seats.{SeatView, ticket_of_wait}
-use Rattle.mdl_core.specs.Ties.{Has, Awaits, in_book_of, IsTied}
+use Rattle.mdl_core.specs.Ties.{Has, Awaits, in_book_of, IsTied, AllMayStand}
 use Rattle.mdl_core.proofs.ChangeSeats.{wait_turned, has_effect, wait_effect, MayBe, Makes, Fitting, SeatMade, seat-made}
 use Rattle.mdl_core.proofs.Effects.{Effect, Stays, Comes, Goes, Turns, Becomes, InOrder, Each, mapped, through, back, each-also, each-mapped, after-other, after-mapped, Joins, order-members, order-pairs}
 use Rattle.mdl_core.proofs.PairLemmas.{split-at}
-use Rattle.mdl_core.proofs.TiedWrites.{held_at, as-held, granted-here, waiting-here, Follows, tied-written}
+use Rattle.mdl_core.proofs.TiedWrites.{held_at, as-held, granted-here, waiting-here, Follows, had_key, at_place, tied-written}
 use Rattle.mdl_system.proofs.MemberLemmas.{AreApart, find-named}
 use Rattle.mdl_system.specs.Events.{LeavesOrder}
 
@@ -172,6 +174,7 @@ module _ (core : Core) (who place : ℕ) (tied : IsTied core) where
           }
       made (Leave wait) allows seats = record { written = refl; key = refl; granted = refl; waiting = waits_there (ticket_of_wait wait) seats.waits.at seats.waits.may }
       made (Take_up wait) allows seats = record { written = seat-only (seat_after place (Take_up wait) seat); key = refl; granted = refl; waiting = refl }
+      made (Redefine ticket change) allows seats = record { written = refl; key = refl; granted = refl; waiting = refl }
 
 -- ---- all of it
 
@@ -215,3 +218,19 @@ tied-changing core who place change tied may =
       waiting_once = is.waiting.apart;
       numbered = is.seats.numbered;
     }))
+
+-- and what stands under a key may stand there
+pub stands-changing : (core : Core) (who place : ℕ) (change : Change) → IsTied core → May who place change core → AllMayStand core → AllMayStand (changing who place change core)
+stands-changing core who place change tied may stand =
+    let is = made core who place change tied may in
+    let seat = seat_after place change (seat_at who core) in
+    let book = book_after who (seat_at who core) change (book_at place core) in
+    subst AllMayStand (sym is.books.written) (λ other has.
+    at_place core who place book seat may.session may.key (λ p (b : BookView). MayStand b.key.namespace b.standing) (by change may.allows) (λ p there _. stand p there)
+    other (had_key core who place book seat may.session may.key other has))
+  where
+    by : (change : Change) → Allows who place change (seat_at who core) (book_at place core)
+        → let book = book_after who (seat_at who core) change (book_at place core) in MayStand book.key.namespace book.standing
+    by (Redefine ticket change) allows = changes-keep_standing (key_at place core).namespace (standing_at place core) change (stand place may.key) allows.3
+    by (Gain mode) allows = stand place may.key
+    by _ allows = stand place may.key

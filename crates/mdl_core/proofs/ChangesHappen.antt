@@ -1,25 +1,27 @@
 -- Each change in the space of one thread is an event of the system of locks.
-use Rattle.std.proofs.Common.{◌≡◌, ◌≢◌, ℕ, true, inl, inr, List, Option, Some, None, refl, sym, ap, subst, ◌∙◌}
+use Rattle.std.proofs.Common.{◌≡◌, ◌≢◌, ℕ, ◌+◌, true, inl, inr, List, Option, Some, None, refl, sym, ap, subst, ◌∙◌}
 use Rattle.std.specs.Option.{option_map}
 use Rattle.mdl_key.specs.Words.{IsAtLeast, KeyName}
 use Rattle.mdl_book.specs.declared.ticket.Ticket.{Ticket}
 use Rattle.mdl_calls.specs.declared.answers.Settled.{Settled}
 use Rattle.mdl_calls.specs.declared.answers.Settled.TheVariants as settled_as
+use Rattle.mdl_defs.specs.declared.change.Change.{Change as Redefinition}
 use Rattle.mdl_defs.specs.declared.definition.Definition.{Definition}
+use Rattle.mdl_defs.proofs.StandingLemmas.{applied-changed}
 use Rattle.mdl_core.specs.declared.pending.Pending.{Pending}
 use Rattle.mdl_core.specs.ChangeEvents.{waiting_ticket, IsChangeEvent}
-use Rattle.mdl_core.specs.Changes.{Change, Gain, Lose, Queue, Admit, Settle, Leave, Take_up, changing, Allows, May}
-use Rattle.mdl_core.specs.CoreSystems.{state_of, waiter_of, waiter_in, unended_at, unended_of, system_of}
-use Rattle.mdl_core.specs.Cores.{Core, book_at, seat_at, key_at, has_session}
+use Rattle.mdl_core.specs.Changes.{Change, Gain, Lose, Queue, Admit, Settle, Leave, Take_up, Redefine, book_after, changing, Allows, May}
+use Rattle.mdl_core.specs.CoreSystems.{state_of, waiter_of, waiter_in, unended_at, unended_of, defined_in, applies, system_of}
+use Rattle.mdl_core.specs.Cores.{Core, book_at, seat_at, key_at, standing_at, has_session}
 use Rattle.mdl_core.specs.Seats.{SeatView}
 use Rattle.mdl_core.specs.Ties.{in_book_of, IsTied}
 use Rattle.mdl_core.proofs.ChangeSeats.{wait_turned}
-use Rattle.mdl_core.proofs.ChangeSystems.{waits_as, SystemMade, system-made, waiting-same}
+use Rattle.mdl_core.proofs.ChangeSystems.{waits_as, SystemMade, system-made, same-at}
 use Rattle.mdl_core.proofs.CoreGranted.{held-in, new_number}
 use Rattle.mdl_core.proofs.CoreUnended.{own-unended}
 use Rattle.mdl_core.proofs.CoreWaiting.{no_wait}
 use Rattle.mdl_core.proofs.Effects.{InOrder, turned}
-use Rattle.mdl_system.specs.Words.{SameMembers, Gains, Loses, LeavesOrder, SameElsewhere, SameSystem, ElseSame, Event, GrantWaiter, Happens, granted_wait, Unsettled, Waiter, System, lock_kind}
+use Rattle.mdl_system.specs.Words.{SameMembers, Gains, Loses, LeavesOrder, SameElsewhere, SameAt, SameSystem, ElseSame, Event, GrantWaiter, Happens, granted_wait, Unsettled, Versioned, Waiter, System, lock_kind}
 use Rattle.mdl_core.proofs.TiedWrites.{held_at}
 
 -- ---- what stays
@@ -45,7 +47,7 @@ not_unsettled (Some settled_as.Killed) none granted = λ e. cc
 
 -- ---- the events
 
-module _ {C : Type 0} (apply : KeyName → C → Option Definition → Option (Option Definition)) (core : Core) (who place : ℕ) (tied : IsTied core) (session : has_session who core ≡ true) where
+module _ (core : Core) (who place : ℕ) (tied : IsTied core) (session : has_session who core ≡ true) where
   abbrev seat : SeatView
   seat = seat_at who core
 
@@ -58,22 +60,32 @@ module _ {C : Type 0} (apply : KeyName → C → Option Definition → Option (O
   abbrev after : Change → System Definition
   after change = system_of (changing who place change core)
 
-  abbrev Leads : Change → Event C → Type 0
-  Leads change event = Happens apply event a (after change)
+  abbrev Leads : Change → Event Redefinition → Type 0
+  Leads change event = Happens applies event a (after change)
 
-  rest : (change : Change) → (after change).waiting key ≡ a.waiting key → SameElsewhere key a.waiting (after change).waiting
-      → SameMembers a.unended (after change).unended → ElseSame a (after change)
-  rest change same elsewhere unended =
-      record { waits = record { waiting = waiting-same core (changing who place change core) key same elsewhere; unended = unended }; definitions = λ _. refl }
+  abbrev Made : Change → Type 0
+  Made change = SystemMade core who place change seat (changing who place change core)
 
-  happens : (change : Change) (event : Event C) → Allows who place change seat (book_at place core) → SystemMade core who place change seat (changing who place change core)
+  -- where the book's standing is as it was, all is defined as before
+  defined : (change : Change) → Made change → defined_in (book_after who seat change (book_at place core)) ≡ defined_in (book_at place core)
+      → SameAt a.definitions (after change).definitions
+  defined change made same = same-at a.definitions (after change).definitions key (made.defined ∙ same ∙ sym made.before) made.defined_elsewhere
+
+  rest : (change : Change) → Made change → defined_in (book_after who seat change (book_at place core)) ≡ defined_in (book_at place core)
+      → (after change).waiting key ≡ a.waiting key → SameMembers a.unended (after change).unended → ElseSame a (after change)
+  rest change made stays same unended = record {
+    waits = record { waiting = same-at a.waiting (after change).waiting key same made.elsewhere; unended = unended };
+    definitions = defined change made stays;
+  }
+
+  happens : (change : Change) (event : Event Redefinition) → Allows who place change seat (book_at place core) → Made change
       → IsChangeEvent who place change core event → Leads change event
   happens (Gain mode) event allows made (inl grant) = subst (Leads (Gain mode)) (sym grant.0) (record {
     free = no_wait core who tied session allows.0;
     new_number = new_number core who tied session;
     grantable = grant.1;
     granted = made.granted;
-    rest = rest (Gain mode) made.waiting made.elsewhere made.unended;
+    rest = rest (Gain mode) made refl made.waiting made.unended;
   })
   happens (Gain mode) event allows made (inr clone) = subst (Leads (Gain mode)) (sym clone.4) (record {
     free = no_wait core who tied session allows.0;
@@ -82,13 +94,13 @@ module _ {C : Type 0} (apply : KeyName → C → Option Definition → Option (O
     same_key = ap (λ p. key_at p core) (sym clone.2);
     at_least = subst (λ p. IsAtLeast (lock_kind (key_at p core)) (clone.0).mode mode) (sym clone.2) clone.3;
     granted = made.granted;
-    rest = rest (Gain mode) made.waiting made.elsewhere made.unended;
+    rest = rest (Gain mode) made refl made.waiting made.unended;
   })
   happens (Lose ticket) event allows made is = subst (Leads (Lose ticket)) (sym is) (record {
     held = held-in core who ticket tied session allows.0;
     granted = subst (λ p. Loses (record { session = who; number = ticket.id; key = key_at p core; mode = ticket.mode }) a.granted (after (Lose ticket)).granted)
         (sym allows.1) made.granted;
-    rest = rest (Lose ticket) made.waiting made.elsewhere made.unended;
+    rest = rest (Lose ticket) made refl made.waiting made.unended;
   })
   happens (Queue mode) event allows made is = subst (Leads (Queue mode)) (sym is) (record {
     free = no_wait core who tied session allows.0;
@@ -98,7 +110,7 @@ module _ {C : Type 0} (apply : KeyName → C → Option Definition → Option (O
     elsewhere = made.elsewhere;
     granted = made.granted;
     unended = made.unended;
-    definitions = λ _. refl;
+    definitions = defined (Queue mode) made refl;
   })
   happens (Admit ticket) event allows made is =
       let wait = allows.2 in
@@ -113,7 +125,7 @@ module _ {C : Type 0} (apply : KeyName → C → Option Definition → Option (O
         elsewhere = made.elsewhere;
         granted = made.granted;
         unended = subst (λ o. Gains (granted_wait (waiter_of own o)) a.unended (after (Admit ticket)).unended) wait.1 made.unended;
-        definitions = λ _. refl;
+        definitions = defined (Admit ticket) made refl;
       })
   happens (Settle how) event allows made is =
       let wait : Pending = is.0 in
@@ -126,7 +138,7 @@ module _ {C : Type 0} (apply : KeyName → C → Option Definition → Option (O
         elsewhere = made.elsewhere;
         granted = made.granted;
         unended = made.unended;
-        definitions = λ _. refl;
+        definitions = defined (Settle how) made refl;
       })
   happens (Leave wait) event allows made is = subst (Leads (Leave wait)) (sym is.0) (record {
     settled = not_unsettled wait.settled is.1 allows.1;
@@ -134,19 +146,34 @@ module _ {C : Type 0} (apply : KeyName → C → Option Definition → Option (O
     elsewhere = made.elsewhere;
     granted = made.granted;
     unended = made.unended;
-    definitions = λ _. refl;
+    definitions = defined (Leave wait) made refl;
   })
   happens (Take_up wait) event allows made is = subst (Leads (Take_up wait)) (sym is) (record {
     stands = (own-unended core who (record { session = who; wait = wait.number; ticket = wait.id }) session refl).1
         (ap (unended_of who) allows.0 ∙ ap (unended_at who wait) allows.1);
     unended = made.unended;
     granted = made.granted;
-    waiting = waiting-same core (changing who place (Take_up wait) core) key made.waiting made.elsewhere;
-    definitions = λ _. refl;
+    waiting = same-at a.waiting (after (Take_up wait)).waiting key made.waiting made.elsewhere;
+    definitions = defined (Take_up wait) made refl;
   })
+  happens (Redefine ticket change) event allows made is = subst (Leads (Redefine ticket change)) (sym is) (record {
+    held = held-in core who ticket tied session allows.0;
+    exclusive = allows.2;
+    applied = under (λ k. applies k change (a.definitions k).definition ≡ Some ((after (Redefine ticket change)).definitions k).definition)
+        (ap (λ (d : Versioned Definition). applies key change d.definition) made.before ∙ applied-changed key.namespace change (standing_at place core) allows.3
+        ∙ ap (λ (d : Versioned Definition). Some d.definition) (sym made.defined));
+    counted = under (λ k. ((after (Redefine ticket change)).definitions k).version ≡ (a.definitions k).version + 1)
+        (ap (λ (d : Versioned Definition). d.version) made.defined ∙ ap (λ (d : Versioned Definition). d.version + 1) (sym made.before));
+    elsewhere = under (λ k. SameElsewhere k a.definitions (after (Redefine ticket change)).definitions) made.defined_elsewhere;
+    granted = made.granted;
+    waits = record { waiting = same-at a.waiting (after (Redefine ticket change)).waiting key made.waiting made.elsewhere; unended = made.unended };
+  })
+    where
+      under : (P : KeyName → Type 0) → P key → P (key_at ticket.place core)
+      under P p = subst (λ n. P (key_at n core)) (sym allows.1) p
 
 -- a change that may be made happens in the system as its event
-pub change-happens : {C : Type 0} (apply : KeyName → C → Option Definition → Option (Option Definition)) (core : Core) (who place : ℕ) (change : Change) (event : Event C)
-    → IsTied core → May who place change core → IsChangeEvent who place change core event → Happens apply event (system_of core) (system_of (changing who place change core))
-change-happens apply core who place change event tied may is =
-    happens apply core who place tied may.session change event may.allows (system-made core who place change tied may) is
+pub change-happens : (core : Core) (who place : ℕ) (change : Change) (event : Event Redefinition)
+    → IsTied core → May who place change core → IsChangeEvent who place change core event → Happens applies event (system_of core) (system_of (changing who place change core))
+change-happens core who place change event tied may is =
+    happens core who place tied may.session change event may.allows (system-made core who place change tied may) is

@@ -3,7 +3,7 @@ use Rattle.std.proofs.Common.{◌≡◌, ◌≢◌, ℕ, suc, ◌+◌, ◌-◌, 
 use Rattle.std.specs.Prelude.{nat_le, position, slice_index_or}
 use Rattle.std.specs.List.{position_or_len}
 use Rattle.std.proofs.lemmas.Bool.Decides.{nat_tests}
-use Rattle.std.proofs.lemmas.List.{length-set, get_or-set_same, get_or-set_other}
+use Rattle.std.proofs.lemmas.List.{length-set, get_or-set_same, get_or-set_other, set-get_or}
 use Rattle.std.proofs.lemmas.List.Quantifiers.{position-Some}
 use Rattle.std.proofs.lemmas.List.Sums.{position_or_len_is}
 use Rattle.mdl_system.proofs.Deciding.{key_told, key-Decides}
@@ -53,6 +53,10 @@ seated-other core who other seat has has_other apart =
     let here = within who (length core.seats) has in
     let there = within other (length core.seats) has_other in
     get_or-set_other core.seats (who - 1) (other - 1) seat empty_seat (λ e. apart (omega arith))
+
+-- to write a session's seat as it is changes nothing
+pub seat-kept : (core : Core) (who : ℕ) → seating who (seat_at who core) core ≡ core
+seat-kept core who = λ i. record core { seats = set-get_or core.seats (who - 1) empty_seat i }
 
 -- ---- the book of a key
 

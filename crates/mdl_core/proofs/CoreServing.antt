@@ -5,7 +5,7 @@ use Rattle.std.proofs.lemmas.Bool.{and_parts, false≢true}
 use Rattle.std.proofs.lemmas.List.{length-map, map-append}
 use Rattle.std.proofs.lemmas.List.Elements.{All-nil, All-cons, Contains-append_left, Contains-append_right}
 use Rattle.mdl_key.specs.Keys.{KeyName}
-use Rattle.mdl_defs.specs.declared.definition.Definition.{Definition}
+use Rattle.mdl_defs.specs.declared.change.Change.{Change as Redefinition}
 use Rattle.mdl_book.specs.declared.ticket.Ticket.{Ticket}
 use Rattle.mdl_book.specs.declared.book_view.BookView.{BookView}
 use Rattle.mdl_book.proofs.TicketLemmas.{find-passes}
@@ -13,11 +13,11 @@ use Rattle.mdl_calls.specs.declared.answers.Settled.TheVariants as settled_as
 use Rattle.mdl_system.specs.Words.{IsGrantAt, Event, GrantWaiter, Happens, LeavesOrder, IsGrantable, NoneForgottenAt, Unsettled, Waiter}
 use Rattle.mdl_core.specs.CoreLaws.{IsFirst, GrantsInOrder}
 use Rattle.mdl_core.specs.Cores.{Core, book_at, seat_at, key_at, has_key, is_free}
-use Rattle.mdl_core.specs.CoreSystems.{system_of, book_of, waiter_in}
+use Rattle.mdl_core.specs.CoreSystems.{system_of, book_of, waiter_in, applies}
 use Rattle.mdl_core.specs.Changes.{Admit, May, admitting_at, admitting_if, admitting_up_to, is_ready, is_unsettled, next_ready, serving}
-use Rattle.mdl_core.specs.Ties.{IsTied}
+use Rattle.mdl_core.specs.Ties.{IsTied, AllMayStand}
 use Rattle.mdl_core.proofs.ChangesHappen.{change-happens}
-use Rattle.mdl_core.proofs.ChangeTies.{tied-changing}
+use Rattle.mdl_core.proofs.ChangeTies.{tied-changing, stands-changing}
 use Rattle.mdl_core.proofs.CoreGranted.{book_of-at, free-grantable}
 use Rattle.mdl_core.proofs.CoreWaiting.{ticket_of-waiter, waiter-found, unsettled-found}
 use Rattle.mdl_core.proofs.SparedSeats.{Spares, spares-same, spares-then, open_wait, own-settling, keys-changed, spares-changing}
@@ -113,94 +113,96 @@ waiting-length core place tied key =
     length-map (book_of (key_at place core) core).waiting (waiter_in core)
     ∙ ap (λ (book : BookView). length book.waiting) (book_of-at core place tied key)
 
-module _ {C : Type 0} (apply : KeyName → C → Option Definition → Option (Option Definition)) where
-  -- what granting waiters of a place leads to
-  pub record IsServed (place : ℕ) (a b : Core) : Type 0 where
-    pub tied : IsTied b
-    pub spares : Spares a b
-    pub events : List (Event C)
-    pub grants : All (IsGrantAt (key_at place a)) events
-    pub leads : Leads apply events (system_of a) (system_of b)
-    pub in_order : GrantsInOrder apply (key_at place a) events (system_of a) (system_of b)
-    pub none_forgotten : NoneForgottenAt (system_of b) (key_at place a)
+-- what granting waiters of a place leads to
+pub record IsServed (place : ℕ) (a b : Core) : Type 0 where
+  pub tied : IsTied b
+  pub standing : AllMayStand a → AllMayStand b
+  pub spares : Spares a b
+  pub events : List (Event Redefinition)
+  pub grants : All (IsGrantAt (key_at place a)) events
+  pub leads : Leads applies events (system_of a) (system_of b)
+  pub in_order : GrantsInOrder applies (key_at place a) events (system_of a) (system_of b)
+  pub none_forgotten : NoneForgottenAt (system_of b) (key_at place a)
 
-  served-at_once : (a : Core) (place : ℕ) → IsTied a → has_key place a ≡ true → next_ready place a ≡ None → IsServed place a a
-  served-at_once a place tied key idle = record {
-    tied = tied;
-    spares = spares-same a;
-    events = [];
-    grants = All-nil (IsGrantAt (key_at place a));
-    leads = refl;
-    in_order = same_system (system_of a);
-    none_forgotten = none_ready a place tied key idle;
+served-at_once : (a : Core) (place : ℕ) → IsTied a → has_key place a ≡ true → next_ready place a ≡ None → IsServed place a a
+served-at_once a place tied key idle = record {
+  tied = tied;
+  standing = λ stand. stand;
+  spares = spares-same a;
+  events = [];
+  grants = All-nil (IsGrantAt (key_at place a));
+  leads = refl;
+  in_order = same_system (system_of a);
+  none_forgotten = none_ready a place tied key idle;
+}
+
+-- the next one that is ready
+module _ (place : ℕ) (a : Core) (ticket : Ticket) (tied : IsTied a) (key : has_key place a ≡ true) (ready : next_ready place a ≡ Some ticket) where
+  abbrev next : Core
+  next = admitting_at place ticket a
+
+  abbrev granted : Event Redefinition
+  granted = GrantWaiter (key_at place a) (waiter_in a ticket)
+
+  found : Contains (book_at place a).waiting ticket × (is_ready place a ticket ≡ true)
+  found = found-first (is_ready place a) (book_at place a).waiting ticket ready
+
+  may-next : May ticket.session place (Admit ticket) a
+  may-next =
+      let unsettled = and_parts _ _ (and_parts _ _ found.1).0 in
+      record { session = unsettled.0; key = key; allows = (found.0, refl, open_wait (seat_at ticket.session a).wait unsettled.1) }
+
+  next-tied : IsTied next
+  next-tied = tied-changing a ticket.session place (Admit ticket) tied may-next
+
+  next-happens : Happens applies granted (system_of a) (system_of next)
+  next-happens =
+      change-happens a ticket.session place (Admit ticket) granted tied may-next
+      (refl, (free-grantable a ticket.session place ticket.mode tied key).0 (and_parts _ _ found.1).1)
+
+  -- the place keeps its key
+  next-key : (has_key place next ≡ true) × (key_at place next ≡ key_at place a)
+  next-key = keys-changed a ticket.session place (Admit ticket) may-next place key
+
+  -- fewer wait then
+  fewer : suc (length (book_at place next).waiting) ≡ length (book_at place a).waiting
+  fewer =
+      let short = shorter _ _ _ next-happens.leaves in
+      let here = waiting-length a place tied key in
+      let there = ap (λ k. length ((system_of next).waiting k)) (sym next-key.1) ∙ waiting-length next place next-tied next-key.0 in
+      omega arith
+
+  served-next : (b : Core) → IsServed place next b → IsServed place a b
+  served-next b rest = record {
+    tied = rest.tied;
+    standing = λ stand. rest.standing (stands-changing a ticket.session place (Admit ticket) tied may-next stand);
+    spares = spares-then a next b
+        (spares-changing a ticket.session place (Admit ticket) may-next refl (own-settling settled_as.Granted (seat_at ticket.session a)) refl)
+        rest.spares;
+    events = granted ∷ rest.events;
+    grants = All-cons (IsGrantAt (key_at place a)) granted rest.events refl (subst (λ k. All (IsGrantAt k) rest.events) next-key.1 rest.grants);
+    leads = (system_of next, next-happens, rest.leads);
+    in_order = (
+      waiter_in a ticket,
+      system_of next,
+      refl,
+      first-ready a place ticket tied key ready,
+      next-happens,
+      subst (λ k. GrantsInOrder applies k rest.events (system_of next) (system_of b)) next-key.1 rest.in_order,
+    );
+    none_forgotten = subst (λ k. NoneForgottenAt (system_of b) k) next-key.1 rest.none_forgotten;
   }
 
-  -- the next one that is ready
-  module _ (place : ℕ) (a : Core) (ticket : Ticket) (tied : IsTied a) (key : has_key place a ≡ true) (ready : next_ready place a ≡ Some ticket) where
-    abbrev next : Core
-    next = admitting_at place ticket a
+served-within : (n place : ℕ) (a : Core) → IsTied a → has_key place a ≡ true → length (book_at place a).waiting ≤ n
+    → (ready : Option Ticket) → next_ready place a ≡ ready → IsServed place a (admitting_up_to n place a)
+unfolding admitting_up_to
+served-within n place a tied key fits None idle = subst (IsServed place a) (sym (admitting-idle n place a idle)) (served-at_once a place tied key idle)
+served-within zero place a tied key fits (Some ticket) ready = absurd (let less = fewer place a ticket tied key ready in omega arith)
+served-within (suc n) place a tied key fits (Some ticket) ready =
+    subst (λ o. IsServed place a (admitting_up_to n place (admitting_if place o a))) (sym ready)
+    (served-next place a ticket tied key ready _
+    (served-within n place (admitting_at place ticket a) (next-tied place a ticket tied key ready) (next-key place a ticket tied key ready).0
+    (let less = fewer place a ticket tied key ready in omega arith) (next_ready place (admitting_at place ticket a)) refl))
 
-    abbrev granted : Event C
-    granted = GrantWaiter (key_at place a) (waiter_in a ticket)
-
-    found : Contains (book_at place a).waiting ticket × (is_ready place a ticket ≡ true)
-    found = found-first (is_ready place a) (book_at place a).waiting ticket ready
-
-    may-next : May ticket.session place (Admit ticket) a
-    may-next =
-        let unsettled = and_parts _ _ (and_parts _ _ found.1).0 in
-        record { session = unsettled.0; key = key; allows = (found.0, refl, open_wait (seat_at ticket.session a).wait unsettled.1) }
-
-    next-tied : IsTied next
-    next-tied = tied-changing a ticket.session place (Admit ticket) tied may-next
-
-    next-happens : Happens apply granted (system_of a) (system_of next)
-    next-happens =
-        change-happens apply a ticket.session place (Admit ticket) granted tied may-next
-        (refl, (free-grantable a ticket.session place ticket.mode tied key).0 (and_parts _ _ found.1).1)
-
-    -- the place keeps its key
-    next-key : (has_key place next ≡ true) × (key_at place next ≡ key_at place a)
-    next-key = keys-changed a ticket.session place (Admit ticket) may-next place key
-
-    -- fewer wait then
-    fewer : suc (length (book_at place next).waiting) ≡ length (book_at place a).waiting
-    fewer =
-        let short = shorter _ _ _ next-happens.leaves in
-        let here = waiting-length a place tied key in
-        let there = ap (λ k. length ((system_of next).waiting k)) (sym next-key.1) ∙ waiting-length next place next-tied next-key.0 in
-        omega arith
-
-    served-next : (b : Core) → IsServed place next b → IsServed place a b
-    served-next b rest = record {
-      tied = rest.tied;
-      spares = spares-then a next b
-          (spares-changing a ticket.session place (Admit ticket) may-next refl (own-settling settled_as.Granted (seat_at ticket.session a)) refl)
-          rest.spares;
-      events = granted ∷ rest.events;
-      grants = All-cons (IsGrantAt (key_at place a)) granted rest.events refl (subst (λ k. All (IsGrantAt k) rest.events) next-key.1 rest.grants);
-      leads = (system_of next, next-happens, rest.leads);
-      in_order = (
-        waiter_in a ticket,
-        system_of next,
-        refl,
-        first-ready a place ticket tied key ready,
-        next-happens,
-        subst (λ k. GrantsInOrder apply k rest.events (system_of next) (system_of b)) next-key.1 rest.in_order,
-      );
-      none_forgotten = subst (λ k. NoneForgottenAt (system_of b) k) next-key.1 rest.none_forgotten;
-    }
-
-  served-within : (n place : ℕ) (a : Core) → IsTied a → has_key place a ≡ true → length (book_at place a).waiting ≤ n
-      → (ready : Option Ticket) → next_ready place a ≡ ready → IsServed place a (admitting_up_to n place a)
-  unfolding admitting_up_to
-  served-within n place a tied key fits None idle = subst (IsServed place a) (sym (admitting-idle n place a idle)) (served-at_once a place tied key idle)
-  served-within zero place a tied key fits (Some ticket) ready = absurd (let less = fewer place a ticket tied key ready in omega arith)
-  served-within (suc n) place a tied key fits (Some ticket) ready =
-      subst (λ o. IsServed place a (admitting_up_to n place (admitting_if place o a))) (sym ready)
-      (served-next place a ticket tied key ready _
-      (served-within n place (admitting_at place ticket a) (next-tied place a ticket tied key ready) (next-key place a ticket tied key ready).0
-      (let less = fewer place a ticket tied key ready in omega arith) (next_ready place (admitting_at place ticket a)) refl))
-
-  pub serves : (a : Core) (place : ℕ) → IsTied a → has_key place a ≡ true → IsServed place a (serving place a)
-  serves a place tied key = served-within (length (book_at place a).waiting) place a tied key (omega arith) (next_ready place a) refl
+pub serves : (a : Core) (place : ℕ) → IsTied a → has_key place a ≡ true → IsServed place a (serving place a)
+serves a place tied key = served-within (length (book_at place a).waiting) place a tied key (omega arith) (next_ready place a) refl

@@ -10,6 +10,7 @@ pub mod CoreNumbered
 pub mod CoreReads
 pub mod CoreServing
 pub mod CoreSound
+pub mod CoreStandings
 pub mod CoreUnended
 pub mod CoreWaiting
 pub mod DeadlockSystems

@@ -2,31 +2,36 @@
 use Rattle.std.proofs.Common.{◌≡◌, ◌≢◌, ℕ, ◌+◌, ◌<◌, ◌≤◌, Bool, true, false, not, ◌&&◌, ◌==◌, nat_le, length, drop, Option, Some, None, MatchOption, Contains, IfSome, is_some, option_map, if◌then◌else◌, refl, sym, ap, subst, ◌∙◌, arith, inl, inr, eqb-true}
 use Rattle.std.proofs.lemmas.Bool.{and_parts, and_cases}
 use Rattle.std.proofs.lemmas.Bool.Decides.{nat_tests}
-use Rattle.mdl_book.specs.Books.{lock_kind}
+use Rattle.mdl_book.specs.Books.{lock_kind, redefining}
 use Rattle.mdl_key.specs.declared.mode.Mode.{Mode}
-use Rattle.mdl_key.specs.Words.{KeyName, kind_of, is_mode_of}
+use Rattle.mdl_key.specs.declared.mode.Mode.TheVariants.{X}
+use Rattle.mdl_key.specs.Words.{KeyName, kind_of, is_mode_of, same_mode}
+use Rattle.mdl_defs.specs.declared.change.Change.{Change as Redefinition}
+use Rattle.mdl_defs.specs.declared.def_error.DefError.{DefError}
+use Rattle.mdl_defs.specs.declared.def_error.DefError.TheVariants as fault
+use Rattle.mdl_defs.proofs.StandingLemmas.{fault-cases}
 use Rattle.mdl_calls.specs.declared.answers.Held.{Held}
 use Rattle.mdl_calls.specs.declared.answers.Settled.{Settled}
 use Rattle.mdl_calls.specs.declared.answers.Settled.TheVariants as settled_as
 use Rattle.mdl_calls.specs.declared.answers.TimedOut.TheVariants.{Already}
 use Rattle.mdl_calls.specs.declared.space_error.SpaceError.{SpaceError}
-use Rattle.mdl_calls.specs.declared.space_error.SpaceError.TheVariants.{NoPlace, NotHeld, AlreadyWaiting, BadMode, NoWait, Unsettled as Not_settled, CounterFull, Full}
-use Rattle.mdl_calls.specs.Words.{Answer, Refused, Granted, Is_settled, Timed_out, Lost, is_answer_of, Call, Resolve, Try_now, Begin_wait, Search, Poll_wait, Settle_timeout, End_wait, Wait_of, Kill, Release, Clone_ticket, List_held, caller, OfHeld, IsFit, IsUnfit, IsUnknown, MayClone, MayNotClone, IsCause, IsExplained, Own, Numbers, is_number, is_waiting, wait_number, own_after, winning, cloning as cloning_own, giving_up, Draws, IsEndOf, IsToldOf}
+use Rattle.mdl_calls.specs.declared.space_error.SpaceError.TheVariants.{NoPlace, NotHeld, NotExclusive, AlreadyWaiting, BadMode, VersionFull, NoWait, Unsettled as Not_settled, CounterFull, Full, Def, WrongKind}
+use Rattle.mdl_calls.specs.Words.{Answer, Refused, Granted, Is_settled, Timed_out, Lost, Changed, is_answer_of, Call, Resolve, Try_now, Begin_wait, Search, Poll_wait, Settle_timeout, End_wait, Wait_of, Kill, Release, Clone_ticket, Read_definition, Change_definition, List_held, caller, OfHeld, IsFit, IsUnfit, IsUnknown, MayClone, MayNotClone, IsCause, IsExplained, Own, Numbers, is_number, is_waiting, wait_number, own_after, winning, cloning as cloning_own, giving_up, Draws, IsEndOf, IsToldOf, cause_of}
 use Rattle.mdl_core.specs.declared.pending.Pending.{Pending}
 use Rattle.mdl_core.specs.ChangeEvents.{holding_of, waiting_ticket, IsChangeEvent}
-use Rattle.mdl_core.specs.Changes.{Change, Gain, Lose, Queue, Leave, Take_up, May, next_ticket, losing, leaving, serving}
-use Rattle.mdl_core.specs.CoreCalls.{has_call, outcome, refused_or, first_cause, placing, request_causes, clone_causes, cloning_of, held_ticket, releasing_of, standing, polling_of, timing_out_at, timing_out_of, ending_at, ending_of, wait_at, is_open_wait, victim_at, searching_of}
+use Rattle.mdl_core.specs.Changes.{Change, Gain, Lose, Queue, Leave, Take_up, Redefine, May, next_ticket, losing, leaving, serving}
+use Rattle.mdl_core.specs.CoreCalls.{has_call, outcome, refused_or, first_cause, placing, request_causes, clone_causes, cloning_of, held_ticket, releasing_of, standing, polling_of, timing_out_at, timing_out_of, ending_at, ending_of, wait_at, is_open_wait, victim_at, searching_of, reading_of, redefining_fault, redefined_unless, redefining_of}
 use Rattle.mdl_core.specs.CoreJoins.{own_at, numbers_at, Knows}
 use Rattle.mdl_core.specs.CoreLaws.{is_change, IsEventOf}
-use Rattle.mdl_core.specs.Cores.{Core, book_at, seat_at, key_at, has_key, has_session, index_of, is_free}
+use Rattle.mdl_core.specs.Cores.{Core, book_at, seat_at, key_at, standing_at, has_key, has_session, index_of, is_free, booking}
 use Rattle.mdl_core.specs.CoreSystems.{system_of, state_of, waiter_of}
-use Rattle.mdl_system.specs.Words.{WaitsForCause, Event, Grant, Clone, BeginWait, SettleLost, EndGrantedWait, EndLostWait, Release as Give_up, covers, Unsettled, IsGrantable}
+use Rattle.mdl_system.specs.Words.{WaitsForCause, Event, Grant, Clone, BeginWait, SettleLost, EndGrantedWait, EndLostWait, Release as Give_up, ChangeDefinition, covers, Unsettled, IsGrantable}
 use Rattle.mdl_core.specs.Seats.{SeatView, own_of, numbers_of, settling, with_ticket_of}
 use Rattle.mdl_core.specs.SessionLaws.{MeetsLimit}
 use Rattle.mdl_core.specs.Ties.{IsTied, IsNumbered, in_book_of}
-use Rattle.mdl_core.proofs.CallCases.{Through, test_cases, option_cases, not_false, not_true, cause_cases}
+use Rattle.mdl_core.proofs.CallCases.{Through, test_cases, option_cases, not_false, not_true, exclusive-is, cause_cases}
 use Rattle.mdl_core.proofs.CoreGranted.{free-grantable}
-use Rattle.mdl_core.proofs.CoreReads.{found, seated-same}
+use Rattle.mdl_core.proofs.CoreReads.{found, seated-same, seat-kept}
 use Rattle.mdl_core.proofs.CoreServing.{found-first}
 use Rattle.mdl_core.proofs.KnownPlaces.{unplaced, new-known, wait_placed}
 use Rattle.mdl_core.proofs.SparedSeats.{HasSettled, settled_at, settled-once, none_settled, not_settled, as_wait, is_end}
@@ -80,14 +85,14 @@ killed_wait a target number = go (has_session target a) refl
     go false is e = cc
 
 -- a refusal is an answer of the caller's call, and changes nothing
-refusal-plain : (call : Call) (who : ℕ) (refusal : SpaceError) → caller call ≡ Some who
-    → (is_answer_of call (Refused refusal) ≡ true) × (is_change call (Refused refusal) ≡ false)
+refusal-plain : (a : Core) (call : Call) (who : ℕ) (refusal : SpaceError) → caller call ≡ Some who
+    → (is_answer_of call (Refused refusal) ≡ true) × (is_change a call (Refused refusal) ≡ false)
     × ((own : Own) → own ≡ own_after call (Refused refusal) own) × ((numbers : Numbers) → Draws call (Refused refusal) numbers numbers)
-refusal-plain (Wait_of _) who refusal made = cc
-refusal-plain (Kill _ _) who refusal made = cc
-refusal-plain _ who refusal made = (refl, refl, (λ own. refl), λ numbers. refl)
+refusal-plain a (Wait_of _) who refusal made = cc
+refusal-plain a (Kill _ _) who refusal made = cc
+refusal-plain a _ who refusal made = (refl, refl, (λ own. refl), λ numbers. refl)
 
-module _ (C : Type 0) (a : Core) where
+module _ (a : Core) where
   -- ---- what a session knows, and has
 
   module _ (who : ℕ) where
@@ -138,7 +143,7 @@ module _ (C : Type 0) (a : Core) where
   -- ---- what comes of them
 
   abbrev F : Call → Answer × Core → Type 0
-  F = Comes C a
+  F = Comes a
 
   -- what a call does to its caller, and tells it
   tells : {call : Call} {answer : Answer} {way : Way} {who : ℕ} → own_of (seat_by way who a) ≡ own_after call answer (own_at a who)
@@ -151,7 +156,7 @@ module _ (C : Type 0) (a : Core) where
   tested {call} {test} {x} {y} met unmet = test_cases (F call) test x y met unmet
 
   -- answered, and nothing changes
-  stays : {call : Call} {answer : Answer} → is_answer_of call answer ≡ true → is_change call answer ≡ false → IsSo a call answer a
+  stays : {call : Call} {answer : Answer} → is_answer_of call answer ≡ true → is_change a call answer ≡ false → IsSo a call answer a
       → IfSome (caller call) (ServesCaller a call answer Stay) → F call (answer, a)
   stays fits calm so caller = record { way = Stay; is = record { fits = fits; is_way = calm; so = so; caller = caller }; leads = refl }
 
@@ -159,12 +164,12 @@ module _ (C : Type 0) (a : Core) where
   pub refused : {call : Call} (who : ℕ) (refusal : SpaceError) → caller call ≡ Some who → IsCause (Knows a who) call refusal (own_at a who)
       → ((how : Settled) → HasSettled (seat_at who a) how → IsToldOf how call (Refused refusal)) → MeetsLimit a call refusal → F call (Refused refusal, a)
   refused {call} who refusal mine cause agrees limit =
-      let plain = refusal-plain call who refusal mine in
+      let plain = refusal-plain a call who refusal mine in
       stays plain.0 plain.1 limit
       (subst (λ o. IfSome o (ServesCaller a call (Refused refusal) Stay)) (sym mine) (tells (plain.2 (own_at a who)) (plain.3 (numbers_at a who)) cause agrees))
 
   -- the caller makes a change
-  makes : {call : Call} {answer : Answer} (who place : ℕ) (change : Change) → May who place change a → (event : Event C)
+  makes : {call : Call} {answer : Answer} (who place : ℕ) (change : Change) → May who place change a → (event : Event Redefinition)
       → IsChangeEvent who place change a event × IsEventOf a call answer event × WaitsForCause event (system_of a)
       → (caller call ≡ Some who) × (is_end change ≡ true → call ≡ End_wait who) → is_answer_of call answer ≡ true
       → IsSo a call answer (space_by (Make who place change) a) → IfSome (caller call) (ServesCaller a call answer (Make who place change))
@@ -183,7 +188,7 @@ module _ (C : Type 0) (a : Core) where
   -- a wait is lost, and is settled so then
   loses : {call : Call} {answer : Answer} (who : ℕ) (how : Settled) (wait : Pending) → has_key wait.place a ≡ true → has_session who a ≡ true
       → (seat_at who a).wait ≡ Some wait → wait.settled ≡ None → how ≢ settled_as.Granted
-      → IsEventOf {C = C} a call answer (SettleLost (key_at wait.place a) (waiter_of (waiting_ticket who wait) (Some wait)) (state_of (Some how)))
+      → IsEventOf a call answer (SettleLost (key_at wait.place a) (waiter_of (waiting_ticket who wait) (Some wait)) (state_of (Some how)))
       → is_answer_of call answer ≡ true → (HasSettled (seat_at who (losing who how a)) how → IsSo a call answer (losing who how a))
       → IfSome (caller call) (ServesCaller a call answer (Settle_wait who wait.place how)) → F call (answer, losing who how a)
   loses who how wait key is its free other call_is fits so caller = record {
@@ -358,5 +363,40 @@ module _ (C : Type 0) (a : Core) where
                 )),
           ),
         ))
+    made (Read_definition who id) has is =
+        option_cases (λ o. F (Read_definition who id) (reading_of o a)) (held_ticket who id a)
+        (λ none. refused who NotHeld refl (ap is_some none) (λ _ _. tt) tt)
+        (λ ticket e. stays refl refl tt (tells refl refl (ap is_some e) (λ _ _. tt)))
+    made (Change_definition who id change) has is =
+        option_cases (λ o. F (Change_definition who id change) (redefining_of o change a)) (held_ticket who id a)
+        (λ none. refused who NotHeld refl (ap is_some none) (λ _ _. tt) tt)
+        (λ ticket e. tested
+        (λ other. refused who NotExclusive refl (of_held who id ticket (λ t. same_mode t.mode X ≡ false) e (not_true _ other)) (λ _ _. tt) tt)
+        (λ exclusive. under_x ticket e (not_false _ exclusive)))
+      where
+        -- memory isn't wanting for what stands
+        own_cause : (why : DefError) → why ≢ fault.OutOfMemory → OfHeld id (own_at a who) (λ t. same_mode t.mode X ≡ true)
+            → IsCause (Knows a who) (Change_definition who id change) (Def why) (own_at a who)
+        own_cause fault.OutOfMemory apart clear = absurd (apart refl)
+        own_cause _ apart clear = clear
+
+        under_x : (ticket : Held) → held_ticket who id a ≡ Some ticket → same_mode ticket.mode X ≡ true
+            → F (Change_definition who id change) (redefined_unless (redefining_fault ticket.place change a) ticket.place change a)
+        under_x ticket e exclusive =
+            let mine = in_hand who id ticket e in
+            let clear = of_held who id ticket (λ t. same_mode t.mode X ≡ true) e exclusive in
+            let key : has_key ticket.place a ≡ true = tied.placed who ticket is (inl (inl mine.0)) in
+            option_cases (λ o. F (Change_definition who id change) (redefined_unless o ticket.place change a)) (redefining_fault ticket.place change a)
+            (λ free. subst (λ b. F (Change_definition who id change) (Changed ((standing_at ticket.place a).version + 1), b))
+            (ap (booking ticket.place (redefining change (book_at ticket.place a))) (seat-kept a who))
+            (makes who ticket.place (Redefine ticket change)
+            (record { session = is; key = key; allows = (mine.0, refl, exclusive-is ticket.mode exclusive, free) }) (ChangeDefinition (holding_of who ticket a) change)
+            (refl, (_, refl, mine.1, refl), tt) (refl, λ f. cc) refl tt (tells refl refl clear (λ _ _. tt))))
+            (λ why faulted. fault-cases (λ w. F (Change_definition who id change) (Refused (cause_of w), a))
+            (key_at ticket.place a).namespace change (standing_at ticket.place a)
+            (λ full. refused who VersionFull refl clear (λ _ _. tt) (ticket, e, at_least _ _ full))
+            (refused who WrongKind refl clear (λ _ _. tt) tt)
+            (λ one apart. refused who (Def one) refl (own_cause one apart clear) (λ _ _. tt) tt)
+            why faulted)
     made (List_held who) has is = stays refl refl refl (tells refl refl tt (λ _ _. tt))
     made _ has is = cc

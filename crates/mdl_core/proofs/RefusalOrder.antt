@@ -1,17 +1,25 @@
 -- The first cause that stands against a call is answered.
-use Rattle.std.proofs.Common.{◌≡◌, ℕ, ◌-◌, ◌^◌, Bool, true, false, not, List, [], ◌∷◌, is_some, inl, inr, if◌then◌else◌, drop, refl, ap, ◌∙◌}
+use Rattle.std.proofs.Common.{◌≡◌, ◌≢◌, ℕ, ◌-◌, ◌^◌, Bool, true, false, not, List, [], ◌∷◌, is_some, inl, inr, nat_le, Option, Some, option_map, if◌then◌else◌, drop, refl, ap, ◌∙◌}
 use Rattle.std.proofs.lemmas.Bool.{le-leb}
 use Rattle.std.proofs.lemmas.Bool.Decides.{leb_tells}
 use Rattle.mdl_key.specs.declared.mode.Mode.{Mode}
+use Rattle.mdl_key.specs.declared.mode.Mode.TheVariants.{X}
+use Rattle.mdl_key.specs.Words.{same_mode}
+use Rattle.mdl_defs.specs.declared.change.Change.{Change}
+use Rattle.mdl_defs.specs.declared.change_error.ChangeError.{ChangeError}
+use Rattle.mdl_defs.specs.declared.change_error.ChangeError.TheVariants as why_not
+use Rattle.mdl_defs.specs.declared.def_error.DefError.{DefError}
+use Rattle.mdl_defs.specs.Changes.{change_fault}
 use Rattle.mdl_calls.specs.declared.answers.Held.{Held}
 use Rattle.mdl_calls.specs.declared.space_error.SpaceError.{SpaceError}
-use Rattle.mdl_calls.specs.declared.space_error.SpaceError.TheVariants.{NoPlace, AlreadyWaiting, BadMode, CounterFull, Full}
+use Rattle.mdl_calls.specs.declared.space_error.SpaceError.TheVariants.{NoPlace, NotExclusive, AlreadyWaiting, BadMode, VersionFull, CounterFull, Full, Def, WrongKind}
 use Rattle.mdl_calls.specs.Words.{Answer, Refused, Would_wait}
-use Rattle.mdl_core.specs.CoreCalls.{refused_or, first_cause, request_causes, clone_causes, queued_unless_full, granted_unless_full, is_counted_out, is_full}
-use Rattle.mdl_core.specs.Cores.{Core, seat_at, has_key, is_free}
+use Rattle.mdl_core.specs.CoreCalls.{refused_or, first_cause, request_causes, clone_causes, queued_unless_full, granted_unless_full, is_counted_out, is_full, redefining_fault, redefined_unless, redefining_of}
+use Rattle.mdl_core.specs.Cores.{Core, seat_at, standing_at, has_key, is_free}
 use Rattle.mdl_core.specs.declared.pending.Pending.{Pending}
-use Rattle.mdl_core.specs.RefusalLaws.{IsIdle, is_mode_at, serves_for, RefusesWishesInOrder, RefusesClonesInOrder}
-use Rattle.mdl_core.specs.SessionLaws.{HasWait, HasNoNumber, HasNoRoom}
+use Rattle.mdl_core.specs.RefusalLaws.{IsIdle, is_mode_at, serves_for, suits_place, MayChangeThere, RefusesWishesInOrder, RefusesClonesInOrder, RefusesChangesInOrder}
+use Rattle.mdl_core.specs.SessionLaws.{HasWait, HasNoNumber, HasNoRoom, HasNoVersion}
+use Rattle.mdl_core.proofs.CallCases.{not-exclusive}
 
 -- a cause that stands is answered, and one that doesn't is passed over
 module _ (core : Core) (end : Answer × Core) where
@@ -29,6 +37,10 @@ module _ (core : Core) (end : Answer × Core) where
 taken : {A : Type 0} (test : Bool) (x y : A) → test ≡ true → (if test then x else y) ≡ x
 taken true x y met = refl
 taken false x y met = cc
+
+passed_by : {A : Type 0} (test : Bool) (x y : A) → test ≡ false → (if test then x else y) ≡ y
+passed_by true x y unmet = cc
+passed_by false x y unmet = refl
 
 counted-out : (core : Core) (who : ℕ) → HasNoNumber core who → is_counted_out who core ≡ true
 counted-out core who none = le-leb _ _ none
@@ -123,4 +135,48 @@ pub refuses-clones_in_order : RefusesClonesInOrder
 refuses-clones_in_order core who id mode = (
   λ none. rw none refl,
   λ ticket held. rw held (clone-waiting core who id mode ticket, clone-unfit core who id mode ticket, clone-no_number core who id mode ticket, clone-no_room core who id mode ticket),
+)
+
+-- ---- a change of a definition is asked for
+
+module _ (core : Core) (change : Change) (ticket : Held) where
+  abbrev changed : Answer × Core
+  changed = redefining_of (Some ticket) change core
+
+  -- as it is answered for this cause, or none
+  abbrev for_cause : Option ChangeError → Answer × Core
+  for_cause why = redefined_unless why ticket.place change core
+
+  change-shared : ticket.mode ≢ X → changed ≡ (Refused NotExclusive, core)
+  change-shared shared = taken (not (same_mode ticket.mode X)) _ _ (ap not (not-exclusive ticket.mode shared))
+
+  change-exclusive : ticket.mode ≡ X → changed ≡ for_cause (redefining_fault ticket.place change core)
+  change-exclusive exclusive = passed_by (not (same_mode ticket.mode X)) _ _ (ap (λ mode. not (same_mode mode X)) exclusive)
+
+  change-no_version : ticket.mode ≡ X → HasNoVersion core ticket.place → changed ≡ (Refused VersionFull, core)
+  change-no_version exclusive none =
+      change-exclusive exclusive ∙ ap for_cause (taken (nat_le 1000000 (standing_at ticket.place core).version) (Some why_not.VersionFull) _ (le-leb _ _ none))
+
+  change-version : MayChangeThere core ticket
+      → redefining_fault ticket.place change core ≡ (if not (suits_place ticket.place change core) then Some why_not.WrongKind
+      else option_map why_not.Def (change_fault (standing_at ticket.place core).definition change))
+  change-version may = elim (leb_tells 1000000 (standing_at ticket.place core).version) [
+    | inl none ↦ absurd (may.1 none.1)
+    | inr few ↦ passed_by (nat_le 1000000 (standing_at ticket.place core).version) (Some why_not.VersionFull) _ few.0
+  ]
+
+  change-unfit : MayChangeThere core ticket → suits_place ticket.place change core ≡ false → changed ≡ (Refused WrongKind, core)
+  change-unfit may unfit =
+      change-exclusive may.0 ∙ ap for_cause (change-version may ∙ taken (not (suits_place ticket.place change core)) _ _ (ap not unfit))
+
+  change-fault : MayChangeThere core ticket → suits_place ticket.place change core ≡ true
+      → (why : DefError) → change_fault (standing_at ticket.place core).definition change ≡ Some why → changed ≡ (Refused (Def why), core)
+  change-fault may fits why is =
+      change-exclusive may.0
+      ∙ ap for_cause (change-version may ∙ passed_by (not (suits_place ticket.place change core)) _ _ (ap not fits) ∙ ap (option_map why_not.Def) is)
+
+pub refuses-changes_in_order : RefusesChangesInOrder
+refuses-changes_in_order core who id change = (
+  λ none. rw none refl,
+  λ ticket held. rw held (change-shared core change ticket, change-no_version core change ticket, change-unfit core change ticket, change-fault core change ticket),
 )

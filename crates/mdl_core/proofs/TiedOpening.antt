@@ -11,12 +11,14 @@ use Rattle.mdl_book.specs.declared.book_view.BookView.{BookView}
 use Rattle.mdl_book.specs.declared.ticket.Ticket.{Ticket}
 use Rattle.mdl_book.specs.Books.{lock_kind, empty_book}
 use Rattle.mdl_book.specs.Tickets.{ticket_id}
+use Rattle.mdl_defs.specs.Standings.{MayStand}
+use Rattle.mdl_defs.proofs.StandingLemmas.{nothing-stands}
 use Rattle.mdl_calls.specs.declared.answers.Held.{Held}
 use Rattle.mdl_core.specs.Cores.{Core, empty_core, book_at, seat_at, key_at, index_of, has_key, has_session}
-use Rattle.mdl_core.specs.CoreSystems.{granted_in, book_of, waiter_in, system_of}
+use Rattle.mdl_core.specs.CoreSystems.{granted_in, book_of, waiter_in, defined_in, system_of}
 use Rattle.mdl_core.specs.Changes.{opening}
 use Rattle.mdl_core.specs.Seats.{SeatView, empty_seat}
-use Rattle.mdl_core.specs.Ties.{Has, Awaits, in_book_of, IsNumbered, IsTied}
+use Rattle.mdl_core.specs.Ties.{Has, Awaits, in_book_of, IsNumbered, IsTied, AllMayStand}
 use Rattle.mdl_core.proofs.CoreReads.{within, of_within, found-at}
 use Rattle.mdl_core.proofs.CoreWaiting.{book-there, place_told, book-nowhere, not_there}
 use Rattle.mdl_core.proofs.PairLemmas.{none-in}
@@ -31,25 +33,28 @@ tied-nothing places sessions who session =
     let long = length-replicate sessions empty_seat in
     get_or-replicate sessions (who - 1) empty_seat empty_seat (omega arith)
 
+no_key : (places sessions place : ℕ) → has_key place (empty_core places sessions) ≡ true → ⊥
+no_key places sessions place key = let fits = within place 0 key in omega arith
+
+pub stands-empty : (places sessions : ℕ) → AllMayStand (empty_core places sessions)
+stands-empty places sessions place key = absurd (no_key places sessions place key)
+
 pub tied-empty : (places sessions : ℕ) → IsTied (empty_core places sessions)
 tied-empty places sessions = record {
-  keys = λ one other key. absurd (no_key one key);
-  granted_by = λ place key. absurd (no_key place key);
-  waiting_by = λ place key. absurd (no_key place key);
-  granted = λ who ticket session key. absurd (no_key ticket.place key);
-  waiting = λ who ticket session key. absurd (no_key ticket.place key);
+  keys = λ one other key. absurd (no_key places sessions one key);
+  granted_by = λ place key. absurd (no_key places sessions place key);
+  waiting_by = λ place key. absurd (no_key places sessions place key);
+  granted = λ who ticket session key. absurd (no_key places sessions ticket.place key);
+  waiting = λ who ticket session key. absurd (no_key places sessions ticket.place key);
   placed = λ who ticket session has. absurd (elim (subst (λ s. Has s ticket ⊎ Awaits s ticket) (tied-nothing places sessions who session) has) [
     | inl holds ↦ elim holds [ inl held ↦ none-in ticket held | inr none ↦ none ]
     | inr none ↦ none
   ]);
-  granted_once = λ place key. absurd (no_key place key);
-  waiting_once = λ place key. absurd (no_key place key);
+  granted_once = λ place key. absurd (no_key places sessions place key);
+  waiting_once = λ place key. absurd (no_key places sessions place key);
   numbered = λ who session. subst IsNumbered (sym (tied-nothing places sessions who session))
       (record { rising = refl; held = λ ticket held. absurd (none-in ticket held); wait = tt });
 }
-  where
-    no_key : (place : ℕ) → has_key place (empty_core places sessions) ≡ true → ⊥
-    no_key place key = let fits = within place 0 key in omega arith
 
 -- ---- a new key
 
@@ -126,17 +131,21 @@ module _ (key : KeyName) (core : Core) (tied : IsTied core) (new : index_of key 
     numbered = tied.numbered;
   }
 
+  -- and nothing stands under the new key
+  pub stands-opened : AllMayStand core → AllMayStand (opening key core)
+  stands-opened stand = by-place (λ p b. MayStand b.key.namespace b.standing) stand (nothing-stands key.namespace)
+
   -- the system is the same
-  waiting-opened : IsTied (opening key core) → (k : KeyName) → (book_of k (opening key core)).waiting ≡ (book_of k core).waiting
-  waiting-opened after k = elim (place_told core k) [
-    | inl at ↦ ap (λ (b : BookView). b.waiting) (
+  book-opened : IsTied (opening key core) → (k : KeyName) → book_of k (opening key core) ≡ book_of k core
+  book-opened after k = elim (place_told core k) [
+    | inl at ↦
         book-there (opening key core) at.0 k after.keys (still at.0 at.1) (ap (λ (b : BookView). b.key) (book-still at.0 at.1) ∙ at.2)
-        ∙ book-still at.0 at.1 ∙ sym (book-there core at.0 k tied.keys at.1 at.2))
+        ∙ book-still at.0 at.1 ∙ sym (book-there core at.0 k tied.keys at.1 at.2)
     | inr nowhere ↦ elim (place_told (opening key core) k) [
-      | inl at ↦ ap (λ (b : BookView). b.waiting) (book-there (opening key core) at.0 k after.keys at.1 at.2)
-          ∙ by-place (λ p b. b.key ≡ k → b.waiting ≡ []) (λ p has e. absurd (not_there core k p tied.keys nowhere has e)) (λ e. refl) at.0 at.1 at.2
-      | inr still ↦ ap (λ (b : BookView). b.waiting) (book-nowhere (opening key core) k still)
-    ] ∙ sym (ap (λ (b : BookView). b.waiting) (book-nowhere core k nowhere))
+      | inl at ↦ book-there (opening key core) at.0 k after.keys at.1 at.2
+          ∙ by-place (λ p b. b.key ≡ k → b ≡ empty_book k) (λ p has e. absurd (not_there core k p tied.keys nowhere has e)) (λ e. ap empty_book e) at.0 at.1 at.2
+      | inr still ↦ book-nowhere (opening key core) k still
+    ] ∙ sym (book-nowhere core k nowhere)
   ]
 
   pub system-opened : SameSystem (system_of core) (system_of (opening key core))
@@ -144,8 +153,8 @@ module _ (key : KeyName) (core : Core) (tied : IsTied core) (new : index_of key 
     granted = λ held. let is : flat_map granted_in (core.books ++ empty_book key ∷ []) ≡ flat_map granted_in core.books =
         flat_map-append granted_in core.books (empty_book key ∷ []) ∙ append-nil (flat_map granted_in core.books) in
         (inside held _ _ is, inside held _ _ (sym is));
-    waits = record { waiting = λ k. ap (map (waiter_in core)) (waiting-opened opened k); unended = λ wait. ((λ among. among), λ among. among) };
-    definitions = λ _. refl;
+    waits = record { waiting = λ k. ap (λ (b : BookView). map (waiter_in core) b.waiting) (book-opened opened k); unended = λ wait. ((λ among. among), λ among. among) };
+    definitions = λ k. ap defined_in (book-opened opened k);
   }
     where
       inside : (held : Holding) (xs ys : List Holding) → xs ≡ ys → Contains xs held → Contains ys held

@@ -1,6 +1,7 @@
 -- What comes of a call in the space of one thread: the way that it goes, what is asked of it, and what it leaves to the sessions.
 use Rattle.std.proofs.Common.{◌≡◌, ℕ, Bool, true, false, Some, None, IfSome, option_map}
 use Rattle.mdl_key.specs.Keys.{KeyName}
+use Rattle.mdl_defs.specs.declared.change.Change.{Change as Redefinition}
 use Rattle.mdl_calls.specs.declared.answers.Settled.{Settled}
 use Rattle.mdl_calls.specs.declared.answers.Settled.TheVariants as settled_as
 use Rattle.mdl_calls.specs.declared.answers.TimedOut.TheVariants.{ByThisCall, Already}
@@ -79,31 +80,30 @@ pub record ServesCaller (a : Core) (call : Call) (answer : Answer) (way : Way) (
   pub explained : IsExplained (Knows a who) call answer (own_at a who)
   pub agrees : (how : Settled) → HasSettled (seat_at who a) how → IsToldOf how call answer
 
-module _ (C : Type 0) where
-  -- a change may be made, and is the event that the call is
-  pub record IsMade (a : Core) (call : Call) (answer : Answer) (who place : ℕ) (change : Change) : Type 0 where
-    pub may : May who place change a
-    pub event : Event C
-    pub change_is : IsChangeEvent who place change a event
-    pub call_is : IsEventOf a call answer event
-    pub cause : WaitsForCause event (system_of a)
+-- a change may be made, and is the event that the call is
+pub record IsMade (a : Core) (call : Call) (answer : Answer) (who place : ℕ) (change : Change) : Type 0 where
+  pub may : May who place change a
+  pub event : Event Redefinition
+  pub change_is : IsChangeEvent who place change a event
+  pub call_is : IsEventOf a call answer event
+  pub cause : WaitsForCause event (system_of a)
 
-  abbrev pub IsWay : Core → Call → Answer → Way → Type 0
-  IsWay a call answer Stay = is_change call answer ≡ false
-  IsWay a call answer (Open key) = (is_change call answer ≡ false) × (index_of key a.books ≡ None)
-  IsWay a call answer (Settle_wait who place how) = IsMade a call answer who place (Settle how)
-  IsWay a call answer (Make who place change) =
-      IsMade a call answer who place change × (caller call ≡ Some who) × (is_end change ≡ true → call ≡ End_wait who)
+abbrev pub IsWay : Core → Call → Answer → Way → Type 0
+IsWay a call answer Stay = is_change a call answer ≡ false
+IsWay a call answer (Open key) = (is_change a call answer ≡ false) × (index_of key a.books ≡ None)
+IsWay a call answer (Settle_wait who place how) = IsMade a call answer who place (Settle how)
+IsWay a call answer (Make who place change) =
+    IsMade a call answer who place change × (caller call ≡ Some who) × (is_end change ≡ true → call ≡ End_wait who)
 
-  -- a call goes this way with this answer
-  pub record Made (a : Core) (call : Call) (answer : Answer) (way : Way) : Type 0 where
-    pub fits : is_answer_of call answer ≡ true
-    pub is_way : IsWay a call answer way
-    pub so : IsSo a call answer (space_by way a)
-    pub caller : IfSome (caller call) (ServesCaller a call answer way)
+-- a call goes this way with this answer
+pub record Made (a : Core) (call : Call) (answer : Answer) (way : Way) : Type 0 where
+  pub fits : is_answer_of call answer ≡ true
+  pub is_way : IsWay a call answer way
+  pub so : IsSo a call answer (space_by way a)
+  pub caller : IfSome (caller call) (ServesCaller a call answer way)
 
-  -- a call with this outcome goes some way
-  pub record Comes (a : Core) (call : Call) (outcome : Answer × Core) : Type 0 where
-    pub way : Way
-    pub is : Made a call outcome.0 way
-    pub leads : space_by way a ≡ outcome.1
+-- a call with this outcome goes some way
+pub record Comes (a : Core) (call : Call) (outcome : Answer × Core) : Type 0 where
+  pub way : Way
+  pub is : Made a call outcome.0 way
+  pub leads : space_by way a ≡ outcome.1

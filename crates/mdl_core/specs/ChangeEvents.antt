@@ -2,12 +2,13 @@
 use Rattle.std.specs.Prelude.{◌≡◌, ◌≢◌, ◌⊎◌, ℕ, ◌+◌, None, Some, Contains}
 use Rattle.mdl_key.specs.Classes.{IsAtLeast}
 use Rattle.mdl_book.specs.declared.ticket.Ticket.{Ticket}
+use Rattle.mdl_defs.specs.declared.change.Change.{Change as Redefinition}
 use Rattle.mdl_calls.specs.declared.answers.Held.{Held}
 use Rattle.mdl_core.specs.declared.pending.Pending.{Pending}
-use Rattle.mdl_core.specs.Changes.{Change, Gain, Lose, Queue, Admit, Settle, Leave, Take_up, next_ticket}
+use Rattle.mdl_core.specs.Changes.{Change, Gain, Lose, Queue, Admit, Settle, Leave, Take_up, Redefine, next_ticket}
 use Rattle.mdl_core.specs.Cores.{Core, seat_at, key_at}
 use Rattle.mdl_core.specs.CoreSystems.{system_of, state_of, waiter_of, waiter_in}
-use Rattle.mdl_system.specs.Words.{Event, Grant, Clone, BeginWait, GrantWaiter, SettleLost, EndGrantedWait, EndLostWait, Release, Unsettled, Holding, lock_kind, IsGrantable}
+use Rattle.mdl_system.specs.Words.{Event, Grant, Clone, BeginWait, GrantWaiter, SettleLost, EndGrantedWait, EndLostWait, Release, ChangeDefinition, Unsettled, Holding, lock_kind, IsGrantable}
 
 -- a held ticket as a granted one of the system
 abbrev pub holding_of : ℕ → Held → Core → Holding
@@ -19,7 +20,7 @@ waiting_ticket who wait = record { session = who; number = wait.id; mode = wait.
 
 -- the event that a change is, and what the event asks beyond what the change asks: a new ticket has a grantable wish, or is a
 -- clone of a held one that is at least as strong, and a wait that ends is settled
-abbrev pub IsChangeEvent : {C : Type 0} → ℕ → ℕ → Change → Core → Event C → Type 0
+abbrev pub IsChangeEvent : ℕ → ℕ → Change → Core → Event Redefinition → Type 0
 IsChangeEvent who place (Gain mode) core event =
     ((event ≡ Grant (record { session = who; number = (seat_at who core).last_ticket + 1; key = key_at place core; mode = mode }))
     × IsGrantable (system_of core) who (key_at place core) mode)
@@ -36,3 +37,4 @@ IsChangeEvent who place (Settle how) core event =
 IsChangeEvent who place (Leave wait) core event =
     (event ≡ EndLostWait (key_at place core) (waiter_of (waiting_ticket who wait) (Some wait))) × (wait.settled ≢ None)
 IsChangeEvent who place (Take_up wait) core event = event ≡ EndGrantedWait (record { session = who; wait = wait.number; ticket = wait.id })
+IsChangeEvent who place (Redefine ticket change) core event = event ≡ ChangeDefinition (holding_of who ticket core) change

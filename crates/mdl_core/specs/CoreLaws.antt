@@ -1,32 +1,35 @@
--- Laws of the lock space of one thread: its calls are events of the system of locks.
+-- Laws of the lock space of one thread: its calls are events of the system of locks, in which changes make of what stands under
+-- a key what they make of definitions.
 use Rattle.std.specs.Prelude.{◌≡◌, ◌⊎◌, ℕ, Bool, true, false, List, [], ◌∷◌, ◌++◌, Option, Some, Contains}
 use Rattle.mdl_key.specs.Keys.{KeyName}
 use Rattle.mdl_key.specs.declared.mode.Mode.{Mode}
+use Rattle.mdl_defs.specs.declared.change.Change.{Change}
 use Rattle.mdl_defs.specs.declared.definition.Definition.{Definition}
 use Rattle.mdl_calls.specs.declared.answers.TimedOut.TheVariants.{ByThisCall}
-use Rattle.mdl_calls.specs.Words.{Answer, Done, Granted, Would_wait, Waits, Victim_is, Timed_out, Lost, Has_killed, Call, Try_now, Begin_wait, Search, Settle_timeout, End_wait, Kill, Release, Clone_ticket}
-use Rattle.mdl_system.specs.Words.{IsAbout, Event, Grant, Clone, BeginWait, GrantWaiter, SettleLost, EndGrantedWait, EndLostWait, Release as Give_up, Happens, Run, SameSystem, Unsettled, Victim, TimedOut, Killed, Holding, Waiter, System, empty_system, IsLawful, IsGrantable, NoneForgotten}
+use Rattle.mdl_calls.specs.Words.{Answer, Done, Granted, Would_wait, Waits, Victim_is, Timed_out, Lost, Has_killed, Changed, Call, Try_now, Begin_wait, Search, Settle_timeout, End_wait, Kill, Release, Clone_ticket, Change_definition}
+use Rattle.mdl_system.specs.Words.{IsAbout, Event, Grant, Clone, BeginWait, GrantWaiter, SettleLost, EndGrantedWait, EndLostWait, Release as Give_up, ChangeDefinition, Happens, Run, SameSystem, Unsettled, Victim, TimedOut, Killed, Holding, Waiter, System, empty_system, IsLawful, IsGrantable, NoneForgotten}
 use Rattle.mdl_core.specs.CoreJoins.{Joins}
 use Rattle.mdl_core.specs.Cores.{Core, empty_core, key_at}
-use Rattle.mdl_core.specs.CoreSystems.{system_of, state_of}
+use Rattle.mdl_core.specs.CoreSystems.{system_of, state_of, applies}
 use Rattle.mdl_core.specs.Ties.{IsSound}
 
--- whether a call with this answer changes who holds what, who waits for what, or how a wait is settled
-abbrev pub is_change : Call → Answer → Bool
-is_change (Try_now _ _ _) (Granted _) = true
-is_change (Begin_wait _ _ _) (Granted _) = true
-is_change (Begin_wait _ _ _) (Waits _) = true
-is_change (Search _) (Victim_is _) = true
-is_change (Settle_timeout _) (Timed_out ByThisCall) = true
-is_change (End_wait _) (Granted _) = true
-is_change (End_wait _) (Lost _) = true
-is_change (Kill _ _) (Has_killed true) = true
-is_change (Release _ _) Done = true
-is_change (Clone_ticket _ _ _) (Granted _) = true
-is_change _ _ = false
+-- whether a call with this answer changes who holds what, who waits for what, how a wait is settled, or what is defined
+abbrev pub is_change : Core → Call → Answer → Bool
+is_change a (Try_now _ _ _) (Granted _) = true
+is_change a (Begin_wait _ _ _) (Granted _) = true
+is_change a (Begin_wait _ _ _) (Waits _) = true
+is_change a (Search _) (Victim_is _) = true
+is_change a (Settle_timeout _) (Timed_out ByThisCall) = true
+is_change a (End_wait _) (Granted _) = true
+is_change a (End_wait _) (Lost _) = true
+is_change a (Kill _ _) (Has_killed true) = true
+is_change a (Release _ _) Done = true
+is_change a (Clone_ticket _ _ _) (Granted _) = true
+is_change a (Change_definition _ _ _) (Changed _) = true
+is_change a _ _ = false
 
 -- the event that such a call is
-abbrev pub IsEventOf : {C : Type 0} → Core → Call → Answer → Event C → Type 0
+abbrev pub IsEventOf : Core → Call → Answer → Event Change → Type 0
 IsEventOf a (Try_now who place mode) (Granted id) event =
     event ≡ Grant (record { session = who; number = id; key = key_at place a; mode = mode })
 IsEventOf a (Begin_wait who place mode) (Granted id) event =
@@ -48,6 +51,8 @@ IsEventOf a (Release who id) Done event =
 IsEventOf a (Clone_ticket who id mode) (Granted copy) event =
     (ticket : Holding) × (ticket.session ≡ who) × (ticket.number ≡ id)
     × (event ≡ Clone ticket (record { session = who; number = copy; key = ticket.key; mode = mode }))
+IsEventOf a (Change_definition who id change) (Changed version) event =
+    (ticket : Holding) × (ticket.session ≡ who) × (ticket.number ≡ id) × (event ≡ ChangeDefinition ticket change)
 IsEventOf a _ _ event = ⊥
 
 -- a waiter of a key before whom none waits there whose wait is unsettled and whose wish is grantable
@@ -64,16 +69,16 @@ GrantsInOrder {C} {D} apply key (event ∷ events) a b =
     × Happens apply event a between × GrantsInOrder apply key events between b
 
 -- a call changes nothing in the system, or it is an event there, after which waiters of that event's key are granted
-abbrev pub CallsAreEvents : Type 0 → Type 0
-CallsAreEvents C =
-    (apply : KeyName → C → Option Definition → Option (Option Definition)) (a b : Core) (call : Call) (answer : Answer) →
-    IsSound a → Joins a call answer b →
-    ((is_change call answer ≡ false) × SameSystem (system_of a) (system_of b))
-    ⊎ ((event : Event C) × (grants : List (Event C)) × (between : System Definition) × (key : KeyName)
+abbrev pub CallsAreEvents : Type 0
+CallsAreEvents =
+    (a b : Core) (call : Call) (answer : Answer) → IsSound a → Joins a call answer b →
+    ((is_change a call answer ≡ false) × SameSystem (system_of a) (system_of b))
+    ⊎ ((event : Event Change) × (grants : List (Event Change)) × (between : System Definition) × (key : KeyName)
     × IsEventOf a call answer event × ((other : KeyName) → IsAbout event other → other ≡ key)
-    × Happens apply event (system_of a) between × GrantsInOrder apply key grants between (system_of b))
+    × Happens applies event (system_of a) between × GrantsInOrder applies key grants between (system_of b))
 
--- after each call books and sessions tell the same, the system is lawful, and nobody is forgotten
+-- after each call books and sessions tell the same, what stands under a key may stand there, the system is lawful, and nobody
+-- is forgotten
 abbrev pub CallsKeepSound : Type 0
 CallsKeepSound = (a b : Core) (call : Call) (answer : Answer) → IsSound a → Joins a call answer b → IsSound b
 
@@ -93,9 +98,8 @@ Joined ((call, answer) ∷ calls) a b = (between : Core) × Joins a call answer 
 
 -- so whatever is asked of an empty space, a run of events leads from the empty system to what it is in the end; that is lawful,
 -- and nobody is forgotten in it
-abbrev pub CallsLeadByEvents : Type 0 → Type 0
-CallsLeadByEvents C =
-    (apply : KeyName → C → Option Definition → Option (Option Definition)) (places sessions : ℕ)
-    (calls : List (Call × Answer)) (b : Core) → Joined calls (empty_core places sessions) b →
-    ((events : List (Event C)) × Run apply events empty_system (system_of b))
+abbrev pub CallsLeadByEvents : Type 0
+CallsLeadByEvents =
+    (places sessions : ℕ) (calls : List (Call × Answer)) (b : Core) → Joined calls (empty_core places sessions) b →
+    ((events : List (Event Change)) × Run applies events empty_system (system_of b))
     × IsLawful (system_of b) × NoneForgotten (system_of b)

@@ -5,12 +5,13 @@ use Rattle.mdl_key.specs.Keys.{KeyName}
 use Rattle.mdl_book.specs.declared.book_view.BookView.{BookView}
 use Rattle.mdl_book.specs.declared.ticket.Ticket.{Ticket}
 use Rattle.mdl_book.specs.Books.{empty_book}
+use Rattle.mdl_defs.specs.declared.change.Change.{Change}
 use Rattle.mdl_defs.specs.declared.definition.Definition.{Definition}
+use Rattle.mdl_defs.specs.Standings.{applied}
 use Rattle.mdl_calls.specs.declared.answers.Settled.{Settled}
 use Rattle.mdl_calls.specs.declared.answers.Settled.TheVariants as settled_as
 use Rattle.mdl_core.specs.declared.pending.Pending.{Pending}
-use Rattle.mdl_system.specs.Words.{of_lock, WaitState, Unsettled, Victim, TimedOut, Killed, Holding, Waiter, GrantedWait, System}
-use Rattle.mdl_system.specs.Systems.{Versioned}
+use Rattle.mdl_system.specs.Words.{of_lock, WaitState, Unsettled, Victim, TimedOut, Killed, Holding, Waiter, GrantedWait, System, Versioned}
 use Rattle.mdl_core.specs.Cores.{Core, index_of, seat_at, book_at}
 use Rattle.mdl_core.specs.Seats.{SeatView}
 
@@ -58,6 +59,10 @@ unended_from who (seat ∷ seats) = option_to_list (unended_of who seat.wait) ++
 -- what stands under the key of a book
 abbrev pub defined_in : BookView → Versioned Definition
 defined_in book = record { version = book.standing.version; definition = book.standing.definition }
+
+-- what a change makes of what stands under a key, if it can be made
+abbrev pub applies : KeyName → Change → Option Definition → Option (Option Definition)
+applies key change standing = applied key.namespace change standing
 
 -- the system
 abbrev pub system_of : Core → System Definition

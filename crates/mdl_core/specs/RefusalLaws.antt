@@ -1,15 +1,20 @@
 -- Which refusal the space of one thread answers where more than one could be: the first cause in the order of the refusals.
-use Rattle.std.specs.Prelude.{◌≡◌, ◌⊎◌, ℕ, Bool, true, false, ◌&&◌, Some, None}
+use Rattle.std.specs.Prelude.{◌≡◌, ◌≢◌, ◌⊎◌, ℕ, Bool, true, false, ◌&&◌, Some, None}
 use Rattle.mdl_key.specs.declared.mode.Mode.{Mode}
+use Rattle.mdl_key.specs.declared.mode.Mode.TheVariants.{X}
 use Rattle.mdl_key.specs.Words.{kind_of, is_mode_of}
+use Rattle.mdl_defs.specs.declared.change.Change.{Change}
+use Rattle.mdl_defs.specs.declared.def_error.DefError.{DefError}
+use Rattle.mdl_defs.specs.Changes.{change_fault}
+use Rattle.mdl_defs.specs.Standings.{suits}
 use Rattle.mdl_calls.specs.declared.answers.Held.{Held}
 use Rattle.mdl_calls.specs.declared.space_error.SpaceError.{SpaceError}
-use Rattle.mdl_calls.specs.declared.space_error.SpaceError.TheVariants.{NoPlace, NotHeld, AlreadyWaiting, BadMode, CounterFull, Full}
-use Rattle.mdl_calls.specs.Words.{Refused, Call, Try_now, Begin_wait, Clone_ticket}
+use Rattle.mdl_calls.specs.declared.space_error.SpaceError.TheVariants.{NoPlace, NotHeld, NotExclusive, AlreadyWaiting, BadMode, VersionFull, CounterFull, Full, Def, WrongKind}
+use Rattle.mdl_calls.specs.Words.{Refused, Call, Try_now, Begin_wait, Clone_ticket, Change_definition}
 use Rattle.mdl_core.specs.declared.pending.Pending.{Pending}
 use Rattle.mdl_core.specs.CoreCalls.{outcome, held_ticket}
-use Rattle.mdl_core.specs.Cores.{Core, seat_at, has_key, key_at}
-use Rattle.mdl_core.specs.SessionLaws.{HasWait, HasNoNumber, HasNoRoom}
+use Rattle.mdl_core.specs.Cores.{Core, seat_at, has_key, key_at, standing_at}
+use Rattle.mdl_core.specs.SessionLaws.{HasWait, HasNoNumber, HasNoRoom, HasNoVersion}
 use Rattle.mdl_system.specs.Strength.{covers}
 
 -- the call is refused so, and nothing changes
@@ -56,3 +61,24 @@ RefusesClonesInOrder =
     × (IsIdle core who → serves_for ticket mode core ≡ true → HasNoNumber core who → IsRefused core call CounterFull)
     × (IsIdle core who → serves_for ticket mode core ≡ true → (HasNoNumber core who → ⊥) → HasNoRoom core ticket.place →
     IsRefused core call Full))
+
+-- a change of what stands under the key of a ticket's place isn't refused for the ticket's mode, nor for want of a version
+abbrev pub MayChangeThere : Core → Held → Type 0
+MayChangeThere core ticket = (ticket.mode ≡ X) × (HasNoVersion core ticket.place → ⊥)
+
+-- whether a change can be asked for under the key of a place
+abbrev pub suits_place : ℕ → Change → Core → Bool
+suits_place place change core = suits (key_at place core).namespace change
+
+-- a change of a definition is refused where the ticket isn't held; then where that isn't exclusive; then where no version is
+-- left; then where nothing of the kind can stand under the key; and last for what stands there
+abbrev pub RefusesChangesInOrder : Type 0
+RefusesChangesInOrder =
+    (core : Core) (who id : ℕ) (change : Change) → let call = Change_definition who id change in
+    (held_ticket who id core ≡ None → IsRefused core call NotHeld)
+    × ((ticket : Held) → held_ticket who id core ≡ Some ticket →
+    (ticket.mode ≢ X → IsRefused core call NotExclusive)
+    × (ticket.mode ≡ X → HasNoVersion core ticket.place → IsRefused core call VersionFull)
+    × (MayChangeThere core ticket → suits_place ticket.place change core ≡ false → IsRefused core call WrongKind)
+    × (MayChangeThere core ticket → suits_place ticket.place change core ≡ true →
+    (why : DefError) → change_fault (standing_at ticket.place core).definition change ≡ Some why → IsRefused core call (Def why)))

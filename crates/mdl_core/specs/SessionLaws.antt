@@ -2,17 +2,20 @@
 -- session's wait and of the space's limits is so.
 use Rattle.std.specs.Prelude.{◌≡◌, ◌≢◌, ◌↔◌, ℕ, ◌+◌, ◌-◌, ◌≤◌, ◌^◌, Bool, true, false, List, length, map, Option, Some, None, Contains}
 use Rattle.mdl_key.specs.Keys.{KeyName}
+use Rattle.mdl_key.specs.declared.mode.Mode.TheVariants.{X}
+use Rattle.mdl_defs.specs.declared.change.Change.{Change}
+use Rattle.mdl_defs.specs.declared.definition.Definition.{Definition}
 use Rattle.mdl_calls.specs.declared.answers.Held.{Held}
 use Rattle.mdl_calls.specs.declared.answers.Settled.TheVariants as settled_as
 use Rattle.mdl_core.specs.declared.pending.Pending.{Pending}
 use Rattle.mdl_calls.specs.declared.space_error.SpaceError.{SpaceError}
-use Rattle.mdl_calls.specs.declared.space_error.SpaceError.TheVariants.{NoPlace, CounterFull, Full}
-use Rattle.mdl_calls.specs.Words.{Refused, Has_wait, Has_killed, Call, Resolve, Try_now, Begin_wait, Wait_of, Kill, Clone_ticket, wait_number}
+use Rattle.mdl_calls.specs.declared.space_error.SpaceError.TheVariants.{NoPlace, VersionFull, CounterFull, Full}
+use Rattle.mdl_calls.specs.Words.{Refused, Has_wait, Has_killed, Reads, Changed, Call, Resolve, Try_now, Begin_wait, Wait_of, Kill, Clone_ticket, Read_definition, Change_definition, wait_number}
 use Rattle.mdl_core.specs.CoreCalls.{held_ticket}
 use Rattle.mdl_core.specs.CoreJoins.{Joins, own_at}
-use Rattle.mdl_core.specs.Cores.{Core, book_at, seat_at, key_at, has_key, has_session}
+use Rattle.mdl_core.specs.Cores.{Core, book_at, seat_at, key_at, standing_at, has_key, has_session}
 use Rattle.mdl_core.specs.CoreSystems.{system_of, state_of}
-use Rattle.mdl_system.specs.Systems.{Unsettled, Holding, Waiter, System, ListsHeld, HasNoWait}
+use Rattle.mdl_system.specs.Systems.{Unsettled, Holding, Waiter, System, Held as Holds, ListsHeld, HasNoWait}
 use Rattle.mdl_core.specs.Ties.{IsSound}
 
 -- ---- what a session has
@@ -92,6 +95,28 @@ KillsJustThatWait =
     × ((a b : Core) (target : ℕ) (number : Option ℕ) → Joins a (Wait_of target) (Has_wait number) b
     → (has_session target a ≡ true → number ≡ wait_number (own_at a target)) × (has_session target a ≡ false → number ≡ None))
 
+-- ---- definitions
+
+-- a session holds this ticket by the system, and by that number
+abbrev pub HoldsBy : Core → ℕ → ℕ → Holding → Type 0
+HoldsBy core who id ticket = Holds (system_of core) who ticket × (ticket.number ≡ id)
+
+-- what is read under a ticket is what the system says is defined under its key, and reading changes nothing
+abbrev pub ReadsTellWhatStands : Type 0
+ReadsTellWhatStands =
+    (a b : Core) (who id version : ℕ) (definition : Option Definition) → Joins a (Read_definition who id) (Reads version definition) b →
+    ((ticket : Holding) × HoldsBy a who id ticket × ((system_of a).definitions ticket.key ≡ record { version = version; definition = definition }))
+    × (b ≡ a)
+
+-- a change is made under a ticket that is held exclusively, and tells the version that the system then has under its key; one
+-- that is refused changes nothing
+abbrev pub ChangesTellTheVersion : Type 0
+ChangesTellTheVersion =
+    (a b : Core) (who id : ℕ) (change : Change) →
+    ((version : ℕ) → Joins a (Change_definition who id change) (Changed version) b →
+    (ticket : Holding) × HoldsBy a who id ticket × (ticket.mode ≡ X) × (((system_of b).definitions ticket.key).version ≡ version))
+    × ((refusal : SpaceError) → Joins a (Change_definition who id change) (Refused refusal) b → b ≡ a)
+
 -- ---- limits
 
 -- no place has the key
@@ -127,11 +152,22 @@ LacksNumber core (Begin_wait who place mode) = HasNoNumber core who
 LacksNumber core (Clone_ticket who id mode) = HasNoNumber core who
 LacksNumber core _ = ⊥
 
+-- what stands under the key of a place had all the versions that it can have
+abbrev pub HasNoVersion : Core → ℕ → Type 0
+HasNoVersion core place = 1000000 ≤ (standing_at place core).version
+
+-- why there is no version left
+abbrev pub LacksVersion : Core → Call → Type 0
+LacksVersion core (Change_definition who id change) =
+    (ticket : Held) × (held_ticket who id core ≡ Some ticket) × HasNoVersion core ticket.place
+LacksVersion core _ = ⊥
+
 -- the limit that a refusal names is met
 abbrev pub MeetsLimit : Core → Call → SpaceError → Type 0
 MeetsLimit core call NoPlace = LacksPlace core call
 MeetsLimit core call Full = LacksRoom core call
 MeetsLimit core call CounterFull = LacksNumber core call
+MeetsLimit core call VersionFull = LacksVersion core call
 MeetsLimit core call _ = Unit {0}
 
 -- no call is refused by a limit that isn't met

@@ -1,5 +1,5 @@
--- What is always so in the lock space of one thread: books and sessions tell the same tickets and waits, the system that they
--- are is lawful, and nobody is forgotten in it.
+-- What is always so in the lock space of one thread: books and sessions tell the same tickets and waits, what stands under a key
+-- may stand there, the system that they are is lawful, and nobody is forgotten in it.
 use Rattle.std.specs.Prelude.{◌≡◌, ◌≢◌, ◌⊎◌, ◌↔◌, ℕ, ◌<◌, ◌≤◌, true, Some, MatchOption, Contains, AllPairs, IsTrue}
 use Rattle.mdl_key.specs.Modes.{is_mode_of}
 use Rattle.mdl_book.specs.declared.ticket.Ticket.{Ticket}
@@ -8,7 +8,8 @@ use Rattle.mdl_book.specs.Tickets.{ticket_id}
 use Rattle.mdl_calls.specs.declared.answers.Held.{Held}
 use Rattle.mdl_calls.specs.declared.answers.Settled.TheVariants as settled_as
 use Rattle.mdl_core.specs.declared.pending.Pending.{Pending}
-use Rattle.mdl_core.specs.Cores.{Core, book_at, seat_at, key_at, has_key, has_session}
+use Rattle.mdl_defs.specs.Standings.{MayStand}
+use Rattle.mdl_core.specs.Cores.{Core, book_at, seat_at, key_at, standing_at, has_key, has_session}
 use Rattle.mdl_core.specs.CoreSystems.{system_of}
 use Rattle.mdl_calls.specs.Own.{IsRising}
 use Rattle.mdl_core.specs.Seats.{SeatView, own_of, ticket_of_wait}
@@ -60,8 +61,13 @@ pub record IsTied (core : Core) : Type 0 where
       → AllPairs (λ (one other : Ticket). one.session ≢ other.session) (book_at place core).waiting
   pub numbered : (who : ℕ) → has_session who core ≡ true → IsNumbered (seat_at who core)
 
+-- what stands under the key of each place may stand there
+abbrev pub AllMayStand : Core → Type 0
+AllMayStand core = (place : ℕ) → has_key place core ≡ true → MayStand (key_at place core).namespace (standing_at place core)
+
 -- all that is always so
 pub record IsSound (core : Core) : Type 0 where
   pub tied : IsTied core
+  pub standing : AllMayStand core
   pub lawful : IsLawful (system_of core)
   pub none_forgotten : NoneForgotten (system_of core)

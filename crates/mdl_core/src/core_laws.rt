@@ -5,12 +5,12 @@ ghost use Rattle.mdl_core.specs.SearchLaws.{SearchesFindDeadlocks, SearchesSuffi
 
 /// A call changes nothing in the system of locks, or it is an event there, after which waiters of that event's key are granted,
 /// each time the first that can be.
-pub fn calls_are_events<C>()
-    ensures { CallsAreEvents C }
+pub fn calls_are_events()
+    ensures { CallsAreEvents }
 {}
 
-/// After each call books and sessions tell the same, no two sessions hold clashing tickets of one key, and no waiter is
-/// forgotten.
+/// After each call books and sessions tell the same, what stands under a key may stand there, no two sessions hold clashing
+/// tickets of one key, and no waiter is forgotten.
 pub fn calls_keep_sound()
     ensures { CallsKeepSound }
 {}
@@ -21,8 +21,8 @@ pub fn grants_what_is_grantable()
 {}
 
 /// Whatever is asked of an empty space, events have led from the empty system to what it is in the end.
-pub fn calls_lead_by_events<C>()
-    ensures { CallsLeadByEvents C }
+pub fn calls_lead_by_events()
+    ensures { CallsLeadByEvents }
 {}
 
 /// A search finds no cycle exactly where the session is part of no deadlock; else it names the victim of the chosen one.

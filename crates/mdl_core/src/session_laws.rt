@@ -1,7 +1,7 @@
 //! Laws of what a session has in the space of one thread, and of what its calls are told. Each is proved as the contract of a
 //! function that does nothing.
-ghost use Rattle.mdl_core.specs.SessionLaws.{SessionsHaveWhatTheSystemSays, KillsJustThatWait, RefusesForCause};
-ghost use Rattle.mdl_core.specs.RefusalLaws.{RefusesWishesInOrder, RefusesClonesInOrder};
+ghost use Rattle.mdl_core.specs.SessionLaws.{SessionsHaveWhatTheSystemSays, KillsJustThatWait, ReadsTellWhatStands, ChangesTellTheVersion, RefusesForCause};
+ghost use Rattle.mdl_core.specs.RefusalLaws.{RefusesWishesInOrder, RefusesClonesInOrder, RefusesChangesInOrder};
 
 /// What a session holds, and how its wait stands, is what the system of locks says of it, and nothing there is of what is no
 /// session.
@@ -15,7 +15,18 @@ pub fn kills_just_that_wait()
     ensures { KillsJustThatWait }
 {}
 
-/// No call is refused for want of a place, for a full lock or for a full counter where that limit isn't met.
+/// What is read under a ticket is what the system of locks says is defined under its key, and reading changes nothing.
+pub fn reads_tell_what_stands()
+    ensures { ReadsTellWhatStands }
+{}
+
+/// A change of a definition is made under a ticket that is held exclusively, and tells the version that the system of locks then
+/// has under its key. One that is refused changes nothing.
+pub fn changes_tell_the_version()
+    ensures { ChangesTellTheVersion }
+{}
+
+/// No call is refused for want of a place or of a version, for a full lock or for a full counter where that limit isn't met.
 pub fn refuses_for_cause()
     ensures { RefusesForCause }
 {}
@@ -30,4 +41,10 @@ pub fn refuses_wishes_in_order()
 /// serve; then where the session has used up its numbers; and last of a full lock.
 pub fn refuses_clones_in_order()
     ensures { RefusesClonesInOrder }
+{}
+
+/// A change of a definition is refused where the ticket isn't held; then where that isn't exclusive; then where no version is
+/// left; then where nothing of the kind can stand under the key; and last for what stands there.
+pub fn refuses_changes_in_order()
+    ensures { RefusesChangesInOrder }
 {}

@@ -1,9 +1,12 @@
 -- Laws of changes. What may stand is this project's own choice.
 use Rattle.std.specs.Prelude.{◌≡◌, Option, None}
+use Rattle.mdl_key.specs.declared.namespace.Namespace.{Namespace}
 use Rattle.mdl_defs.specs.declared.change.Change.{Change}
 use Rattle.mdl_defs.specs.declared.definition.Definition.{Definition}
+use Rattle.mdl_defs.specs.declared.standing.Standing.{Standing}
 use Rattle.mdl_defs.specs.Changes.{change_fault, changed}
 use Rattle.mdl_defs.specs.Definitions.{IsWellFormed}
+use Rattle.mdl_defs.specs.Standings.{standing_fault, standing_after, MayStand}
 
 -- after any change that isn't refused, what stands may stand, where what stood before might
 abbrev pub ChangesKeepWellFormed : Type 0
@@ -12,3 +15,11 @@ ChangesKeepWellFormed =
     IsWellFormed standing →
     change_fault standing change ≡ None →
     IsWellFormed (changed standing change)
+
+-- so what stands under a key may stand there after any change that isn't refused, where what stood before might
+abbrev pub ChangesKeepStanding : Type 0
+ChangesKeepStanding =
+    (namespace : Namespace) (standing : Standing) (change : Change) →
+    MayStand namespace standing →
+    standing_fault namespace change standing ≡ None →
+    MayStand namespace (standing_after change standing)

@@ -18,5 +18,5 @@ pub use change_error::ChangeError;
 pub use columns::{Column, Columns};
 pub use def_error::DefError;
 pub use definition::Definition;
-pub use laws::changes_keep_well_formed;
+pub use laws::{changes_keep_standing, changes_keep_well_formed};
 pub use standing::Standing;

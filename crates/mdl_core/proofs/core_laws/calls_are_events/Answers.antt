@@ -3,4 +3,4 @@ use Rattle.mdl_core.proofs.CoreSound.{calls_are-events}
 use Rattle.mdl_core.proofs.core_laws.calls_are_events.Goals as goal
 
 pub returns : goal.returns
-returns g c = calls_are-events g.row.C.Denot
+returns c = calls_are-events
