@@ -1,5 +1,5 @@
 -- The laws of a lock space, of the space of one thread: what its sessions read and change under their tickets.
-use Rattle.std.proofs.Common.{◌≡◌, ◌≢◌, ◌⊎◌, inl, inr, ℕ, zero, suc, ◌+◌, ◌≤◌, Bool, true, false, not, List, [], ◌∷◌, length, ◌-◌, Option, Some, None, option_map, MatchOption, IfSome, Contains, if◌then◌else◌, refl, sym, ap, subst, ◌∙◌, arith}
+use Rattle.std.proofs.Common.{◌≡◌, ◌≢◌, ◌⊎◌, inl, inr, ℕ, zero, suc, ◌+◌, ◌≤◌, Bool, true, false, not, [], ◌∷◌, length, ◌-◌, Option, Some, None, option_map, MatchOption, IfSome, Contains, if◌then◌else◌, refl, sym, ap, subst, ◌∙◌, arith}
 use Rattle.std.proofs.lemmas.Bool.Decides.{eqb_tells}
 use Rattle.mdl_key.specs.Keys.{KeyName, global_key}
 use Rattle.mdl_key.specs.declared.mode.Mode.TheVariants.{X}
@@ -13,14 +13,14 @@ use Rattle.mdl_book.specs.Books.{empty_book, redefining}
 use Rattle.mdl_book.specs.declared.book_view.BookView.{BookView}
 use Rattle.mdl_book.specs.declared.ticket.Ticket.{Ticket}
 use Rattle.mdl_calls.specs.declared.answers.Held.{Held}
-use Rattle.mdl_calls.specs.declared.space_error.SpaceError.TheVariants.{NotExclusive, OutOfMemory}
+use Rattle.mdl_calls.specs.declared.space_error.SpaceError.TheVariants.{NotExclusive}
 use Rattle.mdl_calls.specs.declared.answers.TimedOut.TheVariants.{ByThisCall}
 use Rattle.mdl_calls.specs.Words.{Answer, Granted, Waits, Victim_is, Timed_out, Lost, Has_killed, Done, Refused, Reads, Changed, Call, Try_now, Begin_wait, Search, Settle_timeout, End_wait, Kill, Release, Clone_ticket, Unpin, Read_definition, Read_kept, Change_definition, caller, HoldsAt, IsChangeOf, cause_of, is_number, ticket_held, read_under, redefined_place}
 use Rattle.mdl_core.specs.CoreJoins.{SpeaksFor, own_at, Knows, HasRead, HasSeen, Pins, Joins}
 use Rattle.mdl_core.specs.Ties.{IsTied, in_book_of}
-use Rattle.mdl_core.specs.Changes.{Change, Gain, Lose, Queue, Admit, Settle, Leave, Take_up, Redefine, changing, book_after, redefining_at, admitting_if, admitting_up_to, next_ready, serving}
+use Rattle.mdl_core.specs.Changes.{Change, Gain, Lose, Queue, Admit, Settle, Leave, Take_up, Redefine, changing, book_after, redefining_at, admitting_if, admitting_up_to, next_ready}
 use Rattle.mdl_core.specs.CoreCalls.{held_ticket, redefining_fault, redefined_unless, redefining_of}
-use Rattle.mdl_core.specs.Cores.{Core, book_at, seat_at, key_at, standing_at, has_key, has_session, booking, seating}
+use Rattle.mdl_core.specs.Cores.{Core, book_at, seat_at, key_at, standing_at, has_key, has_session, booking}
 use Rattle.mdl_core.proofs.CoreReads.{within, has_key-booking, booked-same, booked-other}
 use Rattle.mdl_core.proofs.CoreServing.{found-first}
 use Rattle.mdl_core.specs.ChangeEvents.{IsChangeEvent, holding_of}
@@ -30,7 +30,7 @@ use Rattle.mdl_core.proofs.CallLaws.{joins-comes, core-fits, core-remembers}
 use Rattle.mdl_core.proofs.Ways.{Way, Stay, Open, Settle_wait, Make, Made, makes_room, served_if, space_by}
 use Rattle.mdl_key.specs.Words.{Clashes}
 use Rattle.mdl_core.proofs.CoreGranted.{granted-of_held}
-use Rattle.mdl_system.specs.Words.{Event, ChangeDefinition, Holding, lock_kind}
+use Rattle.mdl_system.specs.Words.{ChangeDefinition, Holding, lock_kind}
 use Rattle.mdl_system.proofs.HeldLemmas.{exclusive-clash}
 use Rattle.std.proofs.lemmas.List.{get_or_append_left}
 use Rattle.mdl_core.proofs.CoreStandings.{held-place, read-of, IsRedefined, redefined-of, changes-tell}
@@ -99,7 +99,7 @@ core-redefines a b who id version change ticket its (speaks, has, inr made) =
     let after = standing_after change (standing_at ticket.place a) in (
       after.definition,
       subst (λ n. HasRead b who ticket.place (record { version = n; definition = after.definition })) counted
-      (redefined-there a b who id version change ticket speaks its is),
+          (redefined-there a b who id version change ticket speaks its is),
     )
 
 -- it is what the change makes of what stood there, or the change is refused for that
@@ -157,7 +157,7 @@ keeps-booking core place book key same other has = (
   has_key-booking core place other book ∙ has,
   elim (eqb_tells other place) [
     | inl e ↦ subst (λ p. standing_at p (booking place book core) ≡ standing_at p core) (sym e.1)
-      (ap (λ (x : BookView). x.standing) (booked-same core place book key) ∙ same)
+        (ap (λ (x : BookView). x.standing) (booked-same core place book key) ∙ same)
     | inr e ↦ ap (λ (x : BookView). x.standing) (booked-other core place other book key has e.1)
   ],
 )
@@ -329,7 +329,7 @@ core-stands a b call answer w place standing speaks other holds joins read = by 
     by (inr is) = elim (eqb_tells w is.who) [
       | inl e ↦ absurd (other (is.mine ∙ ap Some (sym e.1)) (subst (λ v. redefined_place call answer (own_at a v) ≡ Some place) (sym e.1) is.there))
       | inr e ↦ absurd (exclusive-alone a w is.who read.0.0 is.ticket speaks
-        (subst (λ (o : Option ℕ). IfSome o (SpeaksFor a)) is.mine joins.0).0 e.1 read.0.1 is.held (read.0.2 ∙ sym is.at) is.exclusive)
+          (subst (λ (o : Option ℕ). IfSome o (SpeaksFor a)) is.mine joins.0).0 e.1 read.0.1 is.held (read.0.2 ∙ sym is.at) is.exclusive)
     ]
 
 -- what is read is seen

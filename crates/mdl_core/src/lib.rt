@@ -20,7 +20,7 @@ pub use new_error::NewError;
 pub use pending::Pending;
 pub use run_laws::{frugal_runs, outcomes_are_runs, sure_runs};
 pub use session_laws::{
-    changes_tell_the_version, kills_just_that_wait, reads_tell_what_stands, refuses_changes_in_order,
-    refuses_clones_in_order, refuses_for_cause, refuses_wishes_in_order,
+    changes_tell_the_version, kills_just_that_wait, reads_tell_what_stands,
+    refuses_changes_in_order, refuses_clones_in_order, refuses_for_cause, refuses_wishes_in_order,
     sessions_have_what_the_system_says,
 };
