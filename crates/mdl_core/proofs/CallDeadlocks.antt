@@ -1,5 +1,5 @@
 -- Deadlocks come to be only through sessions that begin to wait, and searches end these.
-use Rattle.std.proofs.Common.{◌≡◌, ℕ, zero, suc, Bool, true, false, ◌||◌, ◌==◌, inl, inr, List, [], ◌∷◌, Option, None, refl, sym, ap, subst, ◌∙◌}
+use Rattle.std.proofs.Common.{◌≡◌, ℕ, zero, suc, Bool, true, false, ◌||◌, ◌==◌, inl, inr, List, [], ◌∷◌, Option, refl, sym, ap, subst, ◌∙◌}
 use Rattle.std.proofs.Math.Bool.{or-false, and-not_self}
 use Rattle.std.proofs.lemmas.Bool.{false≢true}
 use Rattle.mdl_key.specs.Keys.{KeyName}

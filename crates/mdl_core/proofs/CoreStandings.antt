@@ -1,5 +1,5 @@
 -- What is read and changed under a ticket, as the system of locks says it.
-use Rattle.std.proofs.Common.{◌≡◌, ℕ, ◌+◌, Bool, true, false, not, Option, Some, None, Contains, if◌then◌else◌, inl, inr, refl, sym, ap, subst, ◌∙◌, eqb-true}
+use Rattle.std.proofs.Common.{◌≡◌, ℕ, ◌+◌, Bool, true, false, not, Option, Some, None, Contains, if◌then◌else◌, inl, inr, refl, sym, ap, ◌∙◌, eqb-true}
 use Rattle.mdl_key.specs.declared.mode.Mode.TheVariants.{X}
 use Rattle.mdl_key.specs.Words.{same_mode}
 use Rattle.mdl_defs.specs.declared.change.Change.{Change}
@@ -10,7 +10,7 @@ use Rattle.mdl_book.specs.declared.book_view.BookView.{BookView}
 use Rattle.mdl_calls.specs.declared.answers.Held.{Held}
 use Rattle.mdl_calls.specs.declared.space_error.SpaceError.{SpaceError}
 use Rattle.mdl_calls.specs.declared.space_error.SpaceError.TheVariants.{NotHeld, NotExclusive}
-use Rattle.mdl_calls.specs.Words.{Answer, Refused, Reads, Changed, Change_definition, cause_of, is_number}
+use Rattle.mdl_calls.specs.Words.{Answer, Refused, Reads, Changed, Read_definition, Change_definition, cause_of, is_number}
 use Rattle.mdl_core.specs.CoreJoins.{Joins}
 use Rattle.mdl_core.specs.ChangeEvents.{holding_of}
 use Rattle.mdl_core.specs.Changes.{redefining_at}
@@ -45,21 +45,34 @@ module _ (a : Core) (who id : ℕ) (ticket : Held) (tied : IsTied a) (session : 
 
 -- a read that is answered with what stands
 pub read-of : (o : Option Held) (a b : Core) (version : ℕ) (definition : Option Definition) → reading_of o a ≡ (Reads version definition, b)
-    → (ticket : Held) × (o ≡ Some ticket) × (defined_in (book_at ticket.place a) ≡ record { version = version; definition = definition }) × (b ≡ a)
+    → (ticket : Held) × (o ≡ Some ticket) × (defined_in (book_at ticket.place a) ≡ record { version = version; definition = definition })
 read-of None a b version definition e = let clash : Refused NotHeld ≡ Reads version definition = ap (λ (x : Answer × Core). x.0) e in cc
 read-of (Some ticket) a b version definition e =
     let is : Reads (standing_at ticket.place a).version (standing_at ticket.place a).definition ≡ Reads version definition = ap (λ (x : Answer × Core). x.0) e in
     let one : (standing_at ticket.place a).version ≡ version = cc in
     let two : (standing_at ticket.place a).definition ≡ definition = cc in
-    (ticket, refl, (λ i. record { version = one i; definition = two i }), sym (ap (λ (x : Answer × Core). x.1) e))
+    (ticket, refl, (λ i. record { version = one i; definition = two i }))
+
+-- a read changes nothing
+pub read-leaves : (o : Option Held) (a b : Core) (answer : Answer) → reading_of o a ≡ (answer, b) → b ≡ a
+read-leaves None a b answer e = sym (ap (λ (x : Answer × Core). x.1) e)
+read-leaves (Some ticket) a b answer e = sym (ap (λ (x : Answer × Core). x.1) e)
 
 pub reads-tell : ReadsTellWhatStands
-reads-tell a b who id version definition (speaks, has, inl none) = let e = none.1 in cc
-reads-tell a b who id version definition (speaks, has, inr made) =
-    let h = read-of (held_ticket who id a) a b version definition made in
-    let tied = speaks.1.tied in
-    let key : has_key (h.0).place a ≡ true = held-place a who id h.0 tied speaks.0 h.1 in
-    ((holding_of who h.0 a, holds-by a who id h.0 tied speaks.0 h.1, ap defined_in (book_of-at a (h.0).place tied key) ∙ h.2), h.3)
+reads-tell a b who id = (tells, leaves)
+  where
+    tells : (version : ℕ) (definition : Option Definition) → Joins a (Read_definition who id) (Reads version definition) b
+        → (ticket : Holding) × HoldsBy a who id ticket × ((system_of a).definitions ticket.key ≡ record { version = version; definition = definition })
+    tells version definition (speaks, has, inl none) = let e = none.1 in cc
+    tells version definition (speaks, has, inr made) =
+        let h = read-of (held_ticket who id a) a b version definition made in
+        let tied = speaks.1.tied in
+        let key : has_key (h.0).place a ≡ true = held-place a who id h.0 tied speaks.0 h.1 in
+        (holding_of who h.0 a, holds-by a who id h.0 tied speaks.0 h.1, ap defined_in (book_of-at a (h.0).place tied key) ∙ h.2)
+
+    leaves : (answer : Answer) → Joins a (Read_definition who id) answer b → b ≡ a
+    leaves answer (speaks, has, inl none) = none.2
+    leaves answer (speaks, has, inr made) = read-leaves (held_ticket who id a) a b answer made
 
 -- ---- changes
 

@@ -1,5 +1,5 @@
--- Laws of the lock space of one thread: its calls are events of the system of locks, in which changes make of what stands under
--- a key what they make of definitions.
+-- Laws of the lock space of one thread: its calls are events of the system of locks, whose definitions are those of schemas and
+-- tables.
 use Rattle.std.specs.Prelude.{◌≡◌, ◌⊎◌, ℕ, Bool, true, false, List, [], ◌∷◌, ◌++◌, Option, Some, Contains}
 use Rattle.mdl_key.specs.Keys.{KeyName}
 use Rattle.mdl_key.specs.declared.mode.Mode.{Mode}

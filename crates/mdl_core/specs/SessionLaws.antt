@@ -10,7 +10,7 @@ use Rattle.mdl_calls.specs.declared.answers.Settled.TheVariants as settled_as
 use Rattle.mdl_core.specs.declared.pending.Pending.{Pending}
 use Rattle.mdl_calls.specs.declared.space_error.SpaceError.{SpaceError}
 use Rattle.mdl_calls.specs.declared.space_error.SpaceError.TheVariants.{NoPlace, VersionFull, CounterFull, Full}
-use Rattle.mdl_calls.specs.Words.{Refused, Has_wait, Has_killed, Reads, Changed, Call, Resolve, Try_now, Begin_wait, Wait_of, Kill, Clone_ticket, Read_definition, Change_definition, wait_number}
+use Rattle.mdl_calls.specs.Words.{Answer, Refused, Has_wait, Has_killed, Reads, Changed, Call, Resolve, Try_now, Begin_wait, Wait_of, Kill, Clone_ticket, Read_definition, Change_definition, wait_number}
 use Rattle.mdl_core.specs.CoreCalls.{held_ticket}
 use Rattle.mdl_core.specs.CoreJoins.{Joins, own_at}
 use Rattle.mdl_core.specs.Cores.{Core, book_at, seat_at, key_at, standing_at, has_key, has_session}
@@ -101,12 +101,14 @@ KillsJustThatWait =
 abbrev pub HoldsBy : Core → ℕ → ℕ → Holding → Type 0
 HoldsBy core who id ticket = Holds (system_of core) who ticket × (ticket.number ≡ id)
 
--- what is read under a ticket is what the system says is defined under its key, and reading changes nothing
+-- what is read under a ticket is what the system says is defined under its key; and reading changes nothing, also where it is
+-- refused
 abbrev pub ReadsTellWhatStands : Type 0
 ReadsTellWhatStands =
-    (a b : Core) (who id version : ℕ) (definition : Option Definition) → Joins a (Read_definition who id) (Reads version definition) b →
-    ((ticket : Holding) × HoldsBy a who id ticket × ((system_of a).definitions ticket.key ≡ record { version = version; definition = definition }))
-    × (b ≡ a)
+    (a b : Core) (who id : ℕ) →
+    ((version : ℕ) (definition : Option Definition) → Joins a (Read_definition who id) (Reads version definition) b →
+    (ticket : Holding) × HoldsBy a who id ticket × ((system_of a).definitions ticket.key ≡ record { version = version; definition = definition }))
+    × ((answer : Answer) → Joins a (Read_definition who id) answer b → b ≡ a)
 
 -- a change is made under a ticket that is held exclusively, and tells the version that the system then has under its key; one
 -- that is refused changes nothing

@@ -15,7 +15,8 @@ pub fn kills_just_that_wait()
     ensures { KillsJustThatWait }
 {}
 
-/// What is read under a ticket is what the system of locks says is defined under its key, and reading changes nothing.
+/// What is read under a ticket is what the system of locks says is defined under its key. Reading changes nothing, also where it
+/// is refused.
 pub fn reads_tell_what_stands()
     ensures { ReadsTellWhatStands }
 {}

@@ -1,11 +1,11 @@
 -- What stands under a key, and how that is changed, after MySQL 5.7: the Reference Manual, "CREATE TABLE Statement". That a
 -- schema stands under the key of a schema alone and a table under that of a table, and the limit, are this project's own.
-use Rattle.std.specs.Prelude.{◌≡◌, ℕ, ◌+◌, ◌≤◌, Bool, true, false, not, ◌&&◌, nat_le, is_some, if◌then◌else◌, Option, Some, None}
+use Rattle.std.specs.Prelude.{◌≡◌, ◌+◌, ◌≤◌, Bool, true, false, not, ◌&&◌, nat_le, is_some, if◌then◌else◌, Option, Some, None}
 use Rattle.std.specs.Option.{option_map, IfSome}
 use Rattle.mdl_key.specs.declared.namespace.Namespace.{Namespace}
 use Rattle.mdl_key.specs.declared.namespace.Namespace.TheVariants as of
 use Rattle.mdl_defs.specs.declared.change.Change.{Change}
-use Rattle.mdl_defs.specs.declared.change.Change.TheVariants.{Create, Drop, AddColumn, DropColumn, Put}
+use Rattle.mdl_defs.specs.declared.change.Change.TheVariants.{Create, Put}
 use Rattle.mdl_defs.specs.declared.change_error.ChangeError.{ChangeError}
 use Rattle.mdl_defs.specs.declared.change_error.ChangeError.TheVariants.{VersionFull, WrongKind, Def}
 use Rattle.mdl_defs.specs.declared.definition.Definition.{Definition}
