@@ -33,7 +33,7 @@ use Rattle.mdl_core.proofs.CoreGranted.{granted-of_held}
 use Rattle.mdl_system.specs.Words.{ChangeDefinition, Holding, lock_kind}
 use Rattle.mdl_system.proofs.HeldLemmas.{exclusive-clash}
 use Rattle.std.proofs.lemmas.List.{get_or_append_left}
-use Rattle.mdl_core.proofs.CoreStandings.{held-place, read-of, IsRedefined, redefined-of, changes-tell}
+use Rattle.mdl_core.proofs.CoreStandings.{held-place, read-of, read-leaves, IsRedefined, redefined-of, changes-tell}
 
 -- ---- reads
 
@@ -53,7 +53,7 @@ read-there a b who id version definition ticket its (speaks, has, inr made) =
     let same : h.0 ≡ ticket = same_ticket (held_ticket who id a) h.0 ticket h.1 its in
     let stands : standing_at (h.0).place a ≡ record { version = version; definition = definition } =
     (λ i. record { version = (h.2 i).version; definition = (h.2 i).definition }) in
-    subst (λ c. HasRead c who ticket.place (record { version = version; definition = definition })) (sym h.3) (
+    subst (λ c. HasRead c who ticket.place (record { version = version; definition = definition })) (sym (read-leaves (held_ticket who id a) a b (Reads version definition) made)) (
       held-there a who id ticket its,
       held-place a who id ticket speaks.1.tied speaks.0 its,
       ap (λ (t : Held). standing_at t.place a) (sym same) ∙ stands,
