@@ -3,3 +3,4 @@ pub mod LoneLemmas
 pub mod OwnLemmas
 pub mod RunLemmas
 pub mod SeekingLemmas
+pub mod StandingLemmas

@@ -1,7 +1,8 @@
--- What a session reads and changes under its tickets: the definition of a key, with its version.
-use Rattle.std.specs.Prelude.{◌≡◌, ◌⊎◌, ℕ, ◌+◌, List, Option, Some, None, MatchOption, Contains}
+-- What a session reads and changes under its tickets: the definition of a key, with its version. Which tables are told it.
+use Rattle.std.specs.Prelude.{◌≡◌, ◌⊎◌, ℕ, ◌+◌, List, Option, Some, None, MatchOption, Contains, All, AllPairs}
 use Rattle.std.specs.Option.{option_map}
-use Rattle.mdl_key.specs.Keys.{KeyName}
+use Rattle.std.specs.declared.cmp.Ordering.TheVariants.{Less}
+use Rattle.mdl_key.specs.Keys.{KeyName, table_key, key_cmp}
 use Rattle.mdl_defs.specs.declared.change.Change.{Change}
 use Rattle.mdl_defs.specs.declared.change_error.ChangeError.{ChangeError}
 use Rattle.mdl_defs.specs.declared.change_error.ChangeError.TheVariants as fault
@@ -12,11 +13,16 @@ use Rattle.mdl_calls.specs.declared.space_error.SpaceError.{SpaceError}
 use Rattle.mdl_calls.specs.declared.space_error.SpaceError.TheVariants.{VersionFull, WrongKind, Def, OutOfMemory}
 use Rattle.mdl_calls.specs.Answers.{Answer, Refused, Changed}
 use Rattle.mdl_calls.specs.Calls.{Call, Read_definition, Read_kept, Change_definition}
-use Rattle.mdl_calls.specs.Own.{Own, ticket_held}
+use Rattle.mdl_calls.specs.Causes.{Knowledge}
+use Rattle.mdl_calls.specs.Own.{Own, Wait, ticket_held}
 
 -- a session holds a ticket at a place
 abbrev pub HoldsAt : ℕ → Own → Type 0
 HoldsAt place own = (ticket : Held) × Contains own.held ticket × (ticket.place ≡ place)
+
+-- a session has a wait at a place
+abbrev pub AwaitsAt : ℕ → Own → Type 0
+AwaitsAt place own = (wait : Wait) × (own.wait ≡ Some wait) × (wait.place ≡ place)
 
 -- the ticket under which a call reads
 abbrev pub read_under : Call → Option ℕ
@@ -42,3 +48,15 @@ abbrev pub IsChangeOf : KeyName → Change → Standing → Answer → Type 0
 IsChangeOf key change standing answer =
     (answer ≡ Refused OutOfMemory)
     ⊎ MatchOption (standing_fault key.namespace change standing) (answer ≡ Changed (standing.version + 1)) (λ why. answer ≡ Refused (cause_of why))
+
+-- a session knows that a table of this schema has the place
+abbrev pub HasTableOf : Knowledge → List ℕ → ℕ → Type 0
+HasTableOf knows schema place = (table : List ℕ) × knows place (table_key schema table)
+
+-- the key of the one place comes before that of the other
+abbrev pub ComesBefore : Knowledge → ℕ → ℕ → Type 0
+ComesBefore knows one other = (key later : KeyName) → knows one key → knows other later → key_cmp key later ≡ Less
+
+-- tables of this schema, which the session knows, have these places, which are in the order of their keys, each once
+abbrev pub AreTablesOf : Knowledge → List ℕ → List ℕ → Type 0
+AreTablesOf knows schema places = All (HasTableOf knows schema) places × AllPairs (ComesBefore knows) places

@@ -1,5 +1,8 @@
 //! Why a call of a lock space is refused.
-use mdl_defs::DefError;
+ghost use Rattle.std.specs.Prelude.{◌≡◌};
+ghost use Rattle.mdl_calls.specs.Reads.{cause_of};
+
+use mdl_defs::{ChangeError, DefError};
 use thiserror::Error;
 
 /// Why a call of a lock space is refused.
@@ -54,4 +57,17 @@ pub enum SpaceError {
     /// The session has a ticket or a wait at the place.
     #[error("the place is in use")]
     InUse,
+}
+
+impl From<ChangeError> for SpaceError {
+    ghost from_gives = { λ why cause. cause ≡ cause_of why };
+
+    fn from(why: ChangeError) -> SpaceError {
+        match why {
+            ChangeError::VersionFull => SpaceError::VersionFull,
+            ChangeError::WrongKind => SpaceError::WrongKind,
+            ChangeError::Def(why) => SpaceError::Def(why),
+            ChangeError::OutOfMemory => SpaceError::OutOfMemory,
+        }
+    }
 }

@@ -19,6 +19,7 @@ pub mod Effects
 pub mod KnownPlaces
 pub mod MadeCalls
 pub mod PairLemmas
+pub mod ReadLaws
 pub mod RefusalOrder
 pub mod RunOutcomes
 pub mod SearchRuns

@@ -1,12 +1,13 @@
 -- How a call joins the space of one thread before it to the space after it, and what a session has and knows there.
-use Rattle.std.specs.Prelude.{◌≡◌, ℕ, true, Some, MatchOption}
+use Rattle.std.specs.Prelude.{◌≡◌, ◌≤◌, ℕ, true, Some, MatchOption}
 use Rattle.std.specs.Option.{IfSome}
 use Rattle.mdl_key.specs.Keys.{KeyName}
+use Rattle.mdl_defs.specs.declared.standing.Standing.{Standing}
 use Rattle.mdl_calls.specs.declared.answers.Settled.{Settled}
 use Rattle.mdl_core.specs.declared.pending.Pending.{Pending}
-use Rattle.mdl_calls.specs.Words.{Answer, Call, caller, takes_memory, Own, Numbers}
+use Rattle.mdl_calls.specs.Words.{Answer, Call, caller, takes_memory, Own, Numbers, HoldsAt}
 use Rattle.mdl_core.specs.CoreCalls.{has_call, outcome, Makes, wait_at}
-use Rattle.mdl_core.specs.Cores.{Core, seat_at, has_key, has_session, key_at}
+use Rattle.mdl_core.specs.Cores.{Core, seat_at, has_key, has_session, key_at, standing_at}
 use Rattle.mdl_core.specs.Seats.{own_of, numbers_of}
 use Rattle.mdl_core.specs.Ties.{IsSound}
 
@@ -29,6 +30,18 @@ Knows core who place key = (has_key place core ≡ true) × (key_at place core �
 -- a session's wait is settled so
 abbrev pub IsSettledAs : Core → ℕ → Settled → Type 0
 IsSettledAs core who how = MatchOption (wait_at who core) ⊥ (λ (wait : Pending). wait.settled ≡ Some how)
+
+-- this stands at a place where a session holds a ticket
+abbrev pub HasRead : Core → ℕ → ℕ → Standing → Type 0
+HasRead core who place standing = HoldsAt place (own_at core who) × (has_key place core ≡ true) × (standing_at place core ≡ standing)
+
+-- what stands at a place has this version or a later one
+abbrev pub HasSeen : Core → ℕ → ℕ → ℕ → Type 0
+HasSeen core who place version = (has_key place core ≡ true) × (version ≤ (standing_at place core).version)
+
+-- a place that has a key keeps it, whoever needs it
+abbrev pub Pins : Core → ℕ → ℕ → Type 0
+Pins core who place = has_key place core ≡ true
 
 -- the call has just its outcome, but that memory may run out
 abbrev pub Joins : Core → Call → Answer → Core → Type 0

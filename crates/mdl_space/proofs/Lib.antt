@@ -1,4 +1,5 @@
 pub mod DeadlockLemmas
+pub mod DefinitionLemmas
 pub mod KnownKeyLemmas
 pub mod SearchLemmas
 pub mod ServingLemmas

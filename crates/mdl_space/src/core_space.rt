@@ -409,4 +409,5 @@ impl CoreSpace {
 
 mod calls;
 mod deadlocks;
+mod definitions;
 mod serving;

@@ -1,15 +1,18 @@
 //! What every lock space does, for whoever stands on it.
-ghost use Rattle.std.specs.Prelude.{◌≡◌, ◌≤◌, ℕ, Some, true, false, List, Option, Contains};
+ghost use Rattle.std.specs.Prelude.{◌≡◌, ◌≤◌, ◌⊎◌, ℕ, Some, true, false, List, Option, Contains};
 ghost use Rattle.std.specs.Option.{IfSome};
 ghost use Rattle.mdl_key.specs.Words.{KeyName, same_mode};
+ghost use Rattle.mdl_key.specs.declared.mode.Mode.{Mode};
 ghost use Rattle.mdl_key.specs.declared.mode.Mode.TheVariants.{X};
 ghost use Rattle.mdl_defs.specs.declared.change.Change.{Change};
 ghost use Rattle.mdl_defs.specs.declared.definition.Definition.{Definition};
 ghost use Rattle.mdl_defs.specs.declared.standing.Standing.{Standing};
 ghost use Rattle.mdl_defs.specs.Standings.{MayStand, standing_after};
+ghost use Rattle.mdl_system.specs.Strength.{covers};
+ghost use Rattle.mdl_calls.specs.declared.space_error.SpaceError.{SpaceError};
 ghost use Rattle.mdl_calls.specs.declared.answers.Settled.{Settled};
 ghost use Rattle.mdl_calls.specs.declared.answers.Held.{Held};
-ghost use Rattle.mdl_calls.specs.Words.{Call, Resolve, Try_now, Begin_wait, Search as Search_by, Poll_wait, Settle_timeout, End_wait, Wait_of, Kill, Release, Clone_ticket, List_held, Read_definition, Change_definition, Unpin, caller, Answer, Changed, Done, Reads, At_place, Victim_is, Has_wait, Has_killed, Holds, is_answer_of, placed, attempted, begun, searched, polled, timed_out, ended, done, cloned, listed, Own, Wait, Numbers, own_after, wait_number, is_waiting, IsRising, Draws, IsExplained, told, IsToldOf, HoldsAt, IsChangeOf, read, read_under, redefined, redefined_place, ticket_held};
+ghost use Rattle.mdl_calls.specs.Words.{Call, Resolve, Try_now, Begin_wait, Search as Search_by, Poll_wait, Settle_timeout, End_wait, Wait_of, Kill, Release, Clone_ticket, Upgrade_now, List_held, Read_definition, Change_definition, Tables_of, Key_of, Unpin, caller, Answer, Refused, Would_wait, Changed, Done, Reads, Tables, Key_is, At_place, Victim_is, Has_wait, Has_killed, Holds, is_answer_of, placed, attempted, begun, searched, polled, timed_out, ended, done, cloned, listed, Own, Wait, Numbers, own_after, wait_number, is_waiting, IsRising, Draws, IsExplained, told, IsToldOf, HoldsAt, AwaitsAt, AreTablesOf, IsChangeOf, read, read_under, redefined, redefined_place, ticket_held};
 
 use crate::{Attempt, Begun, Ended, Held, Place, Poll, Search, SpaceError, TicketId, TimedOut};
 use mdl_defs::{Change, Standing};
@@ -43,6 +46,12 @@ pub trait LockSpace {
 
     // What stands at a place had this version already as a session read it.
     ghost has_seen: { Self → ℕ → ℕ → ℕ → Type 0 };
+
+    // A session needs this place to keep its key.
+    ghost pins: { Self → ℕ → ℕ → Type 0 };
+
+    // A session has still to see to the waiters of this place.
+    ghost owes: { Self → ℕ → ℕ → Type 0 };
 
     // A call and its answer join the space before to the space after.
     ghost joins: { Self → Call → Answer → Self → Type 0 };
@@ -265,4 +274,48 @@ pub trait LockSpace {
     // No version is read below one that was seen.
     ghost seen_below: { (a : Self) (w place version : ℕ) (standing : Standing) → speaks_for a w → has_seen a w place version
         → has_read a w place standing → version ≤ standing.version };
+
+    // An upgrade to a mode that the held one covers never has to wait.
+    ghost upgrades: { (a b : Self) (who id : ℕ) (mode : Mode) (ticket : Held) → ticket_held id (own a who) ≡ Some ticket
+        → covers ticket.mode mode ≡ true → joins a (Upgrade_now who id mode) Would_wait b → ⊥ };
+
+    // Whoever is told the key of a place knows it.
+    ghost tells_key: { (a b : Self) (who place : ℕ) (key : KeyName) → joins a (Key_of who place) (Key_is key) b
+        → knows b who place key };
+
+    // Whoever is told the tables of a schema knows them. They are told in the order of their keys.
+    ghost tells_tables: { (a b : Self) (who : ℕ) (schema places : List ℕ) → joins a (Tables_of who schema) (Tables places) b
+        → AreTablesOf (knows b who) schema places };
+
+    // Whoever resolves a key pins its place.
+    ghost resolved_pinned: { (a b : Self) (who place : ℕ) (key : KeyName) → joins a (Resolve who key) (At_place place) b
+        → pins b who place };
+
+    // A pin stays until its session gives it up.
+    ghost pins_stay: { (a b : Self) (call : Call) (answer : Answer) (w place : ℕ) → speaks_for a w
+        → (call ≡ Unpin w place → answer ≡ Done → ⊥) → joins a call answer b → pins a w place → pins b w place };
+
+    // Whoever pins a place knows its key.
+    ghost pinned_known: { (a : Self) (w place : ℕ) → speaks_for a w → pins a w place
+        → (key : KeyName) × knows a w place key };
+
+    // The place of a held ticket is pinned.
+    ghost held_pinned: { (a : Self) (w : ℕ) (ticket : Held) → speaks_for a w → Contains (own a w).held ticket
+        → pins a w ticket.place };
+
+    // The place that is waited for is pinned.
+    ghost wait_pinned: { (a : Self) (w : ℕ) (wait : Wait) → speaks_for a w → (own a w).wait ≡ Some wait
+        → pins a w wait.place };
+
+    // Only where there is no pin is none found to be given up.
+    ghost unpins_none: { (a b : Self) (who place : ℕ) → joins a (Unpin who place) (Refused SpaceError.NoPlace) b
+        → pins a who place → ⊥ };
+
+    // Only where a pin is needed can't it be given up.
+    ghost unpins_in_use: { (a b : Self) (who place : ℕ) → joins a (Unpin who place) (Refused SpaceError.InUse) b
+        → HoldsAt place (own a who) ⊎ AwaitsAt place (own a who) ⊎ owes a who place };
+
+    // Only a pin is given up, and not while there is a ticket or a wait at its place.
+    ghost unpins: { (a b : Self) (who place : ℕ) → joins a (Unpin who place) Done b
+        → pins a who place × (HoldsAt place (own a who) → ⊥) × (AwaitsAt place (own a who) → ⊥) };
 }

@@ -1,10 +1,13 @@
-//! A lock space for tests: one session, one key and one ticket at most, while another session comes and goes.
-ghost use Rattle.std.specs.Prelude.{◌≡◌, ◌+◌, false, MatchResult};
+//! A lock space for tests: one session, one key and one ticket at most, while another session comes and goes, and changes what
+//! stands under the key.
+ghost use Rattle.std.specs.Prelude.{◌≡◌, ◌≢◌, ◌≤◌, ◌+◌, [], true, false, MatchResult, IfOk, OnErr, IfErr};
 ghost use Rattle.std.proofs.Common.{rules, refl, sym, ◌∙◌};
-ghost use Rattle.mdl_calls.specs.Words.{Begin_wait, IsClear, IsCause, ticket_drawn, is_waiting};
-ghost use Rattle.mdl_calls.specs.Tests.LoneSessions.{Lone, LoneSpeaks, Knows, IsSettled, LoneJoins, alone, numbering};
-ghost use Rattle.mdl_calls.proofs.LoneLemmas.{held-at_one, wait-at_one, settled-how};
+ghost use Rattle.mdl_defs.specs.Standings.{MayStand, standing_after};
+ghost use Rattle.mdl_calls.specs.Words.{Begin_wait, IsClear, IsCause, IsChangeOf, ticket_drawn, is_waiting, redefined};
+ghost use Rattle.mdl_calls.specs.Tests.LoneSessions.{Lone, LoneSpeaks, Knows, IsSettled, HasRead, HasSeen, Pins, LoneJoins, alone, numbering, having};
+ghost use Rattle.mdl_calls.proofs.LoneLemmas.{held-at_one, wait-at_one, settled-how, lone-reads, lone-redefines, lone-redefines_so, lone-stands, lone-reads_fit};
 
+use mdl_defs::{Change, Definition, Standing};
 use mdl_key::{Key, Mode};
 use mdl_space::{
     Attempt, Begun, Ended, Held, LockSpace, Place, Poll, Search, Settled, SpaceError, TicketId,
@@ -33,6 +36,7 @@ pub struct LoneSession {
     wait: Option<Waiting>,
     last_ticket: u64,
     last_wait: u64,
+    standing: Standing,
     crowded: bool,
 }
 
@@ -52,6 +56,7 @@ impl Model for LoneSession {
       };
       settled = last_of (option_map (λ w. w.settled) s.wait);
       numbers = record { last_ticket = s.last_ticket; last_wait = s.last_wait };
+      standing = s.standing;
     } };
 
     ghost invariant = { λ s. IfSome s.wait (λ w. (s.ticket ≡ None) × (w.id ≡ s.last_ticket)) };
@@ -70,16 +75,48 @@ impl LoneSession {
             wait: None,
             last_ticket: 0,
             last_wait: 0,
+            standing: Standing::new(),
             crowded: false,
         }
     }
 
-    // Another session takes the lock, or gives it up. Whether it has it then.
+    // Another session takes the lock, or gives it up. Whether it has it then. While this one has a ticket, nobody changes what
+    // stands under the key.
     fn meet(&mut self) -> bool
-        ensures { self.new ≡ self.old }
+        ensures met { self.new ≡ having self.new.standing self.old }
+        ensures still { self.old.own.held ≢ [] → self.new.standing ≡ self.old.standing }
+        ensures grown { self.old.standing.version ≤ self.new.standing.version }
+        ensures fits { MayStand self.old.key.namespace self.old.standing → MayStand self.old.key.namespace self.new.standing }
     {
         self.crowded = !self.crowded;
+        if self.crowded && self.ticket.is_none() {
+            self.meddle();
+        }
         self.crowded
+    }
+
+    // The other session drops what stands under the key, or lets a schema stand there.
+    fn meddle(&mut self)
+        ensures met { self.new ≡ having self.new.standing self.old }
+        ensures grown { self.old.standing.version ≤ self.new.standing.version }
+        ensures fits { MayStand self.old.key.namespace self.old.standing → MayStand self.old.key.namespace self.new.standing }
+    {
+        let change = match self.standing.definition {
+            Some(_) => Change::Drop,
+            None => Change::Put(Definition::Schema),
+        };
+        let _ = self.redefine(&change);
+    }
+
+    // Changes what stands under the key.
+    fn redefine(&mut self, change: &Change) -> Result<u64, SpaceError>
+        ensures is { IsChangeOf self.old.key change.now self.old.standing (redefined result) }
+        ensures done { IfOk result (λ _. self.new ≡ having (standing_after change.now self.old.standing) self.old) }
+        ensures unchanged { OnErr result (self.new ≡ self.old) }
+        ensures drop { IfErr result (λ e. e ≡ SpaceError.OutOfMemory → change_takes_memory change.now ≡ true) }
+        ensures refused { IfErr result (λ e. IsFaultOf e) }
+    {
+        Ok(self.standing.change(self.alloc, self.key.namespace(), change)?)
     }
 
     // Gives a ticket its number.
@@ -125,6 +162,14 @@ impl LockSpace for LoneSession {
     ghost is_settled = { IsSettled };
 
     ghost numbers = { λ a _. a.numbers };
+
+    ghost has_read = { HasRead };
+
+    ghost has_seen = { HasSeen };
+
+    ghost pins = { Pins };
+
+    ghost owes = { λ _ _ _. ⊥ };
 
     ghost joins = { LoneJoins };
 
@@ -177,6 +222,46 @@ impl LockSpace for LoneSession {
     ghost draws = { λ a b call answer who made j. j.drawn };
 
     ghost others_draw = { Prim.search rules };
+
+    ghost reads = { lone-reads };
+
+    ghost redefines = { lone-redefines };
+
+    ghost redefines_so = { lone-redefines_so };
+
+    ghost reads_one = { λ a w place one other speaks read again. read.2 ∙ sym again.2 };
+
+    ghost stands = { lone-stands };
+
+    ghost reads_fit = { lone-reads_fit };
+
+    ghost sees = { lone-sees };
+
+    ghost seen_stays = { lone-seen_stays };
+
+    ghost seen_below = { lone-seen_below };
+
+    ghost upgrades = { λ a b who id mode ticket its covers j. has_not j.has };
+
+    ghost tells_key = { λ a b who place key j. has_not j.has };
+
+    ghost tells_tables = { λ a b who schema places j. has_not j.has };
+
+    ghost resolved_pinned = { Prim.search rules };
+
+    ghost pins_stay = { Prim.search rules };
+
+    ghost pinned_known = { λ a w place speaks pins. (a.key, (pins.0, pins.1, refl)) };
+
+    ghost held_pinned = { λ a w ticket speaks holds. (speaks.0, held-at_one (a.own.held) ticket speaks.1.held holds) };
+
+    ghost wait_pinned = { λ a w wait speaks its. (speaks.0, wait-at_one (a.own.wait) wait speaks.1.wait its) };
+
+    ghost unpins_none = { λ a b who place j pins. has_not j.has };
+
+    ghost unpins_in_use = { λ a b who place j. has_not j.has };
+
+    ghost unpins = { λ a b who place j. has_not j.has };
 
     fn resolve(&mut self, _who: u16, key: &Key) -> Result<Place, SpaceError> {
         if *key == self.key {
@@ -317,6 +402,33 @@ impl LockSpace for LoneSession {
         _mode: Mode,
     ) -> Result<TicketId, SpaceError> {
         Err(SpaceError::OutOfMemory)
+    }
+
+    fn read_definition(&mut self, _who: u16, id: TicketId) -> Result<Standing, SpaceError> {
+        match self.ticket {
+            Some(ticket) if ticket.id == id => match self.standing.clone() {
+                Ok(standing) => Ok(standing),
+                Err(_) => Err(SpaceError::OutOfMemory),
+            },
+            _ => Err(SpaceError::NotHeld),
+        }
+    }
+
+    fn change_definition(
+        &mut self,
+        _who: u16,
+        id: TicketId,
+        change: &Change,
+    ) -> Result<u64, SpaceError> {
+        match self.ticket {
+            Some(ticket) if ticket.id == id => {
+                if ticket.mode != Mode::X {
+                    return Err(SpaceError::NotExclusive);
+                }
+                self.redefine(change)
+            }
+            _ => Err(SpaceError::NotHeld),
+        }
     }
 
     fn held(&self, _who: u16) -> Result<Vec<Held>, SpaceError> {

@@ -110,7 +110,7 @@ shuts_all_out : (kind : Kind) → list_all (shuts_out kind) all_modes ≡ true
 shuts_all_out Scoped = refl
 shuts_all_out Object = refl
 
-exclusive-clash : (kind : Kind) (mode : Mode) → IsTrue (is_mode_of kind mode) → Clashes kind X mode
+pub exclusive-clash : (kind : Kind) (mode : Mode) → IsTrue (is_mode_of kind mode) → Clashes kind X mode
 exclusive-clash kind mode = implied _ _ (each_mode (shuts_out kind) (shuts_all_out kind) mode)
 
 module _ {C D : Type 0} (apply : KeyName → C → Option D → Option (Option D)) where

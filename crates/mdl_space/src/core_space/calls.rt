@@ -1,14 +1,17 @@
 //! The space of one thread as a lock space: each call has just one outcome, but that memory may run out.
-ghost use Rattle.mdl_core.specs.CoreJoins.{SpeaksFor, own_at, numbers_at, Knows, IsSettledAs, Joins};
+ghost use Rattle.mdl_core.specs.CoreJoins.{SpeaksFor, own_at, numbers_at, Knows, IsSettledAs, HasRead, HasSeen, Pins, Joins};
+ghost use Rattle.std.proofs.Common.{refl};
 ghost use Rattle.mdl_core.proofs.CallLaws.{core-allowed, core-keeps, core-changes, core-others, core-draws, core-others_draw, core-rising, core-fits, core-explains, core-lists, core-resolves, core-remembers};
 ghost use Rattle.mdl_core.proofs.CallLaws.{core-waits_settled, core-settled_once, core-tells, core-stays, core-agrees, core-victims, core-counts, core-kills, core-kills_or_settled};
 ghost use Rattle.mdl_core.proofs.KnownPlaces.{core-one_key, core-one_place, core-held_places, core-wait_place};
 ghost use Rattle.mdl_core.proofs.CoreSound.{calls_keep-sound};
+ghost use Rattle.mdl_core.proofs.ReadLaws.{core-reads, core-redefines, core-redefines_so, core-reads_one, core-stands, core-reads_fit, core-sees, core-seen_stays, core-seen_below, core-pins_stay, has_not};
 
 use super::CoreSpace;
 use crate::{
     Attempt, Begun, Ended, Held, LockSpace, Place, Poll, Search, SpaceError, TicketId, TimedOut,
 };
+use mdl_defs::{Change, Standing};
 use mdl_key::{Key, Mode};
 
 impl LockSpace for CoreSpace {
@@ -21,6 +24,14 @@ impl LockSpace for CoreSpace {
     ghost is_settled = { IsSettledAs };
 
     ghost numbers = { numbers_at };
+
+    ghost has_read = { HasRead };
+
+    ghost has_seen = { HasSeen };
+
+    ghost pins = { Pins };
+
+    ghost owes = { λ _ _ _. ⊥ };
 
     ghost joins = { Joins };
 
@@ -66,6 +77,19 @@ impl LockSpace for CoreSpace {
 
     fn clone_ticket(&mut self, who: u16, id: TicketId, mode: Mode) -> Result<TicketId, SpaceError> {
         self.clone_held(who, id, mode)
+    }
+
+    fn read_definition(&mut self, who: u16, id: TicketId) -> Result<Standing, SpaceError> {
+        self.read_held(who, id)
+    }
+
+    fn change_definition(
+        &mut self,
+        who: u16,
+        id: TicketId,
+        change: &Change,
+    ) -> Result<u64, SpaceError> {
+        self.redefine_held(who, id, change)
     }
 
     fn held(&self, who: u16) -> Result<Vec<Held>, SpaceError> {
@@ -121,4 +145,44 @@ impl LockSpace for CoreSpace {
     ghost draws = { core-draws };
 
     ghost others_draw = { core-others_draw };
+
+    ghost reads = { core-reads };
+
+    ghost redefines = { core-redefines };
+
+    ghost redefines_so = { core-redefines_so };
+
+    ghost reads_one = { core-reads_one };
+
+    ghost stands = { core-stands };
+
+    ghost reads_fit = { core-reads_fit };
+
+    ghost sees = { core-sees };
+
+    ghost seen_stays = { core-seen_stays };
+
+    ghost seen_below = { core-seen_below };
+
+    ghost upgrades = { λ a b who id mode ticket its covered j. has_not j.1 };
+
+    ghost tells_key = { λ a b who place key j. has_not j.1 };
+
+    ghost tells_tables = { λ a b who schema places j. has_not j.1 };
+
+    ghost resolved_pinned = { λ a b who place key j. (core-resolves a b who place key j).0 };
+
+    ghost pins_stay = { core-pins_stay };
+
+    ghost pinned_known = { λ a w place speaks pins. (_, (pins, refl)) };
+
+    ghost held_pinned = { λ a w ticket speaks holds. (core-held_places a w ticket speaks holds).1.0 };
+
+    ghost wait_pinned = { λ a w wait speaks its. (core-wait_place a w wait speaks its).1.0 };
+
+    ghost unpins_none = { λ a b who place j pins. has_not j.1 };
+
+    ghost unpins_in_use = { λ a b who place j. has_not j.1 };
+
+    ghost unpins = { λ a b who place j. has_not j.1 };
 }

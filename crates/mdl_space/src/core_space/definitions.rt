@@ -1,0 +1,64 @@
+//! Reading and changing what stands under keys.
+ghost use Rattle.std.specs.Prelude.{◌≡◌, true, IfOk, IsOkUnless};
+ghost use Rattle.mdl_core.specs.Words.{SpeaksFor, Makes, has_key, standing_at, reading, redefining, redefining_fault, redefined_unless};
+ghost use Rattle.mdl_calls.specs.Words.{change_takes_memory, read, redefined};
+
+use crate::core_space::CoreSpace;
+use crate::{Place, SpaceError, TicketId};
+use mdl_defs::{Change, Standing};
+use mdl_key::Mode;
+
+impl CoreSpace {
+    /// What stands under the key of a held ticket's place.
+    pub(crate) fn read_held(&self, who: u16, id: TicketId) -> Result<Standing, SpaceError>
+        requires { SpeaksFor self.now who }
+        ensures { Makes true (reading who id) self.now (read result) self.now }
+    {
+        let Some(ticket) = self.seats[usize::from(who) - 1].ticket(id) else {
+            return Err(SpaceError::NotHeld);
+        };
+        self.read_at(ticket.place)
+    }
+
+    /// Changes what stands under the key of the place of a ticket that is held exclusively.
+    pub(crate) fn redefine_held(
+        &mut self,
+        who: u16,
+        id: TicketId,
+        change: &Change,
+    ) -> Result<u64, SpaceError>
+        requires { SpeaksFor self.old who }
+        ensures { Makes (change_takes_memory change.now) (redefining who id change.now) self.old (redefined result) self.new }
+    {
+        let Some(ticket) = self.seats[usize::from(who) - 1].ticket(id) else {
+            return Err(SpaceError::NotHeld);
+        };
+        if ticket.mode != Mode::X {
+            return Err(SpaceError::NotExclusive);
+        }
+        self.redefine_at(ticket.place, change)
+    }
+
+    /// What stands under the key of a place.
+    fn read_at(&self, place: Place) -> Result<Standing, SpaceError>
+        requires { has_key place self.now ≡ true }
+        ensures read { IfOk result (λ standing. standing ≡ standing_at place self.now) }
+        ensures memory { IsOkUnless result SpaceError.OutOfMemory }
+    {
+        match self.books[usize::from(place) - 1].read() {
+            Ok(standing) => Ok(standing),
+            Err(_) => Err(SpaceError::OutOfMemory),
+        }
+    }
+
+    /// Changes what stands under the key of a place.
+    fn redefine_at(&mut self, place: Place, change: &Change) -> Result<u64, SpaceError>
+        requires { has_key place self.old ≡ true }
+        ensures { Makes (change_takes_memory change.now) (redefined_unless (redefining_fault place change.now self.old) place change.now)
+            self.old (redefined result) self.new }
+    {
+        let book = &mut self.books[usize::from(place) - 1];
+        let version = book.redefine(change)?;
+        Ok(version)
+    }
+}
