@@ -14,7 +14,7 @@ use Rattle.mdl_context.specs.declared.kept.Kept.{Kept}
 use Rattle.mdl_context.specs.declared.kept.Wanted.{Wanted}
 use Rattle.mdl_context.specs.Contexts.{ContextView, Attends, Serves, held_of, place_known, is_known_place}
 use Rattle.mdl_context.specs.Holdings.{with_wanted}
-use Rattle.mdl_context.specs.declared.request.Request.{Request}
+use Rattle.mdl_context.specs.Wishes.{Wish}
 use Rattle.mdl_context.specs.Requests.{remembering, keeping, awaiting}
 use Rattle.mdl_context.specs.Waits.{without_wait}
 use Rattle.mdl_context.proofs.ServingLemmas.{serves-changed, serves-gaining, serves-waiting, serves-ending, serves-winning}
@@ -136,7 +136,7 @@ module _ {S : Type 0} {speaks_for : S → ℕ → Type 0} {own : S → ℕ → O
       })
 
   -- a ticket at a known place is gained
-  pub attends-granted : (a b : S) (before after : ContextView) (id place : ℕ) (request : Request) → Attends speaks_for own knows a before
+  pub attends-granted : (a b : S) (before after : ContextView) (id place : ℕ) (request : Wish) → Attends speaks_for own knows a before
       → ((at : ℕ) (key : KeyName) → knows a before.who at key → knows b before.who at key) → speaks_for b before.who → own b before.who ≡ gaining id place request.mode (own a before.who)
       → is_known_place before.known place ≡ true → after ≡ keeping id place request before → Attends speaks_for own knows b after
   attends-granted a b before after id place request attends still speaks gains there is =
@@ -146,7 +146,7 @@ module _ {S : Type 0} {speaks_for : S → ℕ → Type 0} {own : S → ℕ → O
       (placed-push before.known before.kept then_after.kept _ refl attends.places there) attends.wish)
 
   -- a wait for a ticket at a known place begins
-  pub attends-awaiting : (a b : S) (before after : ContextView) (number place : ℕ) (request : Request) (searched : Bool) → Attends speaks_for own knows a before
+  pub attends-awaiting : (a b : S) (before after : ContextView) (number place : ℕ) (request : Wish) (searched : Bool) → Attends speaks_for own knows a before
       → ((at : ℕ) (key : KeyName) → knows a before.who at key → knows b before.who at key) → speaks_for b before.who → own b before.who ≡ waiting number place request.mode (own a before.who)
       → is_known_place before.known place ≡ true → after ≡ awaiting place request searched before → Attends speaks_for own knows b after
   attends-awaiting a b before after number place request searched attends still speaks begins there is =

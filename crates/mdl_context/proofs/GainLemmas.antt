@@ -9,7 +9,7 @@ use Rattle.mdl_calls.specs.Words.{Answer, Call, Runs, Give}
 use Rattle.mdl_calls.proofs.RunLemmas.{runs_bind}
 use Rattle.mdl_context.specs.declared.kept.Kept.{Kept}
 use Rattle.mdl_context.specs.declared.kept.Wanted.{Wanted}
-use Rattle.mdl_context.specs.declared.request.Request.{Request}
+use Rattle.mdl_context.specs.Wishes.{Wish}
 use Rattle.mdl_context.specs.declared.request.Acquire.{Acquire}
 use Rattle.mdl_context.specs.declared.context_error.ContextError.TheVariants.{Space}
 use Rattle.mdl_calls.specs.declared.space_error.SpaceError.TheVariants.{OutOfMemory}
@@ -51,13 +51,13 @@ found-place p place (x ∷ xs) held there found = go (p x) refl (found-place p p
   go false e later = later (grind (arith, e, found))
 
 -- a ticket that suffices is held, and at the place
-pub sufficient-held : (place : ℕ) (request : Request) (own : Own) (context : ContextView) (ticket : Option Held) → IsRising own → Serves own context
+pub sufficient-held : (place : ℕ) (request : Wish) (own : Own) (context : ContextView) (ticket : Option Held) → IsRising own → Serves own context
     → ticket ≡ earliest (suffices place request) context.kept → IfSome ticket (λ held. (ticket_held held.id own ≡ Some held) × (held.place ≡ place))
 sufficient-held place request own context None rising serves is = tt
 sufficient-held place request own context (Some held) rising serves is =
     (earliest-held (suffices place request) own context held rising serves (sym is), found-place (suffices place request) place context.kept held (suffices-at place request) (sym is))
 
-module _ {S : Type 0} (joins : S → Call → Answer → S → Type 0) (place : ℕ) (request : Request) (before : ContextView) (found : Option Held)
+module _ {S : Type 0} (joins : S → Call → Answer → S → Type 0) (place : ℕ) (request : Wish) (before : ContextView) (found : Option Held)
     (is : found ≡ earliest (is_reusable place request) before.kept) where
   -- no ticket can be used again, and one is gained
   pub run-gained : (ticket : Option Held) (result : Result Got SpaceError) (reply : Outcome Acquire) (a b : S) → found ≡ None → ticket ≡ earliest (suffices place request) before.kept

@@ -13,7 +13,7 @@ use Rattle.mdl_context.specs.declared.context_error.ContextError.{ContextError}
 use Rattle.mdl_context.specs.declared.context_error.ContextError.TheVariants.{Waiting, Space}
 use Rattle.mdl_context.specs.declared.kept.Kept.{Kept}
 use Rattle.mdl_context.specs.declared.request.Acquire.{Acquire}
-use Rattle.mdl_context.specs.declared.request.Request.{Request}
+use Rattle.mdl_context.specs.Wishes.{Wish}
 use Rattle.mdl_context.specs.declared.request.Resume.{Resume}
 use Rattle.mdl_context.specs.Contexts.{ContextView, without, place_known}
 use Rattle.mdl_context.specs.Gains as gains
@@ -114,7 +114,7 @@ faithful_gaining : (ticket : Option Held) (who place : ℕ) (mode : Mode) → Is
 faithful_gaining (Some ticket) who place mode = (λ _. refl, faithful_copy)
 faithful_gaining None who place mode = (λ _. refl, faithful_try who place mode)
 
-faithful_reusing : (ticket : Option Held) (place : ℕ) (request : Request) (context : ContextView) → IsFaithful IsStarved (requests.reusing ticket place request context)
+faithful_reusing : (ticket : Option Held) (place : ℕ) (request : Wish) (context : ContextView) → IsFaithful IsStarved (requests.reusing ticket place request context)
 faithful_reusing (Some ticket) place request context = tt
 faithful_reusing None place request context =
     let serving = earliest (requests.suffices place request) context.kept in (
@@ -124,19 +124,19 @@ faithful_reusing None place request context =
           (λ end e. ap (λ x. (requests.outcome_got place request context x).0) e) (λ _. tt),
     )
 
-faithful_place : (request : Request) (context : ContextView) (answer : Answer) → IsFaithful IsStarved (requests.place_answered request context answer)
+faithful_place : (request : Wish) (context : ContextView) (answer : Answer) → IsFaithful IsStarved (requests.place_answered request context answer)
 faithful_place request context (At_place place) =
-    let after = requests.remembering request.key.now place context in
+    let after = requests.remembering request.key place context in
     (refl, faithful_reusing (earliest (requests.is_reusable place request) after.kept) place request after)
 faithful_place request context _ = tt
 
-faithful_finding : (place : Option ℕ) (request : Request) (context : ContextView) → IsFaithful IsStarved (requests.finding place request context)
+faithful_finding : (place : Option ℕ) (request : Wish) (context : ContextView) → IsFaithful IsStarved (requests.finding place request context)
 faithful_finding (Some place) request context = faithful_reusing (earliest (requests.is_reusable place request) context.kept) place request context
 faithful_finding None request context = (λ _. refl, faithful_place request context)
 
-pub faithful_acquiring : (request : Request) (context : ContextView) → IsFaithful IsStarved (requests.acquiring request context)
+pub faithful_acquiring : (request : Wish) (context : ContextView) → IsFaithful IsStarved (requests.acquiring request context)
 faithful_acquiring request context =
-    let place = place_known request.key.now context.known in
+    let place = place_known request.key context.known in
     either {A = Outcome Acquire} (IsFaithful IsStarved) (is_some context.wait) (Give (Err Waiting, context)) (requests.finding place request context)
     tt (faithful_finding place request context)
 

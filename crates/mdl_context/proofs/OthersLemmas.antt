@@ -5,7 +5,7 @@ use Rattle.mdl_calls.specs.declared.answers.Held.{Held}
 use Rattle.mdl_calls.specs.Words.{Answer, Done, Call, Unpin, caller, EachCall, Own, Program, Runs, Give, Ask, Grow}
 use Rattle.mdl_context.specs.declared.kept.Kept.{Kept}
 use Rattle.mdl_context.specs.declared.request.Acquire.{Acquire}
-use Rattle.mdl_context.specs.declared.request.Request.{Request}
+use Rattle.mdl_context.specs.Wishes.{Wish}
 use Rattle.mdl_context.specs.declared.request.Resume.{Resume}
 use Rattle.mdl_context.specs.Contexts.{ContextView, LeavesOthers}
 use Rattle.mdl_context.specs.MemoryLaws.{IsOwnCall}
@@ -55,11 +55,11 @@ both-leave speaks_for own knows who a mid b first second w other speaks =
 for_own : {A : Type 0} (who : ℕ) (program : Program A) → EachCall (IsOwnCall who) program → IsFor who program
 for_own who program each = calls_weaker (IsOwnCall who) (λ call. caller call ≡ Some who) (λ call own. own.0) program each
 
-pub for_reusing : (ticket : Option Held) (place : ℕ) (request : Request) (context : ContextView) → IsFor context.who (requests.reusing ticket place request context)
+pub for_reusing : (ticket : Option Held) (place : ℕ) (request : Wish) (context : ContextView) → IsFor context.who (requests.reusing ticket place request context)
 for_reusing ticket place request context =
     for_own {A = Outcome Acquire} context.who (requests.reusing ticket place request context) (own_reusing ticket place request context)
 
-pub for_finding : (place : Option ℕ) (request : Request) (context : ContextView) → IsFor context.who (requests.finding place request context)
+pub for_finding : (place : Option ℕ) (request : Wish) (context : ContextView) → IsFor context.who (requests.finding place request context)
 for_finding place request context = for_own {A = Outcome Acquire} context.who (requests.finding place request context) (own_finding place request context)
 
 pub for_ending : (context : ContextView) → IsFor context.who (waits.ending context)

@@ -15,7 +15,7 @@ use Rattle.mdl_context.specs.declared.context_error.ContextError.{ContextError}
 use Rattle.mdl_context.specs.declared.context_error.ContextError.TheVariants.{Waiting, Space}
 use Rattle.mdl_context.specs.declared.kept.Kept.{Kept}
 use Rattle.mdl_context.specs.declared.request.Acquire.{Acquire}
-use Rattle.mdl_context.specs.declared.request.Request.{Request}
+use Rattle.mdl_context.specs.Wishes.{Wish}
 use Rattle.mdl_context.specs.declared.request.Resume.{Resume}
 use Rattle.mdl_context.specs.Contexts.{ContextView, without, place_known}
 use Rattle.mdl_context.specs.Gains as gains
@@ -71,7 +71,7 @@ own_gaining : (ticket : Option Held) (who place : ℕ) (mode : Mode) → AreOwn 
 own_gaining (Some ticket) who place mode = ((refl, refl), own_copy who)
 own_gaining None who place mode = ((refl, refl), own_try who place mode)
 
-pub own_reusing : (ticket : Option Held) (place : ℕ) (request : Request) (context : ContextView) → AreOwn context.who (requests.reusing ticket place request context)
+pub own_reusing : (ticket : Option Held) (place : ℕ) (request : Wish) (context : ContextView) → AreOwn context.who (requests.reusing ticket place request context)
 own_reusing (Some ticket) place request context = tt
 own_reusing None place request context =
     let serving = earliest (requests.suffices place request) context.kept in (
@@ -80,19 +80,19 @@ own_reusing None place request context =
           (λ end. Give (requests.outcome_got place request context end)) (own_gaining serving context.who place request.mode) (λ _. tt),
     )
 
-own_place : (request : Request) (context : ContextView) (answer : Answer) → AreOwn context.who (requests.place_answered request context answer)
+own_place : (request : Wish) (context : ContextView) (answer : Answer) → AreOwn context.who (requests.place_answered request context answer)
 own_place request context (At_place place) =
-    let after = requests.remembering request.key.now place context in
+    let after = requests.remembering request.key place context in
     (tt, own_reusing (earliest (requests.is_reusable place request) after.kept) place request after)
 own_place request context _ = tt
 
-pub own_finding : (place : Option ℕ) (request : Request) (context : ContextView) → AreOwn context.who (requests.finding place request context)
+pub own_finding : (place : Option ℕ) (request : Wish) (context : ContextView) → AreOwn context.who (requests.finding place request context)
 own_finding (Some place) request context = own_reusing (earliest (requests.is_reusable place request) context.kept) place request context
 own_finding None request context = ((refl, refl), own_place request context)
 
-pub own_acquiring : (request : Request) (context : ContextView) → EachCall (IsOwnCall context.who) (requests.acquiring request context)
+pub own_acquiring : (request : Wish) (context : ContextView) → EachCall (IsOwnCall context.who) (requests.acquiring request context)
 own_acquiring request context =
-    let place = place_known request.key.now context.known in
+    let place = place_known request.key context.known in
     either {A = Outcome Acquire} (AreOwn context.who) (is_some context.wait) (Give (Err Waiting, context)) (requests.finding place request context)
     tt (own_finding place request context)
 

@@ -9,7 +9,7 @@ use Rattle.std.proofs.lemmas.Option.{slice_get-get_or}
 use Rattle.mdl_calls.specs.declared.answers.Held.{Held}
 use Rattle.mdl_context.specs.declared.kept.Kept.{Kept}
 use Rattle.mdl_context.specs.declared.kept.Wanted.{Wanted}
-use Rattle.mdl_context.specs.declared.request.Request.{Request}
+use Rattle.mdl_context.specs.Wishes.{Wish}
 use Rattle.mdl_context.specs.Contexts.{AreRising, held_of}
 use Rattle.mdl_context.specs.Requests.{suffices, is_reusable}
 use Rattle.mdl_context.specs.Holdings.{is_at, is_ticket, without_number, numbers_among, IsIndexOf, earliest}
@@ -173,10 +173,10 @@ first_holds true b e = refl
 first_holds false b e = e
 
 -- what can be used again is at the place, as what suffices is
-pub suffices-at : (place : ℕ) (request : Request) (t : Kept) → suffices place request t ≡ true → is_at place t ≡ true
+pub suffices-at : (place : ℕ) (request : Wish) (t : Kept) → suffices place request t ≡ true → is_at place t ≡ true
 suffices-at place request t passes = first_holds _ _ (first_holds _ _ passes)
 
-pub reusable-at : (place : ℕ) (request : Request) (t : Kept) → is_reusable place request t ≡ true → is_at place t ≡ true
+pub reusable-at : (place : ℕ) (request : Wish) (t : Kept) → is_reusable place request t ≡ true → is_at place t ≡ true
 reusable-at place request t passes = suffices-at place request t (first_holds _ _ (first_holds _ _ passes))
 
 -- only tickets of the place pass the test, and its numbers are looked at in turn

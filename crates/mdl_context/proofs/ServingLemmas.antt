@@ -9,7 +9,7 @@ use Rattle.mdl_calls.specs.declared.answers.Held.{Held}
 use Rattle.mdl_calls.specs.Own.{Own, Wait, IsRising, is_waiting, is_number, ticket_held, gaining, waiting, ending, winning}
 use Rattle.mdl_context.specs.declared.kept.Kept.{Kept}
 use Rattle.mdl_context.specs.declared.kept.Wanted.{Wanted}
-use Rattle.mdl_context.specs.declared.request.Request.{Request}
+use Rattle.mdl_context.specs.Wishes.{Wish}
 use Rattle.mdl_context.specs.Contexts.{ContextView, Serves, AreRising, held_of, wish_here, wish_there}
 use Rattle.mdl_context.specs.Holdings.{earliest, kept_of, wanted_of, with_wanted}
 use Rattle.mdl_context.specs.Waits.{is_searched}
@@ -32,7 +32,7 @@ serves-changed f same own before after kept wait serves = record {
 }
 
 -- a ticket is gained
-pub serves-gaining : (own after : Own) (before then : ContextView) (id place : ℕ) (request : Request) → Serves own before → after ≡ gaining id place request.mode own
+pub serves-gaining : (own after : Own) (before then : ContextView) (id place : ℕ) (request : Wish) → Serves own before → after ≡ gaining id place request.mode own
     → then.kept ≡ before.kept ++ kept_of id place request ∷ [] → then.wait ≡ before.wait → Serves after then
 serves-gaining own after before then id place request serves gain kept wait = record {
   held = ap (λ (o : Own). o.held) gain ∙ ap (λ hs. hs ++ held_of (kept_of id place request) ∷ []) serves.held
@@ -41,7 +41,7 @@ serves-gaining own after before then id place request serves gain kept wait = re
 }
 
 -- a wait begins
-pub serves-waiting : (own after : Own) (before then : ContextView) (number place : ℕ) (request : Request) (searched : Bool) → Serves own before → after ≡ waiting number place request.mode own
+pub serves-waiting : (own after : Own) (before then : ContextView) (number place : ℕ) (request : Wish) (searched : Bool) → Serves own before → after ≡ waiting number place request.mode own
     → then.kept ≡ before.kept → then.wait ≡ Some (wanted_of place request searched) → Serves after then
 serves-waiting own after before then number place request searched serves begin kept wait = record {
   held = ap (λ (o : Own). o.held) begin ∙ serves.held ∙ sym (ap (map held_of) kept);

@@ -21,7 +21,7 @@ use Rattle.mdl_context.specs.declared.kept.Kept.{Kept}
 use Rattle.mdl_context.specs.declared.kept.Wanted.{Wanted}
 use Rattle.mdl_context.specs.declared.request.Acquire.{Acquire}
 use Rattle.mdl_context.specs.declared.request.Acquire.TheVariants.{Acquired}
-use Rattle.mdl_context.specs.declared.request.Request.{Request}
+use Rattle.mdl_context.specs.Wishes.{Wish}
 use Rattle.mdl_context.specs.Contexts.{ContextView, lasts, place_known, held_of}
 use Rattle.mdl_context.specs.Gains.{gaining_from}
 use Rattle.mdl_context.specs.Holdings.{earliest, is_at, kept_of}
@@ -34,16 +34,16 @@ covers-itself : (mode : Mode) → covers mode mode ≡ true
 covers-itself mode = each_mode (λ m. covers m m) refl mode
 
 -- a ticket that can be used again is as wished
-reusable_wished : (place : ℕ) (request : Request) (t : Kept) → is_reusable place request t ≡ true → IsAsWished place request t
+reusable_wished : (place : ℕ) (request : Wish) (t : Kept) → is_reusable place request t ≡ true → IsAsWished place request t
 reusable_wished place request t passes =
     let parts = and_parts (suffices place request t && lasts request.duration t) (not (lasts Explicit t)) passes in
     let first = and_parts (suffices place request t) (lasts request.duration t) parts.0 in
-    let legal = is_mode_of (kind_of request.key.now.namespace) request.mode in
+    let legal = is_mode_of (kind_of request.key.namespace) request.mode in
     let serves = and_parts (is_at place t && covers t.mode request.mode) legal first.0 in
     let there = and_parts (is_at place t) (covers t.mode request.mode) serves.0 in
     (eqb-true t.place place there.0, there.1, first.1)
 
-module _ (request : Request) (before context : ContextView) (place : ℕ) (known : place_known request.key.now context.known ≡ Some place)
+module _ (request : Wish) (before context : ContextView) (place : ℕ) (known : place_known request.key context.known ≡ Some place)
     (kept : context.kept ≡ before.kept) (wait : context.wait ≡ before.wait) where
   met_again : (t : Kept) → find (is_reusable place request) context.kept ≡ Some t → IsMet request before (Ok (Acquired t.id), context)
   met_again t found = (
@@ -83,35 +83,35 @@ module _ (request : Request) (before context : ContextView) (place : ℕ) (known
   pub met_at : Each (IsMet request before) (acquiring_at place request context)
   met_at = met_reusing (find (is_reusable place request) context.kept) refl
 
-met_place : (request : Request) (context : ContextView) → place_known request.key.now context.known ≡ None → (answer : Answer)
+met_place : (request : Wish) (context : ContextView) → place_known request.key context.known ≡ None → (answer : Answer)
     → Each (IsMet request context) (place_answered request context answer)
 met_place request context new (At_place place) = (
   (refl, refl),
-  met_at request context (remembering request.key.now place context) place (known-last request.key.now context.known place new) refl refl,
+  met_at request context (remembering request.key place context) place (known-last request.key context.known place new) refl refl,
 )
 met_place request context new _ = (refl, refl)
 
-met_finding : (request : Request) (context : ContextView) (found : Option ℕ) → place_known request.key.now context.known ≡ found
+met_finding : (request : Wish) (context : ContextView) (found : Option ℕ) → place_known request.key context.known ≡ found
     → Each (IsMet request context) (finding found request context)
 met_finding request context (Some place) e = met_at request context context place e refl refl
 met_finding request context None e = λ answer. met_place request context e answer
 
-pub met_acquiring : (request : Request) (context : ContextView) → Each (IsMet request context) (requests.acquiring request context)
+pub met_acquiring : (request : Wish) (context : ContextView) → Each (IsMet request context) (requests.acquiring request context)
 met_acquiring request context =
-    let found = place_known request.key.now context.known in
+    let found = place_known request.key context.known in
     either {A = Outcome Acquire} (Each (IsMet request context)) (is_some context.wait) (Give (Err Waiting, context)) (finding found request context)
     (refl, refl) (met_finding request context found refl)
 
 -- ---- explicit wishes
 
 -- no ticket serves an explicit wish again
-never_again : (place : ℕ) (request : Request) (t : Kept) → request.duration ≡ Explicit → is_reusable place request t ≡ true → ⊥
+never_again : (place : ℕ) (request : Wish) (t : Kept) → request.duration ≡ Explicit → is_reusable place request t ≡ true → ⊥
 never_again place request t explicit passes =
     let parts = and_parts (suffices place request t && lasts request.duration t) (not (lasts Explicit t)) passes in
     let long = (and_parts (suffices place request t) (lasts request.duration t) parts.0).1 in
     false≢true (sym (not-true (lasts Explicit t) parts.1) ∙ subst (λ duration. lasts duration t ≡ true) explicit long)
 
-module _ (request : Request) (before context : ContextView) (place : ℕ) (explicit : request.duration ≡ Explicit) (kept : context.kept ≡ before.kept) where
+module _ (request : Wish) (before context : ContextView) (place : ℕ) (explicit : request.duration ≡ Explicit) (kept : context.kept ≡ before.kept) where
   gains_got : (end : Result Got SpaceError) → GainsATicket request before (outcome_got place request context end)
   gains_got (Ok (got.Granted id)) = (place, ap (λ tickets. tickets ++ kept_of id place request ∷ []) kept)
   gains_got (Ok (got.Waits number searched)) = tt
@@ -131,31 +131,31 @@ module _ (request : Request) (before context : ContextView) (place : ℕ) (expli
   pub gains_at : Each (GainsATicket request before) (acquiring_at place request context)
   gains_at = gains_reusing (find (is_reusable place request) context.kept) refl
 
-gains_place : (request : Request) (context : ContextView) → request.duration ≡ Explicit → (answer : Answer)
+gains_place : (request : Wish) (context : ContextView) → request.duration ≡ Explicit → (answer : Answer)
     → Each (GainsATicket request context) (place_answered request context answer)
 gains_place request context explicit (At_place place) =
-    (tt, gains_at request context (remembering request.key.now place context) place explicit refl)
+    (tt, gains_at request context (remembering request.key place context) place explicit refl)
 gains_place request context explicit _ = tt
 
-gains_finding : (request : Request) (context : ContextView) → request.duration ≡ Explicit → (found : Option ℕ)
+gains_finding : (request : Wish) (context : ContextView) → request.duration ≡ Explicit → (found : Option ℕ)
     → Each (GainsATicket request context) (finding found request context)
 gains_finding request context explicit (Some place) = gains_at request context context place explicit refl
 gains_finding request context explicit None = λ answer. gains_place request context explicit answer
 
-pub gains_acquiring : (request : Request) (context : ContextView) → request.duration ≡ Explicit
+pub gains_acquiring : (request : Wish) (context : ContextView) → request.duration ≡ Explicit
     → Each (GainsATicket request context) (requests.acquiring request context)
 gains_acquiring request context explicit =
-    let found = place_known request.key.now context.known in
+    let found = place_known request.key context.known in
     either {A = Outcome Acquire} (Each (GainsATicket request context)) (is_some context.wait) (Give (Err Waiting, context))
     (finding found request context) tt (gains_finding request context explicit found)
 
 -- ---- tickets that are used again
 
-pub used_again : (request : Request) (context : ContextView) (place : ℕ) (ticket : Held) → context.wait ≡ None
-    → place_known request.key.now context.known ≡ Some place → earliest (is_reusable place request) context.kept ≡ Some ticket
+pub used_again : (request : Wish) (context : ContextView) (place : ℕ) (ticket : Held) → context.wait ≡ None
+    → place_known request.key context.known ≡ Some place → earliest (is_reusable place request) context.kept ≡ Some ticket
     → requests.acquiring request context ≡ Give (Ok (Acquired ticket.id), context)
 used_again request context place ticket idle known found =
-    let at = place_known request.key.now context.known in
+    let at = place_known request.key context.known in
     ap (λ (wait : Option Wanted). if is_some wait then Give (Err Waiting, context) else finding at request context) idle
     ∙ ap (λ (there : Option ℕ). finding there request context) known
     ∙ ap (λ (again : Option Held). reusing again place request context) found

@@ -7,7 +7,7 @@ use Rattle.mdl_key.specs.Keys.{KeyName}
 use Rattle.mdl_calls.specs.declared.answers.Held.{Held}
 use Rattle.mdl_context.specs.declared.kept.Kept.{Kept}
 use Rattle.mdl_context.specs.declared.kept.Wanted.{Wanted}
-use Rattle.mdl_context.specs.declared.request.Request.{Request}
+use Rattle.mdl_context.specs.Wishes.{Wish}
 use Rattle.mdl_context.specs.Contexts.{ContextView, held_of}
 use Rattle.mdl_context.specs.Indexes.{Index, numbers_of, has_room_for}
 
@@ -66,11 +66,11 @@ abbrev pub transactional : Kept → Kept
 transactional ticket = kept_for (in_transaction ticket.duration) ticket
 
 -- the ticket that a request gains
-abbrev pub kept_of : ℕ → ℕ → Request → Kept
+abbrev pub kept_of : ℕ → ℕ → Wish → Kept
 kept_of id place request = record { id = id; place = place; mode = request.mode; duration = request.duration }
 
 -- the ticket that a request waits for, and whether the searches for deadlocks are over
-abbrev pub wanted_of : ℕ → Request → Bool → Wanted
+abbrev pub wanted_of : ℕ → Wish → Bool → Wanted
 wanted_of place request searched = record { place = place; mode = request.mode; duration = request.duration; searched = searched }
 
 -- the same, for which the searches are over

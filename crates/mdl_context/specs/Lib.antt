@@ -10,4 +10,5 @@ pub mod Releases
 pub mod Requests
 pub mod SearchEnds
 pub mod Waits
+pub mod Wishes
 pub mod WishLaws

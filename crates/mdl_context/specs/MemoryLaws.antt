@@ -11,7 +11,7 @@ use Rattle.mdl_core.specs.Cores.{Core}
 use Rattle.mdl_context.specs.declared.context_error.ContextError.TheVariants.{Space}
 use Rattle.mdl_context.specs.declared.kept.Kept.{Kept}
 use Rattle.mdl_context.specs.declared.request.Mark.{Mark}
-use Rattle.mdl_context.specs.declared.request.Request.{Request}
+use Rattle.mdl_context.specs.Wishes.{Wish}
 use Rattle.mdl_context.specs.Contexts.{ContextView}
 use Rattle.mdl_context.specs.Releases.{giving_up, releasing, releasing_name, rolling_back, ending_statement, ending_transaction}
 use Rattle.mdl_context.specs.Requests.{Outcome, acquiring}
@@ -35,7 +35,7 @@ EachEnding P context =
 
 -- once memory was wanting, a wish for a lock answers that
 abbrev pub WishesTellOfWant : Type 0
-WishesTellOfWant = (request : Request) (context : ContextView) → IsFaithful IsStarved (acquiring request context)
+WishesTellOfWant = (request : Wish) (context : ContextView) → IsFaithful IsStarved (acquiring request context)
 
 -- so does a wait that goes on, which takes no memory where its searches for deadlocks are over
 abbrev pub WaitsTellOfWant : Type 0
@@ -55,7 +55,7 @@ IsOwnCall who call = (caller call ≡ Some who) × (has_call call ≡ true)
 abbrev pub ContextsCallForTheirSession : Type 0
 ContextsCallForTheirSession =
     (context : ContextView) →
-    ((request : Request) → EachCall (IsOwnCall context.who) (acquiring request context))
+    ((request : Wish) → EachCall (IsOwnCall context.who) (acquiring request context))
     × EachCall (IsOwnCall context.who) (resuming context)
     × EachEnding (λ A program. EachCall (IsOwnCall context.who) program) context
 
@@ -71,7 +71,7 @@ IsSureUnless {A} IsFault program =
 
 -- what a wish for a lock answers, the context and the space after it are the outcome, unless memory was wanting
 abbrev pub SureWishes : Type 0
-SureWishes = (request : Request) (context : ContextView) → IsSureUnless IsStarved (acquiring request context)
+SureWishes = (request : Wish) (context : ContextView) → IsSureUnless IsStarved (acquiring request context)
 
 -- and so for a wait that goes on
 abbrev pub SureWaits : Type 0

@@ -16,7 +16,7 @@ use Rattle.mdl_context.specs.declared.context_error.ContextError.{ContextError}
 use Rattle.mdl_context.specs.declared.context_error.ContextError.TheVariants.{Waiting, Space}
 use Rattle.mdl_context.specs.declared.kept.Kept.{Kept}
 use Rattle.mdl_context.specs.declared.kept.Wanted.{Wanted}
-use Rattle.mdl_context.specs.declared.request.Request.{Request}
+use Rattle.mdl_context.specs.Wishes.{Wish}
 use Rattle.mdl_context.specs.declared.request.Acquire.{Acquire}
 use Rattle.mdl_context.specs.declared.request.Acquire.TheVariants.{Acquired, MustWait}
 use Rattle.mdl_context.specs.Contexts.{ContextView, lasts, place_known}
@@ -33,19 +33,19 @@ starved context = Give (Err (Space OutOfMemory), context)
 
 -- whether a ticket is at the place of the wanted key, in a mode at least as strong as the wanted one, which is one of the key's
 -- kind
-abbrev pub suffices : ℕ → Request → Kept → Bool
-suffices place request ticket = is_at place ticket && covers ticket.mode request.mode && is_mode_of (kind_of request.key.now.namespace) request.mode
+abbrev pub suffices : ℕ → Wish → Kept → Bool
+suffices place request ticket = is_at place ticket && covers ticket.mode request.mode && is_mode_of (kind_of request.key.namespace) request.mode
 
 -- whether such a ticket can be used again: it is kept so long, and no explicit ticket serves twice
-abbrev pub is_reusable : ℕ → Request → Kept → Bool
+abbrev pub is_reusable : ℕ → Wish → Kept → Bool
 is_reusable place request ticket = suffices place request ticket && lasts request.duration ticket && not (lasts Explicit ticket)
 
 -- with the wanted ticket
-abbrev pub keeping : ℕ → ℕ → Request → ContextView → ContextView
+abbrev pub keeping : ℕ → ℕ → Wish → ContextView → ContextView
 keeping id place request context = record context { kept = context.kept ++ kept_of id place request ∷ [] }
 
 -- with a wait for the wanted ticket, and whether the searches for deadlocks are over
-abbrev pub awaiting : ℕ → Request → Bool → ContextView → ContextView
+abbrev pub awaiting : ℕ → Wish → Bool → ContextView → ContextView
 awaiting place request searched context = record context { wait = Some (wanted_of place request searched) }
 
 -- with the place of a key
@@ -53,37 +53,37 @@ abbrev pub remembering : KeyName → ℕ → ContextView → ContextView
 remembering key place context = record context { known = context.known ++ (key, place) ∷ [] }
 
 -- what a space's answer comes to
-abbrev pub outcome_got : ℕ → Request → ContextView → Result Got SpaceError → Outcome Acquire
+abbrev pub outcome_got : ℕ → Wish → ContextView → Result Got SpaceError → Outcome Acquire
 outcome_got place request context (Ok (got.Granted id)) = (Ok (Acquired id), keeping id place request context)
 outcome_got place request context (Ok (got.Waits number searched)) = (Ok (MustWait number), awaiting place request searched context)
 outcome_got place request context (Err refusal) = (Err (Space refusal), context)
 
 -- a ticket that can be used again is; where there is none, there has to be room for one more, and then the earliest that suffices
 -- is cloned, or a new one asked for
-abbrev pub reusing : Option Held → ℕ → Request → ContextView → Program (Outcome Acquire)
+abbrev pub reusing : Option Held → ℕ → Wish → ContextView → Program (Outcome Acquire)
 reusing (Some ticket) place request context = Give (Ok (Acquired ticket.id), context)
 reusing None place request context =
     Grow (starved context)
     (gaining_from (earliest (suffices place request) context.kept) context.who place request.mode >>= (λ end. Give (outcome_got place request context end)))
 
 -- a lock at a place is wished for
-abbrev pub acquiring_at : ℕ → Request → ContextView → Program (Outcome Acquire)
+abbrev pub acquiring_at : ℕ → Wish → ContextView → Program (Outcome Acquire)
 acquiring_at place request context = reusing (earliest (is_reusable place request) context.kept) place request context
 
 -- the place of the key is answered. It is remembered, which takes memory
-abbrev pub place_answered : Request → ContextView → Answer → Program (Outcome Acquire)
-place_answered request context (At_place place) = Grow (starved context) (acquiring_at place request (remembering request.key.now place context))
+abbrev pub place_answered : Wish → ContextView → Answer → Program (Outcome Acquire)
+place_answered request context (At_place place) = Grow (starved context) (acquiring_at place request (remembering request.key place context))
 place_answered request context answer = Give (Err (Space (refusal_of answer)), context)
 
 -- the place of the key is known, or asked for
-abbrev pub finding : Option ℕ → Request → ContextView → Program (Outcome Acquire)
+abbrev pub finding : Option ℕ → Wish → ContextView → Program (Outcome Acquire)
 finding (Some place) request context = acquiring_at place request context
-finding None request context = Ask (Resolve context.who request.key.now) (place_answered request context)
+finding None request context = Ask (Resolve context.who request.key) (place_answered request context)
 
 -- a lock is wished for
-abbrev pub acquiring : Request → ContextView → Program (Outcome Acquire)
+abbrev pub acquiring : Wish → ContextView → Program (Outcome Acquire)
 acquiring request context =
-    if is_some context.wait then Give (Err Waiting, context) else finding (place_known request.key.now context.known) request context
+    if is_some context.wait then Give (Err Waiting, context) else finding (place_known request.key context.known) request context
 
 -- a context is as it was, or has come to know the place of a key that it didn't know
 abbrev pub LearnsAtMost : KeyName → ContextView → ContextView → Type 0

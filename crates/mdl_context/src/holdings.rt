@@ -10,6 +10,7 @@ ghost use Rattle.mdl_context.specs.Holdings.{without_number, is_at, is_ticket, I
 ghost use Rattle.mdl_context.specs.Indexes.{has_room_for};
 ghost use Rattle.mdl_context.specs.Waits.{is_searched};
 ghost use Rattle.mdl_context.specs.Requests.{suffices, is_reusable};
+ghost use Rattle.mdl_context.specs.Wishes.{wish_of};
 
 use crate::by_place::ByPlace;
 use crate::{Kept, Request, Wanted};
@@ -266,7 +267,7 @@ impl Holdings {
     /// The earliest ticket at a place that a request can use again.
     pub(crate) fn reusable(&self, place: Place, request: &Request<'_>) -> Option<Held>
         requires { AreRising self.now.kept }
-        ensures { result ≡ earliest (is_reusable place request.now) self.now.kept }
+        ensures { result ≡ earliest (is_reusable place (wish_of request.now)) self.now.kept }
     {
         for id in self.by_place.numbers(place) {
             let ticket = numbered(&self.tickets, *id)?;
@@ -280,7 +281,7 @@ impl Holdings {
     /// The earliest ticket at a place that suffices for a request.
     pub(crate) fn sufficient(&self, place: Place, request: &Request<'_>) -> Option<Held>
         requires { AreRising self.now.kept }
-        ensures { result ≡ earliest (suffices place request.now) self.now.kept }
+        ensures { result ≡ earliest (suffices place (wish_of request.now)) self.now.kept }
     {
         for id in self.by_place.numbers(place) {
             let ticket = numbered(&self.tickets, *id)?;
@@ -404,7 +405,7 @@ impl Kept {
 impl Request<'_> {
     // Whether a ticket suffices for the request, whose key is at this place.
     fn is_met_by(&self, place: Place, ticket: &Kept) -> bool
-        ensures { result ≡ suffices place self.now ticket.now }
+        ensures { result ≡ suffices place (wish_of self.now) ticket.now }
     {
         ticket.place == place
             && covers(ticket.mode, self.mode)
@@ -413,7 +414,7 @@ impl Request<'_> {
 
     // Whether a ticket can be used again for the request, whose key is at this place.
     fn can_reuse(&self, place: Place, ticket: &Kept) -> bool
-        ensures { result ≡ is_reusable place self.now ticket.now }
+        ensures { result ≡ is_reusable place (wish_of self.now) ticket.now }
     {
         self.is_met_by(place, ticket)
             && ticket.lasts(self.duration)
@@ -422,7 +423,7 @@ impl Request<'_> {
 
     /// The ticket that the request gains.
     pub(crate) fn kept(&self, id: TicketId, place: Place) -> Kept
-        ensures { result ≡ kept_of id place self.now }
+        ensures { result ≡ kept_of id place (wish_of self.now) }
     {
         Kept {
             id,
@@ -434,7 +435,7 @@ impl Request<'_> {
 
     /// The ticket that the request waits for, and whether the searches for deadlocks are over.
     pub(crate) fn wanted(&self, place: Place, searched: bool) -> Wanted
-        ensures { result ≡ wanted_of place self.now searched }
+        ensures { result ≡ wanted_of place (wish_of self.now) searched }
     {
         Wanted {
             place,

@@ -3,6 +3,7 @@ ghost use Rattle.std.specs.Prelude.{◌≡◌, Some, None, OnErr};
 ghost use Rattle.mdl_calls.specs.Words.{Runs};
 ghost use Rattle.mdl_context.specs.Contexts.{Attends, LeavesOthers, place_known};
 ghost use Rattle.mdl_context.specs.Requests.{acquiring, acquiring_at, finding, LearnsAtMost, WaitsAfter};
+ghost use Rattle.mdl_context.specs.Wishes.{wish_of};
 
 use crate::asking::{Got, gain};
 use crate::{Acquire, Context, ContextError, Request};
@@ -24,7 +25,7 @@ impl<S: LockSpace> Context<S> {
     /// After MySQL 5.7, `MDL_context::acquire_lock` of `sql/mdl.cc`.
     pub fn acquire(&mut self, space: &mut S, request: Request<'_>) -> Result<Acquire, ContextError>
         requires { Attends S.speaks_for S.own S.knows space.old self.old }
-        ensures run { Runs S.joins space.old (acquiring request.entry self.old) (result, self.new) space.new }
+        ensures run { Runs S.joins space.old (acquiring (wish_of request.entry) self.old) (result, self.new) space.new }
         ensures attends { Attends S.speaks_for S.own S.knows space.new self.new }
         ensures others { LeavesOthers S.speaks_for S.own S.knows self.old.who space.old space.new }
         ensures who { self.new.who ≡ self.old.who }
@@ -46,7 +47,7 @@ impl<S: LockSpace> Context<S> {
         requires attends { Attends S.speaks_for S.own S.knows space.old self.old }
         requires idle { self.old.wait ≡ None }
         requires new { place_known request.key.now self.old.known ≡ None }
-        ensures run { Runs S.joins space.old (finding None request.entry self.old) (result, self.new) space.new }
+        ensures run { Runs S.joins space.old (finding None (wish_of request.entry) self.old) (result, self.new) space.new }
         ensures attends { Attends S.speaks_for S.own S.knows space.new self.new }
         ensures who { self.new.who ≡ self.old.who }
         ensures unchanged { OnErr result (LearnsAtMost request.entry.key.now self.old self.new) }
@@ -73,7 +74,7 @@ impl<S: LockSpace> Context<S> {
         requires attends { Attends S.speaks_for S.own S.knows space.old self.old }
         requires idle { self.old.wait ≡ None }
         requires known { place_known request.key.now self.old.known ≡ Some place }
-        ensures run { Runs S.joins space.old (acquiring_at place request.entry self.old) (result, self.new) space.new }
+        ensures run { Runs S.joins space.old (acquiring_at place (wish_of request.entry) self.old) (result, self.new) space.new }
         ensures attends { Attends S.speaks_for S.own S.knows space.new self.new }
         ensures who { self.new.who ≡ self.old.who }
         ensures unchanged { OnErr result (self.new ≡ self.old) }
