@@ -12,7 +12,7 @@ use Rattle.mdl_context.specs.declared.context_error.ContextError.{ContextError}
 use Rattle.mdl_context.specs.declared.kept.Kept.{Kept}
 use Rattle.mdl_context.specs.declared.kept.Wanted.{Wanted}
 use Rattle.mdl_context.specs.declared.request.Mark.{Mark}
-use Rattle.mdl_context.specs.declared.holdings.Going.TheVariants.{From}
+use Rattle.mdl_context.specs.declared.going.Going.TheVariants.{From}
 use Rattle.mdl_context.specs.Goings.{goes}
 use Rattle.mdl_context.specs.Contexts.{ContextView, held_of, lasts, held_for, beyond, beyond_mark, has_number, without, AreRising, Serves, wish_there, wish_here}
 use Rattle.mdl_context.specs.Holdings.{without_number}

@@ -1,8 +1,8 @@
 -- Which tickets are given up, as the code of a context tells it.
 use Rattle.std.specs.Prelude.{Bool, ◌&&◌, nat_le}
 use Rattle.mdl_context.specs.declared.kept.Kept.{Kept}
-use Rattle.mdl_context.specs.declared.holdings.Going.{Going}
-use Rattle.mdl_context.specs.declared.holdings.Going.TheVariants.{From, At}
+use Rattle.mdl_context.specs.declared.going.Going.{Going}
+use Rattle.mdl_context.specs.declared.going.Going.TheVariants.{From, At}
 use Rattle.mdl_context.specs.Contexts.{lasts}
 use Rattle.mdl_context.specs.Holdings.{is_at}
 

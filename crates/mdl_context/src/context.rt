@@ -48,6 +48,13 @@ impl<S: LockSpace> Context<S> {
         }
     }
 
+    /// The session whose context this is.
+    pub fn who(&self) -> u16
+        ensures { result ≡ self.now.who }
+    {
+        self.who
+    }
+
     /// The tickets that the session holds, in order of gain.
     pub fn kept(&self) -> &[Kept]
         ensures { result.now ≡ self.now.kept }

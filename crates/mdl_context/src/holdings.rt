@@ -3,7 +3,6 @@ ghost use Rattle.std.specs.Prelude.{◌≡◌, ℕ, true, Some, None, [], ◌∷
 ghost use Rattle.std.specs.Vec.{vec_capacity};
 ghost use Rattle.std.specs.Option.{option_copied, option_map};
 ghost use Rattle.mdl_key.specs.declared.mode.Duration.TheVariants.{Explicit};
-ghost use Rattle.mdl_system.specs.Strength.{covers};
 ghost use Rattle.mdl_context.specs.Contexts.{AreRising, lasts, held_for, has_number, held_of, place_known};
 ghost use Rattle.mdl_context.specs.Goings.{goes};
 ghost use Rattle.mdl_context.specs.Holdings.{without_number, is_at, is_ticket, IsIndexOf, has_room, earliest, kept_for, in_transaction, transactional, kept_of, wanted_of, with_wanted, search_over};
@@ -13,9 +12,10 @@ ghost use Rattle.mdl_context.specs.Requests.{suffices, is_reusable};
 ghost use Rattle.mdl_context.specs.Wishes.{wish_of};
 
 use crate::by_place::ByPlace;
+use crate::going::Going;
 use crate::{Kept, Request, Wanted};
 use indexmap::IndexMap;
-use mdl_key::{Duration, Key, Kind, Mode, at_least};
+use mdl_key::{Duration, Key};
 use mdl_space::{Held, Place, TicketId};
 use std::alloc::{AllocError, Global};
 use std::marker::Model;
@@ -359,101 +359,4 @@ fn drop_numbers(by_place: &mut ByPlace, tickets: &[Kept], going: &Going)
             by_place.remove(ticket.place, ticket.id);
         }
     }
-}
-
-/// Which tickets are given up.
-#[derive(Clone, Copy)]
-pub(crate) enum Going {
-    /// Those of a duration from a number on.
-    From(Duration, TicketId),
-    /// Those at a place.
-    At(Place),
-}
-
-impl Going {
-    /// Whether a ticket is given up.
-    pub(crate) fn names(&self, ticket: &Kept) -> bool
-        ensures { result ≡ goes self.now ticket.now }
-    {
-        match self {
-            Going::From(duration, id) => ticket.lasts(*duration) && *id <= ticket.id,
-            Going::At(place) => ticket.place == *place,
-        }
-    }
-}
-
-impl Kept {
-    // As the lock space holds it.
-    fn held(&self) -> Held
-        ensures { result ≡ held_of self.now }
-    {
-        Held {
-            id: self.id,
-            place: self.place,
-            mode: self.mode,
-        }
-    }
-
-    // Whether the ticket is kept so long.
-    fn lasts(&self, duration: Duration) -> bool
-        ensures { result ≡ lasts duration self.now }
-    {
-        self.duration == duration
-    }
-}
-
-impl Request<'_> {
-    // Whether a ticket suffices for the request, whose key is at this place.
-    fn is_met_by(&self, place: Place, ticket: &Kept) -> bool
-        ensures { result ≡ suffices place (wish_of self.now) ticket.now }
-    {
-        ticket.place == place
-            && covers(ticket.mode, self.mode)
-            && self.key.kind().has_mode(self.mode)
-    }
-
-    // Whether a ticket can be used again for the request, whose key is at this place.
-    fn can_reuse(&self, place: Place, ticket: &Kept) -> bool
-        ensures { result ≡ is_reusable place (wish_of self.now) ticket.now }
-    {
-        self.is_met_by(place, ticket)
-            && ticket.lasts(self.duration)
-            && !ticket.lasts(Duration::Explicit)
-    }
-
-    /// The ticket that the request gains.
-    pub(crate) fn kept(&self, id: TicketId, place: Place) -> Kept
-        ensures { result ≡ kept_of id place (wish_of self.now) }
-    {
-        Kept {
-            id,
-            place,
-            mode: self.mode,
-            duration: self.duration,
-        }
-    }
-
-    /// The ticket that the request waits for, and whether the searches for deadlocks are over.
-    pub(crate) fn wanted(&self, place: Place, searched: bool) -> Wanted
-        ensures { result ≡ wanted_of place (wish_of self.now) searched }
-    {
-        Wanted {
-            place,
-            mode: self.mode,
-            duration: self.duration,
-            searched,
-        }
-    }
-}
-
-// Whether a mode is at least as strong as another one of its kind.
-fn covers(held: Mode, mode: Mode) -> bool
-    ensures { result ≡ covers held mode }
-{
-    let kind = if Kind::Object.has_mode(held) && Kind::Object.has_mode(mode) {
-        Kind::Object
-    } else {
-        Kind::Scoped
-    };
-    at_least(kind, held, mode)
 }

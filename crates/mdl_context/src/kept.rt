@@ -1,6 +1,9 @@
 //! What a context keeps of a ticket, and of a wait.
+ghost use Rattle.std.specs.Prelude.{◌≡◌};
+ghost use Rattle.mdl_context.specs.Contexts.{held_of, lasts};
+
 use mdl_key::{Duration, Mode};
-use mdl_space::{Place, TicketId};
+use mdl_space::{Held, Place, TicketId};
 
 /// A ticket that a session holds, and how long it keeps it.
 #[derive(Drop)]
@@ -13,6 +16,26 @@ pub struct Kept {
     pub mode: Mode,
     /// How long the ticket is kept.
     pub duration: Duration,
+}
+
+impl Kept {
+    /// As the lock space holds it.
+    pub(crate) fn held(&self) -> Held
+        ensures { result ≡ held_of self.now }
+    {
+        Held {
+            id: self.id,
+            place: self.place,
+            mode: self.mode,
+        }
+    }
+
+    /// Whether the ticket is kept so long.
+    pub(crate) fn lasts(&self, duration: Duration) -> bool
+        ensures { result ≡ lasts duration self.now }
+    {
+        self.duration == duration
+    }
 }
 
 /// A ticket that a session waits for.

@@ -5,6 +5,7 @@ mod asking;
 mod by_place;
 mod context;
 mod context_error;
+mod going;
 mod holdings;
 mod kept;
 mod laws;
@@ -13,6 +14,7 @@ mod releasing;
 mod request;
 mod searches;
 mod wish_laws;
+mod wishes;
 
 pub use context::Context;
 pub use context_error::ContextError;

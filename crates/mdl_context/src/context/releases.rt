@@ -6,7 +6,7 @@ ghost use Rattle.mdl_context.specs.Contexts.{beyond, beyond_mark, held_for, of_t
 ghost use Rattle.mdl_context.specs.Releases.{releasing_all, giving_up, waiting_fault, release_fault, rollback_fault, releasing, releasing_name, rolling_back, ending_statement, ending_transaction};
 ghost use Rattle.mdl_key.specs.declared.mode.Duration.TheVariants.{Statement};
 
-use crate::holdings::Going;
+use crate::going::Going;
 use crate::releasing::{release, release_all};
 use crate::{Context, ContextError, Mark};
 use mdl_key::{Duration, Key};
