@@ -41,8 +41,8 @@ struct Drawn {
     text: String,
 }
 
-/// The script of this number: 2 to 8 sessions that lock 3 to 5 tables. Behind the lines that make tables and those that
-/// begin transactions, it has up to 47 others, so that it has 10 to 60 lines in all.
+/// The script of this number: 2 to 8 sessions that lock 3 to 5 tables. Behind the lines that make tables and those
+/// that begin transactions, it has up to 47 others, so that it has 10 to 60 lines in all.
 pub(crate) fn script_by_chance(alloc: Global, number: u64) -> Result<Vec<u8>, AllocError> {
     let mut chance = Chance(number);
     let sessions = chance.draw(7) + 2;

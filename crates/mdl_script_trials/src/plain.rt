@@ -1,5 +1,6 @@
-//! The language of statements run once more, as slowly and as plainly as can be: one list of all tickets, granted and waiting, in
-//! the order in which they came, and one of all sessions. Whatever is asked, the lists are read from end to end.
+//! The language of statements run once more, as slowly and as plainly as can be: one list of all tickets, granted and
+//! waiting, in the order in which they came, and one of all sessions. Whatever is asked, the lists are read from end
+//! to end.
 mod deadlocks;
 mod definitions;
 mod granting;

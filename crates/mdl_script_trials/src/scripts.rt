@@ -54,7 +54,34 @@ const ROWS: &str = "\
     TO p => 1 1 OK / 2 1 ERR 1305 / 3 1 OK / 4 1 OK / 5 1 OK / 6 1 OK / 7 1 OK / 8 1 ERR 1305
 1 BEGIN / 1 SAVEPOINT p / 1 DROP TABLE t / 1 ROLLBACK TO p => 1 1 OK / 2 1 OK / 3 1 ERR 1146 / 4 1 ERR 1305
 1 ROLLBACK TO SAVEPOINT p => line 1: BadName
-1 BEGIN / # 1 / 2 INSERT low_priority t => line 3: BadWord";
+1 BEGIN / # 1 / 2 INSERT low_priority t => line 3: BadWord
+1 CREATE TABLE b x / 1 BEGIN / 1 SELECT a / 3 DROP TABLE a b / 2 SELECT b a / 1 COMMIT => 1 1 OK / 2 1 OK / 3 1 ERR \
+    1146 / 4 3 WAIT TABLE test.a X / 5 2 WAIT TABLE test.a SR / 6 1 OK / 4 3 WAIT TABLE test.b X / 5 2 ERR 1213 / 4 \
+    3 ERR 1146
+1 BEGIN / 1 SELECT a / 2 BEGIN / 2 SELECT b / 3 DROP TABLE a / 4 DROP TABLE b / 2 SELECT a / 1 SELECT b => 1 1 OK / \
+    2 1 ERR 1146 / 3 2 OK / 4 2 ERR 1146 / 5 3 WAIT TABLE test.a X / 6 4 WAIT TABLE test.b X / 7 2 WAIT TABLE test.a \
+    SR / 8 1 WAIT TABLE test.b SR / 7 2 ERR 1213 / 6 4 ERR 1146 / 8 1 ERR 1146 / END 3 WAIT
+1 CREATE TABLE t x / 1 BEGIN / 1 SELECT t / 2 CREATE TABLE t x / 1 COMMIT => 1 1 OK / 2 1 OK / 3 1 OK test.t@1(x) / \
+    4 2 WAIT TABLE test.t X / 5 1 OK / 4 2 ERR 1050
+1 CREATE TABLE a x / 1 DROP TABLE a b / 1 SELECT a => 1 1 OK / 2 1 ERR 1146 / 3 1 OK test.a@1(x)
+1 SELECT a b c d e f g h T => line 1: BadWord
+1 SELECT a b c d e f g T => line 1: BadName
+1 SELECT a b c d e f g h i => line 1: BadWord
+1 INSERT LOW_PRIORITY => line 1: BadWord
+1 INSERT LOW_PRIORITY LOW_PRIORITY => line 1: BadName
+ # x => line 1: BadSession
+0 BEGIN => line 1: BadSession
+01 BEGIN => line 1: BadSession
++1 BEGIN => line 1: BadSession
+1 KILL QUERY 0 => line 1: BadSession
+1 => line 1: BadWord
+1 begin => line 1: BadWord
+1 SELECT => line 1: BadWord
+1 CREATE TABLE t => line 1: BadWord
+1 SELECT T => line 1: BadName
+1 SELECT a.b.c => line 1: BadName
+1 SELECT t test.t => line 1: BadName
+# \u{80} => line 1: NotAscii";
 
 // The lines of a row, which are parted by ` / `.
 fn lines(alloc: Global, row: &str) -> Result<String, AllocError> {
@@ -120,7 +147,8 @@ fn the_257th_key_has_no_place(rt: HostRuntime) -> Result<(), Fail> {
     Ok(())
 }
 
-// Of the scripts by chance most have a session that waits, and many a deadlock, a kill, a timeout and a savepoint that serves.
+// Of the scripts by chance most have a session that waits, and many a deadlock, a kill, a timeout and a savepoint that
+// serves.
 #[test]
 fn scripts_by_chance_wait_in_earnest(rt: HostRuntime) -> Result<(), Fail> {
     let mut waits = 0_u32;

@@ -15,8 +15,8 @@ impl Plain {
         Ok(())
     }
 
-    // The victim of the deadlock that a session waits in. Each round has all paths of one length, the first of which comes first
-    // in the order of dictionaries.
+    // The victim of the deadlock that a session waits in. Each round has all paths of one length, the first of which
+    // comes first in the order of dictionaries.
     fn victim(&self, who: u16) -> Result<Option<u16>, AllocError> {
         let mut start = Vec::new(self.alloc);
         start.push(who)?;

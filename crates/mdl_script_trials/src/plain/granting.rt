@@ -24,8 +24,8 @@ impl Plain {
         None
     }
 
-    // A ticket goes, and waiters of its place are granted: again and again the first in order of arrival whose wait isn't
-    // settled and whose wish can be granted, until there is none.
+    // A ticket goes, and waiters of its place are granted: again and again the first in order of arrival whose wait
+    // isn't settled and whose wish can be granted, until there is none.
     pub(super) fn let_go(&mut self, gone: Ticket) {
         self.tickets.retain(|ticket| ticket.number != gone.number);
         for _grant in 0..self.tickets.len() {
@@ -60,8 +60,8 @@ impl Plain {
         self.settle(chosen.session, Settled::Granted);
     }
 
-    // Whether a wish can be granted: no other session's granted ticket clashes with it, and it waits behind no other session's
-    // waiting one, whatever came of that wait.
+    // Whether a wish can be granted: no other session's granted ticket clashes with it, and it waits behind no other
+    // session's waiting one, whatever came of that wait.
     pub(super) fn is_grantable(&self, who: u16, place: usize, mode: Mode) -> bool {
         for other in &self.tickets {
             if other.session != who && self.is_in_the_way(other, place, mode) {

@@ -4,8 +4,8 @@ use mdl_key::{Duration, Key, Mode, at_least};
 use std::alloc::AllocError;
 
 impl Plain {
-    // Asks for a lock: a ticket of the session that lasts as long and is as strong serves again; beside one that lasts otherwise
-    // a second one is had at once; else a new ticket is granted or waited for.
+    // Asks for a lock: a ticket of the session that lasts as long and is as strong serves again; beside one that lasts
+    // otherwise a second one is had at once; else a new ticket is granted or waited for.
     pub(super) fn ask(
         &mut self,
         who: u16,

@@ -117,8 +117,8 @@ impl Plan {
         }
     }
 
-    // What begins each change of definitions: it commits, and then asks for the global lock, the schemas and the tables, both
-    // in the order of keys. A schema that is asked for again is had already.
+    // What begins each change of definitions: it commits, and then asks for the global lock, the schemas and the
+    // tables, both in the order of keys. A schema that is asked for again is had already.
     fn begin_change(&mut self, keys: &Vec<Key>) -> Result<(), AllocError> {
         self.commit()?;
         self.ask_global()?;
