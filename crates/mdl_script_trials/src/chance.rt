@@ -1,0 +1,183 @@
+//! Scripts that look drawn by lot, and are the same in each run.
+ghost use Rattle.std.specs.Prelude.{◌<◌};
+
+use std::alloc::{AllocError, Global};
+
+// The names of tables.
+const TABLES: [&str; 5] = ["a", "b", "c", "d", "e"];
+
+// Forms that name no table, the likely ones more than once.
+const ALONE: [&str; 8] = [
+    "BEGIN",
+    "BEGIN",
+    "BEGIN",
+    "COMMIT",
+    "ROLLBACK",
+    "SAVEPOINT",
+    "SAVEPOINT",
+    "ROLLBACK TO",
+];
+
+// Forms of a write.
+const WRITES: [&str; 6] = [
+    "INSERT",
+    "UPDATE",
+    "DELETE",
+    "INSERT LOW_PRIORITY",
+    "UPDATE",
+    "DELETE LOW_PRIORITY",
+];
+
+// The next of them follows from the last.
+#[derive(Clone, Copy)]
+struct Chance(u64);
+
+// The script of a number, as long as it was drawn. It has so many sessions and tables.
+#[derive(Drop)]
+struct Drawn {
+    chance: Chance,
+    sessions: u16,
+    tables: u16,
+    text: String,
+}
+
+/// The script of this number: 2 to 8 sessions that lock 3 to 5 tables. Behind the lines that make tables and those
+/// that begin transactions, it has up to 47 others, so that it has 10 to 60 lines in all.
+pub(crate) fn script_by_chance(alloc: Global, number: u64) -> Result<Vec<u8>, AllocError> {
+    let mut chance = Chance(number);
+    let sessions = chance.draw(7) + 2;
+    let tables = chance.draw(3) + 3;
+    let lines = chance.draw(41) + 7;
+    let mut drawn = Drawn {
+        chance,
+        sessions,
+        tables,
+        text: String::new(alloc),
+    };
+    for table in 0..tables {
+        drawn.make_table(table)?;
+    }
+    for who in 1..=sessions {
+        drawn.begin(who)?;
+    }
+    for _line in 0..lines {
+        drawn.line()?;
+    }
+    Ok(drawn.text.into_bytes())
+}
+
+impl Chance {
+    // A number below this one.
+    fn draw(&mut self, below: u16) -> u16
+        requires { 0 < below }
+        ensures { result < below }
+    {
+        self.0 = self
+            .0
+            .wrapping_mul(6_364_136_223_846_793_005)
+            .wrapping_add(1_442_695_040_888_963_407);
+        ((self.0 >> 33) % u64::from(below)) as u16
+    }
+}
+
+// The name of a table.
+fn table_name(number: u16) -> &'static str {
+    match TABLES.get(usize::from(number)) {
+        Some(name) => name,
+        None => "e",
+    }
+}
+
+impl Drawn {
+    // A number below the count of tables, or of sessions.
+    fn draw_below(&mut self, count: u16) -> u16 {
+        match count {
+            0 => 0,
+            count => self.chance.draw(count),
+        }
+    }
+
+    // Makes a table at the start.
+    fn make_table(&mut self, table: u16) -> Result<(), AllocError> {
+        let name = table_name(table);
+        writeln!(self.text, "1 CREATE TABLE {name} x")
+    }
+
+    // Begins a transaction of most sessions.
+    fn begin(&mut self, who: u16) -> Result<(), AllocError> {
+        if self.chance.draw(4) == 0 {
+            return Ok(());
+        }
+        writeln!(self.text, "{who} BEGIN")
+    }
+
+    // A line of some session.
+    fn line(&mut self) -> Result<(), AllocError> {
+        let who = self.draw_below(self.sessions).wrapping_add(1);
+        write!(self.text, "{who} ")?;
+        match self.chance.draw(32) {
+            0..=6 => self.alone()?,
+            7..=14 => self.some("SELECT", 3)?,
+            15..=20 => self.write()?,
+            21..=25 => self.some("DROP TABLE", 3)?,
+            26..=28 => self.create()?,
+            29 => self.kill()?,
+            _ => self.text.push_str("TIMEOUT")?,
+        }
+        self.text.push('\n')
+    }
+
+    // A form without a table.
+    fn alone(&mut self) -> Result<(), AllocError> {
+        let word = ALONE[usize::from(self.chance.draw(8))];
+        self.text.push_str(word)?;
+        match word {
+            "SAVEPOINT" | "ROLLBACK TO" => {
+                let name = table_name(self.chance.draw(2));
+                write!(self.text, " {name}")
+            }
+            _ => Ok(()),
+        }
+    }
+
+    // A form with one to so many tables, in some order, none of them twice.
+    fn some(&mut self, word: &str, most: u16) -> Result<(), AllocError> {
+        self.text.push_str(word)?;
+        let count = self.draw_below(most).wrapping_add(1);
+        let first = self.draw_below(self.tables);
+        let backwards = self.chance.draw(2) == 0;
+        for step in 0..count {
+            let at = if backwards {
+                first.wrapping_add(self.tables).wrapping_sub(step)
+            } else {
+                first.wrapping_add(step)
+            };
+            let name = table_name(at.checked_rem(self.tables).unwrap_or(0));
+            write!(self.text, " {name}")?;
+        }
+        Ok(())
+    }
+
+    // A write.
+    fn write(&mut self) -> Result<(), AllocError> {
+        let word = WRITES[usize::from(self.chance.draw(6))];
+        let name = table_name(self.draw_below(self.tables));
+        write!(self.text, "{word} {name}")
+    }
+
+    // A new table, at times of a schema that isn't there, or with a column named twice.
+    fn create(&mut self) -> Result<(), AllocError> {
+        let name = table_name(self.draw_below(self.tables));
+        match self.chance.draw(16) {
+            0 => write!(self.text, "CREATE TABLE s.{name} x"),
+            1 => write!(self.text, "CREATE TABLE {name} x y x"),
+            _ => write!(self.text, "CREATE TABLE {name} x y"),
+        }
+    }
+
+    // A kill of some session.
+    fn kill(&mut self) -> Result<(), AllocError> {
+        let target = self.draw_below(self.sessions).wrapping_add(1);
+        write!(self.text, "KILL QUERY {target}")
+    }
+}

@@ -1,0 +1,145 @@
+//! What stands under keys.
+use super::{MOST_PLACES, MOST_VERSIONS, Place, Plain, Taken, made};
+use mdl_defs::{Columns, Definition};
+use mdl_key::Key;
+use std::alloc::AllocError;
+
+impl Plain {
+    // Where a key stands among those that were locked.
+    pub(super) fn place_of(&self, key: &Key) -> Option<usize> {
+        self.places.iter().position(|place| place.key == *key)
+    }
+
+    // The same, where a new key takes a place that is left.
+    pub(super) fn resolve(&mut self, key: &Key) -> Result<Option<usize>, AllocError> {
+        if let Some(place) = self.place_of(key) {
+            return Ok(Some(place));
+        }
+        if self.places.len() >= MOST_PLACES {
+            return Ok(None);
+        }
+        self.places.push(Place {
+            key: key.clone()?,
+            version: 0,
+            definition: None,
+        })?;
+        Ok(self.place_of(key))
+    }
+
+    // Whether something stands under a key.
+    fn is_there(&self, key: &Key) -> bool {
+        self.places
+            .iter()
+            .any(|place| place.key == *key && place.definition.is_some())
+    }
+
+    // Whether a key has had all its versions.
+    fn is_used_up(&self, key: &Key) -> bool {
+        self.places.iter().any(|place| place.key == *key && place.version >= MOST_VERSIONS)
+    }
+
+    // Fails where there is no such table.
+    pub(super) fn look(&self, table: &Key) -> Taken {
+        if self.is_there(table) {
+            Taken::Done
+        } else {
+            Taken::Failed(1146)
+        }
+    }
+
+    // Fails where it has had all its versions.
+    pub(super) fn check_version(&self, table: &Key) -> Taken {
+        if self.is_used_up(table) {
+            Taken::Failed(9003)
+        } else {
+            Taken::Done
+        }
+    }
+
+    // Answers its version and columns.
+    pub(super) fn read(&mut self, who: u16, table: &Key) -> Result<Taken, AllocError> {
+        let text = self.text_of(table)?;
+        for session in &mut self.sessions {
+            if session.number == who {
+                session.answer.push_str(text.as_str())?;
+            }
+        }
+        Ok(Taken::Done)
+    }
+
+    // A blank, and a table with its version and columns.
+    fn text_of(&self, table: &Key) -> Result<String, AllocError> {
+        let mut text = String::new(self.alloc);
+        for place in &self.places {
+            if place.key == *table {
+                if let Some(Definition::Table(columns)) = &place.definition {
+                    let schema = table.schema_name();
+                    let name = table.table_name();
+                    let version = place.version;
+                    write!(text, " {schema}.{name}@{version}")?;
+                    write_columns(&mut text, columns)?;
+                }
+            }
+        }
+        Ok(text)
+    }
+
+    // Makes a table, if its schema is there, it isn't, and no column is named twice.
+    pub(super) fn create(&mut self, table: &Key, columns: &Columns) -> Result<Taken, AllocError> {
+        let schema = made(Key::schema(self.alloc, table.schema_name()))?;
+        if !self.is_there(&schema) {
+            return Ok(Taken::Failed(1049));
+        }
+        if self.is_there(table) {
+            return Ok(Taken::Failed(1050));
+        }
+        if names_twice(columns) {
+            return Ok(Taken::Failed(1060));
+        }
+        if self.is_used_up(table) {
+            return Ok(Taken::Failed(9003));
+        }
+        self.change(table, Some(Definition::Table(columns.clone()?)));
+        Ok(Taken::Done)
+    }
+
+    // Drops a table.
+    pub(super) fn drop_table(&mut self, table: &Key) -> Taken {
+        self.change(table, None);
+        Taken::Done
+    }
+
+    // Lets something stand under a key, or nothing, in a new version.
+    fn change(&mut self, key: &Key, definition: Option<Definition>) {
+        let mut definition = Some(definition);
+        for place in &mut self.places {
+            if place.key == *key {
+                if let Some(definition) = definition.take() {
+                    place.definition = definition;
+                    place.version = place.version.wrapping_add(1);
+                }
+            }
+        }
+    }
+}
+
+// Columns in parentheses.
+fn write_columns(text: &mut String, columns: &Columns) -> Result<(), AllocError> {
+    let mut before = "(";
+    for column in columns.as_slice() {
+        text.push_str(before)?;
+        text.push_str(column.name())?;
+        before = ",";
+    }
+    text.push_str(")")
+}
+
+// Whether a column is named twice.
+fn names_twice(columns: &Columns) -> bool {
+    columns.as_slice().iter().any(|column| columns
+        .as_slice()
+        .iter()
+        .filter(|other| *other == column)
+        .count()
+        > 1)
+}

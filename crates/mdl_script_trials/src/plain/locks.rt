@@ -1,0 +1,128 @@
+//! How locks are asked for and given up.
+use super::{Mark, Plain, Taken, Ticket, Wait};
+use mdl_key::{Duration, Key, Mode, at_least};
+use std::alloc::AllocError;
+
+impl Plain {
+    // Asks for a lock: a ticket of the session that lasts as long and is as strong serves again; beside one that lasts
+    // otherwise a second one is had at once; else a new ticket is granted or waited for.
+    pub(super) fn ask(
+        &mut self,
+        who: u16,
+        key: &Key,
+        mode: Mode,
+        duration: Duration,
+    ) -> Result<Taken, AllocError> {
+        if duration != Duration::Explicit && self.has_for(who, key, mode, duration) {
+            return Ok(Taken::Done);
+        }
+        let Some(place) = self.resolve(key)? else {
+            return Ok(Taken::NotGot(9004));
+        };
+        let is_granted = self.has(who, key, mode) || self.is_grantable(who, place, mode);
+        self.drawn = self.drawn.wrapping_add(1);
+        self.tickets.push(Ticket {
+            number: self.drawn,
+            session: who,
+            place,
+            mode,
+            duration,
+            is_granted,
+        })?;
+        if is_granted {
+            return Ok(Taken::Done);
+        }
+        self.begin_wait(who)?;
+        self.tell_wait(who, key, mode)?;
+        Ok(Taken::MustWait)
+    }
+
+    // Whether the session has a ticket of a key that lasts so long and is so strong.
+    fn has_for(&self, who: u16, key: &Key, mode: Mode, duration: Duration) -> bool {
+        let place = self.place_of(key);
+        self.tickets.iter().any(|ticket| ticket.session == who
+            && ticket.duration == duration
+            && Some(ticket.place) == place
+            && at_least(key.kind(), ticket.mode, mode))
+    }
+
+    // Whether it has one that is so strong.
+    fn has(&self, who: u16, key: &Key, mode: Mode) -> bool {
+        self.has_for(who, key, mode, Duration::Statement)
+            || self.has_for(who, key, mode, Duration::Transaction)
+            || self.has_for(who, key, mode, Duration::Explicit)
+    }
+
+    // Waits for the newest ticket, and ends the deadlocks that this makes.
+    fn begin_wait(&mut self, who: u16) -> Result<(), AllocError> {
+        self.set_wait(
+            who,
+            Some(Wait {
+                ticket: self.drawn,
+                settled: None,
+            }),
+        );
+        self.end_deadlocks(who)
+    }
+
+    // How many tickets of the statement and of the transaction a session has.
+    pub(super) fn mark(&self, who: u16) -> Mark {
+        Mark {
+            statement: self.count(who, Duration::Statement),
+            transaction: self.count(who, Duration::Transaction),
+        }
+    }
+
+    // How many tickets of a duration.
+    fn count(&self, who: u16, duration: Duration) -> usize {
+        self.tickets
+            .iter()
+            .filter(|ticket| ticket.session == who && ticket.duration == duration)
+            .count()
+    }
+
+    // A session's newest ticket.
+    pub(super) fn newest(&self, who: u16) -> Option<Ticket> {
+        let mut newest = None;
+        for ticket in &self.tickets {
+            if ticket.session == who {
+                newest = Some(*ticket);
+            }
+        }
+        newest
+    }
+
+    // Gives up all tickets of a duration.
+    pub(super) fn release_all(&mut self, who: u16, duration: Duration) -> Result<(), AllocError> {
+        self.release_behind(who, duration, 0)
+    }
+
+    // Gives up the tickets beyond a mark.
+    pub(super) fn release_beyond(&mut self, who: u16, mark: Mark) -> Result<(), AllocError> {
+        self.release_behind(who, Duration::Statement, mark.statement)?;
+        self.release_behind(who, Duration::Transaction, mark.transaction)
+    }
+
+    // Gives up the tickets of a duration but for so many that were gained first.
+    fn release_behind(
+        &mut self,
+        who: u16,
+        duration: Duration,
+        kept: usize,
+    ) -> Result<(), AllocError> {
+        let mut gone = Vec::new(self.alloc);
+        let mut met = 0_usize;
+        for ticket in &self.tickets {
+            if ticket.session == who && ticket.duration == duration {
+                if met >= kept {
+                    gone.push(*ticket)?;
+                }
+                met = met.wrapping_add(1);
+            }
+        }
+        for ticket in &gone {
+            self.let_go(*ticket);
+        }
+        Ok(())
+    }
+}

@@ -1,0 +1,158 @@
+//! What the sessions of the plain program are at.
+use super::{Mark, Plain, Session, Settled, Step, Wait};
+use mdl_key::{Key, Mode};
+use std::alloc::{AllocError, Global};
+
+impl Session {
+    // One that has asked for nothing.
+    pub(super) fn new(alloc: Global, number: u16) -> Session {
+        Session {
+            number,
+            is_open: false,
+            has_written: false,
+            savepoints: Vec::new(alloc),
+            wait: None,
+            line: 0,
+            start: Mark {
+                statement: 0,
+                transaction: 0,
+            },
+            steps: Vec::new(alloc),
+            answer: String::new(alloc),
+        }
+    }
+}
+
+impl Plain {
+    // A session.
+    pub(super) fn session(&self, who: u16) -> Option<&Session> {
+        self.sessions.iter().find(|session| session.number == who)
+    }
+
+    // Whether its transaction is open.
+    pub(super) fn is_open(&self, who: u16) -> bool {
+        match self.session(who) {
+            Some(session) => session.is_open,
+            None => false,
+        }
+    }
+
+    // Whether its transaction has written.
+    pub(super) fn has_written(&self, who: u16) -> bool {
+        match self.session(who) {
+            Some(session) => session.has_written,
+            None => false,
+        }
+    }
+
+    // Its wait, if it isn't ended.
+    pub(super) fn wait(&self, who: u16) -> Option<Wait> {
+        match self.session(who) {
+            Some(session) => session.wait,
+            None => None,
+        }
+    }
+
+    // Whether it waits, and nothing has come of it yet.
+    pub(super) fn is_unsettled(&self, who: u16) -> bool {
+        match self.wait(who) {
+            Some(wait) => wait.settled.is_none(),
+            None => false,
+        }
+    }
+
+    // The session of the least number whose wait is settled.
+    pub(super) fn first_settled(&self) -> Option<(u16, Settled)> {
+        for session in &self.sessions {
+            if let Some(wait) = session.wait {
+                if let Some(how) = wait.settled {
+                    return Some((session.number, how));
+                }
+            }
+        }
+        None
+    }
+
+    // Settles a session's wait, unless it has none or it is settled.
+    pub(super) fn settle(&mut self, who: u16, how: Settled) {
+        if !self.is_unsettled(who) {
+            return;
+        }
+        for session in &mut self.sessions {
+            if session.number == who {
+                if let Some(wait) = session.wait {
+                    session.wait = Some(Wait {
+                        ticket: wait.ticket,
+                        settled: Some(how),
+                    });
+                }
+            }
+        }
+    }
+
+    // Gives a session a wait, or none.
+    pub(super) fn set_wait(&mut self, who: u16, wait: Option<Wait>) {
+        for session in &mut self.sessions {
+            if session.number == who {
+                session.wait = wait;
+            }
+        }
+    }
+
+    // Gives a session the steps of its statement, the next one last.
+    pub(super) fn give_steps(&mut self, who: u16, steps: Vec<Step>) {
+        let mut steps = Some(steps);
+        for session in &mut self.sessions {
+            if session.number == who {
+                if let Some(steps) = steps.take() {
+                    session.steps = steps;
+                }
+            }
+        }
+    }
+
+    // The next step of a session's statement.
+    pub(super) fn next_step(&mut self, who: u16) -> Option<Step> {
+        for session in &mut self.sessions {
+            if session.number == who {
+                return session.steps.pop();
+            }
+        }
+        None
+    }
+
+    // Its statement is done.
+    pub(super) fn tell_done(&mut self, who: u16) -> Result<(), AllocError> {
+        for session in &self.sessions {
+            if session.number == who {
+                let line = session.line;
+                let answer = session.answer.as_str();
+                writeln!(self.output, "{line} {who} OK{answer}")?;
+            }
+        }
+        Ok(())
+    }
+
+    // It waits for a lock.
+    pub(super) fn tell_wait(&mut self, who: u16, key: &Key, mode: Mode) -> Result<(), AllocError> {
+        for session in &self.sessions {
+            if session.number == who {
+                let line = session.line;
+                writeln!(self.output, "{line} {who} WAIT {key} {mode}")?;
+            }
+        }
+        Ok(())
+    }
+
+    // Its statement fails: no step of it is left.
+    pub(super) fn tell_error(&mut self, who: u16, number: u32) -> Result<(), AllocError> {
+        for session in &mut self.sessions {
+            if session.number == who {
+                session.steps.clear();
+                let line = session.line;
+                writeln!(self.output, "{line} {who} ERR {number}")?;
+            }
+        }
+        Ok(())
+    }
+}

@@ -1,0 +1,156 @@
+//! What a step does, and how a statement ends.
+use super::{Mark, Plain, Savepoint, Step, Taken};
+use mdl_key::Duration;
+use mdl_syntax::Name;
+use std::alloc::AllocError;
+
+impl Plain {
+    // Takes a step.
+    pub(super) fn take(&mut self, who: u16, step: Step) -> Result<Taken, AllocError> {
+        match step {
+            Step::Ask(key, mode, duration) => self.ask(who, &key, mode, duration),
+            Step::Look(table) => Ok(self.look(&table)),
+            Step::Read(table) => self.read(who, &table),
+            Step::Create(table, columns) => self.create(&table, &columns),
+            Step::CheckVersion(table) => Ok(self.check_version(&table)),
+            Step::Drop(table) => Ok(self.drop_table(&table)),
+            Step::Save(name) => self.save(who, name),
+            Step::GoBack(name) => self.go_back(who, &name),
+            other => self.take_plain(who, other),
+        }
+    }
+
+    // Takes a step that names nothing.
+    fn take_plain(&mut self, who: u16, step: Step) -> Result<Taken, AllocError> {
+        match step {
+            Step::EndStatement => self.end_statement(who)?,
+            Step::End => self.end_transaction(who)?,
+            Step::EndCommitted => self.end_committed(who)?,
+            Step::Open => self.set_open(who, true),
+            Step::Write => self.set_written(who),
+            _ => {}
+        }
+        Ok(Taken::Done)
+    }
+
+    // An error of a check: a statement in an open transaction keeps what it locked for the transaction.
+    pub(super) fn fail(&mut self, who: u16, number: u32) -> Result<(), AllocError> {
+        if self.is_open(who) {
+            self.end_statement(who)?;
+        } else {
+            self.end_transaction(who)?;
+        }
+        self.tell_error(who, number)
+    }
+
+    // Want of a lock: a statement in an open transaction keeps nothing that it locked.
+    pub(super) fn get_nothing(&mut self, who: u16, number: u32) -> Result<(), AllocError> {
+        match self.session(who) {
+            Some(session) if session.is_open => {
+                let start = session.start;
+                self.release_beyond(who, start)?;
+            }
+            _ => self.end_transaction(who)?,
+        }
+        self.tell_error(who, number)
+    }
+
+    // The victim of a deadlock keeps nothing that it locked for a transaction.
+    pub(super) fn lose_all(&mut self, who: u16) -> Result<(), AllocError> {
+        self.end_transaction(who)?;
+        self.tell_error(who, 1213)
+    }
+
+    // The tickets of the statement go.
+    fn end_statement(&mut self, who: u16) -> Result<(), AllocError> {
+        self.release_all(who, Duration::Statement)
+    }
+
+    // The transaction is over.
+    fn end_transaction(&mut self, who: u16) -> Result<(), AllocError> {
+        self.release_all(who, Duration::Statement)?;
+        self.release_all(who, Duration::Transaction)?;
+        self.set_open(who, false);
+        Ok(())
+    }
+
+    // The transaction is over, and then the lock that was got for this goes.
+    fn end_committed(&mut self, who: u16) -> Result<(), AllocError> {
+        let commit = self.newest(who);
+        self.end_transaction(who)?;
+        if let Some(ticket) = commit {
+            self.let_go(ticket);
+        }
+        Ok(())
+    }
+
+    // A transaction begins or is over: nothing is written in it.
+    fn set_open(&mut self, who: u16, is_open: bool) {
+        for session in &mut self.sessions {
+            if session.number == who {
+                session.is_open = is_open;
+                session.has_written = false;
+                session.savepoints.clear();
+            }
+        }
+    }
+
+    // The transaction has written.
+    fn set_written(&mut self, who: u16) {
+        for session in &mut self.sessions {
+            if session.number == who {
+                session.has_written = true;
+            }
+        }
+    }
+
+    // A savepoint in an open transaction: an older one of its name goes.
+    fn save(&mut self, who: u16, name: Name) -> Result<Taken, AllocError> {
+        if self.is_open(who) {
+            let mark = self.mark(who);
+            self.set_savepoint(who, Savepoint { name, mark })?;
+        }
+        Ok(Taken::Done)
+    }
+
+    // Puts a savepoint last.
+    fn set_savepoint(&mut self, who: u16, savepoint: Savepoint) -> Result<(), AllocError> {
+        let mut savepoint = Some(savepoint);
+        for session in &mut self.sessions {
+            if session.number == who {
+                if let Some(savepoint) = savepoint.take() {
+                    session
+                        .savepoints
+                        .retain(|other| other.name.as_str() != savepoint.name.as_str());
+                    session.savepoints.push(savepoint)?;
+                }
+            }
+        }
+        Ok(())
+    }
+
+    // Releases what was locked since a savepoint, and forgets the later ones.
+    fn go_back(&mut self, who: u16, name: &Name) -> Result<Taken, AllocError> {
+        let Some(mark) = self.keep_savepoints(who, name) else {
+            return Ok(Taken::Failed(1305));
+        };
+        self.release_beyond(who, mark)?;
+        Ok(Taken::Done)
+    }
+
+    // Forgets the savepoints that are later than this one.
+    fn keep_savepoints(&mut self, who: u16, name: &Name) -> Option<Mark> {
+        for session in &mut self.sessions {
+            if session.number == who {
+                let at = session
+                    .savepoints
+                    .iter()
+                    .position(|other| other.name.as_str() == name.as_str())?;
+                let mark = session.savepoints.get(at)?.mark;
+                session.savepoints.truncate(at.wrapping_add(1));
+                return Some(mark);
+            }
+        }
+        None
+    }
+}

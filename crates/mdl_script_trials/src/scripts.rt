@@ -1,0 +1,175 @@
+//! Scripts of statements, and what the plain program answers to them.
+use crate::chance::script_by_chance;
+use crate::plain::answers_of;
+use std::alloc::{AllocError, Global};
+use std::str;
+use std::test::Fail;
+
+// A script of lines that are parted by ` / `, and what is answered to it, or why it is refused.
+const ROWS: &str = "\
+1 CREATE TABLE a x / 1 CREATE TABLE t x / 1 BEGIN / 1 SELECT t / 2 DROP TABLE t a / 1 SELECT a / 1 SELECT a => 1 1 \
+    OK / 2 1 OK / 3 1 OK / 4 1 OK test.t@1(x) / 5 2 WAIT TABLE test.t X / 6 1 WAIT TABLE test.a SR / 6 1 ERR 1213 / \
+    5 2 OK / 7 1 ERR 1146
+1 CREATE TABLE a x / 1 CREATE TABLE b x / 1 BEGIN / 1 SELECT a / 1 SAVEPOINT s / 1 SELECT b / 1 SELECT a / 1 \
+    ROLLBACK TO s / 2 DROP TABLE b / 2 DROP TABLE a / 1 ROLLBACK TO z / 1 COMMIT => 1 1 OK / 2 1 OK / 3 1 OK / 4 1 \
+    OK test.a@1(x) / 5 1 OK / 6 1 OK test.b@1(x) / 7 1 OK test.a@1(x) / 8 1 OK / 9 2 OK / 10 2 WAIT TABLE test.a X / \
+    11 1 ERR 1305 / 12 1 OK / 10 2 OK
+1 CREATE TABLE t x / 1 BEGIN / 1 SELECT t / 2 DROP TABLE t / 2 SELECT t / 1 KILL QUERY 2 => 1 1 OK / 2 1 OK / 3 1 OK \
+    test.t@1(x) / 4 2 WAIT TABLE test.t X / 5 2 BUSY / 6 1 OK / 4 2 ERR 1317
+1 CREATE TABLE t x / 1 BEGIN / 1 SELECT t / 2 DROP TABLE t / 2 SELECT t => 1 1 OK / 2 1 OK / 3 1 OK test.t@1(x) / 4 \
+    2 WAIT TABLE test.t X / 5 2 BUSY / END 2 WAIT
+1 CREATE TABLE t x / 1 SELECT t => 1 1 OK / 2 1 OK test.t@1(x)
+1 BEGIN / 1 CREATE TAB => line 2: BadWord
+65 BEGIN => line 1: BadSession
+1 SELECT xxxxxxxxxxxxxxxxxxxxxxxxxxxxxxxxxxxxxxxxxxxxxxxxxxxxxxxxxxxxxxxxx => line 1: BadName
+1 BEGIN / 1 SELECT \u{80} => line 2: NotAscii
+1 CREATE TABLE t x / 1 BEGIN / 1 INSERT t / 2 DROP TABLE t / 1 SELECT t / 1 UPDATE LOW_PRIORITY t / 1 COMMIT => 1 1 \
+    OK / 2 1 OK / 3 1 OK / 4 2 WAIT TABLE test.t X / 5 1 OK test.t@1(x) / 6 1 OK / 7 1 OK / 4 2 OK
+1 CREATE TABLE t x / 1 BEGIN / 1 SELECT t / 2 DROP TABLE t / 1 INSERT t => 1 1 OK / 2 1 OK / 3 1 OK test.t@1(x) / 4 \
+    2 WAIT TABLE test.t X / 5 1 WAIT TABLE test.t SW / 5 1 ERR 1213 / 4 2 OK
+1 BEGIN / 1 SELECT t / 2 CREATE TABLE t x / 1 COMMIT => 1 1 OK / 2 1 ERR 1146 / 3 2 WAIT TABLE test.t X / 4 1 OK / 3 \
+    2 OK
+1 CREATE TABLE b x / 1 BEGIN / 1 SELECT b / 2 DROP TABLE a b / 3 SELECT a b / 1 COMMIT => 1 1 OK / 2 1 OK / 3 1 OK \
+    test.b@1(x) / 4 2 WAIT TABLE test.b X / 5 3 WAIT TABLE test.a SR / 6 1 OK / 4 2 ERR 1146 / 5 3 ERR 1146
+2 BEGIN / 2 SELECT s.t / 1 CREATE TABLE s.t x x / 2 COMMIT => 1 2 OK / 2 2 ERR 1146 / 3 1 WAIT TABLE s.t X / 4 2 OK \
+    / 3 1 ERR 1049
+1 BEGIN / 1 SAVEPOINT p / 1 SAVEPOINT q / 1 SAVEPOINT p / 1 ROLLBACK TO q / 1 ROLLBACK TO q / 1 ROLLBACK TO p => 1 1 \
+    OK / 2 1 OK / 3 1 OK / 4 1 OK / 5 1 OK / 6 1 OK / 7 1 ERR 1305
+1 CREATE TABLE t x / 1 BEGIN / 1 SELECT t / 1 KILL QUERY 2 / 2 DROP TABLE t / 2 KILL QUERY 2 / 2 TIMEOUT / 2 TIMEOUT \
+    / 3 DROP TABLE t / 1 KILL QUERY 3 => 1 1 OK / 2 1 OK / 3 1 OK test.t@1(x) / 4 1 OK / 5 2 WAIT TABLE test.t X / 6 \
+    2 BUSY / 7 2 OK / 5 2 ERR 1205 / 8 2 OK / 9 3 WAIT TABLE test.t X / 10 1 OK / 9 3 ERR 1317
+1 CREATE TABLE a x / 1 CREATE TABLE b x / 1 BEGIN / 1 SELECT b / 2 DROP TABLE b a / 5 SELECT a / 3 SELECT a / 1 \
+    COMMIT => 1 1 OK / 2 1 OK / 3 1 OK / 4 1 OK test.b@1(x) / 5 2 WAIT TABLE test.b X / 6 5 WAIT TABLE test.a SR / 7 \
+    3 WAIT TABLE test.a SR / 8 1 OK / 5 2 OK / 7 3 ERR 1146 / 6 5 ERR 1146
+1 CREATE TABLE t x / 1 CREATE TABLE t x / 1 CREATE TABLE t y y / 1 CREATE TABLE u y y / 1 DROP TABLE t / 1 CREATE \
+    TABLE t z / 1 SELECT t => 1 1 OK / 2 1 ERR 1050 / 3 1 ERR 1050 / 4 1 ERR 1060 / 5 1 OK / 6 1 OK / 7 1 OK \
+    test.t@3(z)
+1 CREATE TABLE t x / 1 BEGIN / 1 SELECT t / 2 DROP TABLE t / 3 SELECT t / 2 TIMEOUT => 1 1 OK / 2 1 OK / 3 1 OK \
+    test.t@1(x) / 4 2 WAIT TABLE test.t X / 5 3 WAIT TABLE test.t SR / 6 2 OK / 4 2 ERR 1205 / 5 3 OK test.t@1(x)
+1 CREATE TABLE a x / 1 CREATE TABLE b x / 1 BEGIN / 1 SELECT a / 2 DROP TABLE b a / 3 BEGIN / 3 SELECT b / 3 TIMEOUT \
+    / 3 SELECT a / 1 COMMIT / 3 COMMIT => 1 1 OK / 2 1 OK / 3 1 OK / 4 1 OK test.a@1(x) / 5 2 WAIT TABLE test.a X / \
+    6 3 OK / 7 3 OK test.b@1(x) / 8 3 OK / 9 3 WAIT TABLE test.a SR / 10 1 OK / 5 2 WAIT TABLE test.b X / 9 3 ERR \
+    1213 / 5 2 OK / 11 3 OK
+1 SAVEPOINT p / 1 ROLLBACK TO p / 1 ROLLBACK / 1 COMMIT / 1 BEGIN / 1 SAVEPOINT p / 1 START TRANSACTION / 1 ROLLBACK \
+    TO p => 1 1 OK / 2 1 ERR 1305 / 3 1 OK / 4 1 OK / 5 1 OK / 6 1 OK / 7 1 OK / 8 1 ERR 1305
+1 BEGIN / 1 SAVEPOINT p / 1 DROP TABLE t / 1 ROLLBACK TO p => 1 1 OK / 2 1 OK / 3 1 ERR 1146 / 4 1 ERR 1305
+1 ROLLBACK TO SAVEPOINT p => line 1: BadName
+1 BEGIN / # 1 / 2 INSERT low_priority t => line 3: BadWord
+1 CREATE TABLE b x / 1 BEGIN / 1 SELECT a / 3 DROP TABLE a b / 2 SELECT b a / 1 COMMIT => 1 1 OK / 2 1 OK / 3 1 ERR \
+    1146 / 4 3 WAIT TABLE test.a X / 5 2 WAIT TABLE test.a SR / 6 1 OK / 4 3 WAIT TABLE test.b X / 5 2 ERR 1213 / 4 \
+    3 ERR 1146
+1 BEGIN / 1 SELECT a / 2 BEGIN / 2 SELECT b / 3 DROP TABLE a / 4 DROP TABLE b / 2 SELECT a / 1 SELECT b => 1 1 OK / \
+    2 1 ERR 1146 / 3 2 OK / 4 2 ERR 1146 / 5 3 WAIT TABLE test.a X / 6 4 WAIT TABLE test.b X / 7 2 WAIT TABLE test.a \
+    SR / 8 1 WAIT TABLE test.b SR / 7 2 ERR 1213 / 6 4 ERR 1146 / 8 1 ERR 1146 / END 3 WAIT
+1 CREATE TABLE t x / 1 BEGIN / 1 SELECT t / 2 CREATE TABLE t x / 1 COMMIT => 1 1 OK / 2 1 OK / 3 1 OK test.t@1(x) / \
+    4 2 WAIT TABLE test.t X / 5 1 OK / 4 2 ERR 1050
+1 CREATE TABLE a x / 1 DROP TABLE a b / 1 SELECT a => 1 1 OK / 2 1 ERR 1146 / 3 1 OK test.a@1(x)
+1 SELECT a b c d e f g h T => line 1: BadWord
+1 SELECT a b c d e f g T => line 1: BadName
+1 SELECT a b c d e f g h i => line 1: BadWord
+1 INSERT LOW_PRIORITY => line 1: BadWord
+1 INSERT LOW_PRIORITY LOW_PRIORITY => line 1: BadName
+ # x => line 1: BadSession
+0 BEGIN => line 1: BadSession
+01 BEGIN => line 1: BadSession
++1 BEGIN => line 1: BadSession
+1 KILL QUERY 0 => line 1: BadSession
+1 => line 1: BadWord
+1 begin => line 1: BadWord
+1 SELECT => line 1: BadWord
+1 CREATE TABLE t => line 1: BadWord
+1 SELECT T => line 1: BadName
+1 SELECT a.b.c => line 1: BadName
+1 SELECT t test.t => line 1: BadName
+# \u{80} => line 1: NotAscii";
+
+// The lines of a row, which are parted by ` / `.
+fn lines(alloc: Global, row: &str) -> Result<String, AllocError> {
+    let mut text = String::new(alloc);
+    for line in row.split(" / ") {
+        text.push_str(line)?;
+        text.push('\n')?;
+    }
+    Ok(text)
+}
+
+// What is answered to a script, or why it is refused.
+fn told(alloc: Global, script: &[u8]) -> Result<String, Fail> {
+    match answers_of(alloc, script) {
+        Ok(answers) => Ok(String::from_utf8(answers)?),
+        Err(fault) => Ok(format!(in alloc; "{fault}\n")?),
+    }
+}
+
+#[test]
+fn rows_are_answered(rt: HostRuntime) -> Result<(), Fail> {
+    for row in ROWS.split('\n') {
+        let Some((script, answers)) = row.split_once(" => ") else {
+            return Err(Fail::from("a row has no answers"));
+        };
+        let told = told(rt.alloc(), lines(rt.alloc(), script)?.as_bytes())?;
+        assert_eq!(rt;
+            told.as_str(),
+            lines(rt.alloc(), answers)?.as_str(),
+            "{row}"
+        );
+    }
+    Ok(())
+}
+
+#[test]
+fn line_ends_make_no_difference(rt: HostRuntime) -> Result<(), Fail> {
+    for (script, answers) in [
+        (b"".as_slice(), ""),
+        (b"\n", ""),
+        (b"1 BEGIN\n1 COMMIT", "1 1 OK\n2 1 OK\n"),
+        (b"\r\n1 BEGIN\r\n1 COMMIT\r", "2 1 OK\n3 1 OK\n"),
+    ] {
+        let told = told(rt.alloc(), script)?;
+        assert_eq!(rt; told.as_str(), answers, "{script:?}");
+    }
+    Ok(())
+}
+
+// There is room for 256 keys: that of the schema at the start, and those that were ever locked.
+#[test]
+fn the_257th_key_has_no_place(rt: HostRuntime) -> Result<(), Fail> {
+    let mut script = String::new(rt.alloc());
+    let mut answers = String::new(rt.alloc());
+    for number in 1..=255 {
+        writeln!(script, "1 SELECT t{number}")?;
+        writeln!(answers, "{number} 1 ERR 1146")?;
+    }
+    script.push_str("1 SELECT t256\n1 SELECT t1\n1 INSERT t1\n")?;
+    answers.push_str("256 1 ERR 9004\n257 1 ERR 1146\n258 1 ERR 9004\n")?;
+    let told = told(rt.alloc(), script.as_bytes())?;
+    assert_eq!(rt; told.as_str(), answers.as_str());
+    Ok(())
+}
+
+// Of the scripts by chance most have a session that waits, and many a deadlock, a kill, a timeout and a savepoint that
+// serves.
+#[test]
+fn scripts_by_chance_wait_in_earnest(rt: HostRuntime) -> Result<(), Fail> {
+    let mut waits = 0_u32;
+    let mut victims = 0_u32;
+    let mut lost = 0_u32;
+    for number in 0..300 {
+        let script = script_by_chance(rt.alloc(), number)?;
+        let answers = answers_of(rt.alloc(), script.as_slice())?;
+        let answers = str::from_utf8(answers.as_slice())?;
+        if answers.contains(" WAIT ") {
+            waits = waits.wrapping_add(1);
+        }
+        if answers.contains(" ERR 1213") {
+            victims = victims.wrapping_add(1);
+        }
+        if answers.contains(" ERR 1205") || answers.contains(" ERR 1317") {
+            lost = lost.wrapping_add(1);
+        }
+    }
+    assert!(rt; waits >= 200, "{waits} scripts wait");
+    assert!(rt; victims >= 40, "{victims} scripts meet a deadlock");
+    assert!(rt; lost >= 40, "{lost} scripts lose a wait otherwise");
+    Ok(())
+}
