@@ -1,13 +1,17 @@
-//! The lock space: who holds which metadata lock and who waits for which, for numbered sessions.
+//! The lock space: who holds which metadata lock and who waits for which, for numbered sessions, and what stands under the keys
+//! of the locks.
 //!
 //! Whatever stands on the locks stands on the trait [`LockSpace`]: a session resolves a key to its place
 //! ([`LockSpace::resolve`]), asks for a lock there ([`LockSpace::try_now`], [`LockSpace::begin_wait`]), sees its wait
-//! through, and gives its tickets up ([`LockSpace::release`]). Contracts see a call as what joins the space before it to
-//! the space after it, and what a session has as its own tickets and wait.
+//! through, reads and changes the key's definition under its tickets ([`LockSpace::read_definition`],
+//! [`LockSpace::change_definition`]), and gives them up ([`LockSpace::release`]). Contracts see a call as what joins the space
+//! before it to the space after it, and what a session has as its own tickets and wait. Some calls that the laws of the trait
+//! speak of have no method as yet: upgrades, downgrades and merges of tickets, the tables of a schema, the key of a place, and
+//! pins that are given up.
 //!
-//! Beside the trait stands the system of locks that a reader believes in (`specs/Systems`), what can happen in it
-//! (`specs/Steps`), and the laws of that: it stays lawful, and granting waiters where something went leaves nobody forgotten.
-//! [`CoreSpace`] is the space of one thread, as far as it is built.
+//! [`CoreSpace`] is the space of one thread. Each of its calls is an event of the system of locks that a reader believes in,
+//! which stays lawful, and in which nobody is forgotten: the laws of that stand in `mdl_system` and `mdl_core`, and their names
+//! here too.
 #![tactic(auto)]
 
 mod core_space;
@@ -21,10 +25,11 @@ pub use mdl_calls::{
     Attempt, Begun, Ended, Held, Place, Poll, Search, Settled, SpaceError, TicketId, TimedOut,
 };
 pub use mdl_core::{
-    NewError, calls_are_events, calls_keep_sound, calls_lead_by_events, grants_what_is_grantable,
-    kills_just_that_wait, only_new_waits_make_deadlocks, refuses_for_cause,
-    searches_find_deadlocks, searches_leave_no_deadlock, searches_suffice,
-    searching_ends_deadlocks, sessions_have_what_the_system_says, waiting_leaves_no_deadlock,
+    NewError, calls_are_events, calls_keep_sound, calls_lead_by_events, changes_tell_the_version,
+    grants_what_is_grantable, kills_just_that_wait, only_new_waits_make_deadlocks,
+    reads_tell_what_stands, refuses_changes_in_order, refuses_for_cause, searches_find_deadlocks,
+    searches_leave_no_deadlock, searches_suffice, searching_ends_deadlocks,
+    sessions_have_what_the_system_says, waiting_leaves_no_deadlock,
 };
 pub use mdl_system::{
     changes_by_lists, covers_by_kind, definitions_change_exclusively, definitions_stand_still,

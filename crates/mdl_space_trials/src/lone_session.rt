@@ -1,11 +1,11 @@
 //! A lock space for tests: one session, one key and one ticket at most, while another session comes and goes, and changes what
 //! stands under the key.
-ghost use Rattle.std.specs.Prelude.{◌≡◌, ◌≢◌, ◌≤◌, ◌+◌, [], true, false, MatchResult, IfOk, OnErr, IfErr};
+ghost use Rattle.std.specs.Prelude.{◌≡◌, ◌≢◌, ◌≤◌, ◌+◌, [], true, false, MatchResult, IfOk, OnErr, Err};
 ghost use Rattle.std.proofs.Common.{rules, refl, sym, ◌∙◌};
 ghost use Rattle.mdl_defs.specs.Standings.{MayStand, standing_after};
-ghost use Rattle.mdl_calls.specs.Words.{Begin_wait, IsClear, IsCause, IsChangeOf, ticket_drawn, is_waiting, redefined};
+ghost use Rattle.mdl_calls.specs.Words.{Begin_wait, IsClear, IsCause, IsChangeOf, ticket_drawn, is_waiting, redefined, change_takes_memory};
 ghost use Rattle.mdl_calls.specs.Tests.LoneSessions.{Lone, LoneSpeaks, Knows, IsSettled, HasRead, HasSeen, Pins, LoneJoins, alone, numbering, having};
-ghost use Rattle.mdl_calls.proofs.LoneLemmas.{held-at_one, wait-at_one, settled-how, lone-reads, lone-redefines, lone-redefines_so, lone-stands, lone-reads_fit};
+ghost use Rattle.mdl_calls.proofs.LoneLemmas.{held-at_one, wait-at_one, settled-how, lone-reads, lone-redefines, lone-redefines_so, lone-stands, lone-reads_fit, lone-sees, lone-seen_stays, lone-seen_below, has_not};
 
 use mdl_defs::{Change, Definition, Standing};
 use mdl_key::{Key, Mode};
@@ -113,10 +113,13 @@ impl LoneSession {
         ensures is { IsChangeOf self.old.key change.now self.old.standing (redefined result) }
         ensures done { IfOk result (λ _. self.new ≡ having (standing_after change.now self.old.standing) self.old) }
         ensures unchanged { OnErr result (self.new ≡ self.old) }
-        ensures drop { IfErr result (λ e. e ≡ SpaceError.OutOfMemory → change_takes_memory change.now ≡ true) }
-        ensures refused { IfErr result (λ e. IsFaultOf e) }
+        ensures drop { result ≡ Err SpaceError.OutOfMemory → change_takes_memory change.now ≡ true }
+        ensures fits { MayStand self.old.key.namespace self.old.standing → MayStand self.new.key.namespace self.new.standing }
     {
-        Ok(self.standing.change(self.alloc, self.key.namespace(), change)?)
+        let version = self
+            .standing
+            .change(self.alloc, self.key.namespace(), change)?;
+        Ok(version)
     }
 
     // Gives a ticket its number.
