@@ -6,7 +6,8 @@ ghost use Rattle.mdl_context.specs.Contexts.{held_of};
 ghost use Rattle.mdl_context.specs.Goings.{goes};
 ghost use Rattle.mdl_context.specs.Releases.{releasing_all};
 
-use crate::holdings::{Going, Holdings};
+use crate::going::Going;
+use crate::holdings::Holdings;
 use mdl_space::{LockSpace, TicketId};
 
 /// Releases a ticket that the session holds. It takes no memory.
