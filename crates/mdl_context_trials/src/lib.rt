@@ -11,6 +11,8 @@ mod deadlocks;
 #[cfg(test)]
 mod hall;
 #[cfg(test)]
+mod many;
+#[cfg(test)]
 mod marks;
 #[cfg(test)]
 mod memory;

@@ -29,12 +29,12 @@ fn key_of(alloc: Global, lock: Lock) -> Result<Key, KeyError> {
     }
 }
 
-// A space of four places and two sessions, and the context of its second session.
-fn start(alloc: Global) -> Result<(CoreSpace, Context<CoreSpace>), NewError>
+/// A space of so many places and two sessions, and the context of its second session.
+pub(crate) fn start(alloc: Global, places: u16) -> Result<(CoreSpace, Context<CoreSpace>), NewError>
     ensures attends { IfOk result (λ pair. Attends SpeaksFor own_at Knows pair.0 pair.1) }
     ensures who { IfOk result (λ pair. pair.1.who ≡ 2) }
 {
-    let space = new_space(alloc, 4, WHO)?;
+    let space = new_space(alloc, places, WHO)?;
     Ok((space, Context::new(alloc, WHO)))
 }
 
@@ -282,7 +282,7 @@ const ENDS: &[(Act, Reply)] = &[
 #[test]
 fn outlives_want_of_memory(rt: HostRuntime) -> Result<(), Fail> {
     let alloc = rt.alloc();
-    let (mut space, mut context) = start(alloc)?;
+    let (mut space, mut context) = start(alloc, 4)?;
     let key = key_of(alloc, Lock::B)?;
     assert!(rt; all_outlive(alloc, &mut space, &mut context, GAINS));
     assert!(rt; clones(alloc, &mut space, &mut context, 40));

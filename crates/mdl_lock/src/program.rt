@@ -1,6 +1,7 @@
 //! What a program does and tells once the words of its command line are read, over the streams that it is given.
-ghost use Rattle.std.specs.Prelude.{◌≡◌, ◌⊎◌, IfOk, IfErr, IsOk, Result};
+ghost use Rattle.std.specs.Prelude.{◌≡◌, ◌≢◌, IfOk, IfErr, IsOk, Result};
 ghost use Rattle.std.specs.Io.KnownBytes.{Keeps};
+ghost use Rattle.std.specs.IoError.{error_kind};
 ghost use Rattle.mdl_lines.specs.declared.fault.Fault.{Fault};
 ghost use Rattle.mdl_lock.specs.Runs.{EndsAs, end_status};
 
@@ -82,7 +83,8 @@ fn refuse_words<D: fmt::Display, E: Write>(refusal: &D, errors: &mut E) -> u8
 
 /// Tells that the words of the command line could not be had, and answers the status: 3 for want of memory.
 pub fn lack_words<E: Write>(error: &io::Error, errors: &mut E) -> u8
-    ensures { (result ≡ 2) ⊎ (result ≡ 3) }
+    ensures memory { error_kind error.now ≡ ErrorKind.OutOfMemory → result ≡ 3 }
+    ensures others { error_kind error.now ≢ ErrorKind.OutOfMemory → result ≡ 2 }
 {
     if error.kind() == ErrorKind::OutOfMemory {
         return report(&Fault::Memory, errors);

@@ -1,5 +1,7 @@
 //! Scripts, and what is read of them or refuses them.
 use crate::written::read;
+use mdl_key::Key;
+use mdl_syntax::{Name, Tables};
 use std::alloc::{AllocError, Global};
 use std::test::Fail;
 
@@ -184,13 +186,51 @@ fn lines_and_names_have_a_longest(rt: HostRuntime) -> Result<(), Fail> {
             "{start}{byte}.. of {count}"
         );
     }
-    for (start, count) in [("1 SELECT ", 73), ("1 SELECT s.", 75), ("1 SAVEPOINT ", 76)] {
+    for (start, count) in [
+        ("1 SELECT ", 73),
+        ("1 INSERT ", 73),
+        ("1 SELECT s.", 75),
+        ("1 SAVEPOINT ", 76),
+        ("1 CREATE TABLE t ", 81),
+    ] {
         let script = stretched(alloc, start, 'x', count)?;
         assert!(rt;
             read(alloc, script.as_bytes())?.as_str().ends_with("xxxx"),
             "{start}"
         );
     }
+    Ok(())
+}
+
+// However many lines there are, all are read.
+#[test]
+fn long_scripts_are_read(rt: HostRuntime) -> Result<(), Fail> {
+    let alloc = rt.alloc();
+    let mut script = String::new(alloc);
+    for _ in 0..3_000 {
+        script.push_str("1 SELECT t\n")?;
+    }
+    assert!(rt;
+        read(alloc, script.as_bytes())?
+            .as_str()
+            .ends_with(" / 3000 1 read TABLE test.t")
+    );
+    Ok(())
+}
+
+// However many tables there are, and however long a name is, a copy is the same.
+#[test]
+fn copies_are_the_same(rt: HostRuntime) -> Result<(), Fail> {
+    let alloc = rt.alloc();
+    let mut tables = Tables::new(alloc);
+    for length in 1..=64 {
+        let text = stretched(alloc, "", 'x', length)?;
+        let name = Name::new(alloc, text.as_str())?;
+        assert_eq!(rt; name.clone()?.as_str(), text.as_str());
+        tables.push(Key::table(alloc, "s", name.as_str())?)?;
+        assert!(rt; tables.clone()?.as_slice() == tables.as_slice(), "{length}");
+    }
+    assert_eq!(rt; tables.as_slice().len(), 64);
     Ok(())
 }
 
