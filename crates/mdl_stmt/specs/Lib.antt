@@ -1,0 +1,10 @@
+pub mod Endings
+pub mod ErrorNumbers
+pub mod Gets
+pub mod KeyOrder
+pub mod Playing
+pub mod Rows
+pub mod Sessions
+pub mod Stages
+pub mod States
+pub mod Statements

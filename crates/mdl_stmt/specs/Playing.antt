@@ -1,0 +1,107 @@
+-- How a session plays what its statements ask: as a program of calls of a lock space.
+use Rattle.std.specs.Prelude.{ℕ, List, Option, Some, None, Result, Ok, Err}
+use Rattle.mdl_defs.specs.declared.standing.Standing.{Standing}
+use Rattle.mdl_calls.specs.declared.space_error.SpaceError.{SpaceError}
+use Rattle.mdl_calls.specs.Words.{Answer, Has_wait, Reads, Changed, Read_definition, Change_definition, Wait_of, Program, Give, Ask, Grow, ◌>>=◌, ◌>>◌}
+use Rattle.mdl_calls.specs.Words as call
+use Rattle.mdl_context.specs.declared.kept.Kept.{Kept}
+use Rattle.mdl_context.specs.declared.request.Acquire.{Acquire}
+use Rattle.mdl_context.specs.declared.request.Acquire.TheVariants as acquire
+use Rattle.mdl_context.specs.declared.request.Mark.{Mark}
+use Rattle.mdl_context.specs.declared.request.Resume.{Resume}
+use Rattle.mdl_context.specs.declared.request.Resume.TheVariants as resume
+use Rattle.mdl_context.specs.Contexts.{ContextView, mark_of}
+use Rattle.mdl_context.specs.Gains.{refusal_of}
+use Rattle.mdl_context.specs.Releases.{giving_up, releasing}
+use Rattle.mdl_context.specs.Requests.{Outcome, acquiring}
+use Rattle.mdl_context.specs.Waits.{giving_up_wait, resuming}
+use Rattle.mdl_context.specs.Wishes.{Wish}
+use Rattle.mdl_syntax.specs.declared.statement.Statement.{Statement}
+use Rattle.mdl_stmt.specs.declared.ending.Ending.TheVariants.{Answers, Starves}
+use Rattle.mdl_stmt.specs.declared.reply.Reply.{Reply}
+use Rattle.mdl_stmt.specs.declared.reply.Reply.TheVariants as reply
+use Rattle.mdl_stmt.specs.Endings.{Pause, Begins_to_wait, Waits_on, Faults, closing, ending_of_error, ending_of_loss, ending_of_refusal}
+use Rattle.mdl_stmt.specs.Rows.{Row}
+use Rattle.mdl_stmt.specs.Rows as row
+use Rattle.mdl_stmt.specs.Sessions.{Left, Session}
+use Rattle.mdl_stmt.specs.Statements.{row_of}
+
+-- a session with this context
+abbrev pub with_context : Session → ContextView → Session
+with_context session context = record session { context = context }
+
+-- a session with something left to do
+abbrev pub with_left : Session → Left → Session
+with_left session left = record session { left = Some left }
+
+-- a wait has begun: its key is told, which takes memory; where there is none the wait is given up, and the statement ends
+abbrev pub beginning_to_wait : Wish → Left → Session → Program Pause
+beginning_to_wait wish left session =
+    Grow
+    (giving_up_wait session.context >>= (λ outcome. closing Starves left.mark (with_context session outcome.1)))
+    (Give (Begins_to_wait wish.key wish.mode (with_left session left)))
+
+-- a lock was asked for: it is had, the statement waits for it, or it ends
+abbrev pub acquired : Wish → (ℕ → Row Reply) → Mark → Session → (ℕ → Session → Program Pause) → Outcome Acquire → Program Pause
+acquired wish rest mark session more (Ok (acquire.Acquired id), context) = more id (with_context session context)
+acquired wish rest mark session more (Ok (acquire.MustWait number), context) =
+    beginning_to_wait wish (record { rest = rest; mark = mark }) (with_context session context)
+acquired wish rest mark session more (Err error, context) = closing (ending_of_error error) mark (with_context session context)
+
+-- what stands was asked for
+abbrev pub read_answered : Mark → Session → (Standing → Program Pause) → Answer → Program Pause
+read_answered mark session more (Reads version definition) = more (record { version = version; definition = definition })
+read_answered mark session more answer = closing (ending_of_refusal (refusal_of answer)) mark session
+
+-- a change of it was asked for
+abbrev pub change_answered : Mark → Session → Program Pause → Answer → Program Pause
+change_answered mark session more (Changed version) = more
+change_answered mark session more answer = closing (ending_of_refusal (refusal_of answer)) mark session
+
+-- the number of a session's wait was asked for: if it has one, that is killed
+abbrev pub wait_told : ℕ → Answer → Program (Unit {0})
+wait_told target (Has_wait (Some number)) = Ask (call.Kill target number) (λ _. Give tt)
+wait_told target _ = Give tt
+
+-- the wait that a session has is killed
+abbrev pub killing : ℕ → Program (Unit {0})
+killing target = Ask (Wait_of target) (wait_told target)
+
+-- what a statement asks for is played; it began at this mark
+abbrev pub play : Row Reply → Mark → Session → Program Pause
+play (row.Give reply) mark session = closing (Answers reply) mark session
+play (row.Fail number) mark session = closing (Answers (reply.Error number)) mark session
+play (row.Room rest) mark session = Grow (closing Starves mark session) (play rest mark session)
+play (row.Look rest) mark session = play (rest session.state) mark session
+play (row.Set change rest) mark session = play rest mark (record session { state = change session.state })
+play (row.Here rest) mark session = play (rest (mark_of session.context.kept)) mark session
+play (row.Acquire wish rest) mark session =
+    acquiring wish session.context >>= acquired wish rest mark session (λ id after. play (rest id) mark after)
+play (row.Give_up which rest) mark session =
+    giving_up (which session.context.kept) session.context >>= (λ outcome. play rest mark (with_context session outcome.1))
+play (row.Release id rest) mark session = releasing id session.context >>= (λ outcome. play rest mark (with_context session outcome.1))
+play (row.Read id rest) mark session =
+    Ask (Read_definition session.context.who id) (read_answered mark session (λ standing. play (rest standing) mark session))
+play (row.Redefine id change rest) mark session =
+    Ask (Change_definition session.context.who id change) (change_answered mark session (play rest mark session))
+play (row.Kill target rest) mark session = killing target >> play rest mark session
+
+-- a statement starts
+abbrev pub starting : Statement → Session → Program Pause
+starting statement session = play (row_of statement) (mark_of session.context.kept) session
+
+-- the wait of a statement went on: it isn't settled, the lock is had, or the wait is lost
+abbrev pub resumed : Left → Session → Outcome Resume → Program Pause
+resumed left session (Ok resume.Waiting, context) = Give (Waits_on (with_context session context))
+resumed left session (Ok (resume.Acquired id), context) = play (left.rest id) left.mark (with_context session context)
+resumed left session (Ok (resume.Lost how), context) = closing (ending_of_loss how) left.mark (with_context session context)
+resumed left session (Err error, context) = closing (ending_of_error error) left.mark (with_context session context)
+
+-- a statement goes on with what is left of it
+abbrev pub going_on_with : Option Left → Session → Program Pause
+going_on_with None session = Give (Faults session)
+going_on_with (Some left) session = resuming session.context >>= resumed left session
+
+-- a statement goes on
+abbrev pub going_on : Session → Program Pause
+going_on session = going_on_with session.left session

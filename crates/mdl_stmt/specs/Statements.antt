@@ -1,0 +1,327 @@
+-- What each statement does, after MySQL 5.7: the Reference Manual, "Metadata Locking", "START TRANSACTION, COMMIT, and ROLLBACK
+-- Statements", "SAVEPOINT, ROLLBACK TO SAVEPOINT, and RELEASE SAVEPOINT Statements" and "LOCK TABLES and UNLOCK TABLES Statements".
+-- Checks stand in the order in which they are made. That CREATE TABLE asks for its lock before all checks, that DROP TABLE drops
+-- none where one is missing, that a savepoint outside a transaction is nothing, and that going back leaves written what was
+-- written, is this project's own choice.
+use Rattle.std.specs.Prelude.{ℕ, Bool, not, nat_lt, List, [], ◌∷◌, ◌++◌, map, find, is_some, Option, Some, None, if◌then◌else◌}
+use Rattle.mdl_key.specs.declared.mode.Mode.{Mode}
+use Rattle.mdl_key.specs.declared.mode.Mode.TheVariants.{IX, SR, SW, SWLP, X}
+use Rattle.mdl_key.specs.declared.mode.Duration.TheVariants as for
+use Rattle.mdl_key.specs.declared.namespace.Namespace.{Namespace}
+use Rattle.mdl_key.specs.declared.namespace.Namespace.TheVariants as of
+use Rattle.mdl_key.specs.Keys.{KeyName, global_key, commit_key, schema_key, key_eq}
+use Rattle.mdl_defs.specs.declared.change.Change.TheVariants as change
+use Rattle.mdl_defs.specs.declared.definition.Definition.{Definition}
+use Rattle.mdl_defs.specs.declared.definition.Definition.TheVariants.{Table}
+use Rattle.mdl_defs.specs.declared.standing.Standing.{Standing}
+use Rattle.mdl_defs.specs.Columns.{names_twice}
+use Rattle.mdl_syntax.specs.declared.statement.Priority.{Priority}
+use Rattle.mdl_syntax.specs.declared.statement.Priority.TheVariants.{Normal, Low}
+use Rattle.mdl_syntax.specs.declared.statement.Statement.{Statement}
+use Rattle.mdl_syntax.specs.declared.statement.Statement.TheVariants as statement
+use Rattle.mdl_context.specs.declared.request.Mark.{Mark}
+use Rattle.mdl_context.specs.Contexts.{beyond_mark, of_transaction}
+use Rattle.mdl_context.specs.Wishes.{Wish}
+use Rattle.mdl_stmt.specs.declared.error_number.ErrorNumber.TheVariants.{UnknownDatabase, TableExists, DuplicateColumn, TableLockedForRead, TableNotLocked, NoSuchTable, ActiveLocks, ConflictingReadLock, NoSuchSavepoint, VersionLimit}
+use Rattle.mdl_stmt.specs.declared.reply.Reply.{Reply}
+use Rattle.mdl_stmt.specs.declared.reply.Reply.TheVariants as reply
+use Rattle.mdl_stmt.specs.declared.reply.TableShown.{TableShown}
+use Rattle.mdl_stmt.specs.KeyOrder.{in_key_order}
+use Rattle.mdl_stmt.specs.Rows.{Row, Act, Give, Fail, Acquire, ◌>>=◌, ◌>>◌, nothing, room, look, set, here, acquire, give_up, release, read, redefine, kill, check, acquire_all, for_each}
+use Rattle.mdl_stmt.specs.States.{Locked, has_locked, opened, closed, written, unlocked, with_savepoint, savepoint_mark, up_to}
+
+-- ---- transactions
+
+-- the transaction ends: its tickets go, and those of the statement
+abbrev pub end_transaction : Act
+end_transaction = do
+  give_up of_transaction
+  set closed
+
+-- it ends under the COMMIT lock, which goes then
+abbrev pub end_under : ℕ → Act
+end_under lock = do
+  end_transaction
+  release lock
+
+-- a transaction that wrote is committed
+abbrev pub commit_writes : Act
+commit_writes = do
+  lock ← acquire commit_key IX for.Explicit
+  end_under lock
+
+-- an open transaction is committed
+abbrev pub commit : Act
+commit = do
+  state ← look
+  if state.is_open then (if state.has_written then commit_writes else end_transaction) else nothing
+
+-- an open transaction is rolled back
+abbrev pub rollback : Act
+rollback = do
+  state ← look
+  if state.is_open then end_transaction else nothing
+
+-- ---- locked tables, and the global read lock
+
+-- locked tables are given up, with their scopes
+abbrev pub unlock_tables : Act
+unlock_tables = do
+  state ← look
+  for_each release (map (λ (table : Locked). table.ticket) state.locked ++ state.scopes)
+  set unlocked
+
+-- the session has no global read lock of its own
+abbrev pub no_read_lock : Act
+no_read_lock = do
+  state ← look
+  check (not (is_some state.read_lock)) ConflictingReadLock
+
+-- it has no locked tables
+abbrev pub no_locked_tables : Act
+no_locked_tables = do
+  state ← look
+  check (not (has_locked state.locked)) ActiveLocks
+
+-- a table that has to be among the locked ones
+abbrev pub among_locked : Option Locked → Row Locked
+among_locked (Some table) = Give table
+among_locked None = Fail TableNotLocked
+
+-- its lock is held already
+abbrev pub held_lock : KeyName → Row Locked
+held_lock table = do
+  state ← look
+  among_locked (find (λ (locked : Locked). key_eq table locked.key) state.locked)
+
+-- ---- what stands
+
+-- whether anything is defined
+abbrev pub is_defined : Standing → Bool
+is_defined standing = is_some standing.definition
+
+-- whether it can be changed once more
+abbrev pub has_version_left : Standing → Bool
+has_version_left standing = nat_lt standing.version 1000000
+
+-- the columns of a table
+abbrev pub columns_of : Option Definition → List (List ℕ)
+columns_of (Some (Table columns)) = columns
+columns_of _ = []
+
+-- there is such a table
+abbrev pub exists : ℕ → Row Standing
+exists ticket = do
+  standing ← read ticket
+  check (is_defined standing) NoSuchTable
+  Give standing
+
+-- ---- BEGIN, SAVEPOINT, ROLLBACK TO
+
+abbrev pub begin_after_commit : Row Reply
+begin_after_commit = do
+  unlock_tables
+  set opened
+  Give reply.Ok
+
+-- the session's place is marked by a name
+abbrev pub save_here : List ℕ → Act
+save_here name = do
+  room
+  mark ← here
+  set (λ state. record state { savepoints = with_savepoint name mark state.savepoints })
+
+abbrev pub save : List ℕ → Row Reply
+save name = do
+  state ← look
+  if state.is_open then save_here name else nothing
+  Give reply.Ok
+
+abbrev pub go_back : List ℕ → Option Mark → Row Reply
+go_back name None = Fail NoSuchSavepoint
+go_back name (Some mark) = do
+  give_up (beyond_mark mark)
+  set (λ state. record state { savepoints = up_to name state.savepoints })
+  Give reply.Ok
+
+abbrev pub rollback_to : List ℕ → Row Reply
+rollback_to name = do
+  state ← look
+  go_back name (savepoint_mark name state.savepoints)
+
+-- ---- SELECT
+
+-- a table is shown under its lock
+abbrev pub show : KeyName → ℕ → Row TableShown
+show table ticket = do
+  standing ← exists ticket
+  room
+  Give (record { key = table; version = standing.version; columns = columns_of standing.definition })
+
+-- each of the tables is locked so and shown, before the next one is; those before them were shown
+abbrev pub show_all : (KeyName → Row ℕ) → List TableShown → List KeyName → Row Reply
+show_all lock shown [] = Give (reply.Columns shown)
+show_all lock shown (table ∷ tables) = do
+  ticket ← lock table
+  next ← show table ticket
+  show_all lock (shown ++ next ∷ []) tables
+
+-- the lock of a table that is read
+abbrev pub lock_to_read : KeyName → Row ℕ
+lock_to_read table = acquire table SR for.Transaction
+
+-- the lock of a table that is among the locked ones
+abbrev pub lock_held : KeyName → Row ℕ
+lock_held table = do
+  locked ← held_lock table
+  Give locked.ticket
+
+abbrev pub select : List KeyName → Row Reply
+select tables = do
+  state ← look
+  show_all (if has_locked state.locked then lock_held else lock_to_read) [] tables
+
+-- ---- INSERT, UPDATE, DELETE
+
+-- the mode of a write
+abbrev pub write_mode : Priority → Mode
+write_mode Normal = SW
+write_mode Low = SWLP
+
+-- the transaction wrote; without an open one, the write is a transaction of its own, and is committed
+abbrev pub wrote : Row Reply
+wrote = do
+  state ← look
+  if state.is_open then set written else commit_writes
+  Give reply.Ok
+
+-- a table is written under its lock
+abbrev pub write_under : ℕ → Row Reply
+write_under ticket = do
+  exists ticket
+  wrote
+
+-- a table is locked and written, under the lock of all writes
+abbrev pub lock_and_write : KeyName → Priority → Row Reply
+lock_and_write table priority = do
+  ticket ← acquire table (write_mode priority) for.Transaction
+  write_under ticket
+
+abbrev pub write_unlocked : KeyName → Priority → Row Reply
+write_unlocked table priority = do
+  no_read_lock
+  global ← acquire global_key IX for.Statement
+  lock_and_write table priority
+
+abbrev pub write_locked : KeyName → Row Reply
+write_locked table = do
+  locked ← held_lock table
+  check locked.may_write TableLockedForRead
+  wrote
+
+abbrev pub write : KeyName → Priority → Row Reply
+write table priority = do
+  state ← look
+  if has_locked state.locked then write_locked table else write_unlocked table priority
+
+-- ---- CREATE TABLE, DROP TABLE
+
+-- how DDL begins. After it no transaction is open, so what it locks goes as it ends
+abbrev pub ddl : Act
+ddl = do
+  no_read_lock
+  no_locked_tables
+  commit
+
+-- the lock of DDL in a key: all writes and the schema are only kept from being locked
+abbrev pub ddl_lock : KeyName → Wish
+ddl_lock key = lock_in key.namespace where
+  lock_in : Namespace → Wish
+  lock_in of.Table = record { key = key; mode = X; duration = for.Transaction }
+  lock_in of.Global = record { key = key; mode = IX; duration = for.Statement }
+  lock_in _ = record { key = key; mode = IX; duration = for.Transaction }
+
+-- the schema of a table
+abbrev pub schema_of : KeyName → KeyName
+schema_of table = schema_key table.schema
+
+-- a table is created under its lock and its schema's
+abbrev pub create_under : List (List ℕ) → ℕ → ℕ → Row Reply
+create_under columns schema table = do
+  over ← read schema
+  check (is_defined over) UnknownDatabase
+  standing ← read table
+  check (not (is_defined standing)) TableExists
+  check (not (names_twice columns)) DuplicateColumn
+  check (has_version_left standing) VersionLimit
+  room
+  redefine table (change.Create (Table columns))
+  Give reply.Ok
+
+-- a table is locked under its schema's lock, and created
+abbrev pub lock_and_create : KeyName → List (List ℕ) → ℕ → Row Reply
+lock_and_create table columns schema = do
+  ticket ← Acquire (ddl_lock table) Give
+  create_under columns schema ticket
+
+-- its schema is locked under the lock of all writes, and then it is
+abbrev pub lock_schema_and_create : KeyName → List (List ℕ) → Row Reply
+lock_schema_and_create table columns = do
+  room
+  schema ← Acquire (ddl_lock (schema_of table)) Give
+  lock_and_create table columns schema
+
+abbrev pub create_after_commit : KeyName → List (List ℕ) → Row Reply
+create_after_commit table columns = do
+  global ← Acquire (ddl_lock global_key) Give
+  lock_schema_and_create table columns
+
+-- a table can be changed once more
+abbrev pub can_change : ℕ → Act
+can_change ticket = do
+  standing ← read ticket
+  check (has_version_left standing) VersionLimit
+
+-- tables are dropped under their locks: all, or none where one is missing
+abbrev pub drop_under : List ℕ → Row Reply
+drop_under tickets = do
+  for_each (λ ticket. exists ticket >> nothing) tickets
+  for_each can_change tickets
+  for_each (λ ticket. redefine ticket change.Drop) tickets
+  Give reply.Ok
+
+-- tables are locked under the locks of their schemas, and dropped
+abbrev pub lock_and_drop : List KeyName → Row Reply
+lock_and_drop tables = do
+  room
+  tickets ← acquire_all (map ddl_lock (in_key_order tables))
+  drop_under tickets
+
+abbrev pub drop_after_commit : List KeyName → Row Reply
+drop_after_commit tables = do
+  room
+  scopes ← acquire_all (map ddl_lock (global_key ∷ in_key_order (map schema_of tables)))
+  lock_and_drop tables
+
+-- ---- the table
+
+-- what is left of a statement once the transaction that was open is committed
+abbrev pub after_commit : Statement → Row Reply
+after_commit statement.Begin = begin_after_commit
+after_commit (statement.CreateTable table columns) = create_after_commit table columns
+after_commit (statement.DropTables tables) = drop_after_commit tables
+after_commit _ = Give reply.Ok
+
+-- what a statement does
+abbrev pub row_of : Statement → Row Reply
+row_of statement.Begin = commit >> begin_after_commit
+row_of statement.Commit = commit >> Give reply.Ok
+row_of statement.Rollback = rollback >> Give reply.Ok
+row_of (statement.Savepoint name) = save name
+row_of (statement.RollbackTo name) = rollback_to name
+row_of (statement.Select tables) = select tables
+row_of (statement.Write table priority) = write table priority
+row_of (statement.CreateTable table columns) = ddl >> create_after_commit table columns
+row_of (statement.DropTables tables) = ddl >> drop_after_commit tables
+row_of (statement.KillQuery target) = kill target >> Give reply.Ok
+row_of statement.Timeout = Give reply.Ok

@@ -1,0 +1,67 @@
+-- What a session keeps beside its tickets, after MySQL 5.7: `THD::transaction`, `THD::locked_tables_list` and
+-- `Global_read_lock` of sql/sql_class.h. That BEGIN and the like see no more than this is this project's own choice.
+use Rattle.std.specs.Prelude.{ℕ, Bool, true, false, not, List, [], ◌∷◌, ◌++◌, filter, find, is_some, Option, Some, None, if◌then◌else◌}
+use Rattle.std.specs.Option.{option_map}
+use lib.Pointwise.{pointwise}
+use Rattle.std.specs.Prelude.{◌==◌}
+use Rattle.mdl_key.specs.Keys.{KeyName}
+use Rattle.mdl_context.specs.declared.request.Mark.{Mark}
+use Rattle.mdl_stmt.specs.declared.savepoint.Savepoint.{Savepoint}
+
+-- a table that LOCK TABLES locked, whether it may be written, and the ticket by which it is locked
+pub record Locked : Type 0 where
+  pub key : KeyName
+  pub may_write : Bool
+  pub ticket : ℕ
+
+-- whether a transaction is open, whether it wrote, and its savepoints in order; the locked tables, and the tickets of their
+-- scopes; and the tickets of the global read lock, where the session has it
+pub record State : Type 0 where
+  pub is_open : Bool
+  pub has_written : Bool
+  pub savepoints : List Savepoint
+  pub locked : List Locked
+  pub scopes : List ℕ
+  pub read_lock : Option (ℕ × ℕ)
+
+-- whether any table is locked
+abbrev pub has_locked : List Locked → Bool
+has_locked [] = false
+has_locked (table ∷ tables) = true
+
+-- a session that has done nothing yet
+abbrev pub at_first : State
+at_first = record { is_open = false; has_written = false; savepoints = []; locked = []; scopes = []; read_lock = None }
+
+-- with a transaction that did nothing yet
+abbrev pub opened : State → State
+opened state = record state { is_open = true }
+
+-- without one
+abbrev pub closed : State → State
+closed state = record state { is_open = false; has_written = false; savepoints = [] }
+
+-- with one that wrote
+abbrev pub written : State → State
+written state = record state { has_written = true }
+
+-- without locked tables
+abbrev pub unlocked : State → State
+unlocked state = record state { locked = []; scopes = [] }
+
+-- whether a savepoint has this name
+abbrev pub is_named : List ℕ → Savepoint → Bool
+is_named name savepoint = pointwise ◌==◌ savepoint.name name
+
+-- a savepoint of this name comes last, in place of an older one
+abbrev pub with_savepoint : List ℕ → Mark → List Savepoint → List Savepoint
+with_savepoint name mark savepoints = filter (λ savepoint. not (is_named name savepoint)) savepoints ++ record { name = name; mark = mark } ∷ []
+
+-- where the session stood at the savepoint of a name, if there is one
+abbrev pub savepoint_mark : List ℕ → List Savepoint → Option Mark
+savepoint_mark name savepoints = option_map (λ savepoint. savepoint.mark) (find (is_named name) savepoints)
+
+-- the savepoints up to that one
+abbrev pub up_to : List ℕ → List Savepoint → List Savepoint
+up_to name [] = []
+up_to name (savepoint ∷ savepoints) = savepoint ∷ (if is_named name savepoint then [] else up_to name savepoints)
