@@ -2,6 +2,7 @@ pub mod Endings
 pub mod ErrorNumbers
 pub mod Gets
 pub mod KeyOrder
+pub mod MemoryLaws
 pub mod Playing
 pub mod Rows
 pub mod Sessions
