@@ -15,4 +15,5 @@ pub mod ServingLemmas
 pub mod SoughtLemmas
 pub mod SureLemmas
 pub mod WaitLemmas
+pub mod WhoLemmas
 pub mod WishLemmas

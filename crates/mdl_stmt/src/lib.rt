@@ -10,6 +10,9 @@ mod savepoint;
 mod stage;
 
 pub use error_number::ErrorNumber;
-pub use memory_laws::{statements_tell_of_want};
+pub use memory_laws::{
+    sessions_stay_their_own, statements_call_for_their_session, statements_keep_the_space_sound,
+    statements_tell_of_want, sure_statements,
+};
 pub use reply::{Progress, Reply, TableShown, TablesShown};
 pub use runner::Runner;

@@ -1,0 +1,119 @@
+-- Whatever a context does, it stays its session's.
+use Rattle.std.proofs.Common.{◌≡◌, ℕ, true, false, List, Option, Some, None, Result, Ok, Err, refl}
+use Rattle.std.specs.Prelude.{Bool, is_some}
+use Rattle.mdl_calls.specs.declared.answers.Held.{Held}
+use Rattle.mdl_calls.specs.declared.space_error.SpaceError.{SpaceError}
+use Rattle.mdl_calls.specs.declared.space_error.SpaceError.TheVariants.{NoWait}
+use Rattle.mdl_calls.specs.Words.{Answer, At_place, Granted, Pending, Is_settled, Lost, Release, Settle_timeout, Program, Give, Ask, Each, SearchEnd, Over, Cut_off, Failed, seeking, most_searches}
+use Rattle.mdl_calls.proofs.FaithfulLemmas.{either, each_then}
+use Rattle.mdl_context.specs.declared.asking.Got.{Got}
+use Rattle.mdl_context.specs.declared.asking.Got.TheVariants as got
+use Rattle.mdl_context.specs.declared.context_error.ContextError.{ContextError}
+use Rattle.mdl_context.specs.declared.context_error.ContextError.TheVariants.{Waiting, Space}
+use Rattle.mdl_context.specs.declared.kept.Kept.{Kept}
+use Rattle.mdl_context.specs.declared.request.Acquire.{Acquire}
+use Rattle.mdl_context.specs.declared.request.Resume.{Resume}
+use Rattle.mdl_context.specs.Contexts.{ContextView, without, place_known}
+use Rattle.mdl_context.specs.Gains as gains
+use Rattle.mdl_context.specs.Holdings.{earliest, without_number}
+use Rattle.mdl_context.specs.Releases as releases
+use Rattle.mdl_context.specs.Requests as requests
+use Rattle.mdl_context.specs.Requests.{Outcome}
+use Rattle.mdl_context.specs.Waits as waits
+use Rattle.mdl_context.specs.Wishes.{Wish}
+
+-- a call of a context leaves it this session's
+abbrev pub IsOf : {A : Type 0} → ℕ → Outcome A → Type 0
+IsOf who outcome = outcome.1.who ≡ who
+
+-- and so do all replies of a program
+abbrev pub StaysOf : {A : Type 0} → ℕ → Program (Outcome A) → Type 0
+StaysOf who program = Each (IsOf who) program
+
+-- ---- wishes
+
+of_got : (place : ℕ) (request : Wish) (context : ContextView) (end : Result Got SpaceError) →
+    IsOf {A = Acquire} context.who (requests.outcome_got place request context end)
+of_got place request context (Ok (got.Granted id)) = refl
+of_got place request context (Ok (got.Waits number searched)) = refl
+of_got place request context (Err refusal) = refl
+
+of_reusing : (ticket : Option Held) (place : ℕ) (request : Wish) (context : ContextView) → StaysOf {A = Acquire} context.who (requests.reusing ticket place request context)
+of_reusing (Some ticket) place request context = refl
+of_reusing None place request context =
+    let serving = earliest (requests.suffices place request) context.kept in (
+      refl,
+      each_then {A = Result Got SpaceError} {B = Outcome Acquire} (IsOf context.who) (gains.gaining_from serving context.who place request.mode)
+          (λ end. Give (requests.outcome_got place request context end)) (of_got place request context),
+    )
+
+of_place : (request : Wish) (context : ContextView) (answer : Answer) → StaysOf {A = Acquire} context.who (requests.place_answered request context answer)
+of_place request context (At_place place) =
+    let after = requests.remembering request.key place context in
+    (refl, of_reusing (earliest (requests.is_reusable place request) after.kept) place request after)
+of_place request context _ = refl
+
+of_finding : (place : Option ℕ) (request : Wish) (context : ContextView) → StaysOf {A = Acquire} context.who (requests.finding place request context)
+of_finding (Some place) request context = of_reusing (earliest (requests.is_reusable place request) context.kept) place request context
+of_finding None request context = of_place request context
+
+pub of_acquiring : (request : Wish) (context : ContextView) → StaysOf {A = Acquire} context.who (requests.acquiring request context)
+of_acquiring request context =
+    let place = place_known request.key context.known in
+    either {A = Outcome Acquire} (StaysOf context.who) (is_some context.wait) (Give (Err Waiting, context)) (requests.finding place request context)
+    refl (of_finding place request context)
+
+-- ---- waits
+
+of_end : (context : ContextView) (answer : Answer) → StaysOf {A = Resume} context.who (waits.end_answered context answer)
+of_end context (Granted id) = refl
+of_end context (Lost how) = refl
+of_end context _ = refl
+
+of_poll : (context : ContextView) (answer : Answer) → StaysOf {A = Resume} context.who (waits.poll_answered context answer)
+of_poll context Pending = refl
+of_poll context (Is_settled how) = of_end context
+of_poll context _ = refl
+
+of_sought : (context : ContextView) (end : SearchEnd) → StaysOf {A = Resume} context.who (waits.wait_sought context end)
+of_sought context Over = of_poll (waits.searched context)
+of_sought context Cut_off = of_poll context
+of_sought context (Failed refusal) =
+    each_then {A = Unit {0}} {B = Outcome Resume} (IsOf context.who) (gains.abandoning context.who)
+    (λ _. Give (Err (Space refusal), waits.without_wait context)) (λ _. refl)
+
+of_cut_off : (context : ContextView) (answer : Answer) → StaysOf {A = Resume} context.who (waits.cut_off_answered context answer)
+of_cut_off context Pending =
+    each_then {A = SearchEnd} {B = Outcome Resume} (IsOf context.who) (seeking most_searches context.who) (waits.wait_sought context) (of_sought context)
+of_cut_off context (Is_settled how) = of_end context
+of_cut_off context _ = refl
+
+of_going_on : (searched : Option Bool) (context : ContextView) → StaysOf {A = Resume} context.who (waits.going_on searched context)
+of_going_on None context = refl
+of_going_on (Some true) context = of_poll context
+of_going_on (Some false) context = of_cut_off context
+
+pub of_resuming : (context : ContextView) → StaysOf {A = Resume} context.who (waits.resuming context)
+of_resuming context = of_going_on (waits.is_searched context.wait) context
+
+pub of_giving_up_wait : (context : ContextView) → StaysOf {A = Resume} context.who (waits.giving_up_wait context)
+of_giving_up_wait context =
+    either {A = Outcome Resume} (StaysOf context.who) (is_some context.wait) (Ask (Settle_timeout context.who) (λ _. waits.ending context))
+    (Give (Err (Space NoWait), context)) (λ _. of_end context) refl
+
+-- ---- releases
+
+pub of_giving_up : (gone : List Kept) (context : ContextView) → StaysOf {A = Unit {0}} context.who (releases.giving_up gone context)
+of_giving_up gone context =
+    each_then {A = Unit {0}} {B = Outcome (Unit {0})} (IsOf context.who) (releases.releasing_all context.who gone)
+    (λ _. Give (Ok tt, record context { kept = without gone context.kept })) (λ _. refl)
+
+of_unless : (fault : Option ContextError) (context : ContextView) (program : Program (Outcome (Unit {0}))) →
+    StaysOf {A = Unit {0}} context.who program → StaysOf {A = Unit {0}} context.who (releases.unless fault context program)
+of_unless (Some fault) context program each = refl
+of_unless None context program each = each
+
+pub of_releasing : (id : ℕ) (context : ContextView) → StaysOf {A = Unit {0}} context.who (releases.releasing id context)
+of_releasing id context =
+    of_unless (releases.release_fault id context) context
+    (Ask (Release context.who id) (λ _. Give (Ok tt, record context { kept = without_number id context.kept }))) (λ _. refl)
