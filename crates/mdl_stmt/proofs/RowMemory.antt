@@ -1,5 +1,5 @@
 -- Statements where memory is wanting: that all they can come to then is that they end for want of it.
-use Rattle.std.proofs.Common.{◌≡◌, ℕ, Option, Some, None, Ok, Err, refl, sym, subst}
+use Rattle.std.proofs.Common.{ℕ, Option, Some, None, Ok, Err, refl, sym, subst}
 use Rattle.mdl_defs.specs.declared.standing.Standing.{Standing}
 use Rattle.mdl_calls.specs.Words.{Answer, Has_wait, Reads, Changed, Program, Give, Each, IsFaithful, IsFrugal, ◌>>=◌}
 use Rattle.mdl_calls.proofs.FaithfulLemmas.{each_then, faithful_bind, frugal_faithful}

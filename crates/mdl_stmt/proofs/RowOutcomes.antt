@@ -1,7 +1,5 @@
 -- What comes of statements over the space of one thread.
-use Rattle.std.proofs.Common.{ℕ}
-use Rattle.mdl_calls.specs.Words.{EachCall, IsFaithful, Program, outcome_of}
-use Rattle.mdl_core.specs.CoreCalls.{outcome}
+use Rattle.mdl_calls.specs.Words.{EachCall, IsFaithful, Program}
 use Rattle.mdl_core.specs.RunLaws.{IsMadeFor}
 use Rattle.mdl_core.proofs.RunOutcomes.{sure-run, outcomes-are_runs}
 use Rattle.mdl_context.specs.MemoryLaws.{IsSureUnless}
