@@ -1,4 +1,4 @@
--- All calls of statements are made for their session or for nobody, and the session stays its own.
+-- All calls of statements are made for their session or for nobody, and the session keeps its number.
 use Rattle.std.proofs.Common.{◌≡◌, ℕ, Option, Some, None, Ok, Err, refl, subst}
 use Rattle.mdl_defs.specs.declared.standing.Standing.{Standing}
 use Rattle.mdl_calls.specs.Words.{Answer, Has_wait, Reads, Changed, Call, Change_definition, Kill, Read_definition, Wait_of, Program, Give, Ask, Grow, ◌>>=◌, Each, EachCall}
@@ -21,7 +21,7 @@ use Rattle.mdl_stmt.specs.declared.ending.Ending.TheVariants.{Answers, Misses, F
 use Rattle.mdl_stmt.specs.declared.reply.Reply.{Reply}
 use Rattle.mdl_stmt.specs.declared.reply.Reply.TheVariants as reply
 use Rattle.mdl_stmt.specs.Endings.{Pause, Begins_to_wait, Waits_on, Faults, closing, ended, ending_of_error, ending_of_loss, ending_of_refusal, gone_at, state_after}
-use Rattle.mdl_stmt.specs.MemoryLaws.{session_at, SessionsStayTheirOwn, StatementsCallForTheirSession}
+use Rattle.mdl_stmt.specs.MemoryLaws.{session_at, SessionsKeepTheirNumber, StatementsCallForTheirSession}
 use Rattle.mdl_stmt.specs.Playing as playing
 use Rattle.mdl_stmt.specs.Playing.{play, with_context}
 use Rattle.mdl_stmt.specs.Rows.{Row}
@@ -30,22 +30,22 @@ use Rattle.mdl_stmt.specs.Sessions.{Left, Session}
 use Rattle.mdl_stmt.specs.Statements.{row_of}
 use Rattle.mdl_context.proofs.WhoLemmas.{StaysOf, of_acquiring, of_resuming, of_giving_up_wait, of_giving_up, of_releasing}
 
--- a program is a session's: all its calls are made for it or for nobody, and wherever it pauses, the session is its own
+-- a program is a session's: all its calls are made for it or for nobody, and wherever it pauses, the session has its number
 record IsOwn (who : ℕ) (program : Program Pause) : Type 0 where
   calls : EachCall (IsMadeFor who) program
-  stays : Each (λ pause. (session_at pause).context.who ≡ who) program
+  keeps : Each (λ pause. (session_at pause).context.who ≡ who) program
 
 -- a pause
 own_give : (pause : Pause) → IsOwn (session_at pause).context.who (Give pause)
-own_give pause = record { calls = tt; stays = refl }
+own_give pause = record { calls = tt; keeps = refl }
 
 -- a call, and then what its answer leads to
 own_ask : (who : ℕ) (call : Call) (next : Answer → Program Pause) → IsMadeFor who call → ((answer : Answer) → IsOwn who (next answer)) → IsOwn who (Ask call next)
-own_ask who call next made later = record { calls = (made, λ answer. (later answer).calls); stays = λ answer. (later answer).stays }
+own_ask who call next made later = record { calls = (made, λ answer. (later answer).calls); keeps = λ answer. (later answer).keeps }
 
 -- memory is asked for
 own_grow : (who : ℕ) (refused found : Program Pause) → IsOwn who refused → IsOwn who found → IsOwn who (Grow refused found)
-own_grow who refused found one other = record { calls = (one.calls, other.calls); stays = (one.stays, other.stays) }
+own_grow who refused found one other = record { calls = (one.calls, other.calls); keeps = (one.keeps, other.keeps) }
 
 -- what a context does, and then what it leads to
 own_bind : {A : Type 0} (who : ℕ) (first : Program (Outcome A)) (next : Outcome A → Program Pause) →
@@ -170,9 +170,9 @@ rows_call session = (
   (own_going_on session.left session).calls,
 )
 
-pub rows_stay : SessionsStayTheirOwn
-rows_stay session = (
-  λ asked mark. (own_play asked mark session).stays,
-  λ statement. (own_play (row_of statement) (mark_of session.context.kept) session).stays,
-  (own_going_on session.left session).stays,
+pub rows_keep_number : SessionsKeepTheirNumber
+rows_keep_number session = (
+  λ asked mark. (own_play asked mark session).keeps,
+  λ statement. (own_play (row_of statement) (mark_of session.context.kept) session).keeps,
+  (own_going_on session.left session).keeps,
 )

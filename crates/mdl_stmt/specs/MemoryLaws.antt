@@ -21,7 +21,7 @@ abbrev pub IsFault : Pause → Type 0
 IsFault (Faults session) = Unit {0}
 IsFault _ = ⊥
 
--- the session when a statement has come so far
+-- the session as a statement has come so far
 abbrev pub session_at : Pause → Session
 session_at (Ends reply session) = session
 session_at (Begins_to_wait key mode session) = session
@@ -45,9 +45,9 @@ StatementsTellOfWant = EachPlay (λ session program. IsFaithful IsFault program)
 abbrev pub StatementsCallForTheirSession : Type 0
 StatementsCallForTheirSession = EachPlay (λ session program. EachCall (IsMadeFor session.context.who) program)
 
--- however far a statement comes, its session is still the same one's
-abbrev pub SessionsStayTheirOwn : Type 0
-SessionsStayTheirOwn = EachPlay (λ session program. Each (λ pause. (session_at pause).context.who ≡ session.context.who) program)
+-- however far a statement comes, its session keeps its number
+abbrev pub SessionsKeepTheirNumber : Type 0
+SessionsKeepTheirNumber = EachPlay (λ session program. Each (λ pause. (session_at pause).context.who ≡ session.context.who) program)
 
 -- over the space of one thread, how far a statement comes, its session and the space then are the outcome, unless memory was
 -- wanting
@@ -62,6 +62,6 @@ KeepsSpaceSound session program =
     let end = outcome_of outcome program a in
     Runs Joins a program end.0 end.1 × IsSound end.1 × ((who : ℕ) → SpeaksFor a who → SpeaksFor end.1 who)
 
--- this is so of all statements
+-- this is so of each such program
 abbrev pub StatementsKeepSpaceSound : Type 0
 StatementsKeepSpaceSound = EachPlay KeepsSpaceSound

@@ -11,7 +11,7 @@ mod stage;
 
 pub use error_number::ErrorNumber;
 pub use memory_laws::{
-    sessions_stay_their_own, statements_call_for_their_session, statements_keep_the_space_sound,
+    sessions_keep_their_number, statements_call_for_their_session, statements_keep_the_space_sound,
     statements_tell_of_want, sure_statements,
 };
 pub use reply::{Progress, Reply, TableShown, TablesShown};

@@ -1,6 +1,6 @@
 //! Laws of statements where memory is wanting, of the calls that they make, and what follows from them over the space of one
 //! thread. They are so of each statement, whatever it asks for. Each is proved as the contract of a function that does nothing.
-ghost use Rattle.mdl_stmt.specs.MemoryLaws.{StatementsTellOfWant, StatementsCallForTheirSession, SessionsStayTheirOwn, SureStatements, StatementsKeepSpaceSound};
+ghost use Rattle.mdl_stmt.specs.MemoryLaws.{StatementsTellOfWant, StatementsCallForTheirSession, SessionsKeepTheirNumber, SureStatements, StatementsKeepSpaceSound};
 
 /// Once memory was wanting, all that a statement can come to is that it ends for want of it.
 pub fn statements_tell_of_want()
@@ -12,9 +12,9 @@ pub fn statements_call_for_their_session()
     ensures { StatementsCallForTheirSession }
 {}
 
-/// However far a statement comes, its session is still the same one's.
-pub fn sessions_stay_their_own()
-    ensures { SessionsStayTheirOwn }
+/// However far a statement comes, its session keeps its number.
+pub fn sessions_keep_their_number()
+    ensures { SessionsKeepTheirNumber }
 {}
 
 /// Over the space of one thread, how far a statement comes is the outcome of its definition, unless memory was wanting.
