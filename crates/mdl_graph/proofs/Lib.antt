@@ -1,8 +1,8 @@
 pub mod AnyLemmas
-pub mod CountLemmas
 pub mod CycleLaws
 pub mod CycleOrder
 pub mod DeadlockLemmas
+pub mod FindLemmas
 pub mod FoundLemmas
 pub mod FreeLemmas
 pub mod JoinLemmas
@@ -18,4 +18,3 @@ pub mod TieLemmas
 pub mod VictimLemmas
 pub mod WaitingLemmas
 pub mod WalkLemmas
-pub mod WeightLemmas

@@ -143,13 +143,3 @@ next_of waits from levels steps session =
 abbrev pub walk : (ℕ → ℕ → Bool) → ℕ → List ℕ → ℕ → ℕ → List ℕ
 walk waits from levels zero session = []
 walk waits from levels (suc n) session = session ∷ walk waits from levels n (next_of waits from levels n session)
-
--- ---- weights
-
--- the weight that is kept for a session
-abbrev pub weight_at : List (Option ℕ) → ℕ → Option ℕ
-weight_at weights session = slice_index_or weights session None
-
--- a session with its weight
-abbrev pub weighed : List (Option ℕ) → ℕ → Member
-weighed weights session = record { session = session; weight = unwrap_or (weight_at weights session) 0 }

@@ -1,11 +1,9 @@
 //! How many steps the sessions are from one of them.
-ghost use Rattle.std.specs.Prelude.{◌≡◌, ℕ, ◌<◌, ◌≤◌, ◌+◌, ◌||◌, ◌&&◌, ◌==◌, true, not, length, map, OnOk, IfOk, MatchOption};
+ghost use Rattle.std.specs.Prelude.{◌≡◌, ℕ, ◌<◌, ◌≤◌, ◌+◌, ◌||◌, ◌&&◌, ◌==◌, true, not, length, OnOk, IfOk};
 ghost use Rattle.std.specs.List.{list_any};
-ghost use Rattle.mdl_graph.specs.Searches.{IsOver, AreBelow, AreDone, AreRows, are_joined, holds, is_at, level_of, opened, next_of, stands_in, unreached, waits_by, waits_in, walk, weighed};
+ghost use Rattle.mdl_graph.specs.Searches.{IsOver, AreBelow, AreDone, AreRows, are_joined, holds, is_at, level_of, opened, next_of, stands_in, unreached, waits_by, waits_in, walk};
 
-use crate::Member;
 use crate::links::Links;
-use crate::weights::Weights;
 use std::alloc::{AllocError, Global};
 use std::mem;
 

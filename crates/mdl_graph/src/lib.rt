@@ -12,7 +12,6 @@ mod links;
 mod rows;
 mod wait_graph;
 mod walks;
-mod weights;
 
 pub use cycle::{Cycle, Member, victim};
 pub use laws::{

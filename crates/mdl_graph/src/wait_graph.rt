@@ -9,7 +9,6 @@ use crate::levels::{level_at, levels_back};
 use crate::links::Links;
 use crate::rows::{add_waiters, make_room, stands_in_some, waits_in_some};
 use crate::walks::walk;
-use crate::weights::Weights;
 use crate::{Cycle, Member};
 use mdl_book::{Book, Sessions};
 use std::alloc::{AllocError, Global};
@@ -154,8 +153,7 @@ impl WaitGraph {
         if steps == 0 {
             return Ok(None);
         }
-        let weights = Weights::new(alloc, &self.wishes)?;
-        let members = walk(alloc, &levels, &waits, &stands, &weights, from, steps)?;
+        let members = walk(alloc, &levels, &waits, &stands, &self.wishes, from, steps)?;
         Ok(Some(Cycle::new(members)))
     }
 }
