@@ -14,6 +14,7 @@ pub mod RoundLemmas
 pub mod SearchLemmas
 pub mod SeenLemmas
 pub mod SettledLemmas
+pub mod SpanLemmas
 pub mod TieLemmas
 pub mod VictimLemmas
 pub mod WaitingLemmas

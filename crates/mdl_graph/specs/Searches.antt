@@ -76,6 +76,12 @@ pub record AreLinked (lasts : List ℕ) (pairs : Pairs) (befores : List ℕ) : T
   pub last : (key : ℕ) → IsLast pairs key (length pairs) (slice_index lasts key)
   pub before : (place : ℕ) → place < length pairs → IsLast pairs (key_at pairs place) place (slice_index befores place)
 
+-- the span of each row, from a place to one behind its last, has all pairs of the row
+pub record AreSpanned (spans pairs : Pairs) : Type 0 where
+  pub order : (row : ℕ) → key_at spans row ≤ value_at spans row
+  pub inside : (row : ℕ) → value_at spans row ≤ length pairs
+  pub all : (place : ℕ) → place < length pairs → (key_at spans (key_at pairs place) ≤ place) × (place < value_at spans (key_at pairs place))
+
 -- each value is below a number
 abbrev pub AreBelow : ℕ → Pairs → Type 0
 AreBelow count pairs = (place : ℕ) → place < length pairs → value_at pairs place < count

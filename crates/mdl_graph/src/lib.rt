@@ -8,9 +8,10 @@ mod counts;
 mod cycle;
 mod laws;
 mod levels;
-mod links;
 mod rows;
+mod stands;
 mod wait_graph;
+mod waits;
 mod walks;
 
 pub use cycle::{Cycle, Member, victim};

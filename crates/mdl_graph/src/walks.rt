@@ -5,7 +5,8 @@ ghost use Rattle.mdl_graph.specs.Graphs.{member_of, weight_found};
 ghost use Rattle.mdl_graph.specs.Searches.{level_of, next_of, waits_by, waits_in, walk};
 
 use crate::Member;
-use crate::links::Links;
+use crate::stands::Stands;
+use crate::waits::Waits;
 use std::alloc::{AllocError, Global};
 
 // The weight of a session's first wish, 0 where it has none.
@@ -21,12 +22,12 @@ fn weight_of(wishes: &[Member], session: u16) -> u8
 }
 
 // Whether one session waits for another, found from the other one on.
-fn waits_for(waits: &Links, stands: &Links, waiter: usize, other: usize) -> bool
+fn waits_for(waits: &Waits<'_>, stands: &Stands<'_>, waiter: usize, other: usize) -> bool
     ensures { result ≡ waits_by waits.now stands.now waiter other }
 {
     let mut at = stands.last(other);
     while at > 0 {
-        let row = stands.value(at - 1);
+        let row = stands.row(at - 1);
         if waiter != other && waits.has(row, waiter) {
             return true;
         }
@@ -36,7 +37,13 @@ fn waits_for(waits: &Links, stands: &Links, waiter: usize, other: usize) -> bool
 }
 
 // The least session that one waits for of those so many steps away from the one that was asked for.
-fn next_of(levels: &[usize], waits: &Links, stands: &Links, steps: usize, session: usize) -> usize
+fn next_of(
+    levels: &[usize],
+    waits: &Waits<'_>,
+    stands: &Stands<'_>,
+    steps: usize,
+    session: usize,
+) -> usize
     requires { 0 < steps }
     ensures value { (from : ℕ) → result ≡ next_of (waits_by waits.now stands.now) from levels.now steps session }
     ensures within { (result < length levels.now) ⊎ (result ≡ session) }
@@ -53,8 +60,8 @@ fn next_of(levels: &[usize], waits: &Links, stands: &Links, steps: usize, sessio
 pub(crate) fn walk(
     alloc: Global,
     levels: &[usize],
-    waits: &Links,
-    stands: &Links,
+    waits: &Waits<'_>,
+    stands: &Stands<'_>,
     wishes: &[Member],
     from: u16,
     steps: usize,

@@ -11,8 +11,8 @@ use Rattle.mdl_graph.proofs.JoinLemmas.{joined-apart, joined_links, rows-fresh, 
 use Rattle.mdl_graph.proofs.WalkLemmas.{length_walk, walk_of_two}
 use Rattle.mdl_graph.proofs.wait_graph.WaitGraph.search.Goals as goal
 
-pub of_waits-requires : goal.of_waits-requires
-of_waits-requires c =
+pub new-requires : goal.new-requires
+new-requires c =
     let len : c.len.result ≡ length c.self.inside.ranks.items = grind (arith, common_steps) in
     rw (c.deref-3.ensures.value, len) (rows-known (length c.self.inside.ranks.items) c.self.inside.waits.items c.self.invariant.known)
 
@@ -39,8 +39,8 @@ returns-then-steps-eq0 c =
 pub walk-requires : goal.walk-requires
 walk-requires c = rw c.deref-6.ensures.value (omega (arith, c.in_ok-levels.ensures.len, c.session_count-count.ensures.few))
 
-pub new-requires : goal.new-requires
-new-requires c =
+pub new-requires-3 : goal.new-requires-3
+new-requires-3 c =
     let rows = c.self.inside.waits.items in
     let against = c.self.inside.stands.items in
     let levels = c.in_ok-levels.levels.items in
@@ -88,4 +88,4 @@ returns c =
     ∙ ap (λ (waits : ℕ → ℕ → Bool). map (member_of c.self.inside.wishes.items) (walk waits c.args.from levels (level_of levels c.args.from) c.args.from)) (sym (joined_links rows against)) in
     let wished : (waiter other : ℕ) → waits graph waiter other ≡ true → Contains (map (λ (wish : Member). wish.session) graph.wishes) waiter =
     λ waiter other e. c.self.invariant.wished waiter other (sym (ties_join rows against waiter other) ∙ e) in
-    rw (← c.self.view_is) (ap Some (c.new.ensures ∙ members) ∙ found_cycle graph by_rows same c.args.from levels over wished some)
+    rw (← c.self.view_is) (ap Some (c.new-3.ensures ∙ members) ∙ found_cycle graph by_rows same c.args.from levels over wished some)
