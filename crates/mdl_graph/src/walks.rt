@@ -48,8 +48,8 @@ fn next_of(
     ensures value { (from : ℕ) → result ≡ next_of (waits_by waits.now stands.now) from levels.now steps session }
     ensures within { (result < length levels.now) ⊎ (result ≡ session) }
 {
-    for next in 0..levels.len() {
-        if levels[next] == steps && waits_for(waits, stands, session, next) {
+    for (next, level) in levels.iter().enumerate() {
+        if *level == steps && waits_for(waits, stands, session, next) {
             return next;
         }
     }

@@ -13,7 +13,7 @@ returns-then-waits_for-clause-value c = λ from.
     let test : ℕ → Bool = λ next. (level_of c.args.levels.now next == c.args.steps) && waits c.args.session next in
     let passes : test c.loop-next.next ≡ true =
     and_from (level_of c.args.levels.now c.loop-next.next == c.args.steps) (waits c.args.session c.loop-next.next)
-    (eq-eqb (level_of c.args.levels.now c.loop-next.next) c.args.steps c.if-levels-next.true) (sym c.if-waits_for.ensures) in
+    (eq-eqb (level_of c.args.levels.now c.loop-next.next) c.args.steps c.if-level-steps.true) (sym c.if-waits_for.ensures) in
     next_by_level waits from c.args.levels.now c.args.steps c.args.session c.loop-next.next c.requires
     (next_found test c.loop-next.next _ c.args.session c.loop-next-test.true c.loop-next.invariant passes)
 
