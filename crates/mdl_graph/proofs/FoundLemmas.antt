@@ -1,36 +1,17 @@
 -- What a search finds is the chosen cycle of its graph.
-use Rattle.std.proofs.Common.{◌≡◌, ◌<◌, ℕ, Bool, true, List, [], ◌∷◌, map, Some, None, refl, ap, sym, ◌∙◌}
-use Rattle.std.specs.Prelude.{◌==◌, find, Option}
+use Rattle.std.proofs.Common.{◌≡◌, ◌<◌, ℕ, Bool, true, List, map, Some, None, ap, sym, ◌∙◌}
 use Rattle.std.specs.List.{Contains}
-use Rattle.std.specs.Option.{option_map, unwrap_or}
-use Rattle.mdl_graph.specs.declared.cycle.Member.{Member}
+use Rattle.std.specs.Option.{option_map}
 use Rattle.mdl_graph.proofs.CycleLaws.{chosen_is, none_chosen, chosen_same}
 use Rattle.mdl_graph.specs.Cycles.{chosen_cycle, IsCycleThrough}
-use Rattle.mdl_graph.specs.Graphs.{GraphView, waits, weight_found, member_of, deadlock}
-use Rattle.mdl_graph.specs.Searches.{Pairs, are_joined, waits_by, IsOver, level_of, walk, weight_at, weighed}
+use Rattle.mdl_graph.specs.Graphs.{GraphView, waits, member_of, deadlock}
+use Rattle.mdl_graph.specs.Searches.{Pairs, are_joined, waits_by, IsOver, level_of, walk}
 use Rattle.mdl_graph.proofs.JoinLemmas.{joined_by}
 use Rattle.mdl_graph.proofs.WalkLemmas.{over-same, IsChosen, walk_is_chosen, no_cycle}
-
--- the weight of a wish that is found
-found_weight : (wish : Option Member) → weight_found wish ≡ unwrap_or (option_map (λ wish. wish.weight) wish) 0
-found_weight None = refl
-found_weight (Some wish) = refl
 
 -- the sessions of a graph's wishes
 abbrev sessions_of : GraphView → List ℕ
 sessions_of graph = map (λ wish. wish.session) graph.wishes
-
--- each session has the weight of its first wish
-abbrev pub AreWeighed : List (Option ℕ) → List Member → Type 0
-AreWeighed weights wishes = (session : ℕ) → weight_at weights session ≡ option_map (λ wish. wish.weight) (find (λ wish. wish.session == session) wishes)
-
-members_same : (weights : List (Option ℕ)) (wishes : List Member) → AreWeighed weights wishes → (sessions : List ℕ)
-    → map (member_of wishes) sessions ≡ map (weighed weights) sessions
-members_same weights wishes weighs [] = refl
-members_same weights wishes weighs (session ∷ rest) =
-    let weight = found_weight (find (λ wish. wish.session == session) wishes) ∙ ap (λ (o : Option ℕ). unwrap_or o 0) (sym (weighs session)) in
-    ap (λ (w : ℕ). record { session = session; weight = w } ∷ map (member_of wishes) rest) weight
-    ∙ ap (λ (members : List Member). weighed weights session ∷ members) (members_same weights wishes weighs rest)
 
 -- where no list is a cycle, there is no deadlock
 pub found_free : (graph : GraphView) (by_rows : ℕ → ℕ → Bool) → ((waiter other : ℕ) → by_rows waiter other ≡ waits graph waiter other)
@@ -44,17 +25,17 @@ found_free graph by_rows same from free =
 
 module _ (graph : GraphView) (by_rows : ℕ → ℕ → Bool) (same : (waiter other : ℕ) → by_rows waiter other ≡ waits graph waiter other)
     (from : ℕ) (levels : List ℕ) (over : IsOver by_rows from levels) where
-  pub found_cycle : (weights : List (Option ℕ)) → ((waiter other : ℕ) → waits graph waiter other ≡ true → Contains (sessions_of graph) waiter)
-      → AreWeighed weights graph.wishes → 0 < level_of levels from
-      → Some (map (weighed weights) (walk by_rows from levels (level_of levels from) from)) ≡ deadlock graph from
-  found_cycle weights wished weighs some =
+  pub found_cycle : ((waiter other : ℕ) → waits graph waiter other ≡ true → Contains (sessions_of graph) waiter)
+      → 0 < level_of levels from
+      → Some (map (member_of graph.wishes) (walk by_rows from levels (level_of levels from) from)) ≡ deadlock graph from
+  found_cycle wished some =
       let sessions = sessions_of graph in
       let walked = walk by_rows from levels (level_of levels from) from in
       let chosen : IsChosen by_rows from walked = walk_is_chosen by_rows from levels over some in
       let found : chosen_cycle (waits graph) sessions from ≡ Some walked =
       chosen_same (waits graph) by_rows sessions from (λ waiter other. sym (same waiter other))
       ∙ chosen_is by_rows sessions from walked (λ waiter other e. wished waiter other (sym (same waiter other) ∙ e)) chosen.is chosen.first in
-      sym (ap (option_map (map (member_of graph.wishes))) found ∙ ap Some (members_same weights graph.wishes weighs walked))
+      sym (ap (option_map (map (member_of graph.wishes))) found)
 
   pub found_none : level_of levels from ≡ 0 → None ≡ deadlock graph from
   found_none none = sym (found_free graph by_rows same from (no_cycle by_rows from levels over none))

@@ -1,8 +1,8 @@
 pub mod AnyLemmas
-pub mod CountLemmas
 pub mod CycleLaws
 pub mod CycleOrder
 pub mod DeadlockLemmas
+pub mod FindLemmas
 pub mod FoundLemmas
 pub mod FreeLemmas
 pub mod JoinLemmas
@@ -14,8 +14,8 @@ pub mod RoundLemmas
 pub mod SearchLemmas
 pub mod SeenLemmas
 pub mod SettledLemmas
+pub mod SpanLemmas
 pub mod TieLemmas
 pub mod VictimLemmas
 pub mod WaitingLemmas
 pub mod WalkLemmas
-pub mod WeightLemmas

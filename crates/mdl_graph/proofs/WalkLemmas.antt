@@ -54,6 +54,13 @@ next_found test i n session inside none passes =
     let found : first_below test n ≡ Some i = subst (λ (k : ℕ). first_below test k ≡ Some i) whole (first_found test i more none passes) in
     sym (ap (λ (o : Option ℕ). unwrap_or o session) found)
 
+-- a step more than none asks for a level
+pub next_by_level : (waits : ℕ → ℕ → Bool) (from : ℕ) (levels : List ℕ) (steps session found : ℕ) → 0 < steps
+    → found ≡ unwrap_or (first_below (λ next. (level_of levels next == steps) && waits session next) (length levels)) session
+    → found ≡ next_of waits from levels steps session
+next_by_level waits from levels zero session found some is = absurd (omega (arith, some))
+next_by_level waits from levels (suc n) session found some is = is
+
 pub length_walk : (waits : ℕ → ℕ → Bool) (from : ℕ) (levels : List ℕ) (n session : ℕ) → length (walk waits from levels n session) ≡ n
 length_walk waits from levels zero session = refl
 length_walk waits from levels (suc n) session = ap suc (length_walk waits from levels n (next_of waits from levels n session))
@@ -64,6 +71,12 @@ pub walk_more : (waits : ℕ → ℕ → Bool) (from : ℕ) (levels : List ℕ) 
     ≡ session ∷ walk waits from levels (steps - (done + 1)) (next_of waits from levels (steps - (done + 1)) session)
 walk_more waits from levels steps done session inside =
     let one : steps - done ≡ suc (steps - (done + 1)) = omega arith in ap (λ (n : ℕ). walk waits from levels n session) one
+
+-- where no step is left, it is over wherever it stands
+pub walk_over : (waits : ℕ → ℕ → Bool) (from : ℕ) (levels : List ℕ) (left one other : ℕ) → left ≡ 0
+    → walk waits from levels left one ≡ walk waits from levels left other
+walk_over waits from levels zero one other none = refl
+walk_over waits from levels (suc left) one other none = absurd (omega (arith, none))
 
 -- a session that has a level is kept
 pub level_inside : (levels : List ℕ) (session : ℕ) → 0 < level_of levels session → session < length levels

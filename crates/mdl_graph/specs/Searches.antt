@@ -76,6 +76,12 @@ pub record AreLinked (lasts : List ℕ) (pairs : Pairs) (befores : List ℕ) : T
   pub last : (key : ℕ) → IsLast pairs key (length pairs) (slice_index lasts key)
   pub before : (place : ℕ) → place < length pairs → IsLast pairs (key_at pairs place) place (slice_index befores place)
 
+-- the span of each row, from a place to one behind its last, has all pairs of the row
+pub record AreSpanned (spans pairs : Pairs) : Type 0 where
+  pub order : (row : ℕ) → key_at spans row ≤ value_at spans row
+  pub inside : (row : ℕ) → value_at spans row ≤ length pairs
+  pub all : (place : ℕ) → place < length pairs → (key_at spans (key_at pairs place) ≤ place) × (place < value_at spans (key_at pairs place))
+
 -- each value is below a number
 abbrev pub AreBelow : ℕ → Pairs → Type 0
 AreBelow count pairs = (place : ℕ) → place < length pairs → value_at pairs place < count
@@ -143,13 +149,3 @@ next_of waits from levels steps session =
 abbrev pub walk : (ℕ → ℕ → Bool) → ℕ → List ℕ → ℕ → ℕ → List ℕ
 walk waits from levels zero session = []
 walk waits from levels (suc n) session = session ∷ walk waits from levels n (next_of waits from levels n session)
-
--- ---- weights
-
--- the weight that is kept for a session
-abbrev pub weight_at : List (Option ℕ) → ℕ → Option ℕ
-weight_at weights session = slice_index_or weights session None
-
--- a session with its weight
-abbrev pub weighed : List (Option ℕ) → ℕ → Member
-weighed weights session = record { session = session; weight = unwrap_or (weight_at weights session) 0 }

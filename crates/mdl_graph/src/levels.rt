@@ -1,11 +1,10 @@
 //! How many steps the sessions are from one of them.
-ghost use Rattle.std.specs.Prelude.{◌≡◌, ℕ, ◌<◌, ◌≤◌, ◌+◌, ◌||◌, ◌&&◌, ◌==◌, true, not, length, map, OnOk, IfOk, MatchOption};
+ghost use Rattle.std.specs.Prelude.{◌≡◌, ℕ, ◌<◌, ◌≤◌, ◌+◌, ◌||◌, ◌&&◌, ◌==◌, true, not, length, OnOk, IfOk};
 ghost use Rattle.std.specs.List.{list_any};
-ghost use Rattle.mdl_graph.specs.Searches.{IsOver, AreBelow, AreDone, AreRows, are_joined, holds, is_at, level_of, opened, next_of, stands_in, unreached, waits_by, waits_in, walk, weighed};
+ghost use Rattle.mdl_graph.specs.Searches.{IsOver, AreBelow, AreDone, AreRows, are_joined, holds, is_at, level_of, opened, next_of, stands_in, unreached, waits_by, waits_in, walk};
 
-use crate::Member;
-use crate::links::Links;
-use crate::weights::Weights;
+use crate::stands::Stands;
+use crate::waits::Waits;
 use std::alloc::{AllocError, Global};
 use std::mem;
 
@@ -45,7 +44,7 @@ fn offer(
 fn reach(
     levels: &mut Vec<usize>,
     reached: &mut Vec<usize>,
-    waits: &Links,
+    waits: &Waits<'_>,
     row: usize,
     next: usize,
     steps: usize,
@@ -58,11 +57,9 @@ fn reach(
         ≡ (stands_in reached.old.items session || ((level_of levels.old.items session == 0) && not (level_of levels.new.items session == 0)))) }
     ensures count { OnOk result (length reached.new.items + unreached levels.new.items ≡ length reached.old.items + unreached levels.old.items) }
 {
-    let mut at = waits.last(row);
-    while at > 0 {
-        let session = waits.value(at - 1);
-        at = waits.before(at - 1);
-        if session != next {
+    for wait in waits.near(row) {
+        let session = usize::from(wait.1);
+        if wait.0 == row && session != next {
             offer(levels, reached, session, steps)?;
         }
     }
@@ -74,8 +71,8 @@ fn turn(
     levels: &mut Vec<usize>,
     reached: &mut Vec<usize>,
     done: &mut Vec<bool>,
-    waits: &Links,
-    stands: &Links,
+    waits: &Waits<'_>,
+    stands: &Stands<'_>,
     next: usize,
     steps: usize,
 ) -> Result<(), AllocError>
@@ -93,7 +90,7 @@ fn turn(
 {
     let mut at = stands.last(next);
     while at > 0 {
-        let row = stands.value(at - 1);
+        let row = stands.row(at - 1);
         at = stands.before(at - 1);
         if !done[row] {
             reach(levels, reached, waits, row, next, steps)?;
@@ -108,8 +105,8 @@ fn spread(
     levels: &mut Vec<usize>,
     reached: &mut Vec<usize>,
     done: &mut Vec<bool>,
-    waits: &Links,
-    stands: &Links,
+    waits: &Waits<'_>,
+    stands: &Stands<'_>,
     front: &[usize],
     steps: usize,
 ) -> Result<(), AllocError>
@@ -135,8 +132,8 @@ fn spread(
 /// How many steps the sessions are from one of them, up to its own way back to itself.
 pub(crate) fn levels_back(
     alloc: Global,
-    waits: &Links,
-    stands: &Links,
+    waits: &Waits<'_>,
+    stands: &Stands<'_>,
     count: usize,
     rows: usize,
     from: usize,

@@ -8,11 +8,11 @@ mod counts;
 mod cycle;
 mod laws;
 mod levels;
-mod links;
 mod rows;
+mod stands;
 mod wait_graph;
+mod waits;
 mod walks;
-mod weights;
 
 pub use cycle::{Cycle, Member, victim};
 pub use laws::{

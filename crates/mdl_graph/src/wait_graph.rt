@@ -6,10 +6,10 @@ ghost use Rattle.mdl_graph.specs.WaitsFor.{SessionTest, waits_at, wishes_at};
 
 use crate::counts::session_count;
 use crate::levels::{level_at, levels_back};
-use crate::links::Links;
 use crate::rows::{add_waiters, make_room, stands_in_some, waits_in_some};
+use crate::stands::Stands;
+use crate::waits::Waits;
 use crate::walks::walk;
-use crate::weights::Weights;
 use crate::{Cycle, Member};
 use mdl_book::{Book, Sessions};
 use std::alloc::{AllocError, Global};
@@ -140,8 +140,8 @@ impl WaitGraph {
     {
         let alloc = *self.wishes.allocator();
         let count = session_count(&self.waits, &self.stands);
-        let waits = Links::of_waits(alloc, self.ranks.len(), &self.waits)?;
-        let stands = Links::of_stands(alloc, count, &self.stands)?;
+        let waits = Waits::new(alloc, self.ranks.len(), &self.waits)?;
+        let stands = Stands::new(alloc, count, &self.stands)?;
         let levels = levels_back(
             alloc,
             &waits,
@@ -154,8 +154,7 @@ impl WaitGraph {
         if steps == 0 {
             return Ok(None);
         }
-        let weights = Weights::new(alloc, &self.wishes)?;
-        let members = walk(alloc, &levels, &waits, &stands, &weights, from, steps)?;
+        let members = walk(alloc, &levels, &waits, &stands, &self.wishes, from, steps)?;
         Ok(Some(Cycle::new(members)))
     }
 }

@@ -9,7 +9,7 @@ use std::test::Fail;
 const NO_FAST: Word = Word(0);
 
 // The sessions of a large graph.
-const MOST: u16 = 64;
+const MOST: u16 = 1024;
 
 // Who stands at a lock.
 #[derive(Clone, Copy)]
@@ -56,6 +56,12 @@ const EQUALS: &[&[At]] = &[
     &[At::Holds(5, Mode::X), At::Waits(6, Mode::SR)],
 ];
 
+// The greatest number that a session can have, and the least.
+const FAR_APART: &[&[At]] = &[
+    &[At::Holds(65_535, Mode::SR), At::Waits(0, Mode::X)],
+    &[At::Holds(0, Mode::SR), At::Waits(65_535, Mode::X)],
+];
+
 const CASES: &[Case] = &[
     (
         TWO_CYCLES,
@@ -73,6 +79,11 @@ const CASES: &[Case] = &[
     (THREE_IN_TURN, 2, &[(1, &[], 0), (2, &[], 0), (3, &[], 0)]),
     (AT_ONE_TABLE, 0, &[(1, &[1, 2], 1), (2, &[2, 1], 1)]),
     (EQUALS, 0, &[(5, &[5, 7, 6], 7), (6, &[6, 5, 7], 7)]),
+    (
+        FAR_APART,
+        0,
+        &[(0, &[0, 65_535], 65_535), (65_535, &[65_535, 0], 65_535)],
+    ),
 ];
 
 // Puts a ticket into a book.
@@ -239,7 +250,7 @@ fn are_in_turn(members: &[Member], from: u16) -> bool {
 #[test]
 fn goes_round_a_ring(rt: HostRuntime) -> Result<(), Fail> {
     let graph = ring(rt.alloc())?;
-    for from in [1, 33, MOST] {
+    for from in [1, 65, MOST] {
         let found = graph.find_cycle(from)?;
         assert!(rt;
             found.is_some_and(|cycle| are_in_turn(cycle.members(), from) && victim(&cycle) == MOST),
@@ -252,17 +263,19 @@ fn goes_round_a_ring(rt: HostRuntime) -> Result<(), Fail> {
 // The sessions of a crowd.
 const CROWD: u16 = 1024;
 
-// A table at which all sessions each wait for all others.
+// Tables at each of which all sessions wait for all others.
 fn crowd(alloc: Global) -> Result<WaitGraph, Fail> {
-    let mut book = Book::new(alloc, Key::table(alloc, "test", "t")?);
-    for session in 1..=CROWD {
-        put(&mut book, At::Holds(session, Mode::SR))?;
-    }
-    for session in 1..=CROWD {
-        put(&mut book, At::Waits(session, Mode::X))?;
-    }
     let mut graph = WaitGraph::new(alloc, Sessions::new());
-    graph.add(&book)?;
+    for table in ["t", "u", "v"] {
+        let mut book = Book::new(alloc, Key::table(alloc, "test", table)?);
+        for session in 1..=CROWD {
+            put(&mut book, At::Holds(session, Mode::SR))?;
+        }
+        for session in 1..=CROWD {
+            put(&mut book, At::Waits(session, Mode::X))?;
+        }
+        graph.add(&book)?;
+    }
     Ok(graph)
 }
 

@@ -196,6 +196,55 @@ fn outputs_of_each_length_are_written(rt: HostRuntime) -> Result<(), Fail> {
     Ok(())
 }
 
+// However many lines there are, all are answered.
+#[test]
+fn long_scripts_are_answered(rt: HostRuntime) -> Result<(), Fail> {
+    let mut script = String::new(rt.alloc());
+    let mut answers = String::new(rt.alloc());
+    for _ in 0..5_000 {
+        script.push_str("1 TIMEOUT\n")?;
+        answers.push_str("1 REFUSED\n")?;
+    }
+    let (result, written) = ran(rt.alloc(), script.as_bytes());
+    assert_eq!(rt; result, Ok(()));
+    assert!(rt; written.as_slice() == answers.as_bytes());
+    Ok(())
+}
+
+// A line for each session but the first, with these words behind it.
+fn add_others(text: &mut String, words: &str) -> Result<(), AllocError> {
+    for session in 2..=64 {
+        writeln!(text, "{session} {words}")?;
+    }
+    Ok(())
+}
+
+// All sessions at once: 63 wait for the first, are granted, and so is the first beside them; 63 wait again, and give up.
+#[test]
+fn all_sessions_find_room(rt: HostRuntime) -> Result<(), Fail> {
+    let mut script = String::from_str(rt.alloc(), "1 X\n")?;
+    let mut answers = String::from_str(rt.alloc(), "1 GRANTED X\n")?;
+    add_others(&mut script, "SR")?;
+    add_others(&mut answers, "WAITS SR")?;
+    script.push_str("1 RELEASE\n")?;
+    answers.push_str("1 RELEASED X\n")?;
+    add_others(&mut answers, "GRANTED SR")?;
+    script.push_str("1 SR\n1 RELEASE\n")?;
+    answers.push_str("1 GRANTED SR\n1 RELEASED SR\n")?;
+    add_others(&mut script, "RELEASE")?;
+    add_others(&mut answers, "RELEASED SR")?;
+    script.push_str("1 X\n")?;
+    answers.push_str("1 GRANTED X\n")?;
+    add_others(&mut script, "X")?;
+    add_others(&mut answers, "WAITS X")?;
+    add_others(&mut script, "TIMEOUT")?;
+    add_others(&mut answers, "TIMEDOUT X")?;
+    let (result, written) = ran(rt.alloc(), script.as_bytes());
+    assert_eq!(rt; result, Ok(()));
+    assert_eq!(rt; written.as_slice(), answers.as_bytes());
+    Ok(())
+}
+
 #[test]
 fn a_read_that_fails_is_told(rt: HostRuntime) -> Result<(), Fail> {
     let script = lines(rt.alloc(), SCRIPT)?;

@@ -1,10 +1,13 @@
 //! Acts and replies: by these all tests of the space call it.
 ghost use Rattle.std.specs.Prelude.{ℕ};
 
+use crate::wishes::{Shown, Wish, change_of, what_stands};
+use mdl_defs::Standing;
 use mdl_key::{Key, Mode};
 use mdl_space::{
     Attempt, Begun, Ended, LockSpace, Place, Poll, Search, Settled, SpaceError, TicketId, TimedOut,
 };
+use std::alloc::Global;
 
 /// A call of a space, which a session makes, or anyone of a session.
 #[derive(Clone, Copy)]
@@ -19,6 +22,8 @@ pub(crate) enum Act {
     Kill(u16, u64),
     Release(u16, TicketId),
     Clone(u16, TicketId, Mode),
+    Read(u16, TicketId),
+    Redefine(u16, TicketId, Wish),
 }
 
 /// What it answers.
@@ -39,6 +44,8 @@ pub(crate) enum Reply {
     HasNone,
     Killed(bool),
     Done,
+    Reads(u64, Shown),
+    Changed(u64),
 }
 
 impl Act {
@@ -52,7 +59,9 @@ impl Act {
             | Act::TimeOut(who)
             | Act::EndWait(who)
             | Act::Release(who, _)
-            | Act::Clone(who, _, _) => who,
+            | Act::Clone(who, _, _)
+            | Act::Read(who, _)
+            | Act::Redefine(who, _, _) => who,
             Act::WaitOf(_) | Act::Kill(_, _) => anyone,
         }
     }
@@ -67,7 +76,7 @@ pub(crate) fn resolve<S: LockSpace>(space: &mut S, who: u16, key: &Key) -> Resul
 }
 
 /// Makes a call for a session.
-pub(crate) fn call<S: LockSpace>(space: &mut S, who: u16, act: Act) -> Reply
+pub(crate) fn call<S: LockSpace>(space: &mut S, alloc: Global, who: u16, act: Act) -> Reply
     requires { S.speaks_for space.old who }
     ensures { (w : ℕ) → S.speaks_for space.old w → S.speaks_for space.new w }
 {
@@ -82,6 +91,22 @@ pub(crate) fn call<S: LockSpace>(space: &mut S, who: u16, act: Act) -> Reply
         Act::Kill(target, number) => Reply::Killed(space.kill(target, number)),
         Act::Release(_, id) => done(space.release(who, id)),
         Act::Clone(_, id, mode) => cloned(space.clone_ticket(who, id, mode)),
+        Act::Read(_, id) => read(space.read_definition(who, id)),
+        Act::Redefine(_, id, wish) => redefine(space, alloc, who, id, wish),
+    }
+}
+
+// Changes what stands under the key of a ticket's place.
+fn redefine<S: LockSpace>(space: &mut S, alloc: Global, who: u16, id: TicketId, wish: Wish) -> Reply
+    requires { S.speaks_for space.old who }
+    ensures { (w : ℕ) → S.speaks_for space.old w → S.speaks_for space.new w }
+{
+    let Some(change) = change_of(alloc, wish) else {
+        return Reply::Refused(SpaceError::OutOfMemory);
+    };
+    match space.change_definition(who, id, &change) {
+        Ok(version) => Reply::Changed(version),
+        Err(error) => Reply::Refused(error),
     }
 }
 
@@ -145,6 +170,13 @@ fn numbered(outcome: Option<u64>) -> Reply {
 fn cloned(outcome: Result<TicketId, SpaceError>) -> Reply {
     match outcome {
         Ok(id) => Reply::Granted(id),
+        Err(error) => Reply::Refused(error),
+    }
+}
+
+fn read(outcome: Result<Standing, SpaceError>) -> Reply {
+    match outcome {
+        Ok(standing) => Reply::Reads(standing.version, what_stands(&standing)),
         Err(error) => Reply::Refused(error),
     }
 }

@@ -5,6 +5,8 @@ ghost use Rattle.mdl_space_trials.specs.Visits.{visiting, visited};
 
 use crate::acts::{Act, Reply, call};
 use crate::lone_session::LoneSession;
+use crate::wishes::{Shown, Wish};
+use mdl_defs::DefError;
 use mdl_key::{Key, KeyError, Mode};
 use mdl_space::{Attempt, LockSpace, Settled, SpaceError};
 use std::alloc::Global;
@@ -16,6 +18,7 @@ const WHO: u16 = 3;
 /// The space speaks for the session.
 #[derive(Drop)]
 struct Alone {
+    alloc: Global,
     space: LoneSession,
 }
 
@@ -34,6 +37,18 @@ impl Alone {
     fn new(alloc: Global, name: &str) -> Result<Alone, KeyError> {
         match Key::table(alloc, "test", name) {
             Ok(key) => Ok(Alone {
+                alloc,
+                space: LoneSession::new(alloc, WHO, key),
+            }),
+            Err(error) => Err(error),
+        }
+    }
+
+    // Nothing stands under the key of this schema.
+    fn of_schema(alloc: Global, name: &str) -> Result<Alone, KeyError> {
+        match Key::schema(alloc, name) {
+            Ok(key) => Ok(Alone {
+                alloc,
                 space: LoneSession::new(alloc, WHO, key),
             }),
             Err(error) => Err(error),
@@ -45,7 +60,7 @@ impl Alone {
         if act.caller(WHO) != WHO {
             return Reply::NoSession;
         }
-        call(&mut self.space, WHO, act)
+        call(&mut self.space, self.alloc, WHO, act)
     }
 
     // The place of the first call that answers something else than it should.
@@ -177,4 +192,52 @@ fn new_one_goes_as_told(alloc: Global) -> bool {
 #[test]
 fn a_wait_is_seen_through(rt: HostRuntime) {
     assert!(rt; new_one_goes_as_told(rt.alloc()));
+}
+
+// The other session drops the schema, or creates it, as it takes the lock: so at each second call that asks for it.
+const A_SCHEMA_OF_OTHERS: &[(Act, Reply)] = &[
+    (Act::TryNow(3, 1, Mode::S), Reply::WouldWait),
+    (Act::TryNow(3, 1, Mode::S), Reply::Granted(1)),
+    (Act::Read(3, 1), Reply::Reads(1, Shown::Schema)),
+    // While the ticket is held nobody changes it.
+    (Act::TryNow(3, 1, Mode::S), Reply::WouldWait),
+    (Act::TryNow(3, 1, Mode::S), Reply::WouldWait),
+    (Act::Read(3, 1), Reply::Reads(1, Shown::Schema)),
+    (Act::Read(3, 2), Reply::Refused(SpaceError::NotHeld)),
+    (
+        Act::Redefine(3, 2, Wish::Drop),
+        Reply::Refused(SpaceError::NotHeld),
+    ),
+    (
+        Act::Redefine(3, 1, Wish::Drop),
+        Reply::Refused(SpaceError::NotExclusive),
+    ),
+    (Act::Release(3, 1), Reply::Done),
+    (Act::TryNow(3, 1, Mode::X), Reply::WouldWait),
+    (Act::TryNow(3, 1, Mode::X), Reply::Granted(2)),
+    (Act::Read(3, 2), Reply::Reads(2, Shown::Nothing)),
+    (
+        Act::Redefine(3, 2, Wish::CreateTable),
+        Reply::Refused(SpaceError::WrongKind),
+    ),
+    (
+        Act::Redefine(3, 2, Wish::Drop),
+        Reply::Refused(SpaceError::Def(DefError::Missing)),
+    ),
+    (Act::Redefine(3, 2, Wish::CreateSchema), Reply::Changed(3)),
+    (Act::Read(3, 2), Reply::Reads(3, Shown::Schema)),
+    (Act::Release(3, 2), Reply::Done),
+];
+
+// The place of the first call that answers something else than it should.
+fn first_wrong_of_schema(alloc: Global) -> Option<usize> {
+    match Alone::of_schema(alloc, "s") {
+        Ok(mut alone) => alone.first_wrong(A_SCHEMA_OF_OTHERS),
+        Err(_) => Some(A_SCHEMA_OF_OTHERS.len()),
+    }
+}
+
+#[test]
+fn others_change_what_stands_while_nothing_is_held(rt: HostRuntime) {
+    assert_eq!(rt; first_wrong_of_schema(rt.alloc()), None);
 }

@@ -1,6 +1,7 @@
 //! Growths refused in turn: where each allocation fails once, the space has lost nothing, and goes on.
 use crate::acts::{Act, Reply};
 use crate::room::Room;
+use crate::wishes::{Shown, Wish};
 use mdl_key::{Key, KeyError, Mode};
 use mdl_space::{NewError, Place, SpaceError};
 use std::alloc::Global;
@@ -161,4 +162,28 @@ fn searches_outlive(alloc: Global) -> bool {
 #[test]
 fn searches_outlive_want_of_memory(rt: HostRuntime) {
     assert!(rt; searches_outlive(rt.alloc()));
+}
+
+const CHANGES: &[(Act, Reply)] = &[
+    (Act::TryNow(1, 1, Mode::X), Reply::Granted(1)),
+    (Act::Redefine(1, 1, Wish::CreateTable), Reply::Changed(1)),
+    (Act::Redefine(1, 1, Wish::AddY), Reply::Changed(2)),
+    (Act::Read(1, 1), Reply::Reads(2, Shown::Table(2))),
+    (Act::Redefine(1, 1, Wish::DropX), Reply::Changed(3)),
+    (Act::Redefine(1, 1, Wish::PutTable), Reply::Changed(4)),
+    (Act::Redefine(1, 1, Wish::Drop), Reply::Changed(5)),
+    (Act::Read(1, 1), Reply::Reads(5, Shown::Nothing)),
+];
+
+// Whether reads and changes outlive it.
+fn changes_outlive(alloc: Global) -> bool {
+    match room_of_two(alloc) {
+        Ok(mut room) => are_placed(&mut room, alloc) && all_outlive(&mut room, CHANGES),
+        Err(_) => false,
+    }
+}
+
+#[test]
+fn changes_outlive_want_of_memory(rt: HostRuntime) {
+    assert!(rt; changes_outlive(rt.alloc()));
 }

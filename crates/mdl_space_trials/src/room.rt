@@ -20,6 +20,7 @@ const SESSIONS: u16 = 5;
 /// The space speaks for each of so many sessions, numbered from 1.
 #[derive(Drop)]
 pub(crate) struct Room {
+    alloc: Global,
     space: CoreSpace,
     sessions: u16,
 }
@@ -39,7 +40,11 @@ impl Room {
     /// Nobody has asked for anything.
     pub(crate) fn new(alloc: Global, places: u16, sessions: u16) -> Result<Room, NewError> {
         match CoreSpace::new(alloc, places, sessions) {
-            Ok(space) => Ok(Room { space, sessions }),
+            Ok(space) => Ok(Room {
+                alloc,
+                space,
+                sessions,
+            }),
             Err(error) => Err(error),
         }
     }
@@ -100,7 +105,7 @@ impl Room {
         if who == 0 || who > self.sessions {
             return Reply::NoSession;
         }
-        call(&mut self.space, who, act)
+        call(&mut self.space, self.alloc, who, act)
     }
 
     /// Makes calls one after another, and gives the place of the first that answers something else than it should.

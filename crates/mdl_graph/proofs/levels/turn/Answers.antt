@@ -31,14 +31,14 @@ loop-at-preserved-then-not-index c =
     let at_is : c.loop-at.at ≡ suc place = omega (arith, c.loop-at-test.true) in
     let steps = c.args.steps in
     let next = c.args.next in
-    let row = c.value-row.result in
+    let row = c.row-row.result in
     let inv = c.loop-at.invariant in
     let rest : ℕ → Bool = λ session. any_from (λ row. waits_in waits row next session) stands next c.loop-at.at in
     let levels : (session : ℕ) → level_of c.reach.new.levels.items session
     ≡ opened steps (waits_in waits row next session) (opened steps (rest session) (level_of c.args.levels.now.items session)) =
     λ session. c.in_ok-reach.ensures.levels session ∙ ap (opened steps (waits_in waits row next session)) (inv.levels session) in
     let near : place < length stands = omega (arith, at_is, way-inside stands next c.loop-at.at inv.way) in
-    let inside : row < length c.loop-at.done.items = omega (arith, c.requires.rows place near, inv.rows, c.value-row.ensures) in
+    let inside : row < length c.loop-at.done.items = omega (arith, c.requires.rows place near, inv.rows, c.row-row.ensures) in
     let level : c.level_at.result ≡ level_of c.reach.new.levels.items next = grind (arith, common_steps) in
     let raised : not (c.level_at.result == 0) ≡ true → 0 < level_of c.reach.new.levels.items next = λ is. grind (arith, nat_tests, is, level) in
     record {
@@ -50,7 +50,7 @@ loop-at-preserved-then-not-index c =
           let known = level_of c.args.levels.now.items session in
           let step : any_from (λ row. waits_in waits row next session) stands next c.before-at.result ≡ (waits_in waits row next session || rest session) =
           way-step (λ row. waits_in waits row next session) stands next c.loop-at.at place c.before-at.result at_is inv.way c.before-at.ensures
-          ∙ ap (λ (r : ℕ). waits_in waits r next session || rest session) (sym c.value-row.ensures) in
+          ∙ ap (λ (r : ℕ). waits_in waits r next session || rest session) (sym c.row-row.ensures) in
           levels session ∙ opened-twice steps known (rest session) (waits_in waits row next session) c.requires.steps
           ∙ ap (λ (b : Bool). opened steps b known) (sym step);
       reached = λ session.
@@ -68,11 +68,11 @@ loop-at-preserved c =
     let at_is : c.loop-at.at ≡ suc place = omega (arith, c.loop-at-test.true) in
     let steps = c.args.steps in
     let next = c.args.next in
-    let row = c.value-row.result in
+    let row = c.row-row.result in
     let inv = c.loop-at.invariant in
     let rest : ℕ → Bool = λ session. any_from (λ row. waits_in waits row next session) stands next c.loop-at.at in
     let near : place < length stands = omega (arith, at_is, way-inside stands next c.loop-at.at inv.way) in
-    let inside : row < length c.loop-at.done.items = omega (arith, c.requires.rows place near, inv.rows, c.value-row.ensures) in
+    let inside : row < length c.loop-at.done.items = omega (arith, c.requires.rows place near, inv.rows, c.row-row.ensures) in
     let flag : slice_index_or c.loop-at.done.items row false ≡ true = grind (arith, common_steps) in
     record {
       way = way-more stands next c.loop-at.at place c.before-at.result at_is inv.way c.before-at.ensures;
@@ -83,7 +83,7 @@ loop-at-preserved c =
           let known = level_of c.args.levels.now.items session in
           let step : any_from (λ row. waits_in waits row next session) stands next c.before-at.result ≡ (waits_in waits row next session || rest session) =
           way-step (λ row. waits_in waits row next session) stands next c.loop-at.at place c.before-at.result at_is inv.way c.before-at.ensures
-          ∙ ap (λ (r : ℕ). waits_in waits r next session || rest session) (sym c.value-row.ensures) in
+          ∙ ap (λ (r : ℕ). waits_in waits r next session || rest session) (sym c.row-row.ensures) in
           let done : waits_in waits row next session ≡ true → 0 < opened steps (rest session) known = λ here.
           let parts = and_parts (not (session == next)) (holds waits row session) here in
           let some : 0 < level_of c.loop-at.levels.items session = inv.done row session flag parts.1 in

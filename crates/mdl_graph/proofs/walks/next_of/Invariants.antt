@@ -1,9 +1,9 @@
 -- None of the sessions so far is the next one.
 use Rattle.std.proofs.Common.{◌≡◌, None}
-use Rattle.std.specs.Prelude.{◌&&◌}
-use Rattle.mdl_graph.specs.Searches.{waits_by, first_below, is_at}
+use Rattle.std.specs.Prelude.{◌&&◌, ◌==◌}
+use Rattle.mdl_graph.specs.Searches.{waits_by, first_below, level_of}
 use Rattle.mdl_graph.proofs.walks.next_of.Given as goal
 
 abbrev pub invariant-loop-next : goal.invariant-loop-next
 invariant-loop-next l =
-    first_below (λ next. is_at l.levels l.from l.steps next && waits_by l.waits l.stands l.session next) l.next ≡ None
+    first_below (λ next. (level_of l.levels next == l.steps) && waits_by l.waits l.stands l.session next) l.next ≡ None

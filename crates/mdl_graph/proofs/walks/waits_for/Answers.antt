@@ -27,15 +27,15 @@ loop-at-preserved c =
     let at_is : c.loop-at.at ≡ suc place = omega (arith, c.loop-at-test.true) in
     let inv = c.loop-at.invariant in
     let rest = any_from (λ row. waits_in waits row other waiter) stands other c.loop-at.at in
-    let apart : waits_in waits c.value-row.result other waiter ≡ false = elim c.else-waiter-other.branch [
+    let apart : waits_in waits c.row-row.result other waiter ≡ false = elim c.else-waiter-other.branch [
       | else-waiter-other-via-then-waiter-other+else-has w ↦
           ap (λ (b : Bool). not (waiter == other) && b) (sym w.has.ensures ∙ w.if-has.false) ∙ and_false (not (waiter == other))
       | else-waiter-other-via-else-waiter-other w ↦
-          ap (λ (b : Bool). not b && holds waits c.value-row.result waiter) (eq-eqb waiter other w.if-waiter-other.false)
+          ap (λ (b : Bool). not b && holds waits c.row-row.result waiter) (eq-eqb waiter other w.if-waiter-other.false)
     ] in
-    let step : any_from (λ row. waits_in waits row other waiter) stands other c.before-at.result ≡ (waits_in waits c.value-row.result other waiter || rest) =
+    let step : any_from (λ row. waits_in waits row other waiter) stands other c.before-at.result ≡ (waits_in waits c.row-row.result other waiter || rest) =
     way-step (λ row. waits_in waits row other waiter) stands other c.loop-at.at place c.before-at.result at_is inv.way c.before-at.ensures
-    ∙ ap (λ (r : ℕ). waits_in waits r other waiter || rest) (sym c.value-row.ensures) in
+    ∙ ap (λ (r : ℕ). waits_in waits r other waiter || rest) (sym c.row-row.ensures) in
     record {
       way = way-more stands other c.loop-at.at place c.before-at.result at_is inv.way c.before-at.ensures;
       none = step ∙ ap (λ (b : Bool). b || rest) apart ∙ inv.none;

@@ -30,3 +30,6 @@ returns-in-Release g c = λ w speaks. g.met.S.LockSpace.keeps _ _ _ _ w speaks c
 
 pub returns-in-Clone : goal.returns-in-Clone
 returns-in-Clone g c = λ w speaks. g.met.S.LockSpace.keeps _ _ _ _ w speaks c.clone_ticket.ensures
+
+pub returns-in-Read : goal.returns-in-Read
+returns-in-Read g c = λ w speaks. g.met.S.LockSpace.keeps _ _ _ _ w speaks c.read_definition.ensures
