@@ -1,11 +1,10 @@
 -- What comes of a change in a space of one session and one key.
-use Rattle.std.proofs.Common.{◌≡◌, ℕ, ◌+◌, ◌≤◌, true, false, cond, [], ◌∷◌, find, eq-eqb, Option, Some, None, Result, Ok, Err, IfOk, OnErr, IfSome, MatchOption, option_map, refl, sym, ap, subst, ◌∙◌, arith}
+use Rattle.std.proofs.Common.{◌≡◌, ℕ, true, cond, [], ◌∷◌, find, eq-eqb, Option, Some, None, Result, Ok, Err, IfOk, OnErr, IfSome, MatchOption, option_map, refl, sym, ap, subst, ◌∙◌, arith}
 use Rattle.mdl_key.specs.Refusals.{Refuses}
 use Rattle.mdl_key.specs.declared.mode.Mode.TheVariants.{X}
 use Rattle.mdl_key.specs.declared.namespace.Namespace.{Namespace}
 use Rattle.mdl_key.specs.Words.{same_mode}
 use Rattle.mdl_defs.specs.declared.change.Change.{Change}
-use Rattle.mdl_defs.specs.declared.change_error.ChangeError.{ChangeError}
 use Rattle.mdl_defs.specs.declared.change_error.ChangeError.TheVariants as error
 use Rattle.mdl_defs.specs.declared.standing.Standing.{Standing}
 use Rattle.mdl_defs.specs.Standings.{standing_fault, standing_after, MayStand}
@@ -14,8 +13,8 @@ use Rattle.mdl_calls.specs.declared.answers.Held.{Held}
 use Rattle.mdl_calls.specs.declared.answers.Settled.{Settled}
 use Rattle.mdl_calls.specs.declared.space_error.SpaceError.{SpaceError}
 use Rattle.mdl_calls.specs.declared.space_error.SpaceError.TheVariants.{OutOfMemory}
-use Rattle.mdl_calls.specs.Words.{Answer, Call, Change_definition, change_takes_memory, redefined, is_number, ticket_held, OfHeld, IsChangeOf, IsToldOf, redefined_place}
-use Rattle.mdl_calls.specs.Tests.LoneSessions.{Lone, LoneSpeaks, LoneJoins, Knows, IsWhole, Stays, having}
+use Rattle.mdl_calls.specs.Words.{Answer, Change_definition, change_takes_memory, redefined, is_number, ticket_held, OfHeld, IsChangeOf, IsToldOf}
+use Rattle.mdl_calls.specs.Tests.LoneSessions.{Lone, LoneSpeaks, LoneJoins, Knows, Stays, having}
 use Rattle.mdl_calls.proofs.StandingLemmas.{redefined-cause}
 
 -- the one ticket is found by its number

@@ -4,7 +4,7 @@ use Rattle.mdl_key.specs.declared.mode.Mode.TheVariants.{X}
 use Rattle.mdl_key.specs.Words.{same_mode}
 use Rattle.mdl_calls.specs.Words.{ticket_held}
 use Rattle.mdl_space_trials.proofs.LoneRedefinitions.{found-one, redefined-joins}
-use Rattle.mdl_space_trials.proofs.lone_session.LoneSessionLockSpace.change_definition.Goals as goal
+use Rattle.mdl_space_trials.proofs.lone_session.calls.LoneSessionLockSpace.change_definition.Goals as goal
 
 pub returns-else-ne : goal.returns-else-ne
 returns-else-ne c =
