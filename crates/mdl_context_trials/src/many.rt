@@ -66,5 +66,6 @@ fn many_tables_are_locked(rt: HostRuntime) -> Result<(), Fail> {
     assert_eq!(rt; context.kept().len(), 1_024);
     assert_eq!(rt; context.end_transaction(&mut space), Ok(()));
     assert_eq!(rt; context.kept().len(), 512);
+    assert_eq!(rt; context.who(), 2);
     Ok(())
 }

@@ -117,8 +117,8 @@ impl Columns {
         self.list.contains(column)
     }
 
-    // Whether a column is named twice.
-    pub(crate) fn names_twice(&self) -> bool
+    /// Whether a column is named twice.
+    pub fn names_twice(&self) -> bool
         ensures { result ≡ names_twice self.now }
     {
         for (at, column) in self.list.iter().enumerate() {

@@ -107,6 +107,7 @@ fn keeps_columns_in_order(rt: HostRuntime) {
             grow(rt.alloc(), &mut columns, name) && is_copied(&columns),
             "{name}"
         );
+        assert!(rt; columns.names_twice() == (columns.as_slice().len() == 3));
     }
     assert!(rt; are_y_x_y(columns.as_slice()));
 }
