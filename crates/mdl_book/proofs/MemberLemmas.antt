@@ -1,5 +1,5 @@
 -- What asks something of each ticket of a list depends on its members alone; and who is forgotten as lists change.
-use Rattle.std.proofs.Common.{◌≡◌, ◌↔◌, ℕ, Bool, true, false, not, ◌||◌, inl, inr, List, [], ◌∷◌, ◌++◌, get_or, Option, Some, None, refl, sym, subst, ◌∙◌, ap, rules, arith, ◌<◌, ◌≤◌, length}
+use Rattle.std.proofs.Common.{◌≡◌, ◌↔◌, ℕ, Bool, true, false, not, ◌||◌, inl, inr, List, [], ◌∷◌, ◌++◌, get_or, Some, None, refl, sym, subst, ◌∙◌, ap, rules, arith}
 use Rattle.std.specs.Prelude.{IsTrue, Contains}
 use Rattle.std.specs.List.{list_all, find, before_first, after_first, position_or_len}
 use Rattle.std.specs.Option.{option_to_list}

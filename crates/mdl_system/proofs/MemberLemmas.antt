@@ -1,9 +1,9 @@
 -- Members of mapped and joined lists, and of lists in which no two elements have one name.
-use Rattle.std.proofs.Common.{◌≡◌, ◌≢◌, ℕ, zero, suc, ◌+◌, ◌<◌, Bool, true, false, cond, inl, inr, List, [], ◌∷◌, ◌++◌, length, map, Some, refl, sym, ap, subst, ◌∙◌, arith, take, drop}
+use Rattle.std.proofs.Common.{◌≡◌, ◌≢◌, ℕ, zero, suc, ◌<◌, Bool, true, false, cond, inl, inr, List, [], ◌∷◌, ◌++◌, length, map, Some, refl, sym, ap, subst, ◌∙◌, arith}
 use Rattle.std.specs.Prelude.{Contains, AllPairs, slice_index_or}
-use Rattle.std.specs.List.{flat_map, find, before_first, after_first, position_or_len}
+use Rattle.std.specs.List.{flat_map, find}
 use Rattle.std.proofs.lemmas.List.Elements.{Contains-append_left, Contains-append_right, Contains-append_cases}
-use Rattle.mdl_system.specs.Events.{Gains, Loses}
+use Rattle.mdl_system.specs.Events.{Gains}
 use Rattle.mdl_system.proofs.OrderLemmas.{Contains-cons_cases, Contains-here, Contains-later}
 
 pub Contains-none : {T : Type 0} (y : T) → Contains [] y → ⊥

@@ -1,5 +1,5 @@
 -- The bit of the mode is cleared where no ticket is left.
-use Rattle.std.proofs.Common.{◌≡◌, ◌≢◌, ℕ, ◌-◌, length, get_or, refl, arith}
+use Rattle.std.proofs.Common.{◌≡◌, ◌≢◌, ◌-◌, length, get_or, refl, arith}
 use Rattle.mdl_key.specs.Modes.{mode_rank}
 use Rattle.mdl_book.proofs.MarkLemmas.{marks_kept, marks_lowered}
 use Rattle.mdl_book.proofs.mode_counts.ModeCounts.subtract.Goals as goal
