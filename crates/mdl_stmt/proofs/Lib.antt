@@ -1,3 +1,13 @@
+pub mod CallLemmas
+pub mod DropLemmas
+pub mod EndLemmas
+pub mod ListLemmas
+pub mod LockLemmas
+pub mod LockListLemmas
+pub mod OrderLemmas
 pub mod RowCalls
+pub mod RowLemmas
 pub mod RowMemory
 pub mod RowOutcomes
+pub mod RunLemmas
+pub mod SavepointLemmas

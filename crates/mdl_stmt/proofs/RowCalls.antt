@@ -150,7 +150,7 @@ own_play (row.Kill target rest) mark session =
 -- ---- what is left of a statement
 
 own_resumed : (left : Left) (session : Session) (outcome : Outcome Resume) → IsOwn outcome.1.who (playing.resumed left session outcome)
-own_resumed left session (Ok resume.Waiting, context) = own_give (Waits_on (with_context session context))
+own_resumed left session (Ok resume.Waiting, context) = own_give (Waits_on (playing.with_left (with_context session context) left))
 own_resumed left session (Ok (resume.Acquired id), context) = own_play (left.rest id) left.mark (with_context session context)
 own_resumed left session (Ok (resume.Lost how), context) = own_closing (ending_of_loss how) left.mark (with_context session context)
 own_resumed left session (Err error, context) = own_closing (ending_of_error error) left.mark (with_context session context)
@@ -167,12 +167,12 @@ pub rows_call : StatementsCallForTheirSession
 rows_call session = (
   λ asked mark. (own_play asked mark session).calls,
   λ statement. (own_play (row_of statement) (mark_of session.context.kept) session).calls,
-  (own_going_on session.left session).calls,
+  (own_going_on session.left (record session { left = None })).calls,
 )
 
 pub rows_keep_number : SessionsKeepTheirNumber
 rows_keep_number session = (
   λ asked mark. (own_play asked mark session).keeps,
   λ statement. (own_play (row_of statement) (mark_of session.context.kept) session).keeps,
-  (own_going_on session.left session).keeps,
+  (own_going_on session.left (record session { left = None })).keeps,
 )

@@ -147,5 +147,5 @@ pub rows_tell : StatementsTellOfWant
 rows_tell session = (
   λ asked mark. faithful_play asked mark session,
   λ statement. faithful_play (row_of statement) (mark_of session.context.kept) session,
-  faithful_going_on session.left session,
+  faithful_going_on session.left (record session { left = None }),
 )

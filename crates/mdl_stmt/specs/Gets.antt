@@ -1,16 +1,33 @@
--- What the code tells of a lock that it asked for, and of a statement's progress.
-use Rattle.std.specs.Prelude.{ℕ, Option, Some, None, Result, Ok, Err}
-use Rattle.mdl_calls.specs.Words.{Answer, Call, Runs}
+-- What the code tells of a lock that it asked for, of a row that it played, and of a statement's progress. A clause says of what was
+-- done so far that whatever follows it follows from the start.
+use Rattle.std.specs.Prelude.{◌≡◌, ℕ, List, Option, Some, None, Result, Ok, Err}
+use Rattle.mdl_key.specs.declared.mode.Mode.{Mode}
+use Rattle.mdl_key.specs.declared.mode.Mode.TheVariants.{IX}
+use Rattle.mdl_key.specs.Keys.{KeyName}
+use Rattle.mdl_calls.specs.Words.{Answer, Call, Program, Runs}
+use Rattle.mdl_calls.specs.Words as call
 use Rattle.mdl_context.specs.declared.request.Mark.{Mark}
+use Rattle.mdl_context.specs.Waits.{giving_up_wait}
 use Rattle.mdl_context.specs.Wishes.{Wish}
+use Rattle.mdl_stmt.specs.declared.ending.Ending.{Ending}
+use Rattle.mdl_stmt.specs.declared.ending.Ending.TheVariants.{Starves}
+use Rattle.mdl_stmt.specs.declared.ending.Got.{Got}
+use Rattle.mdl_stmt.specs.declared.ending.Got.TheVariants.{Had}
+use Rattle.mdl_stmt.specs.declared.ending.Got.TheVariants as got
+use Rattle.mdl_stmt.specs.declared.ending.Listed.{Listed}
+use Rattle.mdl_stmt.specs.declared.ending.Listed.TheVariants as listed
+use Rattle.mdl_stmt.specs.declared.ending.Played.{Played}
+use Rattle.mdl_stmt.specs.declared.ending.Played.TheVariants as played
 use Rattle.mdl_stmt.specs.declared.reply.Progress.{Progress}
 use Rattle.mdl_stmt.specs.declared.reply.Progress.TheVariants.{Waiting, Pending, Done}
 use Rattle.mdl_stmt.specs.declared.reply.Reply.{Reply}
-use Rattle.mdl_stmt.specs.Endings.{Pause, Ends, Begins_to_wait, Waits_on, Faults}
-use Rattle.mdl_stmt.specs.Playing.{play}
-use Rattle.mdl_stmt.specs.Rows.{Row}
-use Rattle.mdl_stmt.specs.Rows as row
-use Rattle.mdl_stmt.specs.Sessions.{Session}
+use Rattle.mdl_stmt.specs.Endings.{Pause, Ends, Begins_to_wait, Waits_on, Faults, closing}
+use Rattle.mdl_stmt.specs.LockLists.{LockList, with_ticket}
+use Rattle.mdl_stmt.specs.Playing.{play, with_context, with_left}
+use Rattle.mdl_stmt.specs.Rows.{Row, Act, Acquire, ◌>>=◌, ◌>>◌}
+use Rattle.mdl_stmt.specs.Sessions.{PlayerView, Session}
+use Rattle.mdl_stmt.specs.Stages.{lock_rest, rest_of}
+use Rattle.mdl_stmt.specs.Statements.{end_under}
 
 -- how far a statement has come, as its runner tells it
 abbrev pub paused : Progress → Session → Pause
@@ -22,3 +39,70 @@ paused (Done reply) session = Ends reply session
 abbrev pub ran : {E : Type 0} → Result Progress E → Session → Pause
 ran (Ok progress) session = paused progress session
 ran (Err _) session = Faults session
+
+-- a session that no statement of which waits, as its player keeps it
+abbrev pub at_rest : PlayerView → Session
+at_rest player = record { context = player.context; state = player.state; left = None }
+
+-- what a session does from one state comes to what it does from another: whatever follows there, follows here
+pub record Comes {S : Type 0} (joins : S → Call → Answer → S → Type 0) (a : S) (before : PlayerView) (here : Mark → Session → Program Pause) (b : S) (after : PlayerView) (there : Mark → Session → Program Pause) : Type 0 where
+  pub so : (mark : Mark) (pause : Pause) (c : S) → Runs joins b (there mark (at_rest after)) pause c → Runs joins a (here mark (at_rest before)) pause c
+
+-- a session begins to wait for a lock, which is to lead to this
+pub record Waits {S : Type 0} (joins : S → Call → Answer → S → Type 0) (a : S) (before : PlayerView) (here : Mark → Session → Program Pause) (key : KeyName) (mode : Mode) (rest : ℕ → Row Reply) (b : S) (after : PlayerView) : Type 0 where
+  pub so : (mark : Mark) → Runs joins a (here mark (at_rest before)) (Begins_to_wait key mode (with_left (at_rest after) (record { rest = rest; mark = mark }))) b
+
+-- one thing was asked for: it was had, or the statement is to end
+abbrev pub IsStep : {S A : Type 0} → (S → Call → Answer → S → Type 0) → Row A → S → PlayerView → Result A Ending → S → PlayerView → Type 0
+IsStep {S} {A} joins act a before (Ok x) b after = (rest : A → Row Reply) → Comes joins a before (play (act >>= rest)) b after (play (rest x))
+IsStep {S} {A} joins act a before (Err ending) b after = (rest : A → Row Reply) → Comes joins a before (play (act >>= rest)) b after (closing ending)
+
+-- a lock was asked for: it is had, it is waited for, or the statement is to end
+abbrev pub IsGot : {S : Type 0} → (S → Call → Answer → S → Type 0) → Wish → S → PlayerView → Got ℕ → S → PlayerView → Type 0
+IsGot joins wish a before (Had id) b after = (rest : ℕ → Row Reply) → Comes joins a before (play (Acquire wish rest)) b after (play (rest id))
+IsGot joins wish a before (got.Waits key) b after = (rest : ℕ → Row Reply) → Waits joins a before (play (Acquire wish rest)) key wish.mode rest b after
+IsGot joins wish a before (got.Ends ending) b after = (rest : ℕ → Row Reply) → Comes joins a before (play (Acquire wish rest)) b after (closing ending)
+
+-- a row was played to its end, or until it waits
+abbrev pub IsPlayed : {S : Type 0} → (S → Call → Answer → S → Type 0) → Row Reply → S → PlayerView → Played → S → PlayerView → Type 0
+IsPlayed joins row a before (played.Ends ending) b after = Comes joins a before (play row) b after (closing ending)
+IsPlayed joins row a before (played.Waits key mode stage) b after = Waits joins a before (play row) key mode (rest_of stage) b after
+
+-- it has one only where it began to wait
+abbrev pub IdleUnlessGot : {A : Type 0} → Got A → PlayerView → Type 0
+IdleUnlessGot (Had x) player = player.context.wait ≡ None
+IdleUnlessGot (got.Waits key) player = Unit {0}
+IdleUnlessGot (got.Ends ending) player = player.context.wait ≡ None
+
+abbrev pub IdleUnlessPlayed : Played → PlayerView → Type 0
+IdleUnlessPlayed (played.Ends ending) player = player.context.wait ≡ None
+IdleUnlessPlayed (played.Waits key mode stage) player = Unit {0}
+
+-- a wait has begun, and the statement is to be told
+abbrev pub IsTold : {S : Type 0} → (S → Call → Answer → S → Type 0) → KeyName → S → PlayerView → Got ℕ → S → PlayerView → Type 0
+IsTold {S} joins key a before (Had id) b after = ⊥
+IsTold {S} joins key a before (got.Waits other) b after = (other ≡ key) × (a ≡ b) × (after ≡ before)
+IsTold {S} joins key a before (got.Ends ending) b after =
+    (ending ≡ Starves)
+    × ((pause : Pause) (c : S) (mark : Mark) → Runs joins b (closing Starves mark (at_rest after)) pause c
+    → Runs joins a (call.◌>>=◌ (giving_up_wait before.context) (λ outcome. closing Starves mark (with_context (at_rest before) outcome.1))) pause c)
+
+-- a transaction was committed: it is over, its lock is waited for, or the statement is to end
+abbrev pub IsCommitted : {S : Type 0} → (S → Call → Answer → S → Type 0) → Act → S → PlayerView → Got (Unit {0}) → S → PlayerView → Type 0
+IsCommitted joins act a before (Had _) b after = (rest : Row Reply) → Comes joins a before (play (act >> rest)) b after (play rest)
+IsCommitted joins act a before (got.Waits key) b after =
+    (rest : Row Reply) → Waits joins a before (play (act >> rest)) key IX (λ lock. end_under lock >> rest) b after
+IsCommitted joins act a before (got.Ends ending) b after = (rest : Row Reply) → Comes joins a before (play (act >> rest)) b after (closing ending)
+
+-- locks of a list were asked for: all are had, one is waited for, or the statement is to end
+abbrev pub IsListed : {S : Type 0} → (S → Call → Answer → S → Type 0) → LockList → S → PlayerView → Listed → S → PlayerView → Type 0
+IsListed joins locks a before (listed.Had all) b after = (rest : List ℕ → Row Reply) → Comes joins a before (play (lock_rest locks rest)) b after (play (rest all.tickets))
+IsListed joins locks a before (listed.Waits key mode had) b after =
+    (rest : List ℕ → Row Reply) → Waits joins a before (play (lock_rest locks rest)) key mode (λ ticket. lock_rest (with_ticket ticket had) rest) b after
+IsListed joins locks a before (listed.Ends ending) b after = (rest : List ℕ → Row Reply) → Comes joins a before (play (lock_rest locks rest)) b after (closing ending)
+
+-- there is a wait only where one has begun
+abbrev pub IdleUnlessListed : Listed → PlayerView → Type 0
+IdleUnlessListed (listed.Had all) player = player.context.wait ≡ None
+IdleUnlessListed (listed.Waits key mode had) player = Unit {0}
+IdleUnlessListed (listed.Ends ending) player = player.context.wait ≡ None

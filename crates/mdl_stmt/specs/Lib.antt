@@ -2,10 +2,11 @@ pub mod Endings
 pub mod ErrorNumbers
 pub mod Gets
 pub mod KeyOrder
+pub mod LockLists
 pub mod MemoryLaws
 pub mod Playing
 pub mod Rows
 pub mod Sessions
 pub mod Stages
-pub mod States
 pub mod Statements
+pub mod States

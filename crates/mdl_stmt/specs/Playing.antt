@@ -92,7 +92,7 @@ starting statement session = play (row_of statement) (mark_of session.context.ke
 
 -- the wait of a statement went on: it isn't settled, the lock is had, or the wait is lost
 abbrev pub resumed : Left → Session → Outcome Resume → Program Pause
-resumed left session (Ok resume.Waiting, context) = Give (Waits_on (with_context session context))
+resumed left session (Ok resume.Waiting, context) = Give (Waits_on (with_left (with_context session context) left))
 resumed left session (Ok (resume.Acquired id), context) = play (left.rest id) left.mark (with_context session context)
 resumed left session (Ok (resume.Lost how), context) = closing (ending_of_loss how) left.mark (with_context session context)
 resumed left session (Err error, context) = closing (ending_of_error error) left.mark (with_context session context)
@@ -102,6 +102,6 @@ abbrev pub going_on_with : Option Left → Session → Program Pause
 going_on_with None session = Give (Faults session)
 going_on_with (Some left) session = resuming session.context >>= resumed left session
 
--- a statement goes on
+-- a statement goes on: what is left of it is taken up
 abbrev pub going_on : Session → Program Pause
-going_on session = going_on_with session.left session
+going_on session = going_on_with session.left (record session { left = None })

@@ -1,9 +1,10 @@
 -- A session of statements: its tickets, its state, and what is left of a statement that waits.
-use Rattle.std.specs.Prelude.{ℕ, Option}
+use Rattle.std.specs.Prelude.{ℕ, Bool, List, [], Option, None}
 use Rattle.mdl_context.specs.declared.request.Mark.{Mark}
 use Rattle.mdl_context.specs.Contexts.{ContextView}
 use Rattle.mdl_stmt.specs.declared.reply.Reply.{Reply}
 use Rattle.mdl_stmt.specs.declared.runner.Work.{Work}
+use Rattle.mdl_stmt.specs.declared.savepoint.Savepoint.{Savepoint}
 use Rattle.mdl_stmt.specs.Rows.{Row}
 use Rattle.mdl_stmt.specs.States.{State}
 
@@ -18,6 +19,20 @@ pub record Session : Type 0 where
   pub context : ContextView
   pub state : State
   pub left : Option Left
+
+-- a session between statements, or while a statement of it is run
+pub record PlayerView : Type 0 where
+  pub context : ContextView
+  pub state : State
+
+-- what a session keeps that has locked no tables and has no global read lock
+abbrev pub without_locked : Bool → Bool → List Savepoint → State
+without_locked is_open has_written savepoints =
+    record { is_open = is_open; has_written = has_written; savepoints = savepoints; locked = []; scopes = []; read_lock = None }
+
+-- a session that has locked no tables and has no global read lock
+abbrev pub player_of : ContextView → Bool → Bool → List Savepoint → PlayerView
+player_of context is_open has_written savepoints = record { context = context; state = without_locked is_open has_written savepoints }
 
 -- a session as its runner keeps it
 pub record RunnerView : Type 0 where

@@ -1,14 +1,14 @@
 -- What is left of a statement at each of its stages, once it has the lock that it waits for.
-use Rattle.std.specs.Prelude.{ℕ, ◌+◌, List, [], ◌∷◌, ◌++◌, length, drop, map, Option}
+use Rattle.std.specs.Prelude.{ℕ, List, [], ◌∷◌, ◌++◌, length, drop, map, Option}
 use Rattle.std.specs.Option.{option_map}
 use Rattle.mdl_key.specs.Keys.{KeyName}
 use Rattle.mdl_stmt.specs.declared.reply.Reply.{Reply}
 use Rattle.mdl_stmt.specs.declared.reply.Reply.TheVariants as reply
 use Rattle.mdl_stmt.specs.declared.reply.TableShown.{TableShown}
 use Rattle.mdl_stmt.specs.declared.runner.Work.{Work}
-use Rattle.mdl_stmt.specs.declared.stage.Locks.{Locks}
 use Rattle.mdl_stmt.specs.declared.stage.Stage.{Stage}
-use Rattle.mdl_stmt.specs.declared.stage.Stage.TheVariants.{Commit, Show, WriteGlobal, WriteTable, CreateGlobal, CreateSchema, CreateTable, DropScopes, DropTables}
+use Rattle.mdl_stmt.specs.declared.stage.Stage.TheVariants.{Commit, Show, WriteGlobal, WriteTable, CommitWrite, CreateGlobal, CreateSchema, CreateTable, DropScopes, DropTables}
+use Rattle.mdl_stmt.specs.LockLists.{LockList, with_ticket}
 use Rattle.mdl_stmt.specs.Rows.{Row, Give, ◌>>=◌, ◌>>◌, acquire_all}
 use Rattle.mdl_stmt.specs.Sessions.{Left, RunnerView, Session}
 use Rattle.mdl_stmt.specs.Statements.{after_commit, end_under, show, show_all, lock_to_read, lock_and_write, write_under, ddl_lock, lock_schema_and_create, lock_and_create, create_under, lock_and_drop, drop_under}
@@ -17,26 +17,27 @@ use Rattle.mdl_stmt.specs.Statements.{after_commit, end_under, show, show_all, l
 abbrev pub show_next : List TableShown → List KeyName → ℕ → Row Reply
 show_next shown [] ticket = Give (reply.Columns shown)
 show_next shown (table ∷ tables) ticket = do
-  next ← show table ticket
-  show_all lock_to_read (shown ++ next ∷ []) tables
+  more ← show shown table ticket
+  show_all lock_to_read more tables
 
--- one more of these locks is had: the others, and then what all tickets lead to
-abbrev pub lock_next : List KeyName → List ℕ → (List ℕ → Row Reply) → ℕ → Row Reply
-lock_next keys tickets rest ticket = do
-  more ← acquire_all (map ddl_lock (drop (length tickets + 1) keys))
-  rest (tickets ++ ticket ∷ more)
+-- the locks that are left of a list, and then what all tickets lead to
+abbrev pub lock_rest : LockList → (List ℕ → Row Reply) → Row Reply
+lock_rest locks rest = do
+  more ← acquire_all (map ddl_lock (drop (length locks.tickets) locks.keys))
+  rest (locks.tickets ++ more)
 
 -- what is left of a statement
 abbrev pub rest_of : Stage → ℕ → Row Reply
 rest_of (Commit statement) lock = end_under lock >> after_commit statement.now
-rest_of (Show tables shown) ticket = show_next shown tables.now ticket
+rest_of (Show tables at shown) ticket = show_next shown (drop at tables.now) ticket
 rest_of (WriteGlobal table priority) global = lock_and_write table.now priority
 rest_of WriteTable ticket = write_under ticket
+rest_of CommitWrite lock = end_under lock >> Give reply.Ok
 rest_of (CreateGlobal table columns) global = lock_schema_and_create table.now columns.now
 rest_of (CreateSchema table columns) schema = lock_and_create table.now columns.now schema
 rest_of (CreateTable columns schema) ticket = create_under columns.now schema ticket
-rest_of (DropScopes tables locks) ticket = lock_next locks.keys.items locks.tickets.items (λ scopes. lock_and_drop tables.now) ticket
-rest_of (DropTables locks) ticket = lock_next locks.keys.items locks.tickets.items drop_under ticket
+rest_of (DropScopes tables locks) ticket = lock_rest (with_ticket ticket locks) (λ scopes. lock_and_drop tables.now)
+rest_of (DropTables locks) ticket = lock_rest (with_ticket ticket locks) drop_under
 
 -- the same with where the session stood as the statement began
 abbrev pub left_of : Work → Left

@@ -109,7 +109,7 @@ abbrev pub columns_of : Option Definition → List (List ℕ)
 columns_of (Some (Table columns)) = columns
 columns_of _ = []
 
--- there is such a table
+-- what stands under a table's lock, where there is such a table
 abbrev pub exists : ℕ → Row Standing
 exists ticket = do
   standing ← read ticket
@@ -151,20 +151,20 @@ rollback_to name = do
 
 -- ---- SELECT
 
--- a table is shown under its lock
-abbrev pub show : KeyName → ℕ → Row TableShown
-show table ticket = do
+-- a table is shown under its lock, behind those that were shown before
+abbrev pub show : List TableShown → KeyName → ℕ → Row (List TableShown)
+show shown table ticket = do
   standing ← exists ticket
   room
-  Give (record { key = table; version = standing.version; columns = columns_of standing.definition })
+  Give (shown ++ record { key = table; version = standing.version; columns = columns_of standing.definition } ∷ [])
 
--- each of the tables is locked so and shown, before the next one is; those before them were shown
+-- each of the tables is locked so and shown, before the next one is
 abbrev pub show_all : (KeyName → Row ℕ) → List TableShown → List KeyName → Row Reply
 show_all lock shown [] = Give (reply.Columns shown)
 show_all lock shown (table ∷ tables) = do
   ticket ← lock table
-  next ← show table ticket
-  show_all lock (shown ++ next ∷ []) tables
+  more ← show shown table ticket
+  show_all lock more tables
 
 -- the lock of a table that is read
 abbrev pub lock_to_read : KeyName → Row ℕ
@@ -245,23 +245,38 @@ ddl_lock key = lock_in key.namespace where
 abbrev pub schema_of : KeyName → KeyName
 schema_of table = schema_key table.schema
 
--- a table is created under its lock and its schema's
-abbrev pub create_under : List (List ℕ) → ℕ → ℕ → Row Reply
-create_under columns schema table = do
+-- there is a schema
+abbrev pub check_schema : ℕ → Act
+check_schema schema = do
   over ← read schema
   check (is_defined over) UnknownDatabase
+
+-- there is no such table, its columns have names of their own, and it can be changed once more
+abbrev pub check_new : List (List ℕ) → ℕ → Act
+check_new columns table = do
   standing ← read table
   check (not (is_defined standing)) TableExists
   check (not (names_twice columns)) DuplicateColumn
   check (has_version_left standing) VersionLimit
+
+-- a table comes to stand
+abbrev pub make_table : List (List ℕ) → ℕ → Act
+make_table columns table = do
   room
   redefine table (change.Create (Table columns))
+
+-- a table is created under its lock and its schema's
+abbrev pub create_under : List (List ℕ) → ℕ → ℕ → Row Reply
+create_under columns schema table = do
+  check_schema schema
+  check_new columns table
+  make_table columns table
   Give reply.Ok
 
 -- a table is locked under its schema's lock, and created
 abbrev pub lock_and_create : KeyName → List (List ℕ) → ℕ → Row Reply
 lock_and_create table columns schema = do
-  ticket ← Acquire (ddl_lock table) Give
+  ticket ← acquire table X for.Transaction
   create_under columns schema ticket
 
 -- its schema is locked under the lock of all writes, and then it is
@@ -282,10 +297,14 @@ can_change ticket = do
   standing ← read ticket
   check (has_version_left standing) VersionLimit
 
+-- there is such a table
+abbrev pub stands : ℕ → Act
+stands ticket = exists ticket >> nothing
+
 -- tables are dropped under their locks: all, or none where one is missing
 abbrev pub drop_under : List ℕ → Row Reply
 drop_under tickets = do
-  for_each (λ ticket. exists ticket >> nothing) tickets
+  for_each stands tickets
   for_each can_change tickets
   for_each (λ ticket. redefine ticket change.Drop) tickets
   Give reply.Ok
@@ -305,7 +324,15 @@ drop_after_commit tables = do
 
 -- ---- the table
 
--- what is left of a statement once the transaction that was open is committed
+-- an open transaction is committed first
+abbrev pub commit_first : Row Reply → Row Reply
+commit_first rest = commit >> rest
+
+-- so it is before definitions are changed
+abbrev pub ddl_first : Row Reply → Row Reply
+ddl_first rest = ddl >> rest
+
+-- what is left of a statement once no transaction is open that it has to commit
 abbrev pub after_commit : Statement → Row Reply
 after_commit statement.Begin = begin_after_commit
 after_commit (statement.CreateTable table columns) = create_after_commit table columns
@@ -314,14 +341,14 @@ after_commit _ = Give reply.Ok
 
 -- what a statement does
 abbrev pub row_of : Statement → Row Reply
-row_of statement.Begin = commit >> begin_after_commit
-row_of statement.Commit = commit >> Give reply.Ok
+row_of statement.Begin = commit_first begin_after_commit
+row_of statement.Commit = commit_first (Give reply.Ok)
 row_of statement.Rollback = rollback >> Give reply.Ok
 row_of (statement.Savepoint name) = save name
 row_of (statement.RollbackTo name) = rollback_to name
 row_of (statement.Select tables) = select tables
 row_of (statement.Write table priority) = write table priority
-row_of (statement.CreateTable table columns) = ddl >> create_after_commit table columns
-row_of (statement.DropTables tables) = ddl >> drop_after_commit tables
+row_of (statement.CreateTable table columns) = ddl_first (create_after_commit table columns)
+row_of (statement.DropTables tables) = ddl_first (drop_after_commit tables)
 row_of (statement.KillQuery target) = kill target >> Give reply.Ok
 row_of statement.Timeout = Give reply.Ok

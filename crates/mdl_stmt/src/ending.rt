@@ -1,5 +1,7 @@
-//! How statements end.
+//! How statements end, and what comes of what they ask for.
+use crate::stage::{LockList, Stage};
 use crate::{ErrorNumber, Reply};
+use mdl_key::{Key, Mode};
 
 /// How a statement ends.
 #[derive(Drop)]
@@ -12,4 +14,35 @@ pub enum Ending {
     Falls,
     /// It found no memory.
     Starves,
+}
+
+/// What comes of locks that are asked for.
+#[derive(Drop)]
+pub enum Got<T> {
+    /// They are had.
+    Had(T),
+    /// One of this key is waited for.
+    Waits(Key),
+    /// The statement is to end so.
+    Ends(Ending),
+}
+
+/// What comes of a list of locks.
+#[derive(Drop)]
+pub enum Listed {
+    /// They are had.
+    Had(LockList),
+    /// One of this key in this mode is waited for, and these were had.
+    Waits(Key, Mode, LockList),
+    /// The statement is to end so.
+    Ends(Ending),
+}
+
+/// How far a statement has come.
+#[derive(Drop)]
+pub enum Played<'s> {
+    /// It is to end so.
+    Ends(Ending),
+    /// It waits for a lock of this key in this mode, and this is left of it.
+    Waits(Key, Mode, Stage<'s>),
 }

@@ -1,18 +1,28 @@
 //! The statements of a session, over any lock space.
 #![tactic(auto)]
 
+mod creating;
+mod dropping;
 mod ending;
 mod error_number;
+mod key_lists;
 mod memory_laws;
+mod out_of_memory;
+mod performing;
+mod player;
+mod reading;
 mod reply;
+mod rows;
 mod runner;
 mod savepoint;
 mod stage;
+mod transactions;
 
 pub use error_number::ErrorNumber;
 pub use memory_laws::{
     sessions_keep_their_number, statements_call_for_their_session, statements_keep_the_space_sound,
     statements_tell_of_want, sure_statements,
 };
+pub use out_of_memory::OutOfMemory;
 pub use reply::{Progress, Reply, TableShown, TablesShown};
 pub use runner::Runner;

@@ -1,11 +1,20 @@
 //! Statements of a session, one after the other.
-ghost use Rattle.std.specs.Prelude.{◌≡◌, None, []};
+ghost use Rattle.std.specs.Prelude.{◌≡◌, None, IsSome, IfSome, is_some, []};
+ghost use Rattle.mdl_calls.specs.Words.{Runs};
+ghost use Rattle.mdl_context.specs.Contexts.{Attends, LeavesOthers};
+ghost use Rattle.mdl_stmt.specs.Endings.{closing};
+ghost use Rattle.mdl_stmt.specs.Gets.{ran};
+ghost use Rattle.mdl_stmt.specs.Playing.{play, starting, going_on};
+ghost use Rattle.mdl_stmt.specs.Stages.{session_of, rest_of};
 ghost use Rattle.mdl_stmt.specs.States.{at_first};
 
-use crate::savepoint::Savepoint;
+use crate::ending::{Ending, Played};
+use crate::player::{Player, ending_of_error, ending_of_loss};
 use crate::stage::Stage;
-use mdl_context::{Context, Mark};
-use mdl_space::LockSpace;
+use crate::{OutOfMemory, Progress};
+use mdl_context::{Mark, Resume};
+use mdl_space::{LockSpace, TicketId};
+use mdl_syntax::Statement;
 use std::alloc::Global;
 use std::marker::Model;
 
@@ -16,45 +25,22 @@ pub struct Work<'s> {
     mark: Mark,
 }
 
-/// What a session keeps of its transaction.
-#[derive(Drop)]
-pub struct Transaction {
-    is_open: bool,
-    has_written: bool,
-    savepoints: Vec<Savepoint>,
-}
-
-impl Model for Transaction {
-    ghost use Rattle.std.specs.Prelude.{None, []};
-    ghost use Rattle.mdl_stmt.specs.States.{State};
-
-    ghost Value = { State };
-
-    ghost view = { λ transaction. record {
-      is_open = transaction.is_open;
-      has_written = transaction.has_written;
-      savepoints = transaction.savepoints.items;
-      locked = [];
-      scopes = [];
-      read_lock = None;
-    } };
-}
-
 /// A session's statements, one after the other.
 #[derive(Drop)]
 pub struct Runner<'s, S: LockSpace> {
-    alloc: Global,
-    context: Context<S>,
-    transaction: Transaction,
+    player: Player<S>,
     work: Option<Work<'s>>,
 }
 
 impl<'s, S: LockSpace> Model for Runner<'s, S> {
+    ghost use Rattle.std.specs.Prelude.{◌≡◌, None};
     ghost use Rattle.mdl_stmt.specs.Sessions.{RunnerView};
 
     ghost Value = { RunnerView };
 
-    ghost view = { λ runner. record { context = runner.context; state = runner.transaction; work = runner.work } };
+    ghost view = { λ runner. record { context = runner.player.context; state = runner.player.state; work = runner.work } };
+
+    ghost invariant = { λ runner. runner.work ≡ None → runner.player.context.wait ≡ None };
 }
 
 impl<'s, S: LockSpace> Runner<'s, S> {
@@ -63,14 +49,89 @@ impl<'s, S: LockSpace> Runner<'s, S> {
         ensures { result ≡ record { context = record { who = who; kept = []; known = []; wait = None }; state = at_first; work = None } }
     {
         Runner {
-            alloc,
-            context: Context::new(alloc, who),
-            transaction: Transaction {
-                is_open: false,
-                has_written: false,
-                savepoints: Vec::new(alloc),
-            },
+            player: Player::new(alloc, who),
             work: None,
+        }
+    }
+
+    /// Whether a statement of the session waits.
+    pub fn is_waiting(&self) -> bool
+        ensures { result ≡ is_some self.now.work }
+    {
+        self.work.is_some()
+    }
+
+    /// Starts a statement.
+    pub fn start(
+        &mut self,
+        space: &mut S,
+        statement: &'s Statement,
+    ) -> Result<Progress, OutOfMemory>
+        requires attends { Attends S.speaks_for S.own S.knows space.old self.old.context }
+        requires idle { self.old.work ≡ None }
+        ensures run { Runs S.joins space.old (starting statement.now (session_of self.old)) (ran result (session_of self.new)) space.new }
+        ensures attends { Attends S.speaks_for S.own S.knows space.new self.new.context }
+        ensures others { LeavesOthers S.speaks_for S.own S.knows self.old.context.who space.old space.new }
+        ensures who { self.new.context.who ≡ self.old.context.who }
+    {
+        let mark = self.player.context.savepoint();
+        match self.player.perform(space, statement) {
+            Played::Ends(ending) => self.player.close(space, ending, mark),
+            Played::Waits(key, mode, stage) => {
+                self.work = Some(Work { stage, mark });
+                Ok(Progress::Waiting(key, mode))
+            }
+        }
+    }
+
+    /// Goes on with the statement that waits.
+    pub fn go_on(&mut self, space: &mut S) -> Result<Progress, OutOfMemory>
+        requires attends { Attends S.speaks_for S.own S.knows space.old self.old.context }
+        requires waits { IsSome self.old.work }
+        ensures run { Runs S.joins space.old (going_on (session_of self.old)) (ran result (session_of self.new)) space.new }
+        ensures attends { Attends S.speaks_for S.own S.knows space.new self.new.context }
+        ensures others { LeavesOthers S.speaks_for S.own S.knows self.old.context.who space.old space.new }
+        ensures who { self.new.context.who ≡ self.old.context.who }
+    {
+        match self.player.context.resume(space) {
+            Ok(Resume::Waiting) => Ok(Progress::Pending),
+            Ok(Resume::Acquired(ticket)) => self.go_on_with(space, ticket),
+            Ok(Resume::Lost(how)) => self.end_with(space, ending_of_loss(how)),
+            Err(error) => self.end_with(space, ending_of_error(error)),
+        }
+    }
+
+    // Ends the statement that waited.
+    fn end_with(&mut self, space: &mut S, ending: Ending) -> Result<Progress, OutOfMemory>
+        requires attends { Attends S.speaks_for S.own S.knows space.old self.old.context }
+        requires waited { IsSome self.old.work }
+        requires idle { self.old.context.wait ≡ None }
+        ensures run { IfSome self.old.work (λ work. Runs S.joins space.old (closing ending work.mark (session_of self.old)) (ran result (session_of self.new)) space.new) }
+        ensures attends { Attends S.speaks_for S.own S.knows space.new self.new.context }
+        ensures others { LeavesOthers S.speaks_for S.own S.knows self.old.context.who space.old space.new }
+        ensures who { self.new.context.who ≡ self.old.context.who }
+    {
+        let work = self.work.take().unwrap();
+        self.player.close(space, ending, work.mark)
+    }
+
+    // Goes on with a statement that has the lock that it waited for.
+    fn go_on_with(&mut self, space: &mut S, ticket: TicketId) -> Result<Progress, OutOfMemory>
+        requires attends { Attends S.speaks_for S.own S.knows space.old self.old.context }
+        requires waited { IsSome self.old.work }
+        requires idle { self.old.context.wait ≡ None }
+        ensures run { IfSome self.old.work (λ work. Runs S.joins space.old (play (rest_of work.stage ticket) work.mark (session_of (record self.old { work = None }))) (ran result (session_of self.new)) space.new) }
+        ensures attends { Attends S.speaks_for S.own S.knows space.new self.new.context }
+        ensures others { LeavesOthers S.speaks_for S.own S.knows self.old.context.who space.old space.new }
+        ensures who { self.new.context.who ≡ self.old.context.who }
+    {
+        let Work { stage, mark } = self.work.take().unwrap();
+        match self.player.proceed(space, stage, ticket) {
+            Played::Ends(ending) => self.player.close(space, ending, mark),
+            Played::Waits(key, mode, stage) => {
+                self.work = Some(Work { stage, mark });
+                Ok(Progress::Waiting(key, mode))
+            }
         }
     }
 }

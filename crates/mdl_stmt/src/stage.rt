@@ -1,17 +1,68 @@
 //! What a statement waits for.
+ghost use Rattle.std.specs.Prelude.{◌≡◌, [], length, slice_get, IfOk};
+ghost use Rattle.std.specs.Option.{option_map};
+ghost use Rattle.mdl_stmt.specs.LockLists.{with_ticket};
+
 use crate::TablesShown;
 use mdl_defs::Columns;
 use mdl_key::Key;
 use mdl_space::TicketId;
 use mdl_syntax::{Priority, Statement, Tables};
+use std::alloc::{AllocError, Global};
+use std::marker::Model;
 
 /// Locks that are asked for one after the other.
 #[derive(Drop)]
-pub struct Locks {
-    /// Their keys.
-    pub keys: Vec<Key>,
-    /// The tickets of the first of them, which are held.
-    pub tickets: Vec<TicketId>,
+pub struct LockList {
+    keys: Vec<Key>,
+    tickets: Vec<TicketId>,
+}
+
+impl Model for LockList {
+    ghost use Rattle.std.specs.Prelude.{◌≤◌};
+    ghost use Rattle.std.specs.Vec.{vec_len, vec_capacity};
+    ghost use Rattle.mdl_stmt.specs.LockLists.{LockList};
+
+    ghost Value = { LockList };
+
+    ghost view = { λ locks. record { keys = locks.keys.items; tickets = locks.tickets.items } };
+
+    ghost invariant = { λ locks. vec_len locks.keys ≤ vec_capacity locks.tickets };
+}
+
+impl LockList {
+    /// The locks of these keys, none of which is held.
+    pub fn new(alloc: Global, keys: Vec<Key>) -> Result<LockList, AllocError>
+        ensures { IfOk result (λ locks. locks ≡ record { keys = keys.items; tickets = [] }) }
+    {
+        let mut tickets = Vec::new(alloc);
+        tickets.reserve(keys.len())?;
+        Ok(LockList { keys, tickets })
+    }
+
+    /// The key of the next one, if one is left.
+    pub fn next(&self) -> Option<&Key>
+        ensures { option_map (λ key. key.now) result ≡ slice_get self.now.keys (length self.now.tickets) }
+    {
+        self.keys.get(self.tickets.len())
+    }
+
+    /// These locks, with the ticket of the next one, if one is left.
+    pub fn with(mut self, ticket: TicketId) -> LockList
+        ensures { result ≡ with_ticket ticket self }
+    {
+        if self.tickets.len() < self.keys.len() {
+            self.tickets.push(ticket).unwrap();
+        }
+        self
+    }
+
+    /// The tickets.
+    pub fn tickets(&self) -> &[TicketId]
+        ensures { result.now ≡ self.now.tickets }
+    {
+        &self.tickets
+    }
 }
 
 /// The lock that a statement waits for.
@@ -19,12 +70,14 @@ pub struct Locks {
 pub enum Stage<'s> {
     /// The COMMIT lock, and then what is left of the statement.
     Commit(&'s Statement),
-    /// The lock of the first of these tables, after others were shown.
-    Show(&'s [Key], TablesShown),
+    /// The lock of the table at this place among these; those before it were shown.
+    Show(&'s [Key], usize, TablesShown),
     /// The lock of all writes, for a write.
     WriteGlobal(&'s Key, Priority),
     /// The lock of the table that is written.
     WriteTable,
+    /// The COMMIT lock, for a write that is a transaction of its own.
+    CommitWrite,
     /// The lock of all writes, for a table to be created.
     CreateGlobal(&'s Key, &'s Columns),
     /// The lock of its schema.
@@ -32,7 +85,7 @@ pub enum Stage<'s> {
     /// Its own lock, under that of its schema.
     CreateTable(&'s Columns, TicketId),
     /// The lock of all writes or that of a schema, for tables to be dropped.
-    DropScopes(&'s Tables, Locks),
+    DropScopes(&'s Tables, LockList),
     /// The lock of a table that is to be dropped.
-    DropTables(Locks),
+    DropTables(LockList),
 }

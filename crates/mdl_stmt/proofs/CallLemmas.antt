@@ -1,0 +1,85 @@
+-- Single calls of a lock space: what a context attends to after them, and what they come to.
+use Rattle.std.specs.Prelude.{List, [], ◌∷◌, ◌++◌, MatchResult}
+use Rattle.mdl_defs.specs.declared.standing.Standing.{Standing}
+use Rattle.mdl_stmt.specs.declared.ending.Ending.TheVariants.{Starves}
+use Rattle.mdl_stmt.specs.declared.reply.TableShown.{TableShown}
+use Rattle.mdl_stmt.specs.Endings.{closing}
+use Rattle.mdl_stmt.specs.Statements.{columns_of, exists, show}
+use Rattle.mdl_stmt.proofs.RowLemmas.{bind-assoc}
+use Rattle.mdl_stmt.proofs.RunLemmas.{comes-then}
+use Rattle.std.proofs.Common.{◌≡◌, ◌≢◌, ℕ, Bool, true, false, not, Option, Some, None, Result, Ok, Err, refl, sym, ap, ◌∙◌, subst, inl, inr}
+use Rattle.mdl_key.specs.Keys.{KeyName}
+use Rattle.mdl_key.specs.declared.mode.Mode.{Mode}
+use Rattle.mdl_calls.specs.Words.{Answer, Done, Call, Unpin, caller, Own, own_after, Runs}
+use Rattle.mdl_context.specs.Contexts.{ContextView, Attends, LeavesOthers}
+use Rattle.mdl_context.proofs.AttendLemmas.{attends-same}
+use Rattle.mdl_stmt.specs.declared.ending.Ending.{Ending}
+use Rattle.mdl_stmt.specs.declared.reply.Reply.{Reply}
+use Rattle.mdl_stmt.specs.Gets.{Comes, Waits, IsStep, at_rest}
+use Rattle.mdl_stmt.specs.Playing.{play}
+use Rattle.mdl_stmt.specs.Rows.{Row, Act, Give, room, ◌>>=◌, ◌>>◌}
+use Rattle.mdl_stmt.specs.Rows as row
+use Rattle.mdl_stmt.specs.Sessions.{PlayerView}
+
+-- a call gives no place up
+abbrev pub KeepsPlaces : Call → Type 0
+KeepsPlaces call = (w place : ℕ) → call ≡ Unpin w place → ⊥
+
+module _ {S : Type 0} {speaks_for : S → ℕ → Type 0} {own : S → ℕ → Own} {knows : S → ℕ → ℕ → KeyName → Type 0} {joins : S → Call → Answer → S → Type 0}
+    (keeps : (a b : S) (call : Call) (answer : Answer) (w : ℕ) → speaks_for a w → joins a call answer b → speaks_for b w)
+    (remembers : (a b : S) (call : Call) (answer : Answer) (w place : ℕ) (key : KeyName) → speaks_for a w → (call ≡ Unpin w place → answer ≡ Done → ⊥) → joins a call answer b
+    → knows a w place key → knows b w place key) where
+  -- a call after which the session has what it had
+  pub attends-call : (context : ContextView) (a b : S) (call : Call) (answer : Answer) → KeepsPlaces call → own b context.who ≡ own a context.who → joins a call answer b →
+      Attends speaks_for own knows a context → Attends speaks_for own knows b context
+  attends-call context a b call answer kept same joined attends =
+      attends-same a b context attends (λ place key known. remembers a b call answer context.who place key attends.speaks (λ e _. kept _ _ e) joined known)
+      (keeps a b call answer context.who attends.speaks joined) same
+
+  -- one that is nobody's
+  pub leaves-call : (others : (a b : S) (call : Call) (answer : Answer) (w : ℕ) → speaks_for a w → (caller call ≡ Some w → ⊥) → joins a call answer b → own b w ≡ own a w)
+      (a b : S) (call : Call) (answer : Answer) (w : ℕ) → KeepsPlaces call → (caller call ≡ Some w → ⊥) → joins a call answer b → speaks_for a w →
+      speaks_for b w × (own b w ≡ own a w) × ((place : ℕ) (key : KeyName) → knows a w place key → knows b w place key)
+  leaves-call others a b call answer w kept nobody joined speaks =
+      (keeps a b call answer w speaks joined, others a b call answer w speaks nobody joined, λ place key known. remembers a b call answer w place key speaks (λ e _. kept _ _ e) joined known)
+
+-- ---- rows that are the same
+
+pub comes-row : {S : Type 0} {joins : S → Call → Answer → S → Type 0} {a : S} {x : PlayerView} (here other : Row Reply) → here ≡ other → Comes joins a x (play here) a x (play other)
+comes-row {S} {joins} {a} {x} here other same = record { so = λ mark pause c run. subst (λ (r : Row Reply). Runs joins a (play r mark (at_rest x)) pause c) (sym same) run }
+
+-- memory was there
+pub room-found : {S : Type 0} {joins : S → Call → Answer → S → Type 0} {a : S} {x : PlayerView} (rest : Row Reply) → Comes joins a x (play (row.Room rest)) a x (play rest)
+room-found rest = record { so = λ mark pause c run. inr run }
+
+-- a step after it
+pub room-step : {S : Type 0} (joins : S → Call → Answer → S → Type 0) (act : Act) (a b : S) (x y : PlayerView) (result : Result (Unit {0}) Ending) →
+    IsStep joins act a x result b y → IsStep joins (room >> act) a x result b y
+room-step joins act a b x y (Ok t) made = λ rest. record { so = λ mark pause c run. inr ((made rest).so mark pause c run) }
+room-step joins act a b x y (Err ending) made = λ rest. record { so = λ mark pause c run. inr ((made rest).so mark pause c run) }
+
+-- a table is shown
+pub show-step : {S : Type 0} (joins : S → Call → Answer → S → Type 0) (shown : List TableShown) (table : KeyName) (ticket : ℕ) (a b : S) (x y : PlayerView) (standing : Standing) (result : Result (List TableShown) Ending) →
+    IsStep joins (exists ticket) a x (Ok standing) b y →
+    MatchResult result (λ more. more ≡ shown ++ record { key = table; version = standing.version; columns = columns_of standing.definition } ∷ []) (λ ending. ending ≡ Starves) →
+    IsStep joins (show shown table ticket) a x result b y
+show-step joins shown table ticket a b x y standing (Ok more) first e = λ rest.
+    let behind : Standing → Row (List TableShown) = λ s. room >> Give (shown ++ record { key = table; version = s.version; columns = columns_of s.definition } ∷ []) in
+    comes-then (comes-row (show shown table ticket >>= rest) (exists ticket >>= (λ s. behind s >>= rest)) (bind-assoc (exists ticket) behind rest))
+    (comes-then (first (λ s. behind s >>= rest)) (record { so = λ mark pause c run. inr (subst (λ (m : List TableShown). Runs joins b (play (rest m) mark (at_rest y)) pause c) e run) }))
+show-step joins shown table ticket a b x y standing (Err ending) first e = λ rest.
+    let behind : Standing → Row (List TableShown) = λ s. room >> Give (shown ++ record { key = table; version = s.version; columns = columns_of s.definition } ∷ []) in
+    comes-then (comes-row (show shown table ticket >>= rest) (exists ticket >>= (λ s. behind s >>= rest)) (bind-assoc (exists ticket) behind rest))
+    (comes-then (first (λ s. behind s >>= rest)) (record { so = λ mark pause c run. inl (subst (λ (m : Ending). Runs joins b (closing m mark (at_rest y)) pause c) e run) }))
+
+-- it isn't there
+pub show-ends : {S : Type 0} (joins : S → Call → Answer → S → Type 0) (shown : List TableShown) (table : KeyName) (ticket : ℕ) (a b : S) (x y : PlayerView) (ending : Ending) →
+    IsStep joins (exists ticket) a x (Err ending) b y → IsStep joins (show shown table ticket) a x (Err ending) b y
+show-ends joins shown table ticket a b x y ending first = λ rest.
+    let behind : Standing → Row (List TableShown) = λ s. room >> Give (shown ++ record { key = table; version = s.version; columns = columns_of s.definition } ∷ []) in
+    comes-then (comes-row (show shown table ticket >>= rest) (exists ticket >>= (λ s. behind s >>= rest)) (bind-assoc (exists ticket) behind rest)) (first (λ s. behind s >>= rest))
+
+-- a wait after memory was there
+pub room-waits : {S : Type 0} {joins : S → Call → Answer → S → Type 0} {a b : S} {x y : PlayerView} {key : KeyName} {mode : Mode} {then_rest : ℕ → Row Reply} (rest : Row Reply) →
+    Waits joins a x (play rest) key mode then_rest b y → Waits joins a x (play (row.Room rest)) key mode then_rest b y
+room-waits rest waits = record { so = λ mark. inr (waits.so mark) }

@@ -1,0 +1,70 @@
+-- How a statement ends, and how what a runner kept of it leads on.
+use Rattle.std.proofs.Common.{◌≡◌, ℕ, Option, Some, None, IsSome, IfSome, Result, Ok, Err, refl, sym, ap, subst}
+use Rattle.mdl_calls.specs.Words.{Answer, Call, Give, Runs}
+use Rattle.mdl_calls.proofs.RunLemmas.{runs_bind}
+use Rattle.mdl_context.specs.declared.context_error.ContextError.{ContextError}
+use Rattle.mdl_context.specs.declared.request.Mark.{Mark}
+use Rattle.mdl_context.specs.declared.request.Resume.{Resume}
+use Rattle.mdl_context.specs.declared.request.Resume.TheVariants as resume
+use Rattle.mdl_calls.specs.declared.answers.Settled.{Settled}
+use Rattle.mdl_context.specs.Contexts.{ContextView}
+use Rattle.mdl_context.specs.Releases.{giving_up}
+use Rattle.mdl_context.specs.Waits.{resuming}
+use Rattle.mdl_stmt.specs.declared.ending.Ending.{Ending}
+use Rattle.mdl_stmt.specs.declared.ending.Ending.TheVariants.{Answers}
+use Rattle.mdl_stmt.specs.declared.runner.Work.{Work}
+use Rattle.mdl_stmt.specs.Endings.{Pause, Waits_on, closing, ended, ending_of_error, ending_of_loss, gone_at, state_after}
+use Rattle.mdl_stmt.specs.Playing.{going_on, play, resumed}
+use Rattle.mdl_stmt.specs.Sessions.{PlayerView, RunnerView, Session}
+use Rattle.mdl_stmt.specs.Stages.{left_of, rest_of, session_of}
+use Rattle.mdl_stmt.specs.States.{State}
+use Rattle.mdl_stmt.specs.Gets.{at_rest}
+
+module _ {S : Type 0} (joins : S → Call → Answer → S → Type 0) where
+  -- its tickets go, and what is left is how it ended
+  pub closes : (ending : Ending) (mark : Mark) (before after : PlayerView) (a b : S) → after.state ≡ before.state →
+      Runs joins a (giving_up (gone_at ending before.state.is_open mark before.context.kept) before.context) (Ok tt, after.context) b →
+      Runs joins a (closing ending mark (at_rest before)) (ended ending (record { context = after.context; state = state_after ending after.state; left = None })) b
+  closes ending mark before after a b same run =
+      subst (λ (s : State). Runs joins a (closing ending mark (at_rest before)) (ended ending (record { context = after.context; state = state_after ending s; left = None })) b) (sym same)
+      (runs_bind joins (giving_up (gone_at ending before.state.is_open mark before.context.kept) before.context)
+      (λ outcome. Give (ended ending (record { context = outcome.1; state = state_after ending before.state; left = None }))) a b b _ _ run (refl, refl))
+
+  -- the wait went on, and then the statement
+  pub goes-on : (context after : ContextView) (state : State) (work : Option Work) (result : Result Resume ContextError) (pause : Pause) (a b c : S) → IsSome work →
+      Runs joins a (resuming context) (result, after) b →
+      ((some : Work) → work ≡ Some some → Runs joins b (resumed (left_of some) (record { context = context; state = state; left = None }) (result, after)) pause c) →
+      Runs joins a (going_on (session_of (record { context = context; state = state; work = work }))) pause c
+  goes-on context after state None result pause a b c some run rest = cc
+  goes-on context after state (Some work) result pause a b c some run rest =
+      runs_bind joins (resuming context) (resumed (left_of work) (record { context = context; state = state; left = None })) a b c _ pause run (rest work refl)
+
+  -- it waits on
+  pub waits-still : (runner : RunnerView) (after : ContextView) (a b : S) → IsSome runner.work → Runs joins a (resuming runner.context) (Ok resume.Waiting, after) b →
+      Runs joins a (going_on (session_of runner)) (Waits_on (session_of (record runner { context = after }))) b
+  waits-still runner after a b some run = goes-on runner.context after runner.state runner.work (Ok resume.Waiting) _ a b b some run
+      (λ work same. (ap (λ (w : Option Work). Waits_on (session_of (record { context = after; state = runner.state; work = w }))) (sym same), refl))
+
+  -- it has its lock
+  pub goes-on-with : (runner : RunnerView) (after : ContextView) (ticket : ℕ) (pause : Pause) (a b c : S) → IsSome runner.work → Runs joins a (resuming runner.context) (Ok (resume.Acquired ticket), after) b →
+      IfSome runner.work (λ work. Runs joins b (play (rest_of work.stage ticket) work.mark (record { context = after; state = runner.state; left = None })) pause c) →
+      Runs joins a (going_on (session_of runner)) pause c
+  goes-on-with runner after ticket pause a b c some run next = goes-on runner.context after runner.state runner.work (Ok (resume.Acquired ticket)) pause a b c some run
+      (λ work same. subst (λ (w : Option Work). IfSome w (λ work. Runs joins b (play (rest_of work.stage ticket) work.mark (record { context = after; state = runner.state; left = None })) pause c)) same next)
+
+  -- it was lost, or memory ran out
+  pub ends-lost : (runner : RunnerView) (after : ContextView) (how : Settled) (ending : Ending) (pause : Pause) (a b c : S) → IsSome runner.work → ending ≡ ending_of_loss how →
+      Runs joins a (resuming runner.context) (Ok (resume.Lost how), after) b →
+      IfSome runner.work (λ work. Runs joins b (closing ending work.mark (record { context = after; state = runner.state; left = None })) pause c) →
+      Runs joins a (going_on (session_of runner)) pause c
+  ends-lost runner after how ending pause a b c some is run next = goes-on runner.context after runner.state runner.work (Ok (resume.Lost how)) pause a b c some run
+      (λ work same. subst (λ (e : Ending). Runs joins b (closing e work.mark (record { context = after; state = runner.state; left = None })) pause c) is
+      (subst (λ (w : Option Work). IfSome w (λ work. Runs joins b (closing ending work.mark (record { context = after; state = runner.state; left = None })) pause c)) same next))
+
+  pub ends-refused : (runner : RunnerView) (after : ContextView) (error : ContextError) (ending : Ending) (pause : Pause) (a b c : S) → IsSome runner.work → ending ≡ ending_of_error error →
+      Runs joins a (resuming runner.context) (Err error, after) b →
+      IfSome runner.work (λ work. Runs joins b (closing ending work.mark (record { context = after; state = runner.state; left = None })) pause c) →
+      Runs joins a (going_on (session_of runner)) pause c
+  ends-refused runner after error ending pause a b c some is run next = goes-on runner.context after runner.state runner.work (Err error) pause a b c some run
+      (λ work same. subst (λ (e : Ending). Runs joins b (closing e work.mark (record { context = after; state = runner.state; left = None })) pause c) is
+      (subst (λ (w : Option Work). IfSome w (λ work. Runs joins b (closing ending work.mark (record { context = after; state = runner.state; left = None })) pause c)) same next))

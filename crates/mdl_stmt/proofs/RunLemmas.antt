@@ -1,0 +1,208 @@
+-- How what a session does comes to the next thing, one thing after the other.
+use Rattle.std.proofs.Common.{◌≡◌, ℕ, Bool, if◌then◌else◌, List, Option, Some, None, Result, Ok, Err, refl, sym, ap, ◌∙◌, subst, inl, inr, true, false}
+use Rattle.mdl_key.specs.declared.mode.Mode.{Mode}
+use Rattle.mdl_key.specs.declared.mode.Mode.TheVariants.{IX}
+use Rattle.mdl_key.specs.declared.mode.Duration.TheVariants.{Explicit}
+use Rattle.mdl_key.specs.Keys.{KeyName, commit_key}
+use Rattle.mdl_calls.specs.Words.{Answer, Call, Program, Runs}
+use Rattle.mdl_calls.specs.Words as call
+use Rattle.mdl_calls.proofs.RunLemmas.{runs_bind}
+use Rattle.mdl_context.specs.declared.context_error.ContextError.{ContextError}
+use Rattle.mdl_context.specs.declared.kept.Kept.{Kept}
+use Rattle.mdl_context.specs.declared.request.Acquire.TheVariants as acquire
+use Rattle.mdl_context.specs.declared.request.Mark.{Mark}
+use Rattle.mdl_context.specs.Contexts.{ContextView, of_transaction, beyond_mark}
+use Rattle.mdl_context.specs.Releases.{giving_up, releasing}
+use Rattle.mdl_context.specs.Requests.{acquiring}
+use Rattle.mdl_context.specs.Wishes.{Wish}
+use Rattle.mdl_stmt.specs.declared.ending.Ending.{Ending}
+use Rattle.mdl_stmt.specs.declared.ending.Got.{Got}
+use Rattle.mdl_stmt.specs.declared.ending.Got.TheVariants.{Had}
+use Rattle.mdl_stmt.specs.declared.ending.Got.TheVariants as got
+use Rattle.mdl_stmt.specs.declared.ending.Played.{Played}
+use Rattle.mdl_stmt.specs.declared.ending.Played.TheVariants as played
+use Rattle.mdl_stmt.specs.declared.reply.Reply.{Reply}
+use Rattle.mdl_stmt.specs.Endings.{Pause, Begins_to_wait, ending_of_error, closing}
+use Rattle.std.specs.Prelude.{[], ◌∷◌, find}
+use Rattle.std.specs.Option.{option_map}
+use Rattle.mdl_stmt.specs.declared.ending.Ending.TheVariants.{Answers}
+use Rattle.mdl_stmt.specs.declared.error_number.ErrorNumber.TheVariants.{NoSuchSavepoint}
+use Rattle.mdl_stmt.specs.declared.savepoint.Savepoint.{Savepoint}
+use Rattle.mdl_stmt.specs.Gets.{Comes, Waits, IsGot, IsStep, IsTold, IsCommitted, IsPlayed, at_rest}
+use Rattle.mdl_stmt.specs.Playing.{play, acquired, with_context, with_left}
+use Rattle.mdl_stmt.specs.Rows.{Row, Act, Give, ◌>>◌, ◌>>=◌}
+use Rattle.mdl_stmt.specs.Rows as row
+use Rattle.mdl_stmt.specs.Sessions.{PlayerView, Session}
+use Rattle.mdl_stmt.specs.Statements.{end_under, end_transaction, commit, commit_writes, rollback, wrote, rollback_to, go_back}
+use Rattle.mdl_stmt.specs.States.{written, closed, is_named, savepoint_mark, up_to}
+use Rattle.mdl_stmt.specs.declared.reply.Reply.TheVariants as reply
+
+-- one thing comes to the next, and that to a third
+pub comes-then : {S : Type 0} {joins : S → Call → Answer → S → Type 0} {a b c : S} {x y z : PlayerView} {here there end : Mark → Session → Program Pause} →
+    Comes joins a x here b y there → Comes joins b y there c z end → Comes joins a x here c z end
+comes-then first second = record { so = λ mark pause s run. first.so mark pause s (second.so mark pause s run) }
+
+-- or to a wait
+pub comes-waits : {S : Type 0} {joins : S → Call → Answer → S → Type 0} {a b c : S} {x y z : PlayerView} {here there : Mark → Session → Program Pause} {key : KeyName} {mode : Mode} {rest : ℕ → Row Reply} →
+    Comes joins a x here b y there → Waits joins b y there key mode rest c z → Waits joins a x here key mode rest c z
+comes-waits first waits = record { so = λ mark. first.so mark _ _ (waits.so mark) }
+
+-- or to the end of a row, played so far
+pub comes-played : {S : Type 0} {joins : S → Call → Answer → S → Type 0} {a b : S} {x y : PlayerView} (c : S) (z : PlayerView) (row rest : Row Reply) (played : Played) →
+    Comes joins a x (play row) b y (play rest) → IsPlayed joins rest b y played c z → IsPlayed joins row a x played c z
+comes-played c z row rest (played.Ends ending) first later = comes-then first later
+comes-played c z row rest (played.Waits key mode stage) first later = comes-waits first later
+
+-- what is the same from here
+pub comes-as : {S : Type 0} {joins : S → Call → Answer → S → Type 0} {a b : S} {x y : PlayerView} {there : Mark → Session → Program Pause} (here other : Mark → Session → Program Pause) →
+    ((mark : Mark) → other mark (at_rest x) ≡ here mark (at_rest x)) → Comes joins a x other b y there → Comes joins a x here b y there
+comes-as {S} {joins} {a} here other same first = record { so = λ mark pause c run. subst (λ (p : Program Pause). Runs joins a p pause c) (same mark) (first.so mark pause c run) }
+
+pub waits-as : {S : Type 0} {joins : S → Call → Answer → S → Type 0} {a b : S} {x y : PlayerView} {key : KeyName} {mode : Mode} {rest : ℕ → Row Reply} (here other : Mark → Session → Program Pause) →
+    ((mark : Mark) → other mark (at_rest x) ≡ here mark (at_rest x)) → Waits joins a x other key mode rest b y → Waits joins a x here key mode rest b y
+waits-as {S} {joins} {a} {b} {x} {y} {key} {mode} {rest} here other same first = record {
+  so = λ mark.
+      subst (λ (p : Program Pause). Runs joins a p (Begins_to_wait key mode (with_left (at_rest y) (record { rest = rest; mark = mark }))) b) (same mark) (first.so mark);
+}
+
+module _ {S : Type 0} (joins : S → Call → Answer → S → Type 0) where
+  -- nothing is done
+  pub comes-same : (a : S) (x : PlayerView) (here : Mark → Session → Program Pause) → Comes joins a x here a x here
+  comes-same a x here = record { so = λ mark pause c run. run }
+
+  -- a lock was asked for
+  pub got-had : (wish : Wish) (before : PlayerView) (id : ℕ) (context : ContextView) (a b : S) →
+      Runs joins a (acquiring wish before.context) (Ok (acquire.Acquired id), context) b → IsGot joins wish a before (Had id) b (record before { context = context })
+  got-had wish before id context a b run rest = record {
+    so = λ mark pause c after.
+        runs_bind joins (acquiring wish before.context) (acquired wish rest mark (at_rest before) (λ id after. play (rest id) mark after)) a b c _ pause run after;
+  }
+
+  pub got-error : (wish : Wish) (before : PlayerView) (error : ContextError) (context : ContextView) (a b : S) →
+      Runs joins a (acquiring wish before.context) (Err error, context) b → IsGot joins wish a before (got.Ends (ending_of_error error)) b (record before { context = context })
+  got-error wish before error context a b run rest = record {
+    so = λ mark pause c after.
+        runs_bind joins (acquiring wish before.context) (acquired wish rest mark (at_rest before) (λ id after. play (rest id) mark after)) a b c _ pause run after;
+  }
+
+  -- a wait has begun
+  pub got-told : (wish : Wish) (before : PlayerView) (number : ℕ) (context : ContextView) (told : Got ℕ) (after : PlayerView) (a b c : S) →
+      Runs joins a (acquiring wish before.context) (Ok (acquire.MustWait number), context) b →
+      IsTold joins wish.key b (record before { context = context }) told c after → IsGot joins wish a before told c after
+  got-told wish before number context (Had id) after a b c run told = absurd told
+  got-told wish before number context (got.Waits key) after a b c run (same, here, stays) = λ rest. record {
+    so = λ mark.
+        let begins : KeyName → PlayerView → Pause = λ k p. Begins_to_wait k wish.mode (with_left (at_rest p) (record { rest = rest; mark = mark })) in
+        subst (λ k. Runs joins a (play (row.Acquire wish rest) mark (at_rest before)) (begins k after) c) (sym same)
+        (subst (λ s. Runs joins a (play (row.Acquire wish rest) mark (at_rest before)) (begins wish.key after) s) here
+        (subst (λ p. Runs joins a (play (row.Acquire wish rest) mark (at_rest before)) (begins wish.key p) b) (sym stays)
+        (runs_bind joins (acquiring wish before.context) (acquired wish rest mark (at_rest before) (λ id after. play (rest id) mark after)) a b b _ _ run (inr (refl, refl)))));
+  }
+  got-told wish before number context (got.Ends ending) after a b c run (starves, told) = λ rest. record {
+    so = λ mark pause s ended.
+        runs_bind joins (acquiring wish before.context) (acquired wish rest mark (at_rest before) (λ id after. play (rest id) mark after)) a b s _ pause run
+        (inl (told pause s mark (subst (λ e. Runs joins c (closing e mark (at_rest after)) pause s) starves ended)));
+  }
+
+  -- tickets go
+  pub gave-up : (which : List Kept → List Kept) (before : PlayerView) (context : ContextView) (rest : Row Reply) (a b : S) →
+      Runs joins a (giving_up (which before.context.kept) before.context) (Ok tt, context) b →
+      Comes joins a before (play (row.Give_up which rest)) b (record before { context = context }) (play rest)
+  gave-up which before context rest a b run = record {
+    so = λ mark pause c after.
+        runs_bind joins (giving_up (which before.context.kept) before.context) (λ outcome. play rest mark (with_context (at_rest before) outcome.1)) a b c _ pause run after;
+  }
+
+  pub released : (id : ℕ) (before : PlayerView) (result : Result (Unit {0}) ContextError) (context : ContextView) (rest : Row Reply) (a b : S) →
+      Runs joins a (releasing id before.context) (result, context) b →
+      Comes joins a before (play (row.Release id rest)) b (record before { context = context }) (play rest)
+  released id before result context rest a b run = record {
+    so = λ mark pause c after.
+        runs_bind joins (releasing id before.context) (λ outcome. play rest mark (with_context (at_rest before) outcome.1)) a b c _ pause run after;
+  }
+
+  -- a transaction that wrote is committed under the COMMIT lock
+  abbrev pub IsLocked : KeyName → S → PlayerView → Got ℕ → S → PlayerView → Type 0
+  IsLocked key a before got b after = IsGot joins (record { key = key; mode = IX; duration = Explicit }) a before got b after
+
+  pub committed-under : (key : KeyName) (before middle after : PlayerView) (lock : ℕ) (a b c : S) → key ≡ commit_key →
+      IsLocked key a before (Had lock) b middle → IsStep joins (end_under lock) b middle (Ok tt) c after → IsCommitted joins commit_writes a before (Had tt) c after
+  committed-under key before middle after lock a b c same first second rest =
+      comes-then (subst (λ k. IsLocked k a before (Had lock) b middle) same first (λ id. end_under id >> rest)) (second (λ _. rest))
+
+  pub commit-waits : (key told : KeyName) (before after : PlayerView) (a b : S) → key ≡ commit_key →
+      IsLocked key a before (got.Waits told) b after → IsCommitted joins commit_writes a before (got.Waits told) b after
+  commit-waits key told before after a b same first rest = subst (λ k. IsLocked k a before (got.Waits told) b after) same first (λ id. end_under id >> rest)
+
+  pub commit-ends : (key : KeyName) (ending : Ending) (before after : PlayerView) (a b : S) → key ≡ commit_key →
+      IsLocked key a before (got.Ends ending) b after → IsCommitted joins commit_writes a before (got.Ends ending) b after
+  commit-ends key ending before after a b same first rest = subst (λ k. IsLocked k a before (got.Ends ending) b after) same first (λ id. end_under id >> rest)
+
+  -- what is committed is looked at first
+  abbrev pub looked : Bool → Bool → Act
+  looked is_open has_written = if is_open then (if has_written then commit_writes else end_transaction) else row.nothing
+
+  -- that is the same
+  pub looked-so : (x : PlayerView) (is_open has_written : Bool) (rest : Row Reply) → x.state.is_open ≡ is_open → x.state.has_written ≡ has_written → (mark : Mark) →
+      play (looked is_open has_written >> rest) mark (at_rest x) ≡ play (commit >> rest) mark (at_rest x)
+  looked-so x is_open has_written rest is wrote mark =
+      sym (ap (λ o. play (looked o x.state.has_written >> rest) mark (at_rest x)) is ∙ ap (λ w. play (looked is_open w >> rest) mark (at_rest x)) wrote)
+
+  pub commit-looked : (before after : PlayerView) (got : Got (Unit {0})) (a b : S) → before.state.is_open ≡ true → before.state.has_written ≡ true →
+      IsCommitted joins commit_writes a before got b after → IsCommitted joins commit a before got b after
+  commit-looked before after (Had x) a b is wrote made = λ rest. comes-as (play (commit >> rest)) (play (commit_writes >> rest)) (looked-so before true true rest is wrote) (made rest)
+  commit-looked before after (got.Waits key) a b is wrote made = λ rest. waits-as (play (commit >> rest)) (play (commit_writes >> rest)) (looked-so before true true rest is wrote) (made rest)
+  commit-looked before after (got.Ends ending) a b is wrote made = λ rest. comes-as (play (commit >> rest)) (play (commit_writes >> rest)) (looked-so before true true rest is wrote) (made rest)
+
+  pub commit-plain : (before after : PlayerView) (a b : S) → before.state.is_open ≡ true → before.state.has_written ≡ false →
+      IsStep joins end_transaction a before (Ok tt) b after → IsCommitted joins commit a before (Had tt) b after
+  commit-plain before after a b is wrote made = λ rest. comes-as (play (commit >> rest)) (play (end_transaction >> rest)) (looked-so before true false rest is wrote) (made (λ _. rest))
+
+  -- a write in no transaction
+  pub wrote-so : (x : PlayerView) → x.state.is_open ≡ false → (mark : Mark) → play (commit_writes >> Give reply.Ok) mark (at_rest x) ≡ play wrote mark (at_rest x)
+  wrote-so x is mark = sym (ap (λ o. play ((if o then row.set written else commit_writes) >> Give reply.Ok) mark (at_rest x)) is)
+
+  -- a transaction that is rolled back
+  pub rolled-so : (x : PlayerView) (is_open : Bool) (rest : Row Reply) → x.state.is_open ≡ is_open → (mark : Mark) →
+      play ((if is_open then end_transaction else row.nothing) >> rest) mark (at_rest x) ≡ play (rollback >> rest) mark (at_rest x)
+  rolled-so x is_open rest is mark = sym (ap (λ o. play ((if o then end_transaction else row.nothing) >> rest) mark (at_rest x)) is)
+
+  -- the tickets of a transaction go, and then none is open
+  pub closed-then : (before : PlayerView) (context : ContextView) (rest : Row Reply) (a b : S) →
+      Runs joins a (giving_up (of_transaction before.context.kept) before.context) (Ok tt, context) b →
+      Comes joins a before (play (end_transaction >> rest)) b (record { context = context; state = closed before.state }) (play rest)
+  closed-then before context rest a b run = record {
+    so = λ mark pause c after.
+        runs_bind joins (giving_up (of_transaction before.context.kept) before.context) (λ outcome. play (row.Set closed rest) mark (with_context (at_rest before) outcome.1)) a b c _ pause run after;
+  }
+
+  -- the session goes back to a savepoint
+  pub went-back : (name : List ℕ) (mark : Mark) (before : PlayerView) (context : ContextView) (a b : S) → savepoint_mark name before.state.savepoints ≡ Some mark →
+      Runs joins a (giving_up (beyond_mark mark before.context.kept) before.context) (Ok tt, context) b →
+      Comes joins a before (play (rollback_to name)) b (record { context = context; state = record before.state { savepoints = up_to name before.state.savepoints } }) (closing (Answers reply.Ok))
+  went-back name mark before context a b found run = record {
+    so = λ start pause c after.
+        subst (λ (o : Option Mark). Runs joins a (play (go_back name o) start (at_rest before)) pause c) (sym found)
+        (runs_bind joins (giving_up (beyond_mark mark before.context.kept) before.context)
+        (λ outcome. play (row.Set (λ state. record state { savepoints = up_to name state.savepoints }) (Give reply.Ok)) start (with_context (at_rest before) outcome.1)) a b c _ pause run after);
+  }
+
+  pub no-savepoint : (name : List ℕ) (before : PlayerView) (a : S) → savepoint_mark name before.state.savepoints ≡ None →
+      Comes joins a before (play (rollback_to name)) a before (closing (Answers (reply.Error NoSuchSavepoint)))
+  no-savepoint name before a none = record {
+    so = λ start pause c after.
+        subst (λ (o : Option Mark). Runs joins a (play (go_back name o) start (at_rest before)) pause c) (sym none) after;
+  }
+
+some-none : {A : Type 0} {x : A} → Some x ≡ None → ⊥
+some-none e = cc
+
+-- where there is no savepoint of a name, none goes
+pub all-kept : (name : List ℕ) (savepoints : List Savepoint) → savepoint_mark name savepoints ≡ None → up_to name savepoints ≡ savepoints
+all-kept name [] none = refl
+all-kept name (savepoint ∷ savepoints) none = go (is_named name savepoint) refl (all-kept name savepoints) where
+  go : (b : Bool) → is_named name savepoint ≡ b → (savepoint_mark name savepoints ≡ None → up_to name savepoints ≡ savepoints) → up_to name (savepoint ∷ savepoints) ≡ savepoint ∷ savepoints
+  go true named later = absurd (some-none (sym (ap (λ (t : Bool). option_map (λ (s : Savepoint). s.mark) (if t then Some savepoint else find (is_named name) savepoints)) named) ∙ none))
+  go false named later =
+      ap (λ (t : Bool). savepoint ∷ (if t then [] else up_to name savepoints)) named
+      ∙ ap (λ (more : List Savepoint). savepoint ∷ more) (later (sym (ap (λ (t : Bool). option_map (λ (s : Savepoint). s.mark) (if t then Some savepoint else find (is_named name) savepoints)) named) ∙ none))

@@ -1,0 +1,20 @@
+-- Each statement that has something left does it.
+use Rattle.std.proofs.Common.{refl, sym, subst}
+use Rattle.mdl_stmt.specs.declared.reply.Reply.TheVariants as reply
+use Rattle.mdl_stmt.specs.Rows.{Give}
+use Rattle.mdl_stmt.specs.Statements.{after_commit}
+use Rattle.mdl_stmt.proofs.CallLemmas.{comes-row}
+use Rattle.mdl_stmt.proofs.RowLemmas.{after-others}
+use Rattle.mdl_stmt.proofs.player.Player.after_commit.Goals as goal
+
+pub returns-in_default : goal.returns-in_default
+returns-in_default g c = record {
+  run = comes-row (after_commit c.args.statement.now) (Give reply.Ok) (after-others c.args.statement.now c.in_default.not-Begin c.in_default.not-CreateTable c.in_default.not-DropTables);
+  attends = c.requires.attends;
+  others = λ w other speaks. (speaks, refl, λ place key known. known);
+  who = refl;
+  idle = c.requires.idle;
+}
+
+pub returns-in-CreateTable-clause-run : goal.returns-in-CreateTable-clause-run
+returns-in-CreateTable-clause-run g c = rw c.in-CreateTable.is c.create.ensures.run

@@ -1,0 +1,39 @@
+-- Its tickets go; what it answers is how it ended.
+use Rattle.std.proofs.Common.{List, None, false, sym, subst}
+use Rattle.mdl_calls.specs.Words.{Runs}
+use Rattle.mdl_stmt.specs.declared.ending.Ending.{Ending}
+use Rattle.mdl_stmt.specs.declared.error_number.ErrorNumber.TheVariants.{Deadlock}
+use Rattle.mdl_stmt.specs.declared.reply.Reply.TheVariants as reply
+use Rattle.mdl_stmt.specs.declared.savepoint.Savepoint.{Savepoint}
+use Rattle.mdl_stmt.specs.Endings.{Ends, closing, ended, state_after}
+use Rattle.mdl_stmt.specs.Gets.{at_rest}
+use Rattle.mdl_stmt.specs.Sessions.{PlayerView, Session, player_of}
+use Rattle.mdl_stmt.specs.States.{closed}
+use Rattle.mdl_stmt.proofs.EndLemmas.{closes}
+use Rattle.mdl_stmt.proofs.player.Player.close.Goals as goal
+
+pub returns-in-Answers-clause-run : goal.returns-in-Answers-clause-run
+returns-in-Answers-clause-run g c =
+    let after : Ending → Session = λ e. record { context = c.let_go.new.self.context; state = state_after e c.let_go.new.self.state; left = None } in
+    subst (λ (e : Ending). Runs g.S.LockSpace.joins c.args.space.now (closing c.args.ending c.args.mark (at_rest c.args.self.now)) (ended e (after e)) c.let_go.new.space) c.in-Answers.is
+    (closes g.S.LockSpace.joins c.args.ending c.args.mark c.args.self.now c.let_go.new.self _ _ c.let_go.ensures.state c.let_go.ensures.run)
+
+pub returns-in-Misses-clause-run : goal.returns-in-Misses-clause-run
+returns-in-Misses-clause-run g c =
+    let after : Ending → Session = λ e. record { context = c.let_go.new.self.context; state = state_after e c.let_go.new.self.state; left = None } in
+    subst (λ (e : Ending). Runs g.S.LockSpace.joins c.args.space.now (closing c.args.ending c.args.mark (at_rest c.args.self.now)) (ended e (after e)) c.let_go.new.space) c.in-Misses.is
+    (closes g.S.LockSpace.joins c.args.ending c.args.mark c.args.self.now c.let_go.new.self _ _ c.let_go.ensures.state c.let_go.ensures.run)
+
+pub returns-in-Falls-clause-run : goal.returns-in-Falls-clause-run
+returns-in-Falls-clause-run g c =
+    let after : Ending → Session = λ e. record { context = c.let_go.new.self.context; state = state_after e c.let_go.new.self.state; left = None } in
+    subst (λ (s : List Savepoint). Runs g.S.LockSpace.joins c.args.space.now (closing c.args.ending c.args.mark (at_rest c.args.self.now)) (Ends (reply.Error Deadlock) (at_rest (player_of c.self.inside.context false false s))) c.let_go.new.space) (sym c.clear.ensures)
+    (subst (λ (p : PlayerView). Runs g.S.LockSpace.joins c.args.space.now (closing c.args.ending c.args.mark (at_rest c.args.self.now)) (Ends (reply.Error Deadlock) (record { context = p.context; state = closed p.state; left = None })) c.let_go.new.space) (sym c.self.view_is)
+    (subst (λ (e : Ending). Runs g.S.LockSpace.joins c.args.space.now (closing c.args.ending c.args.mark (at_rest c.args.self.now)) (ended e (after e)) c.let_go.new.space) c.in-Falls.is
+    (closes g.S.LockSpace.joins c.args.ending c.args.mark c.args.self.now c.let_go.new.self _ _ c.let_go.ensures.state c.let_go.ensures.run)))
+
+pub returns-in-Starves-clause-run : goal.returns-in-Starves-clause-run
+returns-in-Starves-clause-run g c =
+    let after : Ending → Session = λ e. record { context = c.let_go.new.self.context; state = state_after e c.let_go.new.self.state; left = None } in
+    subst (λ (e : Ending). Runs g.S.LockSpace.joins c.args.space.now (closing c.args.ending c.args.mark (at_rest c.args.self.now)) (ended e (after e)) c.let_go.new.space) c.in-Starves.is
+    (closes g.S.LockSpace.joins c.args.ending c.args.mark c.args.self.now c.let_go.new.self _ _ c.let_go.ensures.state c.let_go.ensures.run)

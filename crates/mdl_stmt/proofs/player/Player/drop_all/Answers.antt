@@ -1,0 +1,28 @@
+-- One table after the other is dropped.
+use Rattle.std.proofs.Common.{◌∙◌}
+use Rattle.std.proofs.Math.ListN.{drop_of_length-le}
+use Rattle.std.proofs.Math.Seq.{drop-cons}
+use Rattle.mdl_defs.specs.declared.change.Change.TheVariants as change
+use Rattle.mdl_stmt.specs.Rows.{redefine}
+use Rattle.mdl_stmt.proofs.DropLemmas.{leaves-then, each-done, each-ends, each-over}
+use Rattle.mdl_stmt.proofs.player.Player.drop_all.Goals as goal
+
+pub returns-in-Err-clause-run : goal.returns-in-Err-clause-run
+returns-in-Err-clause-run g c =
+    each-ends g.S.LockSpace.joins (λ ticket. redefine ticket change.Drop) c.args.tickets.now c.args.space.now c.args.self.now c.loop-ticket.ticket-index _ c.loop-ticket.space _ c.loop-ticket.self _ c.in-Err.ending
+    (drop-cons c.args.tickets.now c.loop-ticket.ticket-index 0 c.loop-ticket-test.true) c.loop-ticket.invariant.run (rw c.in-Err.is at c.redefine.ensures.run)
+
+pub loop-ticket-preserved : goal.loop-ticket-preserved
+loop-ticket-preserved g c = record {
+  attends = c.redefine.ensures.attends;
+  idle = c.redefine.ensures.idle;
+  who = c.redefine.ensures.who ∙ c.loop-ticket.invariant.who;
+  others = leaves-then g.S.LockSpace.speaks_for g.S.LockSpace.own g.S.LockSpace.knows c.args.self.now.context.who c.loop-ticket.self.context.who c.args.space.now c.loop-ticket.space c.redefine.new.space c.loop-ticket.invariant.who c.loop-ticket.invariant.others c.redefine.ensures.others;
+  run = each-done g.S.LockSpace.joins (λ ticket. redefine ticket change.Drop) c.args.tickets.now c.args.space.now c.args.self.now c.loop-ticket.ticket-index _ c.loop-ticket.space c.redefine.new.space c.loop-ticket.self c.redefine.new.self
+      (drop-cons c.args.tickets.now c.loop-ticket.ticket-index 0 c.loop-ticket-test.true) c.loop-ticket.invariant.run (rw c.in_default.is at c.redefine.ensures.run);
+}
+
+pub returns-clause-run : goal.returns-clause-run
+returns-clause-run g c =
+    each-over g.S.LockSpace.joins (λ ticket. redefine ticket change.Drop) c.args.tickets.now c.args.space.now c.args.self.now c.loop-ticket.ticket-index c.loop-ticket.space c.loop-ticket.self
+    (drop_of_length-le c.args.tickets.now c.loop-ticket-test.false) c.loop-ticket.invariant.run

@@ -1,0 +1,21 @@
+-- What was had so far comes to what is left to get.
+use Rattle.std.proofs.Common.{◌≡◌, ◌-◌, None, List, ℕ, length}
+use Rattle.mdl_context.specs.Contexts.{Attends, LeavesOthers}
+use Rattle.mdl_stmt.specs.declared.reply.Reply.{Reply}
+use Rattle.mdl_stmt.specs.Gets.{Comes}
+use Rattle.mdl_stmt.specs.Playing.{play}
+use Rattle.mdl_stmt.specs.Rows.{Row}
+use Rattle.mdl_stmt.specs.Stages.{lock_rest}
+use Rattle.mdl_stmt.proofs.player.Player.lock_all.Given as goal
+
+abbrev pub invariant-loop-key : goal.invariant-loop-key
+invariant-loop-key g l = record {
+  attends : Attends g.S.LockSpace.speaks_for g.S.LockSpace.own g.S.LockSpace.knows l.space l.self.context;
+  idle : l.self.context.wait ≡ None;
+  who : l.self.context.who ≡ l.fn.self.context.who;
+  others : LeavesOthers g.S.LockSpace.speaks_for g.S.LockSpace.own g.S.LockSpace.knows l.fn.self.context.who l.fn.space l.space;
+  run : (rest : List ℕ → Row Reply) → Comes g.S.LockSpace.joins l.fn.space l.fn.self (play (lock_rest l.fn.locks rest)) l.space l.self (play (lock_rest l.locks rest));
+}
+
+abbrev pub decreases-loop-key : goal.decreases-loop-key
+decreases-loop-key g l = length l.locks.keys - length l.locks.tickets

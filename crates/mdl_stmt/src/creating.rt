@@ -1,0 +1,219 @@
+//! CREATE TABLE.
+ghost use Rattle.std.specs.Prelude.{◌≡◌, None, IfOk};
+ghost use Rattle.mdl_context.specs.Contexts.{Attends, LeavesOthers};
+ghost use Rattle.mdl_stmt.specs.Gets.{IsPlayed, IsStep, IdleUnlessPlayed};
+ghost use Rattle.mdl_stmt.specs.Statements.{create_after_commit, lock_schema_and_create, lock_and_create, create_under, check_schema, check_new, make_table, schema_of};
+ghost use Rattle.mdl_stmt.specs.declared.ending.Played.TheVariants as played;
+
+use crate::ending::{Ending, Got, Played};
+use crate::player::Player;
+use crate::reading::failing;
+use crate::stage::Stage;
+use crate::{ErrorNumber, Reply};
+use mdl_context::Request;
+use mdl_defs::{Change, Columns, Definition};
+use mdl_key::{Duration, Key, KeyError, Mode};
+use mdl_space::{LockSpace, TicketId};
+use std::alloc::Global;
+
+// The most versions of what stands under a key.
+pub(crate) const MOST_VERSIONS: u64 = 1_000_000;
+
+impl<S: LockSpace> Player<S> {
+    /// Creates a table, once no transaction is open.
+    pub(crate) fn create<'s>(
+        &mut self,
+        space: &mut S,
+        table: &'s Key,
+        columns: &'s Columns,
+    ) -> Played<'s>
+        requires attends { Attends S.speaks_for S.own S.knows space.old self.old.context }
+        requires idle { self.old.context.wait ≡ None }
+        ensures run { IsPlayed S.joins (create_after_commit table.now columns.now) space.old self.old result space.new self.new }
+        ensures attends { Attends S.speaks_for S.own S.knows space.new self.new.context }
+        ensures others { LeavesOthers S.speaks_for S.own S.knows self.old.context.who space.old space.new }
+        ensures who { self.new.context.who ≡ self.old.context.who }
+        ensures idle { IdleUnlessPlayed result self.new }
+    {
+        let writes = Key::global(self.alloc);
+        let request = Request {
+            key: &writes,
+            mode: Mode::IX,
+            duration: Duration::Statement,
+        };
+        match self.get(space, request) {
+            Got::Had(_) => self.lock_schema_and_create(space, table, columns),
+            Got::Waits(key) => Played::Waits(key, Mode::IX, Stage::CreateGlobal(table, columns)),
+            Got::Ends(ending) => Played::Ends(ending),
+        }
+    }
+
+    /// Locks a table's schema, under the lock of all writes, and creates the table.
+    pub(crate) fn lock_schema_and_create<'s>(
+        &mut self,
+        space: &mut S,
+        table: &'s Key,
+        columns: &'s Columns,
+    ) -> Played<'s>
+        requires attends { Attends S.speaks_for S.own S.knows space.old self.old.context }
+        requires idle { self.old.context.wait ≡ None }
+        ensures run { IsPlayed S.joins (lock_schema_and_create table.now columns.now) space.old self.old result space.new self.new }
+        ensures attends { Attends S.speaks_for S.own S.knows space.new self.new.context }
+        ensures others { LeavesOthers S.speaks_for S.own S.knows self.old.context.who space.old space.new }
+        ensures who { self.new.context.who ≡ self.old.context.who }
+        ensures idle { IdleUnlessPlayed result self.new }
+    {
+        let Ok(schema) = schema_of(self.alloc, table) else {
+            return Played::Ends(Ending::Starves);
+        };
+        let request = Request {
+            key: &schema,
+            mode: Mode::IX,
+            duration: Duration::Transaction,
+        };
+        match self.get(space, request) {
+            Got::Had(over) => self.lock_and_create(space, table, columns, over),
+            Got::Waits(key) => Played::Waits(key, Mode::IX, Stage::CreateSchema(table, columns)),
+            Got::Ends(ending) => Played::Ends(ending),
+        }
+    }
+
+    /// Locks a table under its schema's lock, and creates it.
+    pub(crate) fn lock_and_create<'s>(
+        &mut self,
+        space: &mut S,
+        table: &'s Key,
+        columns: &'s Columns,
+        schema: TicketId,
+    ) -> Played<'s>
+        requires attends { Attends S.speaks_for S.own S.knows space.old self.old.context }
+        requires idle { self.old.context.wait ≡ None }
+        ensures run { IsPlayed S.joins (lock_and_create table.now columns.now schema) space.old self.old result space.new self.new }
+        ensures attends { Attends S.speaks_for S.own S.knows space.new self.new.context }
+        ensures others { LeavesOthers S.speaks_for S.own S.knows self.old.context.who space.old space.new }
+        ensures who { self.new.context.who ≡ self.old.context.who }
+        ensures idle { IdleUnlessPlayed result self.new }
+    {
+        let request = Request {
+            key: table,
+            mode: Mode::X,
+            duration: Duration::Transaction,
+        };
+        match self.get(space, request) {
+            Got::Had(ticket) => self.create_under(space, columns, schema, ticket),
+            Got::Waits(key) => Played::Waits(key, Mode::X, Stage::CreateTable(columns, schema)),
+            Got::Ends(ending) => Played::Ends(ending),
+        }
+    }
+
+    /// Creates a table under its lock and its schema's.
+    pub(crate) fn create_under<'s>(
+        &mut self,
+        space: &mut S,
+        columns: &Columns,
+        schema: TicketId,
+        ticket: TicketId,
+    ) -> Played<'s>
+        requires attends { Attends S.speaks_for S.own S.knows space.old self.old.context }
+        requires idle { self.old.context.wait ≡ None }
+        ensures run { IsPlayed S.joins (create_under columns.now schema ticket) space.old self.old result space.new self.new }
+        ensures attends { Attends S.speaks_for S.own S.knows space.new self.new.context }
+        ensures others { LeavesOthers S.speaks_for S.own S.knows self.old.context.who space.old space.new }
+        ensures who { self.new.context.who ≡ self.old.context.who }
+        ensures idle { IdleUnlessPlayed result self.new }
+    {
+        if let Err(ending) = self.check_schema(space, schema) {
+            return Played::Ends(ending);
+        }
+        if let Err(ending) = self.check_new(space, columns, ticket) {
+            return Played::Ends(ending);
+        }
+        match self.make_table(space, columns, ticket) {
+            Ok(()) => Played::Ends(Ending::Answers(Reply::Ok)),
+            Err(ending) => Played::Ends(ending),
+        }
+    }
+
+    /// Looks whether a schema is there.
+    fn check_schema(&mut self, space: &mut S, schema: TicketId) -> Result<(), Ending>
+        requires attends { Attends S.speaks_for S.own S.knows space.old self.old.context }
+        requires idle { self.old.context.wait ≡ None }
+        ensures run { IsStep S.joins (check_schema schema) space.old self.old result space.new self.new }
+        ensures attends { Attends S.speaks_for S.own S.knows space.new self.new.context }
+        ensures others { LeavesOthers S.speaks_for S.own S.knows self.old.context.who space.old space.new }
+        ensures who { self.new.context.who ≡ self.old.context.who }
+        ensures idle { self.new.context.wait ≡ None }
+    {
+        match self.read(space, schema) {
+            Ok(over) => {
+                if over.definition.is_none() {
+                    return Err(failing(ErrorNumber::UnknownDatabase));
+                }
+                Ok(())
+            }
+            Err(ending) => Err(ending),
+        }
+    }
+
+    /// Looks whether a table can be created.
+    fn check_new(
+        &mut self,
+        space: &mut S,
+        columns: &Columns,
+        ticket: TicketId,
+    ) -> Result<(), Ending>
+        requires attends { Attends S.speaks_for S.own S.knows space.old self.old.context }
+        requires idle { self.old.context.wait ≡ None }
+        ensures run { IsStep S.joins (check_new columns.now ticket) space.old self.old result space.new self.new }
+        ensures attends { Attends S.speaks_for S.own S.knows space.new self.new.context }
+        ensures others { LeavesOthers S.speaks_for S.own S.knows self.old.context.who space.old space.new }
+        ensures who { self.new.context.who ≡ self.old.context.who }
+        ensures idle { self.new.context.wait ≡ None }
+    {
+        let standing = match self.read(space, ticket) {
+            Ok(standing) => standing,
+            Err(ending) => return Err(ending),
+        };
+        if standing.definition.is_some() {
+            return Err(failing(ErrorNumber::TableExists));
+        }
+        if columns.names_twice() {
+            return Err(failing(ErrorNumber::DuplicateColumn));
+        }
+        if standing.version >= MOST_VERSIONS {
+            return Err(failing(ErrorNumber::VersionLimit));
+        }
+        Ok(())
+    }
+
+    /// Lets a table stand.
+    fn make_table(
+        &mut self,
+        space: &mut S,
+        columns: &Columns,
+        ticket: TicketId,
+    ) -> Result<(), Ending>
+        requires attends { Attends S.speaks_for S.own S.knows space.old self.old.context }
+        requires idle { self.old.context.wait ≡ None }
+        ensures run { IsStep S.joins (make_table columns.now ticket) space.old self.old result space.new self.new }
+        ensures attends { Attends S.speaks_for S.own S.knows space.new self.new.context }
+        ensures others { LeavesOthers S.speaks_for S.own S.knows self.old.context.who space.old space.new }
+        ensures who { self.new.context.who ≡ self.old.context.who }
+        ensures idle { self.new.context.wait ≡ None }
+    {
+        match columns.clone() {
+            Ok(columns) => {
+                let change = Change::Create(Definition::Table(columns));
+                self.redefine(space, ticket, &change)
+            }
+            Err(_) => Err(Ending::Starves),
+        }
+    }
+}
+
+/// The key of a table's schema. It is refused only for want of memory: a table's schema has a name.
+pub(crate) fn schema_of(alloc: Global, table: &Key) -> Result<Key, KeyError>
+    ensures { IfOk result (λ key. key ≡ schema_of table.now) }
+{
+    Key::schema(alloc, table.schema_name())
+}

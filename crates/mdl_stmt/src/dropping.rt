@@ -1,0 +1,256 @@
+//! DROP TABLE.
+ghost use Rattle.std.specs.Prelude.{◌≡◌, ◌<◌, ◌∷◌, ◌++◌, None, map, length};
+ghost use Rattle.mdl_context.specs.Contexts.{Attends, LeavesOthers};
+ghost use Rattle.mdl_defs.specs.declared.change.Change.TheVariants as change;
+ghost use Rattle.mdl_stmt.specs.Gets.{IsPlayed, IsStep, IsListed, IdleUnlessPlayed, IdleUnlessListed};
+ghost use Rattle.mdl_stmt.specs.Rows.{acquire_all, for_each, redefine};
+ghost use Rattle.mdl_stmt.specs.Stages.{lock_rest};
+ghost use Rattle.mdl_stmt.specs.Statements.{ddl_lock, drop_after_commit, lock_and_drop, drop_under, can_change, stands};
+
+use crate::creating::MOST_VERSIONS;
+use crate::ending::{Ending, Got, Listed, Played};
+use crate::key_lists::{in_key_order, scopes_of};
+use crate::player::Player;
+use crate::reading::failing;
+use crate::stage::{LockList, Stage};
+use crate::{ErrorNumber, Reply};
+use mdl_context::Request;
+use mdl_defs::Change;
+use mdl_key::{Duration, Key, Mode, Namespace};
+use mdl_space::{LockSpace, TicketId};
+use mdl_syntax::Tables;
+
+impl<S: LockSpace> Player<S> {
+    /// Drops tables, once no transaction is open.
+    pub(crate) fn drop_tables<'s>(&mut self, space: &mut S, tables: &'s Tables) -> Played<'s>
+        requires attends { Attends S.speaks_for S.own S.knows space.old self.old.context }
+        requires idle { self.old.context.wait ≡ None }
+        ensures run { IsPlayed S.joins (drop_after_commit tables.now) space.old self.old result space.new self.new }
+        ensures attends { Attends S.speaks_for S.own S.knows space.new self.new.context }
+        ensures others { LeavesOthers S.speaks_for S.own S.knows self.old.context.who space.old space.new }
+        ensures who { self.new.context.who ≡ self.old.context.who }
+        ensures idle { IdleUnlessPlayed result self.new }
+    {
+        match scopes_of(self.alloc, tables.as_slice()) {
+            Ok(locks) => self.lock_scopes(space, tables, locks),
+            Err(_) => Played::Ends(Ending::Starves),
+        }
+    }
+
+    /// Gets the locks of all writes and of the tables' schemas that are left, and drops the tables.
+    pub(crate) fn lock_scopes<'s>(
+        &mut self,
+        space: &mut S,
+        tables: &'s Tables,
+        locks: LockList,
+    ) -> Played<'s>
+        requires attends { Attends S.speaks_for S.own S.knows space.old self.old.context }
+        requires idle { self.old.context.wait ≡ None }
+        ensures run { IsPlayed S.joins (lock_rest locks (λ scopes. lock_and_drop tables.now)) space.old self.old result space.new self.new }
+        ensures attends { Attends S.speaks_for S.own S.knows space.new self.new.context }
+        ensures others { LeavesOthers S.speaks_for S.own S.knows self.old.context.who space.old space.new }
+        ensures who { self.new.context.who ≡ self.old.context.who }
+        ensures idle { IdleUnlessPlayed result self.new }
+    {
+        match self.lock_all(space, locks) {
+            Listed::Had(_) => self.lock_and_drop(space, tables),
+            Listed::Waits(key, mode, locks) => {
+                Played::Waits(key, mode, Stage::DropScopes(tables, locks))
+            }
+            Listed::Ends(ending) => Played::Ends(ending),
+        }
+    }
+
+    /// Locks tables under the locks of their schemas, and drops them.
+    pub(crate) fn lock_and_drop<'s>(&mut self, space: &mut S, tables: &'s Tables) -> Played<'s>
+        requires attends { Attends S.speaks_for S.own S.knows space.old self.old.context }
+        requires idle { self.old.context.wait ≡ None }
+        ensures run { IsPlayed S.joins (lock_and_drop tables.now) space.old self.old result space.new self.new }
+        ensures attends { Attends S.speaks_for S.own S.knows space.new self.new.context }
+        ensures others { LeavesOthers S.speaks_for S.own S.knows self.old.context.who space.old space.new }
+        ensures who { self.new.context.who ≡ self.old.context.who }
+        ensures idle { IdleUnlessPlayed result self.new }
+    {
+        match in_key_order(self.alloc, tables.as_slice()) {
+            Ok(locks) => self.lock_tables(space, locks),
+            Err(_) => Played::Ends(Ending::Starves),
+        }
+    }
+
+    /// Gets the locks of tables that are left, and drops the tables.
+    pub(crate) fn lock_tables<'s>(&mut self, space: &mut S, locks: LockList) -> Played<'s>
+        requires attends { Attends S.speaks_for S.own S.knows space.old self.old.context }
+        requires idle { self.old.context.wait ≡ None }
+        ensures run { IsPlayed S.joins (lock_rest locks drop_under) space.old self.old result space.new self.new }
+        ensures attends { Attends S.speaks_for S.own S.knows space.new self.new.context }
+        ensures others { LeavesOthers S.speaks_for S.own S.knows self.old.context.who space.old space.new }
+        ensures who { self.new.context.who ≡ self.old.context.who }
+        ensures idle { IdleUnlessPlayed result self.new }
+    {
+        match self.lock_all(space, locks) {
+            Listed::Had(locks) => self.drop_under(space, locks.tickets()),
+            Listed::Waits(key, mode, locks) => Played::Waits(key, mode, Stage::DropTables(locks)),
+            Listed::Ends(ending) => Played::Ends(ending),
+        }
+    }
+
+    /// Gets the locks that are left of a list.
+    fn lock_all(&mut self, space: &mut S, locks: LockList) -> Listed
+        requires attends { Attends S.speaks_for S.own S.knows space.old self.old.context }
+        requires idle { self.old.context.wait ≡ None }
+        ensures run { IsListed S.joins locks space.old self.old result space.new self.new }
+        ensures attends { Attends S.speaks_for S.own S.knows space.new self.new.context }
+        ensures others { LeavesOthers S.speaks_for S.own S.knows self.old.context.who space.old space.new }
+        ensures who { self.new.context.who ≡ self.old.context.who }
+        ensures idle { IdleUnlessListed result self.new }
+    {
+        let mut locks = locks;
+        while let Some(key) = locks.next() {
+            let mode = ddl_mode(key);
+            let request = Request {
+                key,
+                mode,
+                duration: ddl_duration(key),
+            };
+            match self.get(space, request) {
+                Got::Had(ticket) => locks = locks.with(ticket),
+                Got::Waits(key) => return Listed::Waits(key, mode, locks),
+                Got::Ends(ending) => return Listed::Ends(ending),
+            }
+        }
+        Listed::Had(locks)
+    }
+
+    /// Drops tables under their locks: all, or none where one is missing.
+    fn drop_under<'s>(&mut self, space: &mut S, tickets: &[TicketId]) -> Played<'s>
+        requires attends { Attends S.speaks_for S.own S.knows space.old self.old.context }
+        requires idle { self.old.context.wait ≡ None }
+        ensures run { IsPlayed S.joins (drop_under tickets.now) space.old self.old result space.new self.new }
+        ensures attends { Attends S.speaks_for S.own S.knows space.new self.new.context }
+        ensures others { LeavesOthers S.speaks_for S.own S.knows self.old.context.who space.old space.new }
+        ensures who { self.new.context.who ≡ self.old.context.who }
+        ensures idle { IdleUnlessPlayed result self.new }
+    {
+        if let Err(ending) = self.all_stand(space, tickets) {
+            return Played::Ends(ending);
+        }
+        if let Err(ending) = self.all_can_change(space, tickets) {
+            return Played::Ends(ending);
+        }
+        match self.drop_all(space, tickets) {
+            Ok(()) => Played::Ends(Ending::Answers(Reply::Ok)),
+            Err(ending) => Played::Ends(ending),
+        }
+    }
+
+    /// Looks whether there are all these tables.
+    fn all_stand(&mut self, space: &mut S, tickets: &[TicketId]) -> Result<(), Ending>
+        requires attends { Attends S.speaks_for S.own S.knows space.old self.old.context }
+        requires idle { self.old.context.wait ≡ None }
+        ensures run { IsStep S.joins (for_each stands tickets.now) space.old self.old result space.new self.new }
+        ensures attends { Attends S.speaks_for S.own S.knows space.new self.new.context }
+        ensures others { LeavesOthers S.speaks_for S.own S.knows self.old.context.who space.old space.new }
+        ensures who { self.new.context.who ≡ self.old.context.who }
+        ensures idle { self.new.context.wait ≡ None }
+    {
+        for ticket in tickets {
+            if let Err(ending) = self.stands(space, *ticket) {
+                return Err(ending);
+            }
+        }
+        Ok(())
+    }
+
+    /// Looks whether there is such a table.
+    fn stands(&mut self, space: &mut S, ticket: TicketId) -> Result<(), Ending>
+        requires attends { Attends S.speaks_for S.own S.knows space.old self.old.context }
+        requires idle { self.old.context.wait ≡ None }
+        ensures run { IsStep S.joins (stands ticket) space.old self.old result space.new self.new }
+        ensures attends { Attends S.speaks_for S.own S.knows space.new self.new.context }
+        ensures others { LeavesOthers S.speaks_for S.own S.knows self.old.context.who space.old space.new }
+        ensures who { self.new.context.who ≡ self.old.context.who }
+        ensures idle { self.new.context.wait ≡ None }
+    {
+        match self.exists(space, ticket) {
+            Ok(_) => Ok(()),
+            Err(ending) => Err(ending),
+        }
+    }
+
+    /// Looks whether all these tables can be changed once more.
+    fn all_can_change(&mut self, space: &mut S, tickets: &[TicketId]) -> Result<(), Ending>
+        requires attends { Attends S.speaks_for S.own S.knows space.old self.old.context }
+        requires idle { self.old.context.wait ≡ None }
+        ensures run { IsStep S.joins (for_each can_change tickets.now) space.old self.old result space.new self.new }
+        ensures attends { Attends S.speaks_for S.own S.knows space.new self.new.context }
+        ensures others { LeavesOthers S.speaks_for S.own S.knows self.old.context.who space.old space.new }
+        ensures who { self.new.context.who ≡ self.old.context.who }
+        ensures idle { self.new.context.wait ≡ None }
+    {
+        for ticket in tickets {
+            if let Err(ending) = self.can_change(space, *ticket) {
+                return Err(ending);
+            }
+        }
+        Ok(())
+    }
+
+    /// Looks whether a table can be changed once more.
+    fn can_change(&mut self, space: &mut S, ticket: TicketId) -> Result<(), Ending>
+        requires attends { Attends S.speaks_for S.own S.knows space.old self.old.context }
+        requires idle { self.old.context.wait ≡ None }
+        ensures run { IsStep S.joins (can_change ticket) space.old self.old result space.new self.new }
+        ensures attends { Attends S.speaks_for S.own S.knows space.new self.new.context }
+        ensures others { LeavesOthers S.speaks_for S.own S.knows self.old.context.who space.old space.new }
+        ensures who { self.new.context.who ≡ self.old.context.who }
+        ensures idle { self.new.context.wait ≡ None }
+    {
+        match self.read(space, ticket) {
+            Ok(standing) => {
+                if standing.version >= MOST_VERSIONS {
+                    return Err(failing(ErrorNumber::VersionLimit));
+                }
+                Ok(())
+            }
+            Err(ending) => Err(ending),
+        }
+    }
+
+    /// Lets none of these tables stand.
+    fn drop_all(&mut self, space: &mut S, tickets: &[TicketId]) -> Result<(), Ending>
+        requires attends { Attends S.speaks_for S.own S.knows space.old self.old.context }
+        requires idle { self.old.context.wait ≡ None }
+        ensures run { IsStep S.joins (for_each (λ ticket. redefine ticket change.Drop) tickets.now) space.old self.old result space.new self.new }
+        ensures attends { Attends S.speaks_for S.own S.knows space.new self.new.context }
+        ensures others { LeavesOthers S.speaks_for S.own S.knows self.old.context.who space.old space.new }
+        ensures who { self.new.context.who ≡ self.old.context.who }
+        ensures idle { self.new.context.wait ≡ None }
+    {
+        for ticket in tickets {
+            if let Err(ending) = self.redefine(space, *ticket, &Change::Drop) {
+                return Err(ending);
+            }
+        }
+        Ok(())
+    }
+}
+
+/// The mode in which DDL locks a key.
+fn ddl_mode(key: &Key) -> Mode
+    ensures { result ≡ (ddl_lock key.now).mode }
+{
+    match key.namespace() {
+        Namespace::Table => Mode::X,
+        _ => Mode::IX,
+    }
+}
+
+/// For how long DDL locks a key.
+fn ddl_duration(key: &Key) -> Duration
+    ensures { result ≡ (ddl_lock key.now).duration }
+{
+    match key.namespace() {
+        Namespace::Global => Duration::Statement,
+        _ => Duration::Transaction,
+    }
+}

@@ -1,0 +1,158 @@
+//! Statements performed, gone on with and ended.
+ghost use Rattle.std.specs.Prelude.{◌≡◌, None, Ok};
+ghost use Rattle.mdl_calls.specs.Words.{Runs};
+ghost use Rattle.mdl_context.specs.Contexts.{Attends, LeavesOthers};
+ghost use Rattle.mdl_context.specs.Releases.{giving_up};
+ghost use Rattle.mdl_stmt.specs.Endings.{closing, gone_at};
+ghost use Rattle.mdl_stmt.specs.Gets.{at_rest, ran, IsPlayed, IdleUnlessPlayed};
+ghost use Rattle.mdl_stmt.specs.Stages.{rest_of};
+ghost use Rattle.mdl_stmt.specs.Statements.{row_of, ddl_first, after_commit};
+
+use crate::ending::{Ending, Played};
+use crate::player::Player;
+use crate::stage::Stage;
+use crate::{ErrorNumber, OutOfMemory, Progress, Reply};
+use mdl_context::Mark;
+use mdl_space::{LockSpace, TicketId};
+use mdl_syntax::Statement;
+
+impl<S: LockSpace> Player<S> {
+    /// Performs a statement, up to its end or to a wait.
+    pub(crate) fn perform<'s>(&mut self, space: &mut S, statement: &'s Statement) -> Played<'s>
+        requires attends { Attends S.speaks_for S.own S.knows space.old self.old.context }
+        requires idle { self.old.context.wait ≡ None }
+        ensures run { IsPlayed S.joins (row_of statement.now) space.old self.old result space.new self.new }
+        ensures attends { Attends S.speaks_for S.own S.knows space.new self.new.context }
+        ensures others { LeavesOthers S.speaks_for S.own S.knows self.old.context.who space.old space.new }
+        ensures who { self.new.context.who ≡ self.old.context.who }
+        ensures idle { IdleUnlessPlayed result self.new }
+    {
+        match statement {
+            Statement::Begin => self.commit_first(space, statement),
+            Statement::Commit => self.commit_first(space, statement),
+            Statement::CreateTable { .. } => self.define(space, statement),
+            Statement::DropTables(_) => self.define(space, statement),
+            Statement::Rollback => {
+                self.rollback(space);
+                Played::Ends(Ending::Answers(Reply::Ok))
+            }
+            Statement::Savepoint(name) => Played::Ends(self.save(space, name)),
+            Statement::RollbackTo(name) => Played::Ends(self.rollback_to(space, name)),
+            Statement::Select(tables) => self.select(space, tables.as_slice()),
+            Statement::Write { table, priority } => self.write(space, table, *priority),
+            Statement::KillQuery(target) => {
+                self.kill(space, *target);
+                Played::Ends(Ending::Answers(Reply::Ok))
+            }
+            Statement::Timeout => Played::Ends(Ending::Answers(Reply::Ok)),
+        }
+    }
+
+    // Performs a statement that changes definitions. No transaction is open when it does.
+    fn define<'s>(&mut self, space: &mut S, statement: &'s Statement) -> Played<'s>
+        requires attends { Attends S.speaks_for S.own S.knows space.old self.old.context }
+        requires idle { self.old.context.wait ≡ None }
+        ensures run { IsPlayed S.joins (ddl_first (after_commit statement.now)) space.old self.old result space.new self.new }
+        ensures attends { Attends S.speaks_for S.own S.knows space.new self.new.context }
+        ensures others { LeavesOthers S.speaks_for S.own S.knows self.old.context.who space.old space.new }
+        ensures who { self.new.context.who ≡ self.old.context.who }
+        ensures idle { IdleUnlessPlayed result self.new }
+    {
+        if self.is_open {
+            return self.commit_first(space, statement);
+        }
+        self.after_commit(space, statement)
+    }
+
+    /// Goes on with a statement that has the lock that it waited for, up to its end or to the next wait.
+    pub(crate) fn proceed<'s>(
+        &mut self,
+        space: &mut S,
+        stage: Stage<'s>,
+        ticket: TicketId,
+    ) -> Played<'s>
+        requires attends { Attends S.speaks_for S.own S.knows space.old self.old.context }
+        requires idle { self.old.context.wait ≡ None }
+        ensures run { IsPlayed S.joins (rest_of stage.entry ticket) space.old self.old result space.new self.new }
+        ensures attends { Attends S.speaks_for S.own S.knows space.new self.new.context }
+        ensures others { LeavesOthers S.speaks_for S.own S.knows self.old.context.who space.old space.new }
+        ensures who { self.new.context.who ≡ self.old.context.who }
+        ensures idle { IdleUnlessPlayed result self.new }
+    {
+        match stage {
+            Stage::Commit(statement) => {
+                self.end_under(space, ticket);
+                self.after_commit(space, statement)
+            }
+            Stage::Show(tables, at, shown) => self.show_next(space, shown, tables, at, ticket),
+            Stage::WriteGlobal(table, priority) => self.lock_and_write(space, table, priority),
+            Stage::WriteTable => self.write_under(space, ticket),
+            Stage::CommitWrite => {
+                self.end_under(space, ticket);
+                Played::Ends(Ending::Answers(Reply::Ok))
+            }
+            Stage::CreateGlobal(table, columns) => {
+                self.lock_schema_and_create(space, table, columns)
+            }
+            Stage::CreateSchema(table, columns) => {
+                self.lock_and_create(space, table, columns, ticket)
+            }
+            Stage::CreateTable(columns, schema) => {
+                self.create_under(space, columns, schema, ticket)
+            }
+            Stage::DropScopes(tables, locks) => {
+                self.lock_scopes(space, tables, locks.with(ticket))
+            }
+            Stage::DropTables(locks) => self.lock_tables(space, locks.with(ticket)),
+        }
+    }
+
+    /// Ends a statement.
+    pub(crate) fn close(
+        &mut self,
+        space: &mut S,
+        ending: Ending,
+        mark: Mark,
+    ) -> Result<Progress, OutOfMemory>
+        requires attends { Attends S.speaks_for S.own S.knows space.old self.old.context }
+        requires idle { self.old.context.wait ≡ None }
+        ensures run { Runs S.joins space.old (closing ending mark (at_rest self.old)) (ran result (at_rest self.new)) space.new }
+        ensures attends { Attends S.speaks_for S.own S.knows space.new self.new.context }
+        ensures others { LeavesOthers S.speaks_for S.own S.knows self.old.context.who space.old space.new }
+        ensures who { self.new.context.who ≡ self.old.context.who }
+        ensures idle { self.new.context.wait ≡ None }
+    {
+        self.let_go(space, &ending, mark);
+        match ending {
+            Ending::Answers(reply) => Ok(Progress::Done(reply)),
+            Ending::Misses(number) => Ok(Progress::Done(Reply::Error(number))),
+            Ending::Falls => {
+                self.is_open = false;
+                self.has_written = false;
+                self.savepoints.clear();
+                Ok(Progress::Done(Reply::Error(ErrorNumber::Deadlock)))
+            }
+            Ending::Starves => Err(OutOfMemory),
+        }
+    }
+
+    /// Lets the tickets go that go as a statement ends.
+    fn let_go(&mut self, space: &mut S, ending: &Ending, mark: Mark)
+        requires attends { Attends S.speaks_for S.own S.knows space.old self.old.context }
+        requires idle { self.old.context.wait ≡ None }
+        ensures run { Runs S.joins space.old (giving_up (gone_at ending.now self.old.state.is_open mark self.old.context.kept) self.old.context) (Ok tt, self.new.context) space.new }
+        ensures attends { Attends S.speaks_for S.own S.knows space.new self.new.context }
+        ensures others { LeavesOthers S.speaks_for S.own S.knows self.old.context.who space.old space.new }
+        ensures who { self.new.context.who ≡ self.old.context.who }
+        ensures idle { self.new.context.wait ≡ None }
+        ensures state { self.new.state ≡ self.old.state }
+    {
+        match ending {
+            Ending::Answers(_) if self.is_open => self.context.finish_statement(space),
+            Ending::Misses(_) | Ending::Starves if self.is_open => {
+                self.context.return_to(space, mark)
+            }
+            _ => self.context.finish_transaction(space),
+        }
+    }
+}

@@ -1,0 +1,116 @@
+//! What a session is asked for, one thing after the other.
+ghost use Rattle.std.specs.Prelude.{◌≡◌, None, []};
+ghost use Rattle.mdl_context.specs.Contexts.{Attends, LeavesOthers};
+ghost use Rattle.mdl_context.specs.Wishes.{Wish, wish_of};
+ghost use Rattle.mdl_stmt.specs.Endings.{closing, ending_of_error, ending_of_refusal, ending_of_loss};
+ghost use Rattle.mdl_stmt.specs.Gets.{at_rest, IsGot, IsTold, IdleUnlessGot};
+ghost use Rattle.mdl_stmt.specs.States.{at_first};
+
+use crate::ErrorNumber;
+use crate::ending::{Ending, Got};
+use crate::savepoint::Savepoints;
+use mdl_context::{Acquire, Context, ContextError, Request};
+use mdl_key::Key;
+use mdl_space::{LockSpace, Settled, SpaceError, TicketId};
+use std::alloc::Global;
+use std::marker::Model;
+
+/// A session's tickets, and its transaction.
+#[derive(Drop)]
+pub(crate) struct Player<S: LockSpace> {
+    pub(crate) alloc: Global,
+    pub(crate) context: Context<S>,
+    pub(crate) is_open: bool,
+    pub(crate) has_written: bool,
+    pub(crate) savepoints: Savepoints,
+}
+
+impl<S: LockSpace> Model for Player<S> {
+    ghost use Rattle.mdl_stmt.specs.Sessions.{PlayerView, player_of};
+
+    ghost Value = { PlayerView };
+
+    ghost view = { λ player. player_of player.context player.is_open player.has_written player.savepoints };
+}
+
+impl<S: LockSpace> Player<S> {
+    /// A session that has done nothing. It takes no memory.
+    pub(crate) fn new(alloc: Global, who: u16) -> Player<S>
+        ensures { result ≡ record { context = record { who = who; kept = []; known = []; wait = None }; state = at_first } }
+    {
+        Player {
+            alloc,
+            context: Context::new(alloc, who),
+            is_open: false,
+            has_written: false,
+            savepoints: Savepoints::new(alloc),
+        }
+    }
+
+    /// Asks for a lock.
+    pub(crate) fn get(&mut self, space: &mut S, request: Request<'_>) -> Got<TicketId>
+        requires attends { Attends S.speaks_for S.own S.knows space.old self.old.context }
+        requires idle { self.old.context.wait ≡ None }
+        ensures run { IsGot S.joins (wish_of request.entry) space.old self.old result space.new self.new }
+        ensures attends { Attends S.speaks_for S.own S.knows space.new self.new.context }
+        ensures others { LeavesOthers S.speaks_for S.own S.knows self.old.context.who space.old space.new }
+        ensures who { self.new.context.who ≡ self.old.context.who }
+        ensures idle { IdleUnlessGot result self.new }
+    {
+        match self.context.acquire(space, request) {
+            Ok(Acquire::Acquired(id)) => Got::Had(id),
+            Ok(Acquire::MustWait(_)) => self.tell_wait(space, request.key),
+            Err(error) => Got::Ends(ending_of_error(error)),
+        }
+    }
+
+    /// Tells that a wait has begun, or gives it up where there is no memory for that.
+    fn tell_wait(&mut self, space: &mut S, key: &Key) -> Got<TicketId>
+        requires attends { Attends S.speaks_for S.own S.knows space.old self.old.context }
+        ensures run { IsTold S.joins key.now space.old self.old result space.new self.new }
+        ensures attends { Attends S.speaks_for S.own S.knows space.new self.new.context }
+        ensures others { LeavesOthers S.speaks_for S.own S.knows self.old.context.who space.old space.new }
+        ensures who { self.new.context.who ≡ self.old.context.who }
+        ensures idle { IdleUnlessGot result self.new }
+    {
+        match key.clone() {
+            Ok(key) => Got::Waits(key),
+            Err(_) => {
+                let _ended = self.context.give_up(space);
+                Got::Ends(Ending::Starves)
+            }
+        }
+    }
+}
+
+/// How a statement ends that a lock space refuses something.
+pub(crate) fn ending_of_refusal(refusal: SpaceError) -> Ending
+    ensures { result ≡ ending_of_refusal refusal }
+{
+    match refusal {
+        SpaceError::OutOfMemory => Ending::Starves,
+        SpaceError::NoPlace => Ending::Misses(ErrorNumber::NoPlace),
+        _ => Ending::Misses(ErrorNumber::Full),
+    }
+}
+
+/// The same, where a context was asked.
+pub(crate) fn ending_of_error(error: ContextError) -> Ending
+    ensures { result ≡ ending_of_error error }
+{
+    match error {
+        ContextError::Space(refusal) => ending_of_refusal(refusal),
+        _ => Ending::Misses(ErrorNumber::Full),
+    }
+}
+
+/// How a statement ends whose wait was lost.
+pub(crate) fn ending_of_loss(how: Settled) -> Ending
+    ensures { result ≡ ending_of_loss how }
+{
+    match how {
+        Settled::Timeout => Ending::Misses(ErrorNumber::LockWaitTimeout),
+        Settled::Killed => Ending::Misses(ErrorNumber::Interrupted),
+        _ => Ending::Falls,
+    }
+}

@@ -1,0 +1,155 @@
+//! What a session reads, changes and kills.
+ghost use Rattle.std.specs.Prelude.{◌≡◌, ◌++◌, ◌∷◌, [], None, Ok, MatchResult};
+ghost use Rattle.mdl_context.specs.Contexts.{Attends, LeavesOthers};
+ghost use Rattle.mdl_stmt.specs.Gets.{IsStep};
+ghost use Rattle.mdl_stmt.specs.Rows.{read, redefine, kill};
+ghost use Rattle.mdl_stmt.specs.Statements.{columns_of, exists, show};
+ghost use Rattle.mdl_stmt.specs.declared.ending.Ending.TheVariants.{Answers, Starves};
+ghost use Rattle.mdl_stmt.specs.declared.reply.Reply.TheVariants.{Error};
+
+use crate::ending::Ending;
+use crate::player::{Player, ending_of_refusal};
+use crate::{ErrorNumber, Reply, TableShown, TablesShown};
+use mdl_defs::{Change, Columns, Definition, Standing};
+use mdl_key::Key;
+use mdl_space::{LockSpace, TicketId};
+use std::alloc::Global;
+
+/// The end of a statement that fails a check.
+pub(crate) fn failing(number: ErrorNumber) -> Ending
+    ensures { result ≡ Answers (Error number) }
+{
+    Ending::Answers(Reply::Error(number))
+}
+
+impl<S: LockSpace> Player<S> {
+    /// What stands under the key of a ticket.
+    pub(crate) fn read(&mut self, space: &mut S, ticket: TicketId) -> Result<Standing, Ending>
+        requires attends { Attends S.speaks_for S.own S.knows space.old self.old.context }
+        requires idle { self.old.context.wait ≡ None }
+        ensures run { IsStep S.joins (read ticket) space.old self.old result space.new self.new }
+        ensures attends { Attends S.speaks_for S.own S.knows space.new self.new.context }
+        ensures others { LeavesOthers S.speaks_for S.own S.knows self.old.context.who space.old space.new }
+        ensures who { self.new.context.who ≡ self.old.context.who }
+        ensures idle { self.new.context.wait ≡ None }
+    {
+        match space.read_definition(self.context.who(), ticket) {
+            Ok(standing) => Ok(standing),
+            Err(refusal) => Err(ending_of_refusal(refusal)),
+        }
+    }
+
+    /// Changes what stands under the key of a ticket.
+    pub(crate) fn redefine(
+        &mut self,
+        space: &mut S,
+        ticket: TicketId,
+        change: &Change,
+    ) -> Result<(), Ending>
+        requires attends { Attends S.speaks_for S.own S.knows space.old self.old.context }
+        requires idle { self.old.context.wait ≡ None }
+        ensures run { IsStep S.joins (redefine ticket change.now) space.old self.old result space.new self.new }
+        ensures attends { Attends S.speaks_for S.own S.knows space.new self.new.context }
+        ensures others { LeavesOthers S.speaks_for S.own S.knows self.old.context.who space.old space.new }
+        ensures who { self.new.context.who ≡ self.old.context.who }
+        ensures idle { self.new.context.wait ≡ None }
+    {
+        match space.change_definition(self.context.who(), ticket, change) {
+            Ok(_) => Ok(()),
+            Err(refusal) => Err(ending_of_refusal(refusal)),
+        }
+    }
+
+    /// Kills the wait that a session has.
+    pub(crate) fn kill(&mut self, space: &mut S, target: u16)
+        requires attends { Attends S.speaks_for S.own S.knows space.old self.old.context }
+        requires idle { self.old.context.wait ≡ None }
+        ensures run { IsStep S.joins (kill target) space.old self.old (Ok tt) space.new self.new }
+        ensures attends { Attends S.speaks_for S.own S.knows space.new self.new.context }
+        ensures others { LeavesOthers S.speaks_for S.own S.knows self.old.context.who space.old space.new }
+        ensures who { self.new.context.who ≡ self.old.context.who }
+        ensures idle { self.new.context.wait ≡ None }
+    {
+        if let Some(number) = space.wait_of(target) {
+            space.kill(target, number);
+        }
+    }
+
+    /// What stands under the key of a table's ticket, if there is such a table.
+    pub(crate) fn exists(&mut self, space: &mut S, ticket: TicketId) -> Result<Standing, Ending>
+        requires attends { Attends S.speaks_for S.own S.knows space.old self.old.context }
+        requires idle { self.old.context.wait ≡ None }
+        ensures run { IsStep S.joins (exists ticket) space.old self.old result space.new self.new }
+        ensures attends { Attends S.speaks_for S.own S.knows space.new self.new.context }
+        ensures others { LeavesOthers S.speaks_for S.own S.knows self.old.context.who space.old space.new }
+        ensures who { self.new.context.who ≡ self.old.context.who }
+        ensures idle { self.new.context.wait ≡ None }
+    {
+        let standing = match self.read(space, ticket) {
+            Ok(standing) => standing,
+            Err(ending) => return Err(ending),
+        };
+        if standing.definition.is_none() {
+            return Err(failing(ErrorNumber::NoSuchTable));
+        }
+        Ok(standing)
+    }
+
+    /// Shows a table behind others.
+    pub(crate) fn show(
+        &mut self,
+        space: &mut S,
+        shown: TablesShown,
+        table: &Key,
+        ticket: TicketId,
+    ) -> Result<TablesShown, Ending>
+        requires attends { Attends S.speaks_for S.own S.knows space.old self.old.context }
+        requires idle { self.old.context.wait ≡ None }
+        ensures run { IsStep S.joins (show shown table.now ticket) space.old self.old result space.new self.new }
+        ensures attends { Attends S.speaks_for S.own S.knows space.new self.new.context }
+        ensures others { LeavesOthers S.speaks_for S.own S.knows self.old.context.who space.old space.new }
+        ensures who { self.new.context.who ≡ self.old.context.who }
+        ensures idle { self.new.context.wait ≡ None }
+    {
+        let standing = match self.exists(space, ticket) {
+            Ok(standing) => standing,
+            Err(ending) => return Err(ending),
+        };
+        shown_behind(self.alloc, shown, table, standing)
+    }
+}
+
+/// The columns of a table.
+fn columns_of(alloc: Global, definition: Option<Definition>) -> Columns
+    ensures { result ≡ columns_of definition }
+{
+    match definition {
+        Some(Definition::Table(columns)) => columns,
+        _ => Columns::new(alloc),
+    }
+}
+
+/// A table behind others, unless there is no memory.
+fn shown_behind(
+    alloc: Global,
+    mut shown: TablesShown,
+    table: &Key,
+    standing: Standing,
+) -> Result<TablesShown, Ending>
+    ensures { MatchResult result
+        (λ more. more ≡ shown ++ record { key = table.now; version = standing.version; columns = columns_of standing.definition } ∷ [])
+        (λ ending. ending ≡ Starves) }
+{
+    let Ok(key) = table.clone() else {
+        return Err(Ending::Starves);
+    };
+    let table = TableShown {
+        key,
+        version: standing.version,
+        columns: columns_of(alloc, standing.definition),
+    };
+    match shown.push(table) {
+        Ok(()) => Ok(shown),
+        Err(_) => Err(Ending::Starves),
+    }
+}

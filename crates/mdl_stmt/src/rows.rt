@@ -1,0 +1,199 @@
+//! SELECT, and INSERT, UPDATE and DELETE.
+ghost use Rattle.std.specs.Prelude.{◌≡◌, None, drop};
+ghost use Rattle.mdl_context.specs.Contexts.{Attends, LeavesOthers};
+ghost use Rattle.mdl_stmt.specs.Gets.{IsPlayed, IdleUnlessPlayed};
+ghost use Rattle.mdl_stmt.specs.Stages.{show_next};
+ghost use Rattle.mdl_stmt.specs.Statements.{lock_to_read, select, show_all, write, write_mode, write_under, wrote, lock_and_write};
+
+use crate::ending::{Ending, Got, Played};
+use crate::player::Player;
+use crate::stage::Stage;
+use crate::{Reply, TablesShown};
+use mdl_context::Request;
+use mdl_key::{Duration, Key, Mode};
+use mdl_space::{LockSpace, TicketId};
+use mdl_syntax::Priority;
+
+impl<S: LockSpace> Player<S> {
+    /// Reads tables, each under its lock.
+    pub(crate) fn select<'s>(&mut self, space: &mut S, tables: &'s [Key]) -> Played<'s>
+        requires attends { Attends S.speaks_for S.own S.knows space.old self.old.context }
+        requires idle { self.old.context.wait ≡ None }
+        ensures run { IsPlayed S.joins (select tables.now) space.old self.old result space.new self.new }
+        ensures attends { Attends S.speaks_for S.own S.knows space.new self.new.context }
+        ensures others { LeavesOthers S.speaks_for S.own S.knows self.old.context.who space.old space.new }
+        ensures who { self.new.context.who ≡ self.old.context.who }
+        ensures idle { IdleUnlessPlayed result self.new }
+    {
+        let shown = TablesShown::new(self.alloc);
+        self.show_from(space, shown, tables, 0)
+    }
+
+    /// Locks and shows each of these tables from one on, behind those that were shown.
+    pub(crate) fn show_from<'s>(
+        &mut self,
+        space: &mut S,
+        shown: TablesShown,
+        tables: &'s [Key],
+        from: usize,
+    ) -> Played<'s>
+        requires attends { Attends S.speaks_for S.own S.knows space.old self.old.context }
+        requires idle { self.old.context.wait ≡ None }
+        ensures run { IsPlayed S.joins (show_all lock_to_read shown (drop from tables.now)) space.old self.old result space.new self.new }
+        ensures attends { Attends S.speaks_for S.own S.knows space.new self.new.context }
+        ensures others { LeavesOthers S.speaks_for S.own S.knows self.old.context.who space.old space.new }
+        ensures who { self.new.context.who ≡ self.old.context.who }
+        ensures idle { IdleUnlessPlayed result self.new }
+    {
+        let mut shown = shown;
+        for at in from..tables.len() {
+            let table = &tables[at];
+            let request = Request {
+                key: table,
+                mode: Mode::SR,
+                duration: Duration::Transaction,
+            };
+            let ticket = match self.get(space, request) {
+                Got::Had(ticket) => ticket,
+                Got::Waits(key) => {
+                    return Played::Waits(key, Mode::SR, Stage::Show(tables, at, shown));
+                }
+                Got::Ends(ending) => return Played::Ends(ending),
+            };
+            shown = match self.show(space, shown, table, ticket) {
+                Ok(more) => more,
+                Err(ending) => return Played::Ends(ending),
+            };
+        }
+        Played::Ends(Ending::Answers(Reply::Columns(shown)))
+    }
+
+    /// Shows the table at this place among these, whose lock is had, and then the others.
+    pub(crate) fn show_next<'s>(
+        &mut self,
+        space: &mut S,
+        shown: TablesShown,
+        tables: &'s [Key],
+        at: usize,
+        ticket: TicketId,
+    ) -> Played<'s>
+        requires attends { Attends S.speaks_for S.own S.knows space.old self.old.context }
+        requires idle { self.old.context.wait ≡ None }
+        ensures run { IsPlayed S.joins (show_next shown (drop at tables.now) ticket) space.old self.old result space.new self.new }
+        ensures attends { Attends S.speaks_for S.own S.knows space.new self.new.context }
+        ensures others { LeavesOthers S.speaks_for S.own S.knows self.old.context.who space.old space.new }
+        ensures who { self.new.context.who ≡ self.old.context.who }
+        ensures idle { IdleUnlessPlayed result self.new }
+    {
+        if at >= tables.len() {
+            return Played::Ends(Ending::Answers(Reply::Columns(shown)));
+        }
+        match self.show(space, shown, &tables[at], ticket) {
+            Ok(more) => self.show_from(space, more, tables, at + 1),
+            Err(ending) => Played::Ends(ending),
+        }
+    }
+
+    /// Writes to a table.
+    pub(crate) fn write<'s>(
+        &mut self,
+        space: &mut S,
+        table: &'s Key,
+        priority: Priority,
+    ) -> Played<'s>
+        requires attends { Attends S.speaks_for S.own S.knows space.old self.old.context }
+        requires idle { self.old.context.wait ≡ None }
+        ensures run { IsPlayed S.joins (write table.now priority) space.old self.old result space.new self.new }
+        ensures attends { Attends S.speaks_for S.own S.knows space.new self.new.context }
+        ensures others { LeavesOthers S.speaks_for S.own S.knows self.old.context.who space.old space.new }
+        ensures who { self.new.context.who ≡ self.old.context.who }
+        ensures idle { IdleUnlessPlayed result self.new }
+    {
+        let writes = Key::global(self.alloc);
+        let request = Request {
+            key: &writes,
+            mode: Mode::IX,
+            duration: Duration::Statement,
+        };
+        match self.get(space, request) {
+            Got::Had(_) => self.lock_and_write(space, table, priority),
+            Got::Waits(key) => Played::Waits(key, Mode::IX, Stage::WriteGlobal(table, priority)),
+            Got::Ends(ending) => Played::Ends(ending),
+        }
+    }
+
+    /// Locks a table and writes to it, under the lock of all writes.
+    pub(crate) fn lock_and_write<'s>(
+        &mut self,
+        space: &mut S,
+        table: &'s Key,
+        priority: Priority,
+    ) -> Played<'s>
+        requires attends { Attends S.speaks_for S.own S.knows space.old self.old.context }
+        requires idle { self.old.context.wait ≡ None }
+        ensures run { IsPlayed S.joins (lock_and_write table.now priority) space.old self.old result space.new self.new }
+        ensures attends { Attends S.speaks_for S.own S.knows space.new self.new.context }
+        ensures others { LeavesOthers S.speaks_for S.own S.knows self.old.context.who space.old space.new }
+        ensures who { self.new.context.who ≡ self.old.context.who }
+        ensures idle { IdleUnlessPlayed result self.new }
+    {
+        let mode = write_mode(priority);
+        let request = Request {
+            key: table,
+            mode,
+            duration: Duration::Transaction,
+        };
+        match self.get(space, request) {
+            Got::Had(ticket) => self.write_under(space, ticket),
+            Got::Waits(key) => Played::Waits(key, mode, Stage::WriteTable),
+            Got::Ends(ending) => Played::Ends(ending),
+        }
+    }
+
+    /// Writes to a table under its lock.
+    pub(crate) fn write_under<'s>(&mut self, space: &mut S, ticket: TicketId) -> Played<'s>
+        requires attends { Attends S.speaks_for S.own S.knows space.old self.old.context }
+        requires idle { self.old.context.wait ≡ None }
+        ensures run { IsPlayed S.joins (write_under ticket) space.old self.old result space.new self.new }
+        ensures attends { Attends S.speaks_for S.own S.knows space.new self.new.context }
+        ensures others { LeavesOthers S.speaks_for S.own S.knows self.old.context.who space.old space.new }
+        ensures who { self.new.context.who ≡ self.old.context.who }
+        ensures idle { IdleUnlessPlayed result self.new }
+    {
+        match self.exists(space, ticket) {
+            Ok(_) => self.wrote(space),
+            Err(ending) => Played::Ends(ending),
+        }
+    }
+
+    /// Notes that the transaction wrote, or commits a write that is a transaction of its own.
+    fn wrote<'s>(&mut self, space: &mut S) -> Played<'s>
+        requires attends { Attends S.speaks_for S.own S.knows space.old self.old.context }
+        requires idle { self.old.context.wait ≡ None }
+        ensures run { IsPlayed S.joins wrote space.old self.old result space.new self.new }
+        ensures attends { Attends S.speaks_for S.own S.knows space.new self.new.context }
+        ensures others { LeavesOthers S.speaks_for S.own S.knows self.old.context.who space.old space.new }
+        ensures who { self.new.context.who ≡ self.old.context.who }
+        ensures idle { IdleUnlessPlayed result self.new }
+    {
+        if self.is_open {
+            self.has_written = true;
+            return Played::Ends(Ending::Answers(Reply::Ok));
+        }
+        match self.commit_writes(space) {
+            Got::Had(()) => Played::Ends(Ending::Answers(Reply::Ok)),
+            Got::Waits(key) => Played::Waits(key, Mode::IX, Stage::CommitWrite),
+            Got::Ends(ending) => Played::Ends(ending),
+        }
+    }
+}
+
+/// The mode of a write.
+fn write_mode(priority: Priority) -> Mode
+    ensures { result ≡ write_mode priority }
+{
+    match priority {
+        Priority::Normal => Mode::SW,
+        Priority::Low => Mode::SWLP,
+    }
+}

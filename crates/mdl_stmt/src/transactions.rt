@@ -1,0 +1,185 @@
+//! Transactions: their beginnings, savepoints and ends.
+ghost use Rattle.std.specs.Prelude.{◌≡◌, None, Ok};
+ghost use Rattle.mdl_context.specs.Contexts.{Attends, LeavesOthers};
+ghost use Rattle.mdl_stmt.specs.Gets.{IsStep, IsCommitted, IsPlayed, IdleUnlessGot, IdleUnlessPlayed};
+ghost use Rattle.mdl_stmt.specs.declared.ending.Played.TheVariants as played;
+ghost use Rattle.mdl_stmt.specs.Statements.{end_transaction, end_under, commit, commit_writes, rollback, save, rollback_to, after_commit, commit_first};
+
+use crate::ending::{Ending, Got, Played};
+use crate::player::Player;
+use crate::stage::Stage;
+use crate::{ErrorNumber, Reply};
+use mdl_context::Request;
+use mdl_key::{Duration, Key, Mode};
+use mdl_space::{LockSpace, TicketId};
+use mdl_syntax::{Name, Statement};
+
+impl<S: LockSpace> Player<S> {
+    /// Ends the transaction: its tickets go, and those of the statement.
+    pub(crate) fn end_transaction(&mut self, space: &mut S)
+        requires attends { Attends S.speaks_for S.own S.knows space.old self.old.context }
+        requires idle { self.old.context.wait ≡ None }
+        ensures run { IsStep S.joins end_transaction space.old self.old (Ok tt) space.new self.new }
+        ensures attends { Attends S.speaks_for S.own S.knows space.new self.new.context }
+        ensures others { LeavesOthers S.speaks_for S.own S.knows self.old.context.who space.old space.new }
+        ensures who { self.new.context.who ≡ self.old.context.who }
+        ensures idle { self.new.context.wait ≡ None }
+    {
+        self.context.finish_transaction(space);
+        self.is_open = false;
+        self.has_written = false;
+        self.savepoints.clear();
+    }
+
+    /// Ends the transaction under the COMMIT lock, which goes then.
+    pub(crate) fn end_under(&mut self, space: &mut S, lock: TicketId)
+        requires attends { Attends S.speaks_for S.own S.knows space.old self.old.context }
+        requires idle { self.old.context.wait ≡ None }
+        ensures run { IsStep S.joins (end_under lock) space.old self.old (Ok tt) space.new self.new }
+        ensures attends { Attends S.speaks_for S.own S.knows space.new self.new.context }
+        ensures others { LeavesOthers S.speaks_for S.own S.knows self.old.context.who space.old space.new }
+        ensures who { self.new.context.who ≡ self.old.context.who }
+        ensures idle { self.new.context.wait ≡ None }
+    {
+        self.end_transaction(space);
+        let _released = self.context.release(space, lock);
+    }
+
+    /// Commits a transaction that wrote.
+    pub(crate) fn commit_writes(&mut self, space: &mut S) -> Got<()>
+        requires attends { Attends S.speaks_for S.own S.knows space.old self.old.context }
+        requires idle { self.old.context.wait ≡ None }
+        ensures run { IsCommitted S.joins commit_writes space.old self.old result space.new self.new }
+        ensures attends { Attends S.speaks_for S.own S.knows space.new self.new.context }
+        ensures others { LeavesOthers S.speaks_for S.own S.knows self.old.context.who space.old space.new }
+        ensures who { self.new.context.who ≡ self.old.context.who }
+        ensures idle { IdleUnlessGot result self.new }
+    {
+        let key = Key::commit(self.alloc);
+        let request = Request {
+            key: &key,
+            mode: Mode::IX,
+            duration: Duration::Explicit,
+        };
+        match self.get(space, request) {
+            Got::Had(lock) => {
+                self.end_under(space, lock);
+                Got::Had(())
+            }
+            Got::Waits(key) => Got::Waits(key),
+            Got::Ends(ending) => Got::Ends(ending),
+        }
+    }
+
+    /// Commits an open transaction.
+    fn commit(&mut self, space: &mut S) -> Got<()>
+        requires attends { Attends S.speaks_for S.own S.knows space.old self.old.context }
+        requires idle { self.old.context.wait ≡ None }
+        ensures run { IsCommitted S.joins commit space.old self.old result space.new self.new }
+        ensures attends { Attends S.speaks_for S.own S.knows space.new self.new.context }
+        ensures others { LeavesOthers S.speaks_for S.own S.knows self.old.context.who space.old space.new }
+        ensures who { self.new.context.who ≡ self.old.context.who }
+        ensures idle { IdleUnlessGot result self.new }
+    {
+        if !self.is_open {
+            return Got::Had(());
+        }
+        if self.has_written {
+            return self.commit_writes(space);
+        }
+        self.end_transaction(space);
+        Got::Had(())
+    }
+
+    /// Commits an open transaction, and then does what is left of the statement.
+    pub(crate) fn commit_first<'s>(&mut self, space: &mut S, statement: &'s Statement) -> Played<'s>
+        requires attends { Attends S.speaks_for S.own S.knows space.old self.old.context }
+        requires idle { self.old.context.wait ≡ None }
+        ensures run { IsPlayed S.joins (commit_first (after_commit statement.now)) space.old self.old result space.new self.new }
+        ensures attends { Attends S.speaks_for S.own S.knows space.new self.new.context }
+        ensures others { LeavesOthers S.speaks_for S.own S.knows self.old.context.who space.old space.new }
+        ensures who { self.new.context.who ≡ self.old.context.who }
+        ensures idle { IdleUnlessPlayed result self.new }
+    {
+        match self.commit(space) {
+            Got::Had(()) => self.after_commit(space, statement),
+            Got::Waits(key) => Played::Waits(key, Mode::IX, Stage::Commit(statement)),
+            Got::Ends(ending) => Played::Ends(ending),
+        }
+    }
+
+    /// Does what is left of a statement once the transaction that was open is committed.
+    pub(crate) fn after_commit<'s>(&mut self, space: &mut S, statement: &'s Statement) -> Played<'s>
+        requires attends { Attends S.speaks_for S.own S.knows space.old self.old.context }
+        requires idle { self.old.context.wait ≡ None }
+        ensures run { IsPlayed S.joins (after_commit statement.now) space.old self.old result space.new self.new }
+        ensures attends { Attends S.speaks_for S.own S.knows space.new self.new.context }
+        ensures others { LeavesOthers S.speaks_for S.own S.knows self.old.context.who space.old space.new }
+        ensures who { self.new.context.who ≡ self.old.context.who }
+        ensures idle { IdleUnlessPlayed result self.new }
+    {
+        match statement {
+            Statement::Begin => {
+                self.is_open = true;
+                Played::Ends(Ending::Answers(Reply::Ok))
+            }
+            Statement::CreateTable { table, columns } => self.create(space, table, columns),
+            Statement::DropTables(tables) => self.drop_tables(space, tables),
+            _ => Played::Ends(Ending::Answers(Reply::Ok)),
+        }
+    }
+
+    /// Rolls an open transaction back.
+    pub(crate) fn rollback(&mut self, space: &mut S)
+        requires attends { Attends S.speaks_for S.own S.knows space.old self.old.context }
+        requires idle { self.old.context.wait ≡ None }
+        ensures run { IsStep S.joins rollback space.old self.old (Ok tt) space.new self.new }
+        ensures attends { Attends S.speaks_for S.own S.knows space.new self.new.context }
+        ensures others { LeavesOthers S.speaks_for S.own S.knows self.old.context.who space.old space.new }
+        ensures who { self.new.context.who ≡ self.old.context.who }
+        ensures idle { self.new.context.wait ≡ None }
+    {
+        if self.is_open {
+            self.end_transaction(space);
+        }
+    }
+
+    /// Marks the session's place in an open transaction by a name.
+    pub(crate) fn save(&mut self, space: &mut S, name: &Name) -> Ending
+        requires attends { Attends S.speaks_for S.own S.knows space.old self.old.context }
+        requires idle { self.old.context.wait ≡ None }
+        ensures run { IsPlayed S.joins (save name.now) space.old self.old (played.Ends result) space.new self.new }
+        ensures attends { Attends S.speaks_for S.own S.knows space.new self.new.context }
+        ensures others { LeavesOthers S.speaks_for S.own S.knows self.old.context.who space.old space.new }
+        ensures who { self.new.context.who ≡ self.old.context.who }
+        ensures idle { self.new.context.wait ≡ None }
+    {
+        if !self.is_open {
+            return Ending::Answers(Reply::Ok);
+        }
+        let mark = self.context.savepoint();
+        match self.savepoints.save(name, mark) {
+            Ok(()) => Ending::Answers(Reply::Ok),
+            Err(_) => Ending::Starves,
+        }
+    }
+
+    /// Goes back to the savepoint of a name.
+    pub(crate) fn rollback_to(&mut self, space: &mut S, name: &Name) -> Ending
+        requires attends { Attends S.speaks_for S.own S.knows space.old self.old.context }
+        requires idle { self.old.context.wait ≡ None }
+        ensures run { IsPlayed S.joins (rollback_to name.now) space.old self.old (played.Ends result) space.new self.new }
+        ensures attends { Attends S.speaks_for S.own S.knows space.new self.new.context }
+        ensures others { LeavesOthers S.speaks_for S.own S.knows self.old.context.who space.old space.new }
+        ensures who { self.new.context.who ≡ self.old.context.who }
+        ensures idle { self.new.context.wait ≡ None }
+    {
+        match self.savepoints.go_back(name) {
+            Some(mark) => {
+                self.context.return_to(space, mark);
+                Ending::Answers(Reply::Ok)
+            }
+            None => Ending::Answers(Reply::Error(ErrorNumber::NoSuchSavepoint)),
+        }
+    }
+}
