@@ -76,13 +76,20 @@ own_closing ending mark session =
 
 -- ---- locks
 
+own_untold : (mark : Mark) (session : Session) (outcome : Outcome Resume) → IsOwn outcome.1.who (playing.untold mark session outcome)
+own_untold mark session (Ok (resume.Acquired id), context) =
+    own_bind {A = Unit {0}} context.who (releasing id context) (λ outcome. closing Starves mark (with_context session outcome.1))
+    (own_releasing id context) (of_releasing id context) (λ outcome. own_closing Starves mark (with_context session outcome.1))
+own_untold mark session (Ok resume.Waiting, context) = own_closing Starves mark (with_context session context)
+own_untold mark session (Ok (resume.Lost how), context) = own_closing Starves mark (with_context session context)
+own_untold mark session (Err error, context) = own_closing Starves mark (with_context session context)
+
 own_waiting : (wish : Wish) (left : Left) (session : Session) → IsOwn session.context.who (playing.beginning_to_wait wish left session)
 own_waiting wish left session =
-    let starves = λ (outcome : Outcome Resume). closing Starves left.mark (with_context session outcome.1) in
     let waits = Begins_to_wait wish.key wish.mode (playing.with_left session left) in
-    own_grow session.context.who (giving_up_wait session.context >>= starves) (Give waits)
-    (own_bind {A = Resume} session.context.who (giving_up_wait session.context) starves (own_giving_up_wait session.context)
-    (of_giving_up_wait session.context) (λ outcome. own_closing Starves left.mark (with_context session outcome.1))) (own_give waits)
+    own_grow session.context.who (giving_up_wait session.context >>= playing.untold left.mark session) (Give waits)
+    (own_bind {A = Resume} session.context.who (giving_up_wait session.context) (playing.untold left.mark session) (own_giving_up_wait session.context)
+    (of_giving_up_wait session.context) (own_untold left.mark session)) (own_give waits)
 
 own_acquired : (wish : Wish) (rest : ℕ → Row Reply) (mark : Mark) (session : Session) (more : ℕ → Session → Program Pause) →
     ((id : ℕ) (after : Session) → IsOwn after.context.who (more id after)) → (outcome : Outcome Acquire) →

@@ -55,10 +55,17 @@ each_starves mark session =
 -- ---- locks
 
 -- a wait whose key can't be told is given up
+each_untold : (mark : Mark) (session : Session) (outcome : Outcome Resume) → Each IsFault (playing.untold mark session outcome)
+each_untold mark session (Ok (resume.Acquired id), context) =
+    each_then {A = Outcome (Unit {0})} {B = Pause} IsFault (releasing id context) (λ outcome. closing Starves mark (with_context session outcome.1))
+    (λ outcome. each_starves mark (with_context session outcome.1))
+each_untold mark session (Ok resume.Waiting, context) = each_starves mark (with_context session context)
+each_untold mark session (Ok (resume.Lost how), context) = each_starves mark (with_context session context)
+each_untold mark session (Err error, context) = each_starves mark (with_context session context)
+
 faithful_waiting : (wish : Wish) (left : Left) (session : Session) → IsFaithful IsFault (playing.beginning_to_wait wish left session)
 faithful_waiting wish left session = (
-  each_then {A = Outcome Resume} {B = Pause} IsFault (giving_up_wait session.context)
-      (λ outcome. closing Starves left.mark (with_context session outcome.1)) (λ outcome. each_starves left.mark (with_context session outcome.1)),
+  each_then {A = Outcome Resume} {B = Pause} IsFault (giving_up_wait session.context) (playing.untold left.mark session) (each_untold left.mark session),
   tt,
 )
 

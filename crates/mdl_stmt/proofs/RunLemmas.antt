@@ -1,5 +1,5 @@
 -- How what a session does comes to the next thing, one thing after the other.
-use Rattle.std.proofs.Common.{◌≡◌, ℕ, Bool, if◌then◌else◌, List, Option, Some, None, Result, Ok, Err, refl, sym, ap, ◌∙◌, subst, inl, inr, true, false}
+use Rattle.std.proofs.Common.{◌≡◌, ℕ, Bool, absurd, if◌then◌else◌, List, Option, Some, None, Result, Ok, Err, refl, sym, ap, ◌∙◌, subst, inl, inr, true, false}
 use Rattle.mdl_key.specs.declared.mode.Mode.{Mode}
 use Rattle.mdl_key.specs.declared.mode.Mode.TheVariants.{IX}
 use Rattle.mdl_key.specs.declared.mode.Duration.TheVariants.{Explicit}
@@ -11,9 +11,12 @@ use Rattle.mdl_context.specs.declared.context_error.ContextError.{ContextError}
 use Rattle.mdl_context.specs.declared.kept.Kept.{Kept}
 use Rattle.mdl_context.specs.declared.request.Acquire.TheVariants as acquire
 use Rattle.mdl_context.specs.declared.request.Mark.{Mark}
+use Rattle.mdl_context.specs.declared.request.Resume.{Resume}
+use Rattle.mdl_context.specs.declared.request.Resume.TheVariants as resume
 use Rattle.mdl_context.specs.Contexts.{ContextView, of_transaction, beyond_mark}
 use Rattle.mdl_context.specs.Releases.{giving_up, releasing}
 use Rattle.mdl_context.specs.Requests.{acquiring}
+use Rattle.mdl_context.specs.Waits.{giving_up_wait}
 use Rattle.mdl_context.specs.Wishes.{Wish}
 use Rattle.mdl_stmt.specs.declared.ending.Ending.{Ending}
 use Rattle.mdl_stmt.specs.declared.ending.Got.{Got}
@@ -22,14 +25,14 @@ use Rattle.mdl_stmt.specs.declared.ending.Got.TheVariants as got
 use Rattle.mdl_stmt.specs.declared.ending.Played.{Played}
 use Rattle.mdl_stmt.specs.declared.ending.Played.TheVariants as played
 use Rattle.mdl_stmt.specs.declared.reply.Reply.{Reply}
-use Rattle.mdl_stmt.specs.Endings.{Pause, Begins_to_wait, ending_of_error, closing}
+use Rattle.mdl_stmt.specs.Endings.{Pause, Begins_to_wait, ending_of_error, closing, ended, gone_at, state_after}
 use Rattle.std.specs.Prelude.{[], ◌∷◌, find}
 use Rattle.std.specs.Option.{option_map}
-use Rattle.mdl_stmt.specs.declared.ending.Ending.TheVariants.{Answers}
+use Rattle.mdl_stmt.specs.declared.ending.Ending.TheVariants.{Answers, Starves}
 use Rattle.mdl_stmt.specs.declared.error_number.ErrorNumber.TheVariants.{NoSuchSavepoint}
 use Rattle.mdl_stmt.specs.declared.savepoint.Savepoint.{Savepoint}
-use Rattle.mdl_stmt.specs.Gets.{Comes, Waits, IsGot, IsStep, IsTold, IsCommitted, IsPlayed, at_rest}
-use Rattle.mdl_stmt.specs.Playing.{play, acquired, with_context, with_left}
+use Rattle.mdl_stmt.specs.Gets.{Comes, Waits, IsDropped, IsGot, IsStep, IsTold, IsCommitted, IsPlayed, at_rest}
+use Rattle.mdl_stmt.specs.Playing.{play, acquired, untold, with_context, with_left}
 use Rattle.mdl_stmt.specs.Rows.{Row, Act, Give, ◌>>◌, ◌>>=◌}
 use Rattle.mdl_stmt.specs.Rows as row
 use Rattle.mdl_stmt.specs.Sessions.{PlayerView, Session}
@@ -86,6 +89,33 @@ module _ {S : Type 0} (joins : S → Call → Answer → S → Type 0) where
   }
 
   -- a wait has begun
+  -- a wait was given up: with its ticket, or without
+  pub dropped-held : (before : PlayerView) (id : ℕ) (held released : ContextView) (result : Result (Unit {0}) ContextError) (a b c : S) →
+      Runs joins a (giving_up_wait before.context) (Ok (resume.Acquired id), held) b → Runs joins b (releasing id held) (result, released) c →
+      IsDropped joins a before c (record before { context = released })
+  dropped-held before id held released result a b c gave gone = record {
+    so = λ mark pause d ended.
+        runs_bind joins (giving_up_wait before.context) (untold mark (at_rest before)) a b d _ pause gave
+        (runs_bind joins (releasing id held) (λ outcome. closing Starves mark (with_context (at_rest before) outcome.1)) b c d _ pause gone ended);
+  }
+
+  pub dropped-lost : (before : PlayerView) (result : Result Resume ContextError) (context : ContextView) (a b : S) →
+      ((id : ℕ) → result ≡ Ok (resume.Acquired id) → ⊥) → Runs joins a (giving_up_wait before.context) (result, context) b →
+      IsDropped joins a before b (record before { context = context })
+  dropped-lost before (Ok resume.Waiting) context a b lost gave = record {
+    so = λ mark pause d ended.
+        runs_bind joins (giving_up_wait before.context) (untold mark (at_rest before)) a b d _ pause gave ended;
+  }
+  dropped-lost before (Ok (resume.Acquired id)) context a b lost gave = absurd (lost id refl)
+  dropped-lost before (Ok (resume.Lost how)) context a b lost gave = record {
+    so = λ mark pause d ended.
+        runs_bind joins (giving_up_wait before.context) (untold mark (at_rest before)) a b d _ pause gave ended;
+  }
+  dropped-lost before (Err error) context a b lost gave = record {
+    so = λ mark pause d ended.
+        runs_bind joins (giving_up_wait before.context) (untold mark (at_rest before)) a b d _ pause gave ended;
+  }
+
   pub got-told : (wish : Wish) (before : PlayerView) (number : ℕ) (context : ContextView) (told : Got ℕ) (after : PlayerView) (a b c : S) →
       Runs joins a (acquiring wish before.context) (Ok (acquire.MustWait number), context) b →
       IsTold joins wish.key b (record before { context = context }) told c after → IsGot joins wish a before told c after
@@ -101,7 +131,7 @@ module _ {S : Type 0} (joins : S → Call → Answer → S → Type 0) where
   got-told wish before number context (got.Ends ending) after a b c run (starves, told) = λ rest. record {
     so = λ mark pause s ended.
         runs_bind joins (acquiring wish before.context) (acquired wish rest mark (at_rest before) (λ id after. play (rest id) mark after)) a b s _ pause run
-        (inl (told pause s mark (subst (λ e. Runs joins c (closing e mark (at_rest after)) pause s) starves ended)));
+        (inl (told.so mark pause s (subst (λ e. Runs joins c (closing e mark (at_rest after)) pause s) starves ended)));
   }
 
   -- tickets go

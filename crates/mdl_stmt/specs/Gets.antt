@@ -23,7 +23,7 @@ use Rattle.mdl_stmt.specs.declared.reply.Progress.TheVariants.{Waiting, Pending,
 use Rattle.mdl_stmt.specs.declared.reply.Reply.{Reply}
 use Rattle.mdl_stmt.specs.Endings.{Pause, Ends, Begins_to_wait, Waits_on, Faults, closing}
 use Rattle.mdl_stmt.specs.LockLists.{LockList, with_ticket}
-use Rattle.mdl_stmt.specs.Playing.{play, with_context, with_left}
+use Rattle.mdl_stmt.specs.Playing.{play, untold, with_left}
 use Rattle.mdl_stmt.specs.Rows.{Row, Act, Acquire, ◌>>=◌, ◌>>◌}
 use Rattle.mdl_stmt.specs.Sessions.{PlayerView, Session}
 use Rattle.mdl_stmt.specs.Stages.{lock_rest, rest_of}
@@ -78,14 +78,16 @@ abbrev pub IdleUnlessPlayed : Played → PlayerView → Type 0
 IdleUnlessPlayed (played.Ends ending) player = player.context.wait ≡ None
 IdleUnlessPlayed (played.Waits key mode stage) player = Unit {0}
 
--- a wait has begun, and the statement is to be told
+-- a wait that can't be told was given up, and the statement is to end for want of memory
+pub record IsDropped {S : Type 0} (joins : S → Call → Answer → S → Type 0) (a : S) (before : PlayerView) (b : S) (after : PlayerView) : Type 0 where
+  pub so : (mark : Mark) (pause : Pause) (c : S) → Runs joins b (closing Starves mark (at_rest after)) pause c
+      → Runs joins a (call.◌>>=◌ (giving_up_wait before.context) (untold mark (at_rest before))) pause c
+
+-- a wait has begun, and is to be told
 abbrev pub IsTold : {S : Type 0} → (S → Call → Answer → S → Type 0) → KeyName → S → PlayerView → Got ℕ → S → PlayerView → Type 0
 IsTold {S} joins key a before (Had id) b after = ⊥
 IsTold {S} joins key a before (got.Waits other) b after = (other ≡ key) × (a ≡ b) × (after ≡ before)
-IsTold {S} joins key a before (got.Ends ending) b after =
-    (ending ≡ Starves)
-    × ((pause : Pause) (c : S) (mark : Mark) → Runs joins b (closing Starves mark (at_rest after)) pause c
-    → Runs joins a (call.◌>>=◌ (giving_up_wait before.context) (λ outcome. closing Starves mark (with_context (at_rest before) outcome.1))) pause c)
+IsTold {S} joins key a before (got.Ends ending) b after = (ending ≡ Starves) × IsDropped joins a before b after
 
 -- a transaction was committed: it is over, its lock is waited for, or the statement is to end
 abbrev pub IsCommitted : {S : Type 0} → (S → Call → Answer → S → Type 0) → Act → S → PlayerView → Got (Unit {0}) → S → PlayerView → Type 0

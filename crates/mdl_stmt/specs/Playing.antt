@@ -34,11 +34,19 @@ with_context session context = record session { context = context }
 abbrev pub with_left : Session → Left → Session
 with_left session left = record session { left = Some left }
 
--- a wait has begun: its key is told, which takes memory; where there is none the wait is given up, and the statement ends
+-- a wait that can't be told was given up: a ticket that it had gained is released, and the statement ends
+abbrev pub untold : Mark → Session → Outcome Resume → Program Pause
+untold mark session (Ok (resume.Acquired id), context) =
+    releasing id context >>= (λ outcome. closing Starves mark (with_context session outcome.1))
+untold mark session (Ok resume.Waiting, context) = closing Starves mark (with_context session context)
+untold mark session (Ok (resume.Lost how), context) = closing Starves mark (with_context session context)
+untold mark session (Err error, context) = closing Starves mark (with_context session context)
+
+-- a wait has begun: its key is told, which takes memory; where there is none the wait is given up
 abbrev pub beginning_to_wait : Wish → Left → Session → Program Pause
 beginning_to_wait wish left session =
     Grow
-    (giving_up_wait session.context >>= (λ outcome. closing Starves left.mark (with_context session outcome.1)))
+    (giving_up_wait session.context >>= untold left.mark session)
     (Give (Begins_to_wait wish.key wish.mode (with_left session left)))
 
 -- a lock was asked for: it is had, the statement waits for it, or it ends

@@ -3,13 +3,13 @@ ghost use Rattle.std.specs.Prelude.{◌≡◌, None, []};
 ghost use Rattle.mdl_context.specs.Contexts.{Attends, LeavesOthers};
 ghost use Rattle.mdl_context.specs.Wishes.{Wish, wish_of};
 ghost use Rattle.mdl_stmt.specs.Endings.{closing, ending_of_error, ending_of_refusal, ending_of_loss};
-ghost use Rattle.mdl_stmt.specs.Gets.{at_rest, IsGot, IsTold, IdleUnlessGot};
+ghost use Rattle.mdl_stmt.specs.Gets.{at_rest, IsDropped, IsGot, IsTold, IdleUnlessGot};
 ghost use Rattle.mdl_stmt.specs.States.{at_first};
 
 use crate::ErrorNumber;
 use crate::ending::{Ending, Got};
 use crate::savepoint::Savepoints;
-use mdl_context::{Acquire, Context, ContextError, Request};
+use mdl_context::{Acquire, Context, ContextError, Request, Resume};
 use mdl_key::Key;
 use mdl_space::{LockSpace, Settled, SpaceError, TicketId};
 use std::alloc::Global;
@@ -76,9 +76,26 @@ impl<S: LockSpace> Player<S> {
         match key.clone() {
             Ok(key) => Got::Waits(key),
             Err(_) => {
-                let _ended = self.context.give_up(space);
+                self.drop_wait(space);
                 Got::Ends(Ending::Starves)
             }
+        }
+    }
+
+    /// Gives up a wait that can't be told. A ticket that it had gained is released.
+    fn drop_wait(&mut self, space: &mut S)
+        requires attends { Attends S.speaks_for S.own S.knows space.old self.old.context }
+        ensures run { IsDropped S.joins space.old self.old space.new self.new }
+        ensures attends { Attends S.speaks_for S.own S.knows space.new self.new.context }
+        ensures others { LeavesOthers S.speaks_for S.own S.knows self.old.context.who space.old space.new }
+        ensures who { self.new.context.who ≡ self.old.context.who }
+        ensures idle { self.new.context.wait ≡ None }
+    {
+        match self.context.give_up(space) {
+            Ok(Resume::Acquired(ticket)) => {
+                let _released = self.context.release(space, ticket);
+            }
+            _ => {}
         }
     }
 }
