@@ -1,0 +1,3 @@
+pub mod Output
+pub mod Texts
+pub mod Worlds

@@ -1,0 +1,20 @@
+-- The defined output of a script. The script language is this project's own.
+use Rattle.std.specs.Prelude.{ℕ, List, [], ◌++◌, flat_map, Result, Ok, Err}
+use Rattle.mdl_lines.specs.declared.fault.LineError.{LineError}
+use Rattle.mdl_syntax.specs.declared.script.Line.{Line}
+use Rattle.mdl_syntax.specs.Scripts.{parsed}
+use Rattle.mdl_script.specs.Texts.{told_text, end_line}
+use Rattle.mdl_script.specs.Worlds.{Scene, script_played, waiting_in}
+
+-- the text of a script that was played: a line for all that was told, and one for each session that still waits
+abbrev pub scene_text : Scene → List ℕ
+scene_text scene = told_text scene.told ++ flat_map end_line (waiting_in scene.world)
+
+-- what is written for a script that was read: nothing where a line is refused
+abbrev pub output_for : Result (List Line) (ℕ × LineError) → List ℕ
+output_for (Ok lines) = scene_text (script_played lines)
+output_for (Err refusal) = []
+
+-- the defined output of a script
+abbrev pub output_of : List ℕ → List ℕ
+output_of text = output_for (parsed text)

@@ -1,0 +1,170 @@
+-- How a script is played in one thread: its lines one after the other, and after each line what has come to its turn. The order is
+-- this project's own.
+use Rattle.std.specs.Prelude.{ℕ, zero, suc, ◌-◌, ◌*◌, Bool, List, [], ◌∷◌, ◌++◌, codes, map, filter, find, slice_index_or, slice_set, Option, Some, None, is_some, if◌then◌else◌}
+use Rattle.std.specs.List.{range_with_len}
+use Rattle.mdl_key.specs.declared.mode.Mode.TheVariants.{X}
+use Rattle.mdl_key.specs.Keys.{schema_key}
+use Rattle.mdl_defs.specs.declared.change.Change.TheVariants.{Create}
+use Rattle.mdl_defs.specs.declared.definition.Definition.TheVariants.{Schema}
+use Rattle.mdl_calls.specs.Words.{Answer, At_place, Granted, Resolve, Try_now, Change_definition, Release, Settle_timeout, Program, Give, Ask, outcome_of}
+use Rattle.mdl_core.specs.CoreCalls.{has_settled, outcome}
+use Rattle.mdl_core.specs.Cores.{Core, empty_core}
+use Rattle.mdl_syntax.specs.declared.script.Line.{Line}
+use Rattle.mdl_syntax.specs.declared.statement.Statement.{Statement}
+use Rattle.mdl_syntax.specs.declared.statement.Statement.TheVariants.{Timeout}
+use Rattle.mdl_stmt.specs.declared.reply.Reply.TheVariants as reply
+use Rattle.mdl_stmt.specs.Endings.{Pause}
+use Rattle.mdl_stmt.specs.Endings as pause
+use Rattle.mdl_stmt.specs.Playing.{going_on, starting}
+use Rattle.mdl_stmt.specs.Sessions.{Session}
+use Rattle.mdl_stmt.specs.States.{at_first}
+use Rattle.mdl_script.specs.Texts.{News, Ends, Waits, Is_busy, Told}
+
+-- a session, and the number of the line of its last statement
+pub record Player : Type 0 where
+  pub session : Session
+  pub line : ℕ
+
+-- the lock space, and the players from session 1 on
+pub record World : Type 0 where
+  pub core : Core
+  pub players : List Player
+
+-- what is told, and the world that is left
+pub record Scene : Type 0 where
+  pub told : List Told
+  pub world : World
+
+-- nothing is told
+abbrev pub silent : World → Scene
+silent world = record { told = []; world = world }
+
+infixl 20 ◌and_then◌
+-- one scene, and then what follows in its world
+abbrev pub ◌and_then◌ : Scene → (World → Scene) → Scene
+scene and_then next = record { told = scene.told ++ (next scene.world).told; world = (next scene.world).world }
+
+-- ---- the world at first
+
+-- all sessions
+abbrev pub sessions : List ℕ
+sessions = range_with_len 1 64
+
+-- a session that was asked for nothing yet
+abbrev pub newcomer : ℕ → Player
+newcomer who = record { session = record { context = record { who = who; kept = []; known = []; wait = None }; state = at_first; left = None }; line = 0 }
+
+-- a schema is created under its lock, which is then given up
+abbrev pub create_under : Answer → Program (Unit {0})
+create_under (Granted id) = Ask (Change_definition 1 id (Create Schema)) (λ _. Ask (Release 1 id) (λ _. Give tt))
+create_under _ = Give tt
+
+-- it is locked at its place
+abbrev pub create_at : Answer → Program (Unit {0})
+create_at (At_place place) = Ask (Try_now 1 place X) create_under
+create_at _ = Give tt
+
+-- session 1 creates the schema test
+abbrev pub creating_test : Program (Unit {0})
+creating_test = Ask (Resolve 1 (schema_key (codes "test"))) create_at
+
+-- a space of 256 places, in which that schema was created and nothing else was done
+abbrev pub first_core : Core
+first_core = (outcome_of outcome creating_test (empty_core 256 64)).1
+
+abbrev pub first_world : World
+first_world = record { core = first_core; players = map newcomer sessions }
+
+-- ---- statements
+
+abbrev pub player_at : ℕ → World → Player
+player_at who world = slice_index_or world.players (who - 1) (newcomer who)
+
+-- whether a session waits
+abbrev pub is_waiting : World → ℕ → Bool
+is_waiting world who = is_some (player_at who world).session.left
+
+-- the sessions that wait, in rising order
+abbrev pub waiting_in : World → List ℕ
+waiting_in world = filter (is_waiting world) sessions
+
+-- what is told of a statement that came so far: that it waits on isn't told, nor that memory ran out, which ends the whole script
+abbrev pub told_of : ℕ → ℕ → Pause → List Told
+told_of line who (pause.Ends reply _) = record { line = line; who = who; news = Ends reply } ∷ []
+told_of line who (pause.Begins_to_wait key mode _) = record { line = line; who = who; news = Waits key mode } ∷ []
+told_of line who (pause.Waits_on _) = []
+told_of line who (pause.Faults _) = []
+
+-- the session that is left then
+abbrev pub session_after : Pause → Session
+session_after (pause.Ends _ session) = session
+session_after (pause.Begins_to_wait _ _ session) = session
+session_after (pause.Waits_on session) = session
+session_after (pause.Faults session) = session
+
+-- a session's statement, which is that of this line, came so far
+abbrev pub came : ℕ → ℕ → Pause × Core → World → Scene
+came line who (pause, core) world = record {
+  told = told_of line who pause;
+  world = record { core = core; players = slice_set world.players (who - 1) (record { session = session_after pause; line = line }) };
+}
+
+-- a statement of a line is played by its session
+abbrev pub played : ℕ → ℕ → Program Pause → World → Scene
+played line who program world = came line who (outcome_of outcome program world.core) world
+
+-- ---- settling
+
+-- the least session that waits and whose wait is settled
+abbrev pub first_settled : World → Option ℕ
+first_settled world = find (has_settled world.core) (waiting_in world)
+
+-- a session goes on with its statement
+abbrev pub going : ℕ → World → Scene
+going who world = let player = player_at who world in played player.line who (going_on player.session) world
+
+-- it does so where there is one, and then more follows
+abbrev pub going_first : Option ℕ → (World → Scene) → World → Scene
+going_first None more world = silent world
+going_first (Some who) more world = going who world and_then more
+
+-- at most so many times the least session whose wait is settled goes on
+unfoldable pub settling : ℕ → World → Scene
+settling zero world = silent world
+settling (suc turns) world = going_first (first_settled world) (settling turns) world
+
+-- as many times as there can be: with each the statement of its session ends, or it has one lock less to wait for, and while no new
+-- line is played no other session begins to wait. The locks of a statement are that of COMMIT, upgrades of a lock that it had, of
+-- which there are four at most, and those of other keys, of which there are no more than places
+abbrev pub most_turns : ℕ
+most_turns = 64 * 261
+
+-- ---- lines
+
+-- a session's patience with its wait ends
+abbrev pub timed_out : ℕ → World → World
+timed_out who world = record world { core = (outcome (Settle_timeout who) world.core).1 }
+
+-- a session is asked while it waits: it can only be told that its patience ends
+abbrev pub asked_waiting : Statement → ℕ → ℕ → World → Scene
+asked_waiting Timeout line who world = record { told = record { line = line; who = who; news = Ends reply.Ok } ∷ []; world = timed_out who world }
+asked_waiting _ line who world = record { told = record { line = line; who = who; news = Is_busy } ∷ []; world = world }
+
+-- the session of a line is asked for its statement
+abbrev pub asked : Line → World → Scene
+asked line world =
+    if is_waiting world line.session then asked_waiting line.statement line.number line.session world
+    else played line.number line.session (starting line.statement (player_at line.session world).session) world
+
+-- a line is played, and then whoever has come to its turn goes on
+abbrev pub line_played : Line → World → Scene
+line_played line world = asked line world and_then settling most_turns
+
+-- lines are played one after the other
+abbrev pub lines_played : List Line → World → Scene
+lines_played [] world = silent world
+lines_played (line ∷ lines) world = line_played line world and_then lines_played lines
+
+-- a script is played
+abbrev pub script_played : List Line → Scene
+script_played lines = lines_played lines first_world
