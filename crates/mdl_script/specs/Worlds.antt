@@ -1,6 +1,6 @@
 -- How a script is played in one thread: its lines one after the other, and after each line what has come to its turn. The order is
 -- this project's own.
-use Rattle.std.specs.Prelude.{ℕ, zero, suc, ◌-◌, ◌*◌, Bool, List, [], ◌∷◌, ◌++◌, codes, map, filter, find, slice_index_or, slice_set, Option, Some, None, is_some, if◌then◌else◌}
+use Rattle.std.specs.Prelude.{ℕ, zero, suc, ◌+◌, ◌-◌, ◌*◌, Bool, List, [], ◌∷◌, ◌++◌, codes, map, filter, find, slice_index_or, slice_set, Option, Some, None, is_some, if◌then◌else◌}
 use Rattle.std.specs.List.{range_with_len}
 use Rattle.mdl_key.specs.declared.mode.Mode.TheVariants.{X}
 use Rattle.mdl_key.specs.Keys.{schema_key}
@@ -18,7 +18,8 @@ use Rattle.mdl_stmt.specs.Endings as pause
 use Rattle.mdl_stmt.specs.Playing.{going_on, starting}
 use Rattle.mdl_stmt.specs.Sessions.{Session}
 use Rattle.mdl_stmt.specs.States.{at_first}
-use Rattle.mdl_script.specs.Texts.{News, Ends, Waits, Is_busy, Told}
+use Rattle.mdl_script.specs.declared.told.News.TheVariants.{Ends, Waits, Busy}
+use Rattle.mdl_script.specs.declared.told.Told.{Told}
 
 -- a session, and the number of the line of its last statement
 pub record Player : Type 0 where
@@ -134,10 +135,13 @@ settling zero world = silent world
 settling (suc turns) world = going_first (first_settled world) (settling turns) world
 
 -- as many times as there can be: with each the statement of its session ends, or it has one lock less to wait for, and while no new
--- line is played no other session begins to wait. The locks of a statement are that of COMMIT, upgrades of a lock that it had, of
--- which there are four at most, and those of other keys, of which there are no more than places
+-- line is played no other session begins to wait. A statement waits for at most so many: that of COMMIT for the transaction before
+-- it, four times that of a lock made stronger, and one of each key that has a place
+abbrev pub most_waits : ℕ
+most_waits = 1 + 4 + 256
+
 abbrev pub most_turns : ℕ
-most_turns = 64 * 261
+most_turns = 64 * most_waits
 
 -- ---- lines
 
@@ -148,7 +152,7 @@ timed_out who world = record world { core = (outcome (Settle_timeout who) world.
 -- a session is asked while it waits: it can only be told that its patience ends
 abbrev pub asked_waiting : Statement → ℕ → ℕ → World → Scene
 asked_waiting Timeout line who world = record { told = record { line = line; who = who; news = Ends reply.Ok } ∷ []; world = timed_out who world }
-asked_waiting _ line who world = record { told = record { line = line; who = who; news = Is_busy } ∷ []; world = world }
+asked_waiting _ line who world = record { told = record { line = line; who = who; news = Busy } ∷ []; world = world }
 
 -- the session of a line is asked for its statement
 abbrev pub asked : Line → World → Scene

@@ -1,0 +1,160 @@
+//! What becomes of the lines of a script, as text.
+ghost use Rattle.std.specs.Prelude.{◌≡◌, ◌++◌, ◌∷◌, [], OnOk, flat_map, codes};
+ghost use Rattle.std.specs.List.{join_by};
+ghost use Rattle.std.specs.String.{string_bytes};
+ghost use Rattle.mdl_script.specs.Texts.{columns_text, end_line, error_text, heading, news_text, reply_text, table_text, tables_text, told_line, wait_text};
+
+use mdl_defs::Column;
+use mdl_key::{Key, Mode};
+use mdl_stmt::{Reply, TableShown};
+use std::alloc::AllocError;
+
+/// What becomes of a line.
+#[derive(Drop)]
+pub enum News {
+    /// Its statement has ended.
+    Ends(Reply),
+    /// Its statement begins to wait for a lock of this key in this mode.
+    Waits(Key, Mode),
+    /// Its session is busy, since it waits for another line's statement.
+    Busy,
+}
+
+/// What becomes of the line of this number, which asked this session.
+#[derive(Drop)]
+pub struct Told {
+    /// The line's number.
+    pub line: u64,
+    /// The session.
+    pub who: u16,
+    /// What becomes of it.
+    pub news: News,
+}
+
+/// Puts the line of what is told last in a text.
+pub fn push_told(out: &mut String, told: &Told) -> Result<(), AllocError>
+    ensures { OnOk result (string_bytes out.new ≡ string_bytes out.old ++ told_line told.now) }
+{
+    push_heading(out, told.line, told.who)?;
+    push_news(out, &told.news)?;
+    out.push('\n')
+}
+
+/// Puts the line of a session that still waits at the end last in a text.
+pub fn push_end(out: &mut String, who: u16) -> Result<(), AllocError>
+    ensures { OnOk result (string_bytes out.new ≡ string_bytes out.old ++ end_line who) }
+{
+    match writeln!(out, "END {who} WAIT") {
+        Ok(()) => Ok(()),
+        Err(_) => Err(AllocError),
+    }
+}
+
+// The numbers of a line and of its session, each with a space behind it.
+fn push_heading(out: &mut String, line: u64, who: u16) -> Result<(), AllocError>
+    ensures { OnOk result (string_bytes out.new ≡ string_bytes out.old ++ heading line who) }
+{
+    match write!(out, "{line} {who} ") {
+        Ok(()) => Ok(()),
+        Err(_) => Err(AllocError),
+    }
+}
+
+// What became of a line.
+fn push_news(out: &mut String, news: &News) -> Result<(), AllocError>
+    ensures { OnOk result (string_bytes out.new ≡ string_bytes out.old ++ news_text news.now) }
+{
+    match news {
+        News::Ends(reply) => push_reply(out, reply),
+        News::Waits(key, mode) => push_wait(out, key, *mode),
+        News::Busy => out.push_str("BUSY"),
+    }
+}
+
+// A wait that has begun.
+fn push_wait(out: &mut String, key: &Key, mode: Mode) -> Result<(), AllocError>
+    ensures { OnOk result (string_bytes out.new ≡ string_bytes out.old ++ wait_text key.now mode) }
+{
+    match write!(out, "WAIT {key} {mode}") {
+        Ok(()) => Ok(()),
+        Err(_) => Err(AllocError),
+    }
+}
+
+// A reply.
+fn push_reply(out: &mut String, reply: &Reply) -> Result<(), AllocError>
+    ensures { OnOk result (string_bytes out.new ≡ string_bytes out.old ++ reply_text reply.now) }
+{
+    match reply {
+        Reply::Ok => out.push_str("OK"),
+        Reply::Columns(tables) => {
+            out.push_str("OK")?;
+            push_tables(out, tables.as_slice())
+        }
+        Reply::Error(error) => push_error(out, error.number()),
+    }
+}
+
+// The number of an error.
+fn push_error(out: &mut String, number: u16) -> Result<(), AllocError>
+    ensures { OnOk result (string_bytes out.new ≡ string_bytes out.old ++ error_text number) }
+{
+    match write!(out, "ERR {number}") {
+        Ok(()) => Ok(()),
+        Err(_) => Err(AllocError),
+    }
+}
+
+// The tables that a statement read, each behind a space.
+fn push_tables(out: &mut String, tables: &[TableShown]) -> Result<(), AllocError>
+    ensures { OnOk result (string_bytes out.new ≡ string_bytes out.old ++ tables_text tables.now) }
+{
+    for table in tables {
+        push_table(out, table)?;
+    }
+    Ok(())
+}
+
+// A table that a statement read, behind a space.
+fn push_table(out: &mut String, table: &TableShown) -> Result<(), AllocError>
+    ensures { OnOk result (string_bytes out.new ≡ string_bytes out.old ++ table_text table.now) }
+{
+    let schema = table.key.schema_name();
+    let name = table.key.table_name();
+    let version = table.version;
+    if write!(out, " {schema}.{name}@{version}").is_err() {
+        return Err(AllocError);
+    }
+    push_columns(out, table.columns.as_slice())
+}
+
+// Columns, parted by commas and in parentheses.
+fn push_columns(out: &mut String, columns: &[Column]) -> Result<(), AllocError>
+    ensures { OnOk result (string_bytes out.new ≡ string_bytes out.old ++ columns_text columns.now) }
+{
+    out.push('(')?;
+    push_parted(out, columns)?;
+    out.push(')')
+}
+
+// Columns, parted by commas.
+fn push_parted(out: &mut String, columns: &[Column]) -> Result<(), AllocError>
+    ensures { OnOk result (string_bytes out.new ≡ string_bytes out.old ++ join_by (λ column. column) (codes ",") columns.now) }
+{
+    let [first, rest @ ..] = columns else {
+        return Ok(());
+    };
+    out.push_str(first.name())?;
+    push_behind_commas(out, rest)
+}
+
+// Columns, each behind a comma.
+fn push_behind_commas(out: &mut String, columns: &[Column]) -> Result<(), AllocError>
+    ensures { OnOk result (string_bytes out.new ≡ string_bytes out.old ++ flat_map (λ column. codes "," ++ column) columns.now) }
+{
+    for column in columns {
+        out.push(',')?;
+        out.push_str(column.name())?;
+    }
+    Ok(())
+}
