@@ -1,8 +1,10 @@
 //! Scripts of statements, played in one thread.
 #![tactic(auto)]
 
+mod laws;
 mod told;
 
+pub use laws::{statements_tell_of_want, sure_statements};
 pub use mdl_lines::{Fault, LineError};
 pub use mdl_syntax::{Script, parse};
 pub use told::{News, Told};
