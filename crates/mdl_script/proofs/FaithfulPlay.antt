@@ -1,24 +1,22 @@
 -- A statement that met want of memory ends for that.
-use Rattle.std.proofs.Common.{◌≡◌, ℕ, true, false, Option, Some, None, Result, Ok, Err, refl, sym, subst}
-use Rattle.mdl_calls.specs.declared.space_error.SpaceError.TheVariants.{OutOfMemory}
-use Rattle.mdl_calls.specs.Words.{Answer, Changed, Has_wait, Reads, Refused, Program, Give, Ask, Grow, ◌>>=◌, Each, IsFaithful, IsFrugal}
+use Rattle.std.proofs.Common.{ℕ, Option, Some, None, Result, Ok, Err, refl, sym, subst}
+use Rattle.mdl_calls.specs.Words.{Answer, Changed, Has_wait, Reads, Program, Give, Ask, Grow, ◌>>=◌, Each, IsFaithful, IsFrugal}
 use Rattle.mdl_calls.proofs.FaithfulLemmas.{each_then, faithful_bind, frugal_bind, frugal_faithful}
 use Rattle.mdl_core.proofs.RunOutcomes.{sure-run}
 use Rattle.mdl_context.specs.declared.context_error.ContextError.{ContextError}
-use Rattle.mdl_context.specs.declared.context_error.ContextError.TheVariants.{Space}
 use Rattle.mdl_context.specs.declared.request.Acquire.{Acquire}
 use Rattle.mdl_context.specs.declared.request.Acquire.TheVariants as acquire
 use Rattle.mdl_context.specs.declared.request.Mark.{Mark}
 use Rattle.mdl_context.specs.declared.request.Resume.{Resume}
 use Rattle.mdl_context.specs.declared.request.Resume.TheVariants as resume
-use Rattle.mdl_context.specs.Contexts.{ContextView, mark_of}
+use Rattle.mdl_context.specs.Contexts.{mark_of}
 use Rattle.mdl_context.specs.Gains.{refusal_of}
 use Rattle.mdl_context.specs.MemoryLaws.{IsStarved}
 use Rattle.mdl_context.specs.Releases.{giving_up, releasing}
 use Rattle.mdl_context.specs.Requests.{Outcome, acquiring}
 use Rattle.mdl_context.specs.Waits.{giving_up_wait, resuming}
 use Rattle.mdl_context.specs.Wishes.{Wish}
-use Rattle.mdl_context.proofs.MemoryLemmas.{faithful_acquiring, faithful_resuming, frugal_giving_up, frugal_giving_up_wait, frugal_releasing}
+use Rattle.mdl_context.proofs.MemoryLemmas.{faithful_acquiring, faithful_resuming, frugal_giving_up, frugal_releasing}
 use Rattle.mdl_defs.specs.declared.standing.Standing.{Standing}
 use Rattle.mdl_stmt.specs.declared.ending.Ending.{Ending}
 use Rattle.mdl_stmt.specs.declared.ending.Ending.TheVariants.{Answers, Starves}

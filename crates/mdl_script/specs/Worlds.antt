@@ -3,7 +3,7 @@
 use Rattle.std.specs.Prelude.{ℕ, zero, suc, ◌+◌, ◌-◌, ◌*◌, Bool, List, [], ◌∷◌, ◌++◌, codes, map, filter, find, slice_index_or, slice_set, Option, Some, None, is_some, if◌then◌else◌}
 use Rattle.std.specs.List.{range_with_len}
 use Rattle.mdl_key.specs.declared.mode.Mode.TheVariants.{X}
-use Rattle.mdl_key.specs.Keys.{schema_key}
+use Rattle.mdl_key.specs.Keys.{KeyName, schema_key}
 use Rattle.mdl_defs.specs.declared.change.Change.TheVariants.{Create}
 use Rattle.mdl_defs.specs.declared.definition.Definition.TheVariants.{Schema}
 use Rattle.mdl_calls.specs.Words.{Answer, At_place, Granted, Resolve, Try_now, Change_definition, Release, Settle_timeout, Program, Give, Ask, outcome_of}
@@ -48,30 +48,29 @@ scene and_then next = record { told = scene.told ++ (next scene.world).told; wor
 -- ---- the world at first
 
 -- all sessions
-abbrev pub sessions : List ℕ
+unfoldable pub sessions : List ℕ
 sessions = range_with_len 1 64
 
 -- a session that was asked for nothing yet
 abbrev pub newcomer : ℕ → Player
 newcomer who = record { session = record { context = record { who = who; kept = []; known = []; wait = None }; state = at_first; left = None }; line = 0 }
 
--- a schema is created under its lock, which is then given up
+-- session 1 creates a schema under its lock, and gives that up
 abbrev pub create_under : Answer → Program (Unit {0})
 create_under (Granted id) = Ask (Change_definition 1 id (Create Schema)) (λ _. Ask (Release 1 id) (λ _. Give tt))
 create_under _ = Give tt
 
--- it is locked at its place
+-- it locks the schema at its place
 abbrev pub create_at : Answer → Program (Unit {0})
 create_at (At_place place) = Ask (Try_now 1 place X) create_under
 create_at _ = Give tt
 
--- session 1 creates the schema test
-abbrev pub creating_test : Program (Unit {0})
-creating_test = Ask (Resolve 1 (schema_key (codes "test"))) create_at
+abbrev pub creating : KeyName → Program (Unit {0})
+creating schema = Ask (Resolve 1 schema) create_at
 
--- a space of 256 places, in which that schema was created and nothing else was done
+-- a space of 256 places, in which the schema test was created and nothing else was done
 abbrev pub first_core : Core
-first_core = (outcome_of outcome creating_test (empty_core 256 64)).1
+first_core = (outcome_of outcome (creating (schema_key (codes "test"))) (empty_core 256 64)).1
 
 abbrev pub first_world : World
 first_world = record { core = first_core; players = map newcomer sessions }
@@ -154,11 +153,14 @@ abbrev pub asked_waiting : Statement → ℕ → ℕ → World → Scene
 asked_waiting Timeout line who world = record { told = record { line = line; who = who; news = Ends reply.Ok } ∷ []; world = timed_out who world }
 asked_waiting _ line who world = record { told = record { line = line; who = who; news = Busy } ∷ []; world = world }
 
+-- a session starts the statement of a line
+abbrev pub started : Line → World → Scene
+started line world = played line.number line.session (starting line.statement (player_at line.session world).session) world
+
 -- the session of a line is asked for its statement
 abbrev pub asked : Line → World → Scene
 asked line world =
-    if is_waiting world line.session then asked_waiting line.statement line.number line.session world
-    else played line.number line.session (starting line.statement (player_at line.session world).session) world
+    if is_waiting world line.session then asked_waiting line.statement line.number line.session world else started line world
 
 -- a line is played, and then whoever has come to its turn goes on
 abbrev pub line_played : Line → World → Scene

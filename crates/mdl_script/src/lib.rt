@@ -1,10 +1,14 @@
 //! Scripts of statements, played in one thread.
 #![tactic(auto)]
 
+mod first_space;
+mod hall;
 mod laws;
+mod replaying;
 mod told;
 
 pub use laws::{statements_tell_of_want, sure_statements};
 pub use mdl_lines::{Fault, LineError};
 pub use mdl_syntax::{Script, parse};
+pub use replaying::replay;
 pub use told::{News, Told};

@@ -1,0 +1,94 @@
+-- The world at first: its sessions have nothing, and the space attends to them.
+use Rattle.std.proofs.Common.{◌≡◌, ℕ, zero, suc, ◌<◌, ◌≤◌, ◌+◌, ◌-◌, List, [], ◌∷◌, ◌++◌, length, get_or, map, None, refl, sym, ap, ◌∙◌, subst, arith}
+use Rattle.std.specs.Prelude.{replicate}
+use Rattle.std.specs.List.{range_with_len}
+use Rattle.std.proofs.lemmas.List.Elements.{All-nil}
+use Rattle.std.proofs.lemmas.List.FromFn.{length-map-range_with_len}
+use Rattle.mdl_calls.specs.Words.{Own}
+use Rattle.mdl_core.specs.Seats.{SeatView, empty_seat, own_of}
+use Rattle.mdl_core.specs.Words as core
+use Rattle.mdl_core.specs.Words.{Core, SpeaksFor, own_at, Knows}
+use Rattle.mdl_context.specs.Contexts.{Attends}
+use Rattle.mdl_script.specs.declared.hall.Hall.{Hall}
+use Rattle.mdl_script.specs.declared.hall.Player as kept
+use Rattle.mdl_script.specs.Halls.{AreSeated, IsManned, new_player, player_of}
+use Rattle.mdl_script.specs.Worlds.{World, first_core, first_world, newcomer, sessions, waiting_in}
+use Rattle.mdl_script.proofs.HallLemmas.{SpeakForAll}
+
+-- ---- players
+
+map-more : {A : Type 0} (f : ℕ → A) (a n m : ℕ) → a + n ≡ m → map f (range_with_len a n) ++ f m ∷ [] ≡ map f (range_with_len a (suc n))
+map-more f a zero m same = let here : m ≡ a = omega (arith, same) in ap (λ k. f k ∷ []) here
+map-more f a (suc n) m same = ap (λ xs. f a ∷ xs) (map-more f (a + 1) n m (omega (arith, same)))
+
+-- one more session
+pub new-more : (players : List kept.Player) (who : ℕ) → 1 ≤ who → players ≡ map new_player (range_with_len 1 (who - 1))
+    → players ++ new_player who ∷ [] ≡ map new_player (range_with_len 1 (who + 1 - 1))
+new-more players who least so =
+    let count : suc (who - 1) ≡ who + 1 - 1 = omega (arith, least) in
+    ap (λ xs. xs ++ new_player who ∷ []) so ∙ map-more new_player 1 (who - 1) who (omega (arith, least)) ∙ ap (λ n. map new_player (range_with_len 1 n)) count
+
+-- all of them
+pub new-all : (players : List kept.Player) (who : ℕ) → 65 ≤ who → who ≤ 65 → players ≡ map new_player (range_with_len 1 (who - 1)) → players ≡ map new_player sessions
+unfolding sessions
+new-all players who least most so = let same : who - 1 ≡ 64 = omega (arith, least, most) in so ∙ ap (λ n. map new_player (range_with_len 1 n)) same
+
+-- ---- the space at first
+
+abbrev nothing : Own
+nothing = record { held = []; wait = None }
+
+-- what these have is nothing
+abbrev AreFresh : List SeatView → Type 0
+AreFresh [] = Unit {0}
+AreFresh (seat ∷ seats) = (own_of seat ≡ nothing) × AreFresh seats
+
+fresh-replicate : (n : ℕ) → AreFresh (replicate n empty_seat)
+fresh-replicate zero = tt
+fresh-replicate (suc n) = (refl, fresh-replicate n)
+
+fresh-at : (seats : List SeatView) (i : ℕ) → AreFresh seats → own_of (get_or seats i empty_seat) ≡ nothing
+fresh-at [] i fresh = refl
+fresh-at (seat ∷ seats) zero fresh = fresh.0
+fresh-at (seat ∷ seats) (suc i) fresh = fresh-at seats i fresh.1
+
+first-seats : first_core.seats ≡ record { held = []; wait = None; last_ticket = 1; last_wait = 0 } ∷ replicate 63 empty_seat
+unfolding core.admitting_up_to
+first-seats = refl
+
+first-own : (who : ℕ) → own_at first_core who ≡ nothing
+first-own who = fresh-at first_core.seats (who - 1) (subst AreFresh (sym first-seats) (refl, fresh-replicate 63))
+
+-- ---- they are seated
+
+attended-first : (core : Core) (who : ℕ) → SpeaksFor core who → own_at core who ≡ nothing → Attends SpeaksFor own_at Knows core (new_player who).runner.context
+attended-first core who speaks has =
+    record { speaks = speaks; serves = rw has (record { held = refl; wait = refl }); known = All-nil _; places = All-nil _; wish = tt }
+
+seated-first : (core : Core) (a n : ℕ) → ((who : ℕ) → a ≤ who → who < a + n → SpeaksFor core who) → ((who : ℕ) → own_at core who ≡ nothing) → AreSeated core a (map new_player (range_with_len a n))
+seated-first core a zero speaks has = tt
+seated-first core a (suc n) speaks has =
+    (refl, attended-first core a (speaks a (omega arith) (omega arith)) (has a), seated-first core (a + 1) n (λ who least most. speaks who (omega arith) (omega arith)) has)
+
+-- ---- the world
+
+players-first : (a n : ℕ) → map player_of (map new_player (range_with_len a n)) ≡ map newcomer (range_with_len a n)
+players-first a zero = refl
+players-first a (suc n) = ap (λ xs. newcomer a ∷ xs) (players-first (a + 1) n)
+
+pub first-of : (core : Core) (players : List kept.Player) → core ≡ first_core → players ≡ map new_player sessions
+    → let world : World = record { core = core; players = map player_of players } in world ≡ first_world
+unfolding sessions
+first-of core players space all = rw (space, all) (ap (λ ps. let world : World = record { core = first_core; players = ps } in world) (players-first 1 64))
+
+nobody-waits : (core : Core) → let world : World = record { core = core; players = map player_of (map new_player sessions) } in waiting_in world ≡ []
+unfolding sessions
+nobody-waits core = refl
+
+pub first-manned : (hall : Hall) → hall.space ≡ first_core → SpeakForAll hall.space → hall.players.items ≡ map new_player sessions → hall.waiting.items ≡ [] → IsManned hall
+unfolding sessions
+first-manned hall space speaks all none = record {
+  all = ap length all ∙ length-map-range_with_len new_player 1 64;
+  seated = subst (AreSeated hall.space 1) (sym all) (seated-first hall.space 1 64 (λ who least most. speaks who least (omega arith)) (λ who. ap (λ core. own_at core who) space ∙ first-own who));
+  waiting = none ∙ sym (ap (λ ps. let world : World = record { core = hall.space; players = map player_of ps } in waiting_in world) all ∙ nobody-waits hall.space);
+}

@@ -1,0 +1,121 @@
+-- The sessions of a hall, and the world that they are.
+use Rattle.std.proofs.Common.{◌≡◌, ◌≢◌, ℕ, zero, suc, ◌<◌, ◌≤◌, ◌+◌, ◌-◌, Bool, true, false, List, [], ◌∷◌, ◌++◌, length, get_or, set, map, filter, Some, None, refl, sym, ap, ◌∙◌, subst, arith, ◌⊎◌, inl, inr}
+use Rattle.std.specs.Prelude.{is_some}
+use Rattle.std.specs.List.{All, range_with_len}
+use Rattle.std.proofs.Math.Dec.{eqb}
+use Rattle.std.proofs.lemmas.Bool.Decides.{eqb_tells}
+use Rattle.std.proofs.lemmas.List.{get_or-map, get_or-set_other}
+use Rattle.mdl_calls.specs.Words.{Answer, Call}
+use Rattle.mdl_core.specs.Words.{Core, SpeaksFor, own_at, Knows}
+use Rattle.mdl_core.specs.CoreJoins.{Joins}
+use Rattle.mdl_core.proofs.CallLaws.{core-keeps}
+use Rattle.mdl_core.proofs.CoreSound.{calls_keep-sound}
+use Rattle.mdl_context.specs.Contexts.{ContextView, Attends, LeavesOthers}
+use Rattle.mdl_context.proofs.AttendLemmas.{attends-same}
+use Rattle.mdl_lines.specs.Sessions.{IsScriptSession}
+use Rattle.mdl_script.specs.declared.hall.Player as kept
+use Rattle.mdl_script.specs.Halls.{AreSeated, player_of}
+use Rattle.mdl_script.specs.Worlds.{Player, World, is_waiting, newcomer, player_at, sessions, waiting_in}
+use Rattle.mdl_script.proofs.ListLemmas.{All-filter_range, filter-more, filter-same}
+
+-- ---- sessions in their seats
+
+-- each of them is of its session, and attended to
+pub seated-at : (core : Core) (first i : ℕ) (xs : List kept.Player) (d : kept.Player) → AreSeated core first xs → i < length xs
+    → ((get_or xs i d).runner.context.who ≡ first + i) × Attends SpeaksFor own_at Knows core (get_or xs i d).runner.context
+seated-at core first i [] d seated inside = absurd (omega arith)
+seated-at core first zero (x ∷ xs) d seated inside = (seated.0 ∙ omega arith, seated.1)
+seated-at core first (suc i) (x ∷ xs) d seated inside =
+    let rest = seated-at core (first + 1) i xs d seated.2 (omega arith) in (rest.0 ∙ omega arith, rest.1)
+
+-- one of the others has made a call
+still-attended : (before after : Core) (x : ContextView) (who : ℕ) → LeavesOthers SpeaksFor own_at Knows who before after → x.who ≢ who
+    → Attends SpeaksFor own_at Knows before x → Attends SpeaksFor own_at Knows after x
+still-attended before after x who leaves other attends =
+    let same = leaves x.who other attends.speaks in attends-same before after x attends same.2 same.0 same.1
+
+-- later sessions
+still-seated : (before after : Core) (first who : ℕ) (xs : List kept.Player) → LeavesOthers SpeaksFor own_at Knows who before after → who < first
+    → AreSeated before first xs → AreSeated after first xs
+still-seated before after first who [] leaves later seated = tt
+still-seated before after first who (x ∷ xs) leaves later seated =
+    (seated.0, still-attended before after x.runner.context who leaves (λ e. omega (arith, seated.0, e)) seated.1, still-seated before after (first + 1) who xs leaves (omega arith) seated.2)
+
+-- one of them has made calls
+pub seated-then : (before after : Core) (first i : ℕ) (xs : List kept.Player) (x : kept.Player) → AreSeated before first xs → i < length xs
+    → x.runner.context.who ≡ first + i → Attends SpeaksFor own_at Knows after x.runner.context → LeavesOthers SpeaksFor own_at Knows (first + i) before after
+    → AreSeated after first (set xs i x)
+seated-then before after first i [] x seated inside who attends leaves = absurd (omega arith)
+seated-then before after first zero (y ∷ ys) x seated inside who attends leaves =
+    (who ∙ omega arith, attends, still-seated before after (first + 1) (first + 0) ys leaves (omega arith) seated.2)
+seated-then before after first (suc i) (y ∷ ys) x seated inside who attends leaves =
+    let same : first + 1 + i ≡ first + suc i = omega arith in (
+      seated.0,
+      still-attended before after y.runner.context (first + suc i) leaves (λ e. omega (arith, seated.0, e)) seated.1,
+      seated-then before after (first + 1) i ys x seated.2 (omega arith) (who ∙ sym same) attends
+          (subst (λ n. LeavesOthers SpeaksFor own_at Knows n before after) (sym same) leaves),
+    )
+
+-- the space speaks for all
+abbrev pub SpeakForAll : Core → Type 0
+SpeakForAll core = (who : ℕ) → 1 ≤ who → who ≤ 64 → SpeaksFor core who
+
+-- it goes on to
+pub still-speaks : (a b : Core) (call : Call) (answer : Answer) → SpeakForAll a → Joins a call answer b → SpeakForAll b
+still-speaks a b call answer speaks step who least most = core-keeps calls_keep-sound a b call answer who (speaks who least most) step
+
+-- ---- the world that they are
+
+-- a player of the world
+pub player-at : (core : Core) (players : List kept.Player) (who : ℕ) (d : kept.Player) → 1 ≤ who → who ≤ length players
+    → player_at who (record { core = core; players = map player_of players }) ≡ player_of (get_or players (who - 1) d)
+player-at core players who d least most = get_or-map player_of players (who - 1) d (newcomer who) (omega (arith, least, most))
+
+is_some-left : (player : kept.Player) → is_some (player_of player).session.left ≡ is_some player.runner.work
+is_some-left player = elim player.runner.work as (λ work. is_some (player_of (record player { runner = record player.runner { work = work } })).session.left ≡ is_some work) [ None ↦ refl | Some work ↦ refl ]
+
+-- it waits where its runner has something left to do
+pub waits-at : (core : Core) (players : List kept.Player) (who : ℕ) (d : kept.Player) → 1 ≤ who → who ≤ length players
+    → is_waiting (record { core = core; players = map player_of players }) who ≡ is_some (get_or players (who - 1) d).runner.work
+waits-at core players who d least most = ap (λ (p : Player). is_some p.session.left) (player-at core players who d least most) ∙ is_some-left (get_or players (who - 1) d)
+
+-- another player, and whether any other session waits
+waits-other : (core after : Core) (players : List Player) (who w : ℕ) (x : Player) → 1 ≤ who → 1 ≤ w → w ≢ who
+    → is_waiting (record { core = after; players = set players (who - 1) x }) w ≡ is_waiting (record { core = core; players = players }) w
+waits-other core after players who w x least positive other =
+    ap (λ (p : Player). is_some p.session.left) (get_or-set_other players (who - 1) (w - 1) x (newcomer w) (λ e. other (omega arith)))
+
+-- a session that didn't wait doesn't wait now either: the same wait
+pub waiting-same : (core after : Core) (players : List Player) (who : ℕ) (x : Player) → IsScriptSession who
+    → is_waiting (record { core = core; players = players }) who ≡ false → is_waiting (record { core = after; players = set players (who - 1) x }) who ≡ false
+    → waiting_in (record { core = after; players = set players (who - 1) x }) ≡ waiting_in (record { core = core; players = players })
+unfolding sessions
+waiting-same core after players who x session before now = filter-same _ _ 1 64 (λ w least most. by w least (eqb_tells w who)) where
+  by : (w : ℕ) → 1 ≤ w → ((eqb w who ≡ true) × (w ≡ who)) ⊎ ((eqb w who ≡ false) × (w ≢ who))
+      → is_waiting (record { core = after; players = set players (who - 1) x }) w ≡ is_waiting (record { core = core; players = players }) w
+  by w least (inl same) =
+      let P : ℕ → Type 0 = λ k. is_waiting (record { core = after; players = set players (who - 1) x }) k ≡ is_waiting (record { core = core; players = players }) k in
+      subst P (sym same.1) (now ∙ sym before)
+  by w least (inr other) = waits-other core after players who w x session.0 least other.1
+
+-- whoever waits is one of the sessions
+pub waiting-sessions : (P : ℕ → Type 0) (world : World) → ((who : ℕ) → IsScriptSession who → is_waiting world who ≡ true → P who) → All P (waiting_in world)
+unfolding sessions
+waiting-sessions P world each = All-filter_range P (is_waiting world) 1 64 (λ k least most waits. each k (least, omega arith) waits)
+
+-- those noted up to the last
+pub noted-all : (world : World) (who : ℕ) → 65 ≤ who → who ≤ 65 → filter (is_waiting world) (range_with_len 1 (who - 1)) ≡ waiting_in world
+unfolding sessions
+noted-all world who least most = let same : who - 1 ≡ 64 = omega (arith, least, most) in ap (λ n. filter (is_waiting world) (range_with_len 1 n)) same
+
+-- one more was noted
+pub noted-more : (p : ℕ → Bool) (before after : List ℕ) (who : ℕ) → 1 ≤ who → before ≡ filter p (range_with_len 1 (who - 1))
+    → after ≡ before ++ filter p (who ∷ []) → after ≡ filter p (range_with_len 1 (who + 1 - 1))
+noted-more p before after who least so now =
+    let count : suc (who - 1) ≡ who + 1 - 1 = omega (arith, least) in
+    now ∙ ap (λ xs. xs ++ filter p (who ∷ [])) so ∙ filter-more p 1 (who - 1) who (omega (arith, least)) ∙ ap (λ n. filter p (range_with_len 1 n)) count
+
+-- the same space and the same players are the same world
+pub world-same : (core after : Core) (players then_ : List kept.Player) → after ≡ core → then_ ≡ players
+    → let old : World = record { core = core; players = map player_of players } in let new : World = record { core = after; players = map player_of then_ } in new ≡ old
+world-same core after players then_ cores same = rw (cores, same) refl

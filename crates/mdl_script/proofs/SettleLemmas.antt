@@ -1,0 +1,155 @@
+-- Turn by turn, what was told and what is still to be told make up the whole.
+use Rattle.std.proofs.Common.{◌≡◌, ℕ, zero, suc, ◌<◌, ◌+◌, ◌-◌, true, List, [], ◌∷◌, ◌++◌, length, get_or, drop, Result, Ok, Option, Some, None, refl, sym, ap, ◌∙◌, ◌≢◌, ◌⊎◌, inl, inr, false, subst, arith, append_assoc, append-nil}
+use Rattle.std.specs.List.{All, find}
+use Rattle.std.proofs.Math.Dec.{eqb}
+use Rattle.std.proofs.lemmas.Bool.Decides.{eqb_tells}
+use Rattle.std.specs.Prelude.{IfOk}
+use Rattle.std.proofs.lemmas.List.{drop_more}
+use Rattle.mdl_core.specs.CoreCalls.{has_settled}
+use Rattle.mdl_calls.specs.Words.{Answer, Own, Settle_timeout, own_after}
+use Rattle.mdl_core.specs.CoreJoins.{Joins}
+use Rattle.mdl_core.specs.Words.{Core, SpeaksFor, own_at, Knows}
+use Rattle.mdl_core.proofs.CallLaws.{core-changes, core-keeps, core-others, core-remembers}
+use Rattle.mdl_core.proofs.CoreSound.{calls_keep-sound}
+use Rattle.mdl_context.specs.Contexts.{ContextView, Attends}
+use Rattle.mdl_context.proofs.AttendLemmas.{attends-same}
+use Rattle.mdl_lines.specs.declared.fault.LineError.{LineError}
+use Rattle.mdl_lines.specs.Lines.{lines_of}
+use Rattle.mdl_lines.specs.Sessions.{IsScriptSession}
+use Rattle.mdl_syntax.specs.declared.script.Line.{Line}
+use Rattle.mdl_syntax.specs.Scripts.{parsed}
+use Rattle.mdl_syntax.specs.Laws.{IsWithinLimits}
+use Rattle.mdl_syntax.proofs.LawLemmas.{lines_say-limited}
+use Rattle.mdl_script.specs.declared.hall.Hall.{Hall}
+use Rattle.mdl_script.specs.declared.hall.Player as kept
+use Rattle.mdl_script.specs.declared.told.Told.{Told}
+use Rattle.mdl_script.specs.Halls.{AreSeated, IsManned, new_player, world_of}
+use Rattle.mdl_script.specs.Texts.{told_line, told_text}
+use Rattle.mdl_script.specs.Worlds.{Scene, World, first_settled, going, is_waiting, line_played, lines_played, settling, silent, waiting_in, ◌and_then◌}
+use Rattle.mdl_script.proofs.HallLemmas.{seated-at, waiting-sessions}
+use Rattle.mdl_script.proofs.ListLemmas.{All-find}
+
+-- ---- text
+
+pub told-append : (one other : List Told) → told_text (one ++ other) ≡ told_text one ++ told_text other
+told-append [] other = refl
+told-append (x ∷ xs) other = ap (λ t. told_line x ++ t) (told-append xs other) ∙ sym (append_assoc (told_line x) (told_text xs) (told_text other))
+
+-- ---- settling
+
+-- nothing more comes where no wait is settled
+pub settling-none : (n : ℕ) (world : World) → first_settled world ≡ None → settling n world ≡ silent world
+unfolding settling
+settling-none zero world none = refl
+settling-none (suc n) world none = rw none
+
+-- where one is, that goes on
+pub settling-some : (n m : ℕ) (world : World) (who : ℕ) → n ≡ suc m → first_settled world ≡ Some who → settling n world ≡ (going who world and_then settling m)
+unfolding settling
+settling-some n m world who same some = rw (same, some)
+
+pub settling-over : (world : World) → settling zero world ≡ silent world
+unfolding settling
+settling-over world = refl
+
+-- ---- text and world, so far and in the end
+
+-- it is the whole where nothing is left to tell
+pub told-end : (rest : Scene) (world : World) (out whole : List ℕ) → rest ≡ silent world → out ++ told_text rest.told ≡ whole → out ≡ whole
+told-end rest world out whole silence so = subst (λ (scene : Scene). out ++ told_text scene.told ≡ whole → out ≡ whole) (sym silence) (λ e. sym (append-nil out) ∙ e) so
+
+pub left-end : (rest : Scene) (world whole : World) → rest ≡ silent world → rest.world ≡ whole → world ≡ whole
+left-end rest world whole silence so = sym (ap (λ (scene : Scene). scene.world) silence) ∙ so
+
+-- one step is told, and then the rest
+pub told-more : (rest step more : Scene) (out next whole : List ℕ) → rest.told ≡ step.told ++ more.told → out ++ told_text rest.told ≡ whole
+    → next ≡ out ++ told_text step.told → next ++ told_text more.told ≡ whole
+told-more rest step more out next whole parts so now =
+    ap (λ t. t ++ told_text more.told) now ∙ append_assoc out (told_text step.told) (told_text more.told)
+    ∙ ap (λ t. out ++ t) (sym (told-append step.told more.told) ∙ ap told_text (sym parts)) ∙ so
+
+-- ---- who waits
+
+-- the space speaks for each session
+pub hall-speaks : (hall : Hall) → IsManned hall → (who : ℕ) → IsScriptSession who → SpeaksFor hall.space who
+hall-speaks hall manned who session =
+    let inside : who - 1 < length hall.players.items = subst (λ l. who - 1 < l) (sym manned.all) (omega (arith, session.0, session.1)) in
+    let at = seated-at hall.space 1 (who - 1) hall.players.items (new_player 0) manned.seated inside in
+    subst (λ w. SpeaksFor hall.space w) (at.0 ∙ omega (arith, session.0)) at.1.speaks
+
+-- and so for all that wait
+pub waiting-speak : (hall : Hall) → IsManned hall → All (SpeaksFor hall.space) hall.waiting.items
+waiting-speak hall manned =
+    rw manned.waiting (waiting-sessions (SpeaksFor hall.space) (world_of hall) (λ who session _. hall-speaks hall manned who session))
+
+-- the session that is found is one that waits
+pub found-waits : (hall : Hall) (who : ℕ) → IsManned hall → first_settled (world_of hall) ≡ Some who → IsScriptSession who × (is_waiting (world_of hall) who ≡ true)
+found-waits hall who manned found =
+    let P : ℕ → Type 0 = λ w. IsScriptSession w × (is_waiting (world_of hall) w ≡ true) in
+    All-find P (has_settled hall.space) (waiting_in (world_of hall)) who (waiting-sessions P (world_of hall) (λ w session waits. (session, waits))) found
+
+-- what is found among those that are noted
+pub found-among : (hall : Hall) (found : Option ℕ) → IsManned hall → found ≡ find (has_settled hall.space) hall.waiting.items → first_settled (world_of hall) ≡ found
+found-among hall found manned so = ap (λ ws. find (has_settled hall.space) ws) (sym manned.waiting) ∙ sym so
+
+-- ---- turns of a hall
+
+-- one session goes on, and then the rest follows
+pub one-turn : (n m : ℕ) (hall found after : Hall) (who : ℕ) (out next whole : List ℕ) (end : World) → n ≡ suc m → found ≡ hall → first_settled (world_of hall) ≡ Some who
+    → out ++ told_text (settling n (world_of hall)).told ≡ whole → (settling n (world_of hall)).world ≡ end
+    → next ≡ out ++ told_text (going who (world_of found)).told → world_of after ≡ (going who (world_of found)).world
+    → (next ++ told_text (settling m (world_of after)).told ≡ whole) × ((settling m (world_of after)).world ≡ end)
+one-turn n m hall found after who out next whole end fewer same some so left now there =
+    let step : Scene = going who (world_of hall) in
+    let parts = settling-some n m (world_of hall) who fewer some in
+    let told : next ≡ out ++ told_text step.told = subst (λ (h : Hall). next ≡ out ++ told_text (going who (world_of h)).told) same now in
+    let world : world_of after ≡ step.world = subst (λ (h : Hall). world_of after ≡ (going who (world_of h)).world) same there in
+    subst (λ (w : World). (next ++ told_text (settling m w).told ≡ whole) × ((settling m w).world ≡ end)) (sym world) (
+      told-more (settling n (world_of hall)) step (settling m step.world) out next whole (ap (λ (scene : Scene). scene.told) parts) so told,
+      sym (ap (λ (scene : Scene). scene.world) parts) ∙ left,
+    )
+
+-- ---- a wait that times out
+
+own-timed_out : (answer : Answer) (who : ℕ) (own : Own) → own_after (Settle_timeout who) answer own ≡ own
+own-timed_out answer who own = refl
+
+-- it leaves to each what it has
+attended-still : (a b : Core) (who : ℕ) (answer : Answer) (context : ContextView) → Joins a (Settle_timeout who) answer b → Attends SpeaksFor own_at Knows a context → Attends SpeaksFor own_at Knows b context
+attended-still a b who answer context step attends =
+    attends-same a b context attends (λ place key known. core-remembers a b (Settle_timeout who) answer context.who place key attends.speaks (λ e _. cc) step known)
+    (core-keeps calls_keep-sound a b (Settle_timeout who) answer context.who attends.speaks step) (by (eqb_tells who context.who)) where
+      by : ((eqb who context.who ≡ true) × (who ≡ context.who)) ⊎ ((eqb who context.who ≡ false) × (who ≢ context.who)) → own_at b context.who ≡ own_at a context.who
+      by (inl same) = core-changes a b (Settle_timeout who) answer context.who (ap Some same.1) step ∙ own-timed_out answer who (own_at a context.who)
+      by (inr other) = core-others a b (Settle_timeout who) answer context.who attends.speaks (λ e. other.1 (cc)) step
+
+seated-still : (a b : Core) (who : ℕ) (answer : Answer) (first : ℕ) (xs : List kept.Player) → Joins a (Settle_timeout who) answer b → AreSeated a first xs → AreSeated b first xs
+seated-still a b who answer first [] step seated = tt
+seated-still a b who answer first (x ∷ xs) step seated =
+    (seated.0, attended-still a b who answer x.runner.context step seated.1, seated-still a b who answer (first + 1) xs step seated.2)
+
+pub timed-out : (hall : Hall) (who : ℕ) (answer : Answer) (after : Core) → IsManned hall → Joins hall.space (Settle_timeout who) answer after
+    → IsManned (record { space = after; players = hall.players; waiting = hall.waiting })
+timed-out hall who answer after manned step =
+    record { all = manned.all; seated = seated-still hall.space after who answer 1 hall.players.items step manned.seated; waiting = manned.waiting }
+
+-- one line is played, and then the rest follows
+pub one-line : (lines : List Line) (i : ℕ) (line d : Line) (hall after : Hall) (out next whole : List ℕ) (end : World) → i < length lines → line ≡ get_or lines i d
+    → out ++ told_text (lines_played (drop i lines) (world_of hall)).told ≡ whole → (lines_played (drop i lines) (world_of hall)).world ≡ end
+    → next ≡ out ++ told_text (line_played line (world_of hall)).told → world_of after ≡ (line_played line (world_of hall)).world
+    → (next ++ told_text (lines_played (drop (i + 1) lines) (world_of after)).told ≡ whole) × ((lines_played (drop (i + 1) lines) (world_of after)).world ≡ end)
+one-line lines i line d hall after out next whole end inside item so left now there =
+    let step : Scene = line_played line (world_of hall) in
+    let rest = drop (i + 1) lines in
+    let parts : lines_played (drop i lines) (world_of hall) ≡ (step and_then lines_played rest) =
+    ap (λ ls. lines_played ls (world_of hall)) (drop_more lines i d inside ∙ ap (λ x. x ∷ rest) (sym item)) in
+    subst (λ (w : World). (next ++ told_text (lines_played rest w).told ≡ whole) × ((lines_played rest w).world ≡ end)) (sym there) (
+      told-more (lines_played (drop i lines) (world_of hall)) step (lines_played rest step.world) out next whole (ap (λ (scene : Scene). scene.told) parts) so now,
+      sym (ap (λ (scene : Scene). scene.world) parts) ∙ left,
+    )
+
+-- the lines that were read are of sessions that a script can name
+pub read-sessions : (text : List ℕ) (lines : List Line) → parsed text ≡ Ok lines → All (λ line. IsScriptSession line.session) lines
+read-sessions text lines read k d inside = (limited k d inside).0 where
+  limited : All (λ line. IsScriptSession line.session × IsWithinLimits line.statement) lines
+  limited = subst (λ (said : Result (List Line) (ℕ × LineError)). IfOk said (All (λ line. IsScriptSession line.session × IsWithinLimits line.statement))) read (lines_say-limited 1 (lines_of text))

@@ -1,0 +1,33 @@
+-- A lock space and the sessions of a script as the code keeps them, and the world that they are.
+use Rattle.std.specs.Prelude.{◌≡◌, ℕ, ◌+◌, List, [], ◌∷◌, length, map, None}
+use Rattle.mdl_core.specs.CoreJoins.{SpeaksFor, own_at, Knows}
+use Rattle.mdl_core.specs.Cores.{Core}
+use Rattle.mdl_context.specs.Contexts.{Attends}
+use Rattle.mdl_stmt.specs.Stages.{session_of}
+use Rattle.mdl_stmt.specs.States.{at_first}
+use Rattle.mdl_script.specs.declared.hall.Hall.{Hall}
+use Rattle.mdl_script.specs.declared.hall.Player as kept
+use Rattle.mdl_script.specs.Worlds.{Player, World, waiting_in}
+
+-- a session with its line
+abbrev pub player_of : kept.Player → Player
+player_of player = record { session = session_of player.runner; line = player.line }
+
+abbrev pub world_of : Hall → World
+world_of hall = record { core = hall.space; players = map player_of hall.players.items }
+
+-- one that was asked for nothing yet
+abbrev pub new_player : ℕ → kept.Player
+new_player who = record { runner = record { context = record { who = who; kept = []; known = []; wait = None }; state = at_first; work = None }; line = 0 }
+
+-- these are the sessions from this number on, and the space attends to each of them
+abbrev pub AreSeated : Core → ℕ → List kept.Player → Type 0
+AreSeated core who [] = Unit {0}
+AreSeated core who (player ∷ players) =
+    (player.runner.context.who ≡ who) × Attends SpeaksFor own_at Knows core player.runner.context × AreSeated core (who + 1) players
+
+-- all sessions are there, and it is noted which of them wait
+pub record IsManned (hall : Hall) : Type 0 where
+  pub all : length hall.players.items ≡ 64
+  pub seated : AreSeated hall.space 1 hall.players.items
+  pub waiting : hall.waiting.items ≡ waiting_in (world_of hall)

@@ -1,0 +1,66 @@
+//! Plays a script of statements from bytes to bytes.
+ghost use Rattle.std.specs.Prelude.{◌≡◌, OnOk, IfOk, IfErr, IfSome, IsOk, All};
+ghost use Rattle.std.specs.Io.KnownBytes.{Appends, IsAtEnd};
+ghost use Rattle.std.specs.String.{string_bytes};
+ghost use Rattle.mdl_lines.specs.Devices.{LeavesWritten};
+ghost use Rattle.mdl_lines.specs.Faults.{IsFaultOf, MayEnd};
+ghost use Rattle.mdl_lines.specs.Sessions.{IsScriptSession};
+ghost use Rattle.mdl_syntax.specs.Scripts.{parsed};
+ghost use Rattle.mdl_script.specs.Output.{output_of, scene_text};
+ghost use Rattle.mdl_script.specs.Worlds.{script_played};
+
+use crate::hall::Hall;
+use mdl_lines::{Fault, read_all, write_all};
+use mdl_syntax::{Line, parse};
+use std::alloc::{AllocError, Global};
+use std::io::{Read, Write};
+
+/// Plays a script of statements in one thread, and writes what becomes of its lines.
+///
+/// It reads all, looks at all lines, and only then writes. What is known of the reader and of the writer is by the bytes
+/// that they tell: a slice, a cursor or a vector tells them, a file or a terminal doesn't.
+pub fn replay<R: Read, W: Write>(alloc: Global, reader: &mut R, writer: &mut W) -> Result<(), Fault>
+    // Done: what was written is the defined output of what was read, and all was read.
+    ensures output { OnOk result (IfSome (R.remaining reader.old) (λ input.
+        Appends (W.contents writer.old) (W.contents writer.new) (output_of input))) }
+    ensures end { OnOk result (IsAtEnd (R.remaining reader.new)) }
+
+    // Refused by the first refused line, and by no other.
+    ensures ends { IfSome (R.remaining reader.old) (λ input. MayEnd (parsed input) result) }
+
+    // After a fault a beginning of the output was written, never all of it, and nothing unless writing failed.
+    ensures fault { IfErr result (λ fault. IfSome (R.remaining reader.old) (λ input.
+        LeavesWritten fault (W.contents writer.old) (W.contents writer.new) (output_of input))) }
+{
+    let input = read_all(alloc, reader)?;
+    let output = output(alloc, &input)?;
+    write_all(writer, output.as_bytes())?;
+    Ok(())
+}
+
+// The output of a script.
+fn output(alloc: Global, text: &[u8]) -> Result<String, Fault>
+    ensures output { IfOk result (λ output. string_bytes output ≡ output_of text.now) }
+    ensures accepted { OnOk result (IsOk (parsed text.now)) }
+    ensures fault { IfErr result (IsFaultOf (parsed text.now)) }
+{
+    let script = parse(alloc, text)?;
+    match play(alloc, script.lines()) {
+        Ok(output) => Ok(output),
+        Err(AllocError) => Err(Fault::Memory),
+    }
+}
+
+// Plays lines over a new space.
+fn play(alloc: Global, lines: &[Line]) -> Result<String, AllocError>
+    requires { All (λ line. IsScriptSession line.session) lines.now }
+    ensures { IfOk result (λ output. string_bytes output ≡ scene_text (script_played lines.now)) }
+{
+    let mut hall = Hall::new(alloc)?;
+    let mut out = String::new(alloc);
+    for line in lines {
+        hall.play_line(line, &mut out)?;
+    }
+    hall.tell_waiting(&mut out)?;
+    Ok(out)
+}
