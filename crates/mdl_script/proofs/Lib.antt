@@ -1,6 +1,6 @@
-pub mod FaithfulPlay
 pub mod FirstLemmas
 pub mod HallLemmas
 pub mod ListLemmas
 pub mod SettleLemmas
+pub mod SoundLemmas
 pub mod StepLemmas

@@ -6,33 +6,34 @@ use Rattle.mdl_calls.specs.Words.{Program, Runs}
 use Rattle.mdl_core.specs.CoreJoins.{Joins}
 use Rattle.mdl_core.specs.Words.{Core, SpeaksFor, own_at, Knows}
 use Rattle.mdl_context.specs.Contexts.{Attends, LeavesOthers}
+use Rattle.mdl_context.specs.MemoryLaws.{IsSureUnless}
 use Rattle.mdl_lines.specs.Sessions.{IsScriptSession}
 use Rattle.mdl_stmt.specs.declared.reply.Progress.{Progress}
 use Rattle.mdl_stmt.specs.declared.reply.Progress.TheVariants.{Waiting, Pending, Done}
 use Rattle.mdl_stmt.specs.Endings.{Pause}
 use Rattle.mdl_stmt.specs.Gets.{paused}
+use Rattle.mdl_stmt.specs.MemoryLaws.{IsFault, session_at}
+use Rattle.mdl_stmt.proofs.RowOutcomes.{sure_rows}
 use Rattle.mdl_stmt.specs.Playing.{going_on}
 use Rattle.mdl_stmt.specs.Sessions.{RunnerView, Session}
 use Rattle.mdl_stmt.specs.Stages.{session_of}
 use Rattle.mdl_script.specs.declared.hall.Hall.{Hall}
 use Rattle.mdl_script.specs.declared.hall.Player as kept
 use Rattle.mdl_script.specs.Halls.{AreSeated, IsManned, player_of, world_of}
-use Rattle.mdl_script.specs.MemoryLaws.{IsSureUnlessWanting, IsWanting}
-use Rattle.mdl_script.specs.Worlds.{Player, Scene, World, came, going, is_waiting, played, player_at, session_after, told_of}
-use Rattle.mdl_script.proofs.FaithfulPlay.{statements-sure}
+use Rattle.mdl_script.specs.Worlds.{Player, Scene, World, came, going, is_waiting, played, player_at, told_of}
 use Rattle.mdl_script.proofs.HallLemmas.{player-at, seated-at, seated-then, waits-at}
 
 -- ---- progress
 
-session-paused : (progress : Progress) (session : Session) → session_after (paused progress session) ≡ session
+session-paused : (progress : Progress) (session : Session) → session_at (paused progress session) ≡ session
 session-paused (Waiting key mode) session = refl
 session-paused Pending session = refl
 session-paused (Done reply) session = refl
 
-not-wanting : (progress : Progress) (session : Session) → IsWanting (paused progress session) → ⊥
-not-wanting (Waiting key mode) session wanting = wanting
-not-wanting Pending session wanting = wanting
-not-wanting (Done reply) session wanting = wanting
+no-fault : (progress : Progress) (session : Session) → IsFault (paused progress session) → ⊥
+no-fault (Waiting key mode) session fault = fault
+no-fault Pending session fault = fault
+no-fault (Done reply) session fault = fault
 
 told-paused : (progress : Progress) (line who : ℕ) (one other : Session) → told_of line who (paused progress one) ≡ told_of line who (paused progress other)
 told-paused (Waiting key mode) line who one other = refl
@@ -56,7 +57,7 @@ came-so core after players who line runner progress =
     (sym (map-set player_of players (who - 1) (record { runner = runner; line = line }))))
 
 pub stepped : (core after : Core) (players : List kept.Player) (who line : ℕ) (player d : kept.Player) (runner : RunnerView) (progress : Progress) (program : Session → Program Pause)
-    → IsScriptSession who → length players ≡ 64 → player ≡ get_or players (who - 1) d → ((session : Session) → IsSureUnlessWanting (program session))
+    → IsScriptSession who → length players ≡ 64 → player ≡ get_or players (who - 1) d → ((session : Session) → IsSureUnless IsFault (program session))
     → Runs Joins core (program (session_of player.runner)) (paused progress (session_of runner)) after
     → let world : World = record { core = core; players = map player_of players } in
     played line who (program (player_at who world).session) world ≡ after_step after players who line runner progress
@@ -64,7 +65,7 @@ stepped core after players who line player d runner progress program session all
     let world : World = record { core = core; players = map player_of players } in
     let here : (player_at who world).session ≡ session_of player.runner =
     ap (λ (p : Player). p.session) (player-at core players who d session.0 (subst (λ n. who ≤ n) (sym all) session.1)) ∙ ap (λ (p : kept.Player). session_of p.runner) (sym same) in
-    let end = sure (session_of player.runner) core after (paused progress (session_of runner)) run (not-wanting progress (session_of runner)) in
+    let end = sure (session_of player.runner) core after (paused progress (session_of runner)) run (no-fault progress (session_of runner)) in
     ap (λ s. played line who (program s) world) here ∙ ap (λ o. came line who o world) end ∙ came-so core after players who line runner progress
 
 -- ---- a player of a hall
@@ -99,14 +100,14 @@ module _ (hall : Hall) (who n : ℕ) (player d : kept.Player) (manned : IsManned
 
   -- and a program of its comes so far
   pub came-at : (after : Core) (line : ℕ) (runner : RunnerView) (progress : Progress) (program : Session → Program Pause)
-      → ((s : Session) → IsSureUnlessWanting (program s))
+      → ((s : Session) → IsSureUnless IsFault (program s))
       → Runs Joins hall.space (program (session_of player.runner)) (paused progress (session_of runner)) after
       → played line who (program (player_at who (world_of hall)).session) (world_of hall) ≡ after_step after hall.players.items who line runner progress
   came-at after line runner progress program sure run =
       stepped hall.space after hall.players.items who line player d runner progress program session manned.all here sure run
 
   pub left-at : (after : Core) (line : ℕ) (runner : RunnerView) (progress : Progress) (program : Session → Program Pause)
-      → ((s : Session) → IsSureUnlessWanting (program s))
+      → ((s : Session) → IsSureUnless IsFault (program s))
       → Runs Joins hall.space (program (session_of player.runner)) (paused progress (session_of runner)) after
       → let world : World = record { core = after; players = map player_of (set hall.players.items (n - 1) (record { runner = runner; line = line })) } in
       world ≡ (played line who (program (player_at who (world_of hall)).session) (world_of hall)).world
@@ -114,7 +115,7 @@ module _ (hall : Hall) (who n : ℕ) (player d : kept.Player) (manned : IsManned
       rw from (sym (ap (λ (scene : Scene). scene.world) (came-at after line runner progress program sure run)))
 
   pub told-at : (after : Core) (line : ℕ) (runner : RunnerView) (progress : Progress) (program : Session → Program Pause)
-      → ((s : Session) → IsSureUnlessWanting (program s))
+      → ((s : Session) → IsSureUnless IsFault (program s))
       → Runs Joins hall.space (program (session_of player.runner)) (paused progress (session_of runner)) after
       → told_of line who (paused progress (session_of runner)) ≡ (played line who (program (player_at who (world_of hall)).session) (world_of hall)).told
   told-at after line runner progress program sure run = sym (ap (λ (scene : Scene). scene.told) (came-at after line runner progress program sure run))
@@ -127,13 +128,13 @@ module _ (hall : Hall) (who n : ℕ) (player d : kept.Player) (manned : IsManned
       → let world : World = record { core = after; players = map player_of (set hall.players.items (n - 1) (record { runner = runner; line = player.line })) } in
       world ≡ (going who (world_of hall)).world
   left-going after runner progress run =
-      left-at after player.line runner progress (λ s. going_on s) statements-sure.1 run
+      left-at after player.line runner progress (λ s. going_on s) (λ s. (sure_rows s).2) run
       ∙ ap (λ line. (played line who (going_on (player_at who (world_of hall)).session) (world_of hall)).world) line-at
 
   pub told-going : (after : Core) (runner : RunnerView) (progress : Progress) → Runs Joins hall.space (going_on (session_of player.runner)) (paused progress (session_of runner)) after
       → told_of player.line who (paused progress (session_of runner)) ≡ (going who (world_of hall)).told
   told-going after runner progress run =
-      told-at after player.line runner progress (λ s. going_on s) statements-sure.1 run
+      told-at after player.line runner progress (λ s. going_on s) (λ s. (sure_rows s).2) run
       ∙ ap (λ line. (played line who (going_on (player_at who (world_of hall)).session) (world_of hall)).told) line-at
 
 -- nothing is left

@@ -1,5 +1,4 @@
 pub mod Halls
-pub mod MemoryLaws
 pub mod Output
 pub mod Texts
 pub mod Worlds

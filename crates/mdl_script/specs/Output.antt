@@ -1,8 +1,10 @@
 -- The defined output of a script. The script language is this project's own.
-use Rattle.std.specs.Prelude.{ℕ, List, [], ◌++◌, flat_map, Result, Ok, Err}
+use Rattle.std.specs.Prelude.{ℕ, List, [], ◌++◌, flat_map, take, Result, Ok, Err, ⊤}
+use Rattle.mdl_core.specs.CoreSystems.{system_of}
 use Rattle.mdl_lines.specs.declared.fault.LineError.{LineError}
 use Rattle.mdl_syntax.specs.declared.script.Line.{Line}
 use Rattle.mdl_syntax.specs.Scripts.{parsed}
+use Rattle.mdl_system.specs.Systems.{IsLawful, NoneForgotten}
 use Rattle.mdl_script.specs.Texts.{told_text, end_line}
 use Rattle.mdl_script.specs.Worlds.{Scene, script_played, waiting_in}
 
@@ -18,3 +20,21 @@ output_for (Err refusal) = []
 -- the defined output of a script
 abbrev pub output_of : List ℕ → List ℕ
 output_of text = output_for (parsed text)
+
+-- no two sessions hold locks that clash, after any line
+abbrev pub IsLawfulThroughout : List Line → Type 0
+IsLawfulThroughout lines = (n : ℕ) → IsLawful (system_of (script_played (take n lines)).world.core)
+
+-- the same for a script, whose refused lines make it one of no lines
+abbrev pub StaysLawful : Result (List Line) (ℕ × LineError) → Type 0
+StaysLawful (Ok lines) = IsLawfulThroughout lines
+StaysLawful (Err refusal) = ⊤
+
+-- no session is left waiting that could be granted, after any line
+abbrev pub ForgetsNobodyThroughout : List Line → Type 0
+ForgetsNobodyThroughout lines = (n : ℕ) → NoneForgotten (system_of (script_played (take n lines)).world.core)
+
+-- the same for a script, whose refused lines make it one of no lines
+abbrev pub NeverForgets : Result (List Line) (ℕ × LineError) → Type 0
+NeverForgets (Ok lines) = ForgetsNobodyThroughout lines
+NeverForgets (Err refusal) = ⊤

@@ -15,6 +15,7 @@ use Rattle.mdl_syntax.specs.declared.statement.Statement.TheVariants.{Timeout}
 use Rattle.mdl_stmt.specs.declared.reply.Reply.TheVariants as reply
 use Rattle.mdl_stmt.specs.Endings.{Pause}
 use Rattle.mdl_stmt.specs.Endings as pause
+use Rattle.mdl_stmt.specs.MemoryLaws.{session_at}
 use Rattle.mdl_stmt.specs.Playing.{going_on, starting}
 use Rattle.mdl_stmt.specs.Sessions.{Session}
 use Rattle.mdl_stmt.specs.States.{at_first}
@@ -95,18 +96,11 @@ told_of line who (pause.Begins_to_wait key mode _) = record { line = line; who =
 told_of line who (pause.Waits_on _) = []
 told_of line who (pause.Faults _) = []
 
--- the session that is left then
-abbrev pub session_after : Pause → Session
-session_after (pause.Ends _ session) = session
-session_after (pause.Begins_to_wait _ _ session) = session
-session_after (pause.Waits_on session) = session
-session_after (pause.Faults session) = session
-
 -- a session's statement, which is that of this line, came so far
 abbrev pub came : ℕ → ℕ → Pause × Core → World → Scene
 came line who (pause, core) world = record {
   told = told_of line who pause;
-  world = record { core = core; players = slice_set world.players (who - 1) (record { session = session_after pause; line = line }) };
+  world = record { core = core; players = slice_set world.players (who - 1) (record { session = session_at pause; line = line }) };
 }
 
 -- a statement of a line is played by its session

@@ -3,11 +3,9 @@
 
 mod first_space;
 mod hall;
-mod laws;
 mod replaying;
 mod told;
 
-pub use laws::{statements_tell_of_want, sure_statements};
 pub use mdl_lines::{Fault, LineError};
 pub use mdl_syntax::{Script, parse};
 pub use replaying::replay;

@@ -6,7 +6,7 @@ ghost use Rattle.mdl_lines.specs.Devices.{LeavesWritten};
 ghost use Rattle.mdl_lines.specs.Faults.{IsFaultOf, MayEnd};
 ghost use Rattle.mdl_lines.specs.Sessions.{IsScriptSession};
 ghost use Rattle.mdl_syntax.specs.Scripts.{parsed};
-ghost use Rattle.mdl_script.specs.Output.{output_of, scene_text};
+ghost use Rattle.mdl_script.specs.Output.{NeverForgets, StaysLawful, output_of, scene_text};
 ghost use Rattle.mdl_script.specs.Worlds.{script_played};
 
 use crate::hall::Hall;
@@ -19,6 +19,7 @@ use std::io::{Read, Write};
 ///
 /// It reads all, looks at all lines, and only then writes. What is known of the reader and of the writer is by the bytes
 /// that they tell: a slice, a cursor or a vector tells them, a file or a terminal doesn't.
+#[tactic(auto, using(crate::proofs::SoundLemmas::stays_lawful_if, crate::proofs::SoundLemmas::never_forgets_if))]
 pub fn replay<R: Read, W: Write>(alloc: Global, reader: &mut R, writer: &mut W) -> Result<(), Fault>
     // Done: what was written is the defined output of what was read, and all was read.
     ensures output { OnOk result (IfSome (R.remaining reader.old) (λ input.
@@ -31,6 +32,12 @@ pub fn replay<R: Read, W: Write>(alloc: Global, reader: &mut R, writer: &mut W) 
     // After a fault a beginning of the output was written, never all of it, and nothing unless writing failed.
     ensures fault { IfErr result (λ fault. IfSome (R.remaining reader.old) (λ input.
         LeavesWritten fault (W.contents writer.old) (W.contents writer.new) (output_of input))) }
+
+    // By that output, no two sessions ever hold locks that clash.
+    ensures lawful { IfSome (R.remaining reader.old) (λ input. StaysLawful (parsed input)) }
+
+    // And no session is ever left waiting that could be granted.
+    ensures none_forgotten { IfSome (R.remaining reader.old) (λ input. NeverForgets (parsed input)) }
 {
     let input = read_all(alloc, reader)?;
     let output = output(alloc, &input)?;

@@ -2,11 +2,11 @@
 use Rattle.std.proofs.Common.{◌≡◌, ◌++◌, List, false, subst}
 use Rattle.std.specs.String.{string_bytes}
 use Rattle.std.proofs.lemmas.Result.{on_ok_weaker}
+use Rattle.mdl_stmt.proofs.RowOutcomes.{sure_rows}
 use Rattle.mdl_stmt.specs.Playing.{starting}
 use Rattle.mdl_stmt.specs.Stages.{session_of}
 use Rattle.mdl_script.specs.declared.told.Told.{Told}
 use Rattle.mdl_script.specs.Texts.{told_text}
-use Rattle.mdl_script.proofs.FaithfulPlay.{statements-sure}
 use Rattle.mdl_script.proofs.StepLemmas.{attends-at, left-at, none-left, seated-after, told-at, work-at}
 use Rattle.mdl_script.proofs.hall.Hall.begin.Goals as goal
 
@@ -21,7 +21,7 @@ start-requires-clause-idle c =
 pub returns-clause-told : goal.returns-clause-told
 returns-clause-told c =
     let told = told-at c.args.self.now c.args.line.now.session c.from.result c.index_mut-player.result.now _ c.requires.manned c.requires.session c.from.ensures c.index_mut-player.ensures.value
-    c.start.new.space c.args.line.now.number c.start.new.self c.in_ok-progress.progress (λ session. starting c.args.line.now.statement session) (statements-sure.0 c.args.line.now.statement) c.in_ok-progress.ensures.run in
+    c.start.new.space c.args.line.now.number c.start.new.self c.in_ok-progress.progress (λ session. starting c.args.line.now.statement session) (λ session. (sure_rows session).1 c.args.line.now.statement) c.in_ok-progress.ensures.run in
     on_ok_weaker c.tell_progress.result
     (λ tells. subst (λ (ts : List Told). string_bytes c.tell_progress.new.out ≡ string_bytes c.args.out.now ++ told_text ts) told tells)
     (c.tell_progress.ensures (session_of c.start.new.self))
@@ -29,7 +29,7 @@ returns-clause-told c =
 pub returns-clause-left : goal.returns-clause-left
 returns-clause-left c =
     let left = left-at c.args.self.now c.args.line.now.session c.from.result c.index_mut-player.result.now _ c.requires.manned c.requires.session c.from.ensures c.index_mut-player.ensures.value
-    c.start.new.space c.args.line.now.number c.start.new.self c.in_ok-progress.progress (λ session. starting c.args.line.now.statement session) (statements-sure.0 c.args.line.now.statement) c.in_ok-progress.ensures.run in
+    c.start.new.space c.args.line.now.number c.start.new.self c.in_ok-progress.progress (λ session. starting c.args.line.now.statement session) (λ session. (sure_rows session).1 c.args.line.now.statement) c.in_ok-progress.ensures.run in
     on_ok_weaker c.tell_progress.result (λ _. left) (c.tell_progress.ensures (session_of c.start.new.self))
 
 pub returns-clause-seated : goal.returns-clause-seated
