@@ -25,7 +25,7 @@ output_of text = output_for (parsed text)
 abbrev pub IsLawfulThroughout : List Line → Type 0
 IsLawfulThroughout lines = (n : ℕ) → IsLawful (system_of (script_played (take n lines)).world.core)
 
--- the same for a script, whose refused lines make it one of no lines
+-- the same for a script: one that is refused is not played
 abbrev pub StaysLawful : Result (List Line) (ℕ × LineError) → Type 0
 StaysLawful (Ok lines) = IsLawfulThroughout lines
 StaysLawful (Err refusal) = ⊤
@@ -34,7 +34,7 @@ StaysLawful (Err refusal) = ⊤
 abbrev pub ForgetsNobodyThroughout : List Line → Type 0
 ForgetsNobodyThroughout lines = (n : ℕ) → NoneForgotten (system_of (script_played (take n lines)).world.core)
 
--- the same for a script, whose refused lines make it one of no lines
+-- the same for a script: one that is refused is not played
 abbrev pub NeverForgets : Result (List Line) (ℕ × LineError) → Type 0
 NeverForgets (Ok lines) = ForgetsNobodyThroughout lines
 NeverForgets (Err refusal) = ⊤

@@ -1,6 +1,7 @@
-//! Scripts of statements, and what the plain program answers to them.
+//! Scripts of statements, and what `replay` and the plain program answer to them.
 use crate::chance::script_by_chance;
 use crate::plain::answers_of;
+use mdl_script::replay;
 use std::alloc::{AllocError, Global};
 use std::str;
 use std::test::Fail;
@@ -93,12 +94,33 @@ fn lines(alloc: Global, row: &str) -> Result<String, AllocError> {
     Ok(text)
 }
 
-// What is answered to a script, or why it is refused.
+// What the plain program answers to a script, or why it is refused.
 fn told(alloc: Global, script: &[u8]) -> Result<String, Fail> {
     match answers_of(alloc, script) {
         Ok(answers) => Ok(String::from_utf8(answers)?),
         Err(fault) => Ok(format!(in alloc; "{fault}\n")?),
     }
+}
+
+// What `replay` writes for a script, or why it is refused.
+fn replayed(alloc: Global, script: &[u8]) -> Result<String, Fail> {
+    let mut reader = script;
+    let mut written = Vec::new(alloc);
+    match replay(alloc, &mut reader, &mut written) {
+        Ok(()) => Ok(String::from_utf8(written)?),
+        Err(fault) => Ok(format!(in alloc; "{fault}\n")?),
+    }
+}
+
+// The first of these scripts by chance for which the two don't write the same.
+fn first_apart(alloc: Global, scripts: u64) -> Result<Option<u64>, Fail> {
+    for number in 0..scripts {
+        let script = script_by_chance(alloc, number)?;
+        if told(alloc, script.as_slice())? != replayed(alloc, script.as_slice())? {
+            return Ok(Some(number));
+        }
+    }
+    Ok(None)
 }
 
 #[test]
@@ -107,13 +129,19 @@ fn rows_are_answered(rt: HostRuntime) -> Result<(), Fail> {
         let Some((script, answers)) = row.split_once(" => ") else {
             return Err(Fail::from("a row has no answers"));
         };
-        let told = told(rt.alloc(), lines(rt.alloc(), script)?.as_bytes())?;
-        assert_eq!(rt;
-            told.as_str(),
-            lines(rt.alloc(), answers)?.as_str(),
-            "{row}"
-        );
+        let script = lines(rt.alloc(), script)?;
+        let answers = lines(rt.alloc(), answers)?;
+        let told = told(rt.alloc(), script.as_bytes())?;
+        assert_eq!(rt; told.as_str(), answers.as_str(), "{row}");
+        let replayed = replayed(rt.alloc(), script.as_bytes())?;
+        assert_eq!(rt; replayed.as_str(), answers.as_str(), "{row}");
     }
+    Ok(())
+}
+
+#[test]
+fn scripts_by_chance_are_replayed_alike(rt: HostRuntime) -> Result<(), Fail> {
+    assert_eq!(rt; first_apart(rt.alloc(), 2_000)?, None);
     Ok(())
 }
 
@@ -125,8 +153,12 @@ fn line_ends_make_no_difference(rt: HostRuntime) -> Result<(), Fail> {
         (b"1 BEGIN\n1 COMMIT", "1 1 OK\n2 1 OK\n"),
         (b"\r\n1 BEGIN\r\n1 COMMIT\r", "2 1 OK\n3 1 OK\n"),
     ] {
-        let told = told(rt.alloc(), script)?;
-        assert_eq!(rt; told.as_str(), answers, "{script:?}");
+        assert_eq!(rt; told(rt.alloc(), script)?.as_str(), answers, "{script:?}");
+        assert_eq!(rt;
+            replayed(rt.alloc(), script)?.as_str(),
+            answers,
+            "{script:?}"
+        );
     }
     Ok(())
 }
@@ -144,6 +176,8 @@ fn the_257th_key_has_no_place(rt: HostRuntime) -> Result<(), Fail> {
     answers.push_str("256 1 ERR 9004\n257 1 ERR 1146\n258 1 ERR 9004\n")?;
     let told = told(rt.alloc(), script.as_bytes())?;
     assert_eq!(rt; told.as_str(), answers.as_str());
+    let replayed = replayed(rt.alloc(), script.as_bytes())?;
+    assert_eq!(rt; replayed.as_str(), answers.as_str());
     Ok(())
 }
 

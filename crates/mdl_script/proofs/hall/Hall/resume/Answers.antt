@@ -1,16 +1,17 @@
 -- The session's statement comes as far as its definition says.
-use Rattle.std.proofs.Common.{◌≡◌, ◌++◌, List, subst}
+use Rattle.std.proofs.Common.{◌≡◌, ◌++◌, List, subst, true}
 use Rattle.std.specs.String.{string_bytes}
 use Rattle.std.proofs.lemmas.Result.{on_ok_weaker}
 use Rattle.mdl_stmt.specs.Stages.{session_of}
 use Rattle.mdl_script.specs.declared.told.Told.{Told}
 use Rattle.mdl_script.specs.Texts.{told_text}
-use Rattle.mdl_script.proofs.StepLemmas.{attends-at, left-going, seated-after, told-going}
+use Rattle.mdl_script.proofs.StepLemmas.{attends-at, left-going, seated-after, told-going, work-at}
 use Rattle.mdl_script.proofs.hall.Hall.resume.Goals as goal
 
 pub go_on-requires : goal.go_on-requires
 go_on-requires c = record {
   attends = (attends-at c.args.self.now c.args.who c.from.result c.index_mut-player.result.now _ c.requires.manned c.requires.session c.from.ensures c.index_mut-player.ensures.value).1;
+  waits = work-at c.args.self.now c.args.who c.from.result c.index_mut-player.result.now _ c.requires.manned c.requires.session c.from.ensures c.index_mut-player.ensures.value true c.requires.waits;
 }
 
 pub returns-clause-told : goal.returns-clause-told
