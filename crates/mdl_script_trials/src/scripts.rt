@@ -141,7 +141,7 @@ fn rows_are_answered(rt: HostRuntime) -> Result<(), Fail> {
 
 #[test]
 fn scripts_by_chance_are_replayed_alike(rt: HostRuntime) -> Result<(), Fail> {
-    assert_eq!(rt; first_apart(rt.alloc(), 2_000)?, None);
+    assert_eq!(rt; first_apart(rt.alloc(), 300)?, None);
     Ok(())
 }
 

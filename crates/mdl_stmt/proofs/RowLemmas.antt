@@ -1,5 +1,5 @@
 -- Rows: one after another, and what they come to in a session that has locked no tables.
-use Rattle.std.proofs.Common.{◌≡◌, ℕ, Bool, true, false, not, List, [], Option, None, refl, sym, ap, ◌∙◌, if◌then◌else◌}
+use Rattle.std.proofs.Common.{◌≡◌, ℕ, Bool, false, not, List, [], Option, None, refl, sym, ap, ◌∙◌, if◌then◌else◌}
 use mathlib.Core.Path.{fun_ext}
 use Rattle.std.specs.Prelude.{is_some}
 use Rattle.mdl_key.specs.declared.mode.Mode.TheVariants.{IX}

@@ -5,7 +5,6 @@ use Rattle.mdl_key.specs.declared.mode.Mode.TheVariants.{IX}
 use Rattle.mdl_key.specs.declared.mode.Duration.TheVariants.{Explicit}
 use Rattle.mdl_key.specs.Keys.{KeyName, commit_key}
 use Rattle.mdl_calls.specs.Words.{Answer, Call, Program, Runs}
-use Rattle.mdl_calls.specs.Words as call
 use Rattle.mdl_calls.proofs.RunLemmas.{runs_bind}
 use Rattle.mdl_context.specs.declared.context_error.ContextError.{ContextError}
 use Rattle.mdl_context.specs.declared.kept.Kept.{Kept}
@@ -25,7 +24,7 @@ use Rattle.mdl_stmt.specs.declared.ending.Got.TheVariants as got
 use Rattle.mdl_stmt.specs.declared.ending.Played.{Played}
 use Rattle.mdl_stmt.specs.declared.ending.Played.TheVariants as played
 use Rattle.mdl_stmt.specs.declared.reply.Reply.{Reply}
-use Rattle.mdl_stmt.specs.Endings.{Pause, Begins_to_wait, ending_of_error, closing, ended, gone_at, state_after}
+use Rattle.mdl_stmt.specs.Endings.{Pause, Begins_to_wait, ending_of_error, closing}
 use Rattle.std.specs.Prelude.{[], ◌∷◌, find}
 use Rattle.std.specs.Option.{option_map}
 use Rattle.mdl_stmt.specs.declared.ending.Ending.TheVariants.{Answers, Starves}

@@ -1,7 +1,7 @@
 -- How a statement ends, and what goes then. That a statement whose check failed keeps the locks of its transaction is after MySQL
 -- 5.7, the Reference Manual, "Metadata Locking"; that one which misses a lock goes back to where it began, and that a transaction
 -- stays open whose COMMIT lock was missed, is this project's own choice.
-use Rattle.std.specs.Prelude.{◌≡◌, Bool, true, List, None, Result, Ok, Err}
+use Rattle.std.specs.Prelude.{Bool, true, List, None}
 use Rattle.mdl_key.specs.declared.mode.Mode.{Mode}
 use Rattle.mdl_key.specs.declared.mode.Duration.TheVariants as for
 use Rattle.mdl_key.specs.Keys.{KeyName}
@@ -38,8 +38,8 @@ ending_of_loss settled.Timeout = Misses LockWaitTimeout
 ending_of_loss settled.Killed = Misses Interrupted
 ending_of_loss _ = Falls
 
--- how a statement ends that a lock space refuses something. It asks for nothing that is refused for another cause than want of
--- room: no place for a key, no room in a book, no number for a ticket or a wait
+-- how a statement ends that a lock space refuses something. A statement of a script asks for nothing that is refused for another cause
+-- than want of room: no place for a key, no room in a book, no number for a ticket or a wait
 abbrev pub ending_of_refusal : SpaceError → Ending
 ending_of_refusal space.OutOfMemory = Starves
 ending_of_refusal space.NoPlace = Misses NoPlace
@@ -51,14 +51,15 @@ ending_of_error (Space refusal) = ending_of_refusal refusal
 ending_of_error _ = Misses Full
 
 -- what goes as a statement ends that began at this mark: in an open transaction the tickets of the statement, where it was done
--- or a check failed; all that it gained, where it missed a lock or memory. Else all tickets of the transaction
+-- or a check failed; all that it gained for the statement and the transaction, where it missed a lock or memory. Else all tickets of
+-- both. Explicit tickets stay
 abbrev pub gone_at : Ending → Bool → Mark → List Kept → List Kept
 gone_at (Answers reply) true mark = held_for for.Statement
 gone_at (Misses number) true mark = beyond_mark mark
 gone_at Starves true mark = beyond_mark mark
 gone_at _ _ mark = of_transaction
 
--- whether a transaction is still open: the victim of a deadlock has lost it
+-- what the session keeps then: the victim of a deadlock has lost its transaction
 abbrev pub state_after : Ending → State → State
 state_after Falls state = closed state
 state_after _ state = state

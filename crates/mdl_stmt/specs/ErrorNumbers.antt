@@ -1,5 +1,5 @@
 -- The numbers of errors, after MySQL 5.7: the Reference Manual, "Server Error Message Reference". Those from 9001 on are this
--- project's own.
+-- project's own, and so is that a table which is missing is one number for all statements.
 use Rattle.std.specs.Prelude.{ℕ}
 use Rattle.mdl_stmt.specs.declared.error_number.ErrorNumber.{ErrorNumber}
 use Rattle.mdl_stmt.specs.declared.error_number.ErrorNumber.TheVariants.{UnknownDatabase, TableExists, DuplicateColumn, TableLockedForRead, TableNotLocked, NoSuchTable, ActiveLocks, LockWaitTimeout, Deadlock, ConflictingReadLock, NoSuchSavepoint, Interrupted, VersionLimit, NoPlace, Full}

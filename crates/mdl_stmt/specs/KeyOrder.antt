@@ -4,7 +4,7 @@ use Rattle.std.specs.declared.cmp.Ordering.{Ordering}
 use Rattle.std.specs.declared.cmp.Ordering.TheVariants.{Less, Equal, Greater}
 use Rattle.mdl_key.specs.Keys.{KeyName, key_cmp}
 
--- a key put before, over or behind the first of these
+-- a key put before the first of these or behind it, or left out where it is the first
 abbrev pub put : KeyName → Ordering → KeyName → List KeyName → List KeyName → List KeyName
 put key Less other others behind = key ∷ other ∷ others
 put key Equal other others behind = other ∷ others

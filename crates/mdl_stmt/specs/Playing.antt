@@ -1,10 +1,8 @@
 -- How a session plays what its statements ask: as a program of calls of a lock space.
-use Rattle.std.specs.Prelude.{ℕ, List, Option, Some, None, Result, Ok, Err}
+use Rattle.std.specs.Prelude.{ℕ, Option, Some, None, Ok, Err}
 use Rattle.mdl_defs.specs.declared.standing.Standing.{Standing}
-use Rattle.mdl_calls.specs.declared.space_error.SpaceError.{SpaceError}
 use Rattle.mdl_calls.specs.Words.{Answer, Has_wait, Reads, Changed, Read_definition, Change_definition, Wait_of, Program, Give, Ask, Grow, ◌>>=◌, ◌>>◌}
 use Rattle.mdl_calls.specs.Words as call
-use Rattle.mdl_context.specs.declared.kept.Kept.{Kept}
 use Rattle.mdl_context.specs.declared.request.Acquire.{Acquire}
 use Rattle.mdl_context.specs.declared.request.Acquire.TheVariants as acquire
 use Rattle.mdl_context.specs.declared.request.Mark.{Mark}

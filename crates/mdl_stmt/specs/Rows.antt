@@ -35,7 +35,7 @@ pub data Row (A : Type 0) : Type 0 where
   Read : (id : ℕ) → (Standing → Row A) → Row A
   -- a change of it
   Redefine : (id : ℕ) → Change → Row A → Row A
-  -- the end of another session's wait
+  -- the end of a session's wait
   Kill : (target : ℕ) → Row A → Row A
 
 infixl 20 ◌>>=◌
@@ -59,7 +59,7 @@ infixl 20 ◌>>◌
 abbrev pub ◌>>◌ : {A B : Type 0} → Row A → Row B → Row B
 first >> second = first >>= (λ _. second)
 
--- a row that gives nothing but way to the next
+-- a row that only does something, and tells nothing
 abbrev pub Act : Type 0
 Act = Row (Unit {0})
 
@@ -67,7 +67,7 @@ Act = Row (Unit {0})
 abbrev pub nothing : Act
 nothing = Give (tt {0})
 
--- one thing alone
+-- each thing alone
 abbrev pub room : Act
 room = Room nothing
 

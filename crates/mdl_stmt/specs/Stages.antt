@@ -1,5 +1,5 @@
 -- What is left of a statement at each of its stages, once it has the lock that it waits for.
-use Rattle.std.specs.Prelude.{ℕ, List, [], ◌∷◌, ◌++◌, length, drop, map, Option}
+use Rattle.std.specs.Prelude.{ℕ, List, [], ◌∷◌, ◌++◌, length, drop, map}
 use Rattle.std.specs.Option.{option_map}
 use Rattle.mdl_key.specs.Keys.{KeyName}
 use Rattle.mdl_stmt.specs.declared.reply.Reply.{Reply}

@@ -1,8 +1,9 @@
 -- What each statement does, after MySQL 5.7: the Reference Manual, "Metadata Locking", "START TRANSACTION, COMMIT, and ROLLBACK
 -- Statements", "SAVEPOINT, ROLLBACK TO SAVEPOINT, and RELEASE SAVEPOINT Statements" and "LOCK TABLES and UNLOCK TABLES Statements".
--- Checks stand in the order in which they are made. That CREATE TABLE asks for its lock before all checks, that DROP TABLE drops
--- none where one is missing, that a savepoint outside a transaction is nothing, and that going back leaves written what was
--- written, is this project's own choice.
+-- Checks stand in the order in which they are made. This project's own choice is that CREATE TABLE has its lock before it looks at
+-- schema, table and columns, that DROP TABLE drops none where one is missing, that changes of definitions take no COMMIT lock of their
+-- own and are refused under locked tables, that a savepoint outside a transaction is nothing, that going back releases what was gained
+-- since, whatever was written, and leaves the transaction one that wrote, and that KILL QUERY is always done.
 use Rattle.std.specs.Prelude.{ℕ, Bool, not, nat_lt, List, [], ◌∷◌, ◌++◌, map, find, is_some, Option, Some, None, if◌then◌else◌}
 use Rattle.mdl_key.specs.declared.mode.Mode.{Mode}
 use Rattle.mdl_key.specs.declared.mode.Mode.TheVariants.{IX, SR, SW, SWLP, X}
@@ -88,7 +89,7 @@ abbrev pub among_locked : Option Locked → Row Locked
 among_locked (Some table) = Give table
 among_locked None = Fail TableNotLocked
 
--- its lock is held already
+-- the lock of a table is held already, where it is among the locked ones
 abbrev pub held_lock : KeyName → Row Locked
 held_lock table = do
   state ← look
@@ -118,25 +119,28 @@ exists ticket = do
 
 -- ---- BEGIN, SAVEPOINT, ROLLBACK TO
 
+-- BEGIN, once no transaction is open
 abbrev pub begin_after_commit : Row Reply
 begin_after_commit = do
   unlock_tables
   set opened
   Give reply.Ok
 
--- the session's place is marked by a name
+-- where the session stands is marked by a name
 abbrev pub save_here : List ℕ → Act
 save_here name = do
   room
   mark ← here
   set (λ state. record state { savepoints = with_savepoint name mark state.savepoints })
 
+-- SAVEPOINT: without a transaction it is nothing
 abbrev pub save : List ℕ → Row Reply
 save name = do
   state ← look
   if state.is_open then save_here name else nothing
   Give reply.Ok
 
+-- the session goes back to where it stood, if there is such a savepoint
 abbrev pub go_back : List ℕ → Option Mark → Row Reply
 go_back name None = Fail NoSuchSavepoint
 go_back name (Some mark) = do
@@ -144,6 +148,7 @@ go_back name (Some mark) = do
   set (λ state. record state { savepoints = up_to name state.savepoints })
   Give reply.Ok
 
+-- ROLLBACK TO
 abbrev pub rollback_to : List ℕ → Row Reply
 rollback_to name = do
   state ← look
@@ -176,6 +181,7 @@ lock_held table = do
   locked ← held_lock table
   Give locked.ticket
 
+-- SELECT
 abbrev pub select : List KeyName → Row Reply
 select tables = do
   state ← look
@@ -207,18 +213,21 @@ lock_and_write table priority = do
   ticket ← acquire table (write_mode priority) for.Transaction
   write_under ticket
 
+-- a write of a session that has locked no tables
 abbrev pub write_unlocked : KeyName → Priority → Row Reply
 write_unlocked table priority = do
   no_read_lock
   global ← acquire global_key IX for.Statement
   lock_and_write table priority
 
+-- a write of one that has
 abbrev pub write_locked : KeyName → Row Reply
 write_locked table = do
   locked ← held_lock table
   check locked.may_write TableLockedForRead
   wrote
 
+-- INSERT, UPDATE and DELETE
 abbrev pub write : KeyName → Priority → Row Reply
 write table priority = do
   state ← look
@@ -233,7 +242,7 @@ ddl = do
   no_locked_tables
   commit
 
--- the lock of DDL in a key: all writes and the schema are only kept from being locked
+-- the lock of DDL in a key: a table for all others; a schema, and all writes, only against whoever would lock them as a whole
 abbrev pub ddl_lock : KeyName → Wish
 ddl_lock key = lock_in key.namespace where
   lock_in : Namespace → Wish
@@ -279,13 +288,14 @@ lock_and_create table columns schema = do
   ticket ← acquire table X for.Transaction
   create_under columns schema ticket
 
--- its schema is locked under the lock of all writes, and then it is
+-- its schema is locked under the lock of all writes, and then the table is locked and created
 abbrev pub lock_schema_and_create : KeyName → List (List ℕ) → Row Reply
 lock_schema_and_create table columns = do
   room
   schema ← Acquire (ddl_lock (schema_of table)) Give
   lock_and_create table columns schema
 
+-- CREATE TABLE, once no transaction is open
 abbrev pub create_after_commit : KeyName → List (List ℕ) → Row Reply
 create_after_commit table columns = do
   global ← Acquire (ddl_lock global_key) Give
@@ -301,7 +311,7 @@ can_change ticket = do
 abbrev pub stands : ℕ → Act
 stands ticket = exists ticket >> nothing
 
--- tables are dropped under their locks: all, or none where one is missing
+-- tables are dropped under their locks: all, or none where one is missing or can't be changed once more
 abbrev pub drop_under : List ℕ → Row Reply
 drop_under tickets = do
   for_each stands tickets
@@ -309,13 +319,14 @@ drop_under tickets = do
   for_each (λ ticket. redefine ticket change.Drop) tickets
   Give reply.Ok
 
--- tables are locked under the locks of their schemas, and dropped
+-- tables are locked under the locks of their schemas, all of them before the first is looked at, and dropped
 abbrev pub lock_and_drop : List KeyName → Row Reply
 lock_and_drop tables = do
   room
   tickets ← acquire_all (map ddl_lock (in_key_order tables))
   drop_under tickets
 
+-- DROP TABLE, once no transaction is open
 abbrev pub drop_after_commit : List KeyName → Row Reply
 drop_after_commit tables = do
   room

@@ -1,6 +1,6 @@
--- What a session keeps beside its tickets, after MySQL 5.7: `THD::transaction`, `THD::locked_tables_list` and
--- `Global_read_lock` of sql/sql_class.h. That BEGIN and the like see no more than this is this project's own choice.
-use Rattle.std.specs.Prelude.{ℕ, Bool, true, false, not, List, [], ◌∷◌, ◌++◌, filter, find, is_some, Option, Some, None, if◌then◌else◌}
+-- What a session keeps beside its tickets, after MySQL 5.7: `THD::locked_tables_list` and `Global_read_lock` of sql/sql_class.h, and
+-- the Reference Manual, "START TRANSACTION, COMMIT, and ROLLBACK Statements".
+use Rattle.std.specs.Prelude.{ℕ, Bool, true, false, not, List, [], ◌∷◌, ◌++◌, filter, find, Option, None, if◌then◌else◌}
 use Rattle.std.specs.Option.{option_map}
 use lib.Pointwise.{pointwise}
 use Rattle.std.specs.Prelude.{◌==◌}

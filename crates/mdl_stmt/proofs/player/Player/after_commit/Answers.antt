@@ -1,5 +1,5 @@
 -- Each statement that has something left does it.
-use Rattle.std.proofs.Common.{refl, sym, subst}
+use Rattle.std.proofs.Common.{refl}
 use Rattle.mdl_stmt.specs.declared.reply.Reply.TheVariants as reply
 use Rattle.mdl_stmt.specs.Rows.{Give}
 use Rattle.mdl_stmt.specs.Statements.{after_commit}

@@ -1,9 +1,6 @@
 -- Whether a transaction is open, and whether it wrote, decides what is done.
-use Rattle.std.proofs.Common.{true, false, Bool, Ok, subst, sym, ap, ◌≡◌, ◌∙◌}
-use Rattle.mdl_stmt.specs.declared.ending.Got.TheVariants.{Had}
-use Rattle.mdl_stmt.specs.Gets.{IsCommitted}
+use Rattle.std.proofs.Common.{sym, ap, ◌∙◌}
 use Rattle.mdl_stmt.specs.Sessions.{PlayerView}
-use Rattle.mdl_stmt.specs.Statements.{commit}
 use Rattle.mdl_stmt.proofs.RunLemmas.{commit-looked, commit-plain}
 use Rattle.mdl_stmt.proofs.player.Player.commit.Goals as goal
 

@@ -1,12 +1,9 @@
 -- The tickets go, and then no transaction is open.
-use Rattle.std.proofs.Common.{Ok, sym, subst, ap}
-use Rattle.mdl_context.specs.Contexts.{ContextView, of_transaction}
+use Rattle.std.proofs.Common.{Ok, sym, subst}
 use Rattle.mdl_stmt.specs.declared.savepoint.Savepoint.{Savepoint}
 use Rattle.std.specs.Prelude.{List, false}
 use Rattle.mdl_stmt.specs.Gets.{IsStep}
-use Rattle.mdl_stmt.specs.Rows as row
 use Rattle.mdl_stmt.specs.Sessions.{PlayerView, player_of}
-use Rattle.mdl_stmt.specs.States.{closed}
 use Rattle.mdl_stmt.specs.Statements.{end_transaction}
 use Rattle.mdl_stmt.proofs.RunLemmas.{closed-then}
 use Rattle.mdl_stmt.proofs.player.Player.end_transaction.Goals as goal

@@ -1,6 +1,6 @@
 -- The transaction ends, and then its lock goes.
-use Rattle.std.proofs.Common.{Ok, subst}
-use Rattle.mdl_stmt.specs.Gets.{Comes, IsStep}
+use Rattle.std.proofs.Common.{subst}
+use Rattle.mdl_stmt.specs.Gets.{Comes}
 use Rattle.mdl_stmt.specs.Playing.{play}
 use Rattle.mdl_stmt.specs.Rows as row
 use Rattle.mdl_stmt.specs.Sessions.{PlayerView, player_of}

@@ -1,6 +1,5 @@
 -- The session has what it had.
-use Rattle.std.proofs.Common.{◌∙◌, ap, sym, subst, refl, ◌≡◌, ℕ, Some}
-use Rattle.mdl_calls.specs.Words.{caller}
+use Rattle.std.proofs.Common.{◌∙◌, ap, ◌≡◌, ℕ, Some}
 use Rattle.mdl_stmt.specs.Sessions.{PlayerView}
 use Rattle.mdl_stmt.proofs.CallLemmas.{attends-call}
 use Rattle.mdl_stmt.proofs.player.Player.redefine.Goals as goal

@@ -1,5 +1,5 @@
 -- The session goes back, where there is such a savepoint.
-use Rattle.std.proofs.Common.{◌≡◌, List, sym, ap, subst, ◌∙◌}
+use Rattle.std.proofs.Common.{List, sym, subst, ◌∙◌}
 use Rattle.mdl_stmt.specs.declared.ending.Ending.TheVariants.{Answers}
 use Rattle.mdl_stmt.specs.declared.error_number.ErrorNumber.TheVariants.{NoSuchSavepoint}
 use Rattle.mdl_stmt.specs.declared.reply.Reply.TheVariants as reply

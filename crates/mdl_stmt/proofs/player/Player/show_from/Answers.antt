@@ -1,5 +1,5 @@
 -- One table after the other.
-use Rattle.std.proofs.Common.{◌∙◌, ◌+◌, drop}
+use Rattle.std.proofs.Common.{◌∙◌, drop}
 use Rattle.mdl_stmt.proofs.ListLemmas.{item-at, still-left, show-ended, show-had, show-missed, show-waits}
 use Rattle.mdl_stmt.proofs.RunLemmas.{comes-then, comes-waits}
 use Rattle.mdl_stmt.proofs.player.Player.show_from.Goals as goal

@@ -1,5 +1,5 @@
 -- The table is shown, and then the others.
-use Rattle.std.proofs.Common.{drop, arith, ◌+◌}
+use Rattle.std.proofs.Common.{drop, ◌+◌}
 use Rattle.mdl_stmt.specs.Stages.{show_next}
 use Rattle.mdl_stmt.specs.Statements.{lock_to_read, show_all}
 use Rattle.mdl_stmt.proofs.ListLemmas.{item-at, next-missed, next-shown}

@@ -1,5 +1,5 @@
 -- The lock of all writes is had, waited for, or missed.
-use Rattle.std.proofs.Common.{◌≡◌, List, [], Option, None, ℕ, sym, ap, subst}
+use Rattle.std.proofs.Common.{sym, ap, subst}
 use Rattle.mdl_key.specs.Keys.{KeyName, global_key}
 use Rattle.mdl_key.specs.declared.mode.Mode.TheVariants.{IX}
 use Rattle.mdl_key.specs.declared.mode.Duration.TheVariants.{Statement}
