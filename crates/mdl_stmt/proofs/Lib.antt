@@ -2,7 +2,6 @@ pub mod CallLemmas
 pub mod DropLemmas
 pub mod EndLemmas
 pub mod ListLemmas
-pub mod LockLemmas
 pub mod LockListLemmas
 pub mod OrderLemmas
 pub mod RowCalls
