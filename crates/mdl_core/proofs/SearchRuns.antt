@@ -86,6 +86,11 @@ victim-some : (o : Option (List Member)) (victim : ℕ) → option_map victim_of
 victim-some None victim e = cc
 victim-some (Some members) victim e = (members, refl, cc)
 
+-- where no victim is found, the session is part of no deadlock
+pub nothing-found : (core : Core) (who : ℕ) → IsTied core → victim_at who core ≡ None → (cycle : List ℕ) → IsDeadlock (system_of core) who cycle → ⊥
+nothing-found core who tied none = none-found core tied who (victim-none (deadlock_in (has_settled core) core.books who) none)
+
+-- and one that is found is that of the chosen deadlock
 pub victim-found : (core : Core) (who victim : ℕ) → IsTied core → victim_at who core ≡ Some victim
     → (cycle : List ℕ) × IsChosenDeadlock (system_of core) who cycle × IsVictimOf (system_of core) cycle victim
 victim-found core who victim tied is =
@@ -95,7 +100,7 @@ victim-found core who victim tied is =
 
 pub searches-find : SearchesFindDeadlocks
 searches-find a b who = (
-  (λ joins. none-found a joins.0.1.tied who (victim-none (deadlock_in (has_settled a) a.books who) (none-joined a b who joins).0)),
+  (λ joins. nothing-found a who joins.0.1.tied (none-joined a b who joins).0),
   λ victim joins. victim-found a who victim joins.0.1.tied (some-joined a b who victim joins).0,
   either-joined a b who,
 )

@@ -20,7 +20,7 @@ Kills a target number result =
     (killed : Bool) → result.0 ≡ Has_killed killed → ((killed ≡ true) ↔ WaitsUnsettled a target number) × (killed ≡ false → result.1 ≡ a)
 
 -- an unsettled wait of the number is found open
-found-open : (a : Core) (target number : ℕ) → WaitsUnsettled a target number → is_open_wait number (wait_at target a) ≡ true
+pub found-open : (a : Core) (target number : ℕ) → WaitsUnsettled a target number → is_open_wait number (wait_at target a) ≡ true
 found-open a target number waits =
     let wait : Pending = waits.1 in
     let found : wait_at target a ≡ Some wait = wait-of_session a target waits.0 ∙ waits.2 in

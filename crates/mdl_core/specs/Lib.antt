@@ -5,6 +5,7 @@ pub mod CoreJoins
 pub mod CoreLaws
 pub mod CoreSystems
 pub mod Cores
+pub mod Determined
 pub mod RefusalLaws
 pub mod RunLaws
 pub mod SearchLaws

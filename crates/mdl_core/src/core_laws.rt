@@ -1,6 +1,7 @@
 //! Laws of the lock space of one thread: its calls are events of the system of locks. Each is proved as the contract of a
 //! function that does nothing.
 ghost use Rattle.mdl_core.specs.CoreLaws.{CallsAreEvents, CallsKeepSound, GrantsWhatIsGrantable, CallsLeadByEvents};
+ghost use Rattle.mdl_core.specs.Determined.{AnswersAreDetermined};
 ghost use Rattle.mdl_core.specs.SearchLaws.{SearchesFindDeadlocks, SearchesSuffice, SearchesLeaveNoDeadlock, OnlyNewWaitsMakeDeadlocks, SearchingEndsDeadlocks, WaitingLeavesNoDeadlock};
 
 /// A call changes nothing in the system of locks, or it is an event there, after which waiters of that event's key are granted,
@@ -13,6 +14,12 @@ pub fn calls_are_events()
 /// tickets of one key, and no waiter is forgotten.
 pub fn calls_keep_sound()
     ensures { CallsKeepSound }
+{}
+
+/// Each answer, but want of memory, is the one that the system of locks determines, with the places of its keys and the numbers
+/// that sessions were given last.
+pub fn answers_are_determined()
+    ensures { AnswersAreDetermined }
 {}
 
 /// A lock is had at once exactly where the wish for it is grantable.

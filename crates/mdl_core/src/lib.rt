@@ -12,9 +12,10 @@ mod run_laws;
 mod session_laws;
 
 pub use core_laws::{
-    calls_are_events, calls_keep_sound, calls_lead_by_events, grants_what_is_grantable,
-    only_new_waits_make_deadlocks, searches_find_deadlocks, searches_leave_no_deadlock,
-    searches_suffice, searching_ends_deadlocks, waiting_leaves_no_deadlock,
+    answers_are_determined, calls_are_events, calls_keep_sound, calls_lead_by_events,
+    grants_what_is_grantable, only_new_waits_make_deadlocks, searches_find_deadlocks,
+    searches_leave_no_deadlock, searches_suffice, searching_ends_deadlocks,
+    waiting_leaves_no_deadlock,
 };
 pub use new_error::NewError;
 pub use pending::Pending;

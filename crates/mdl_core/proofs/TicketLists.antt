@@ -1,0 +1,71 @@
+-- Lists of distinct tickets in one another, and lists of rising numbers with the same members.
+use Rattle.std.proofs.Common.{◌≡◌, ◌≢◌, ◌⊎◌, ◌↔◌, suc, ◌+◌, ◌≤◌, inl, inr, List, [], ◌∷◌, ◌++◌, length, map, refl, sym, ap, subst, ◌∙◌, arith}
+use Rattle.std.specs.Prelude.{AllPairs, Contains}
+use Rattle.std.proofs.lemmas.List.{length-append}
+use Rattle.std.proofs.lemmas.List.Kept.{AllPairs-cons}
+use Rattle.mdl_calls.specs.declared.answers.Held.{Held}
+use Rattle.mdl_core.proofs.PairLemmas.{none-in, below, all-from_members, pairs-head, pairs-tail}
+use Rattle.mdl_system.proofs.MemberLemmas.{Contains-map_from}
+use Rattle.mdl_system.proofs.OrderLemmas.{Contains-cons_cases, Contains-here, Contains-later, around_cases, within}
+
+-- a list around one of its members
+split : {T : Type 0} (xs : List T) (x : T) → Contains xs x → (before : List T) × (after : List T) × (xs ≡ before ++ x ∷ after)
+split [] x among = absurd (none-in x among)
+split (y ∷ ys) x among = elim (Contains-cons_cases y ys x among) [
+  | inl later ↦ let parts = split ys x later in (y ∷ parts.0, parts.1, ap (λ zs. y ∷ zs) parts.2)
+  | inr same ↦ ([], ys, λ i. sym same i ∷ ys)
+]
+
+-- distinct members of a list are no more than it has
+pub at_most : {T : Type 0} (xs ys : List T) → AllPairs (λ one other. one ≢ other) xs → ((x : T) → Contains xs x → Contains ys x) → length xs ≤ length ys
+at_most [] ys distinct all = omega arith
+at_most {T} (x ∷ xs) ys distinct all =
+    let parts = split ys x (all x (Contains-here x xs)) in
+    let rest : (y : T) → Contains xs y → Contains (parts.0 ++ parts.1) y = λ y among.
+    elim (around_cases parts.0 parts.1 x y (within ys (parts.0 ++ x ∷ parts.1) y parts.2 (all y (Contains-later x xs y among)))) [
+      | inl other ↦ other
+      | inr same ↦ absurd (pairs-head (λ one other. one ≢ other) x xs distinct y among (sym same))
+    ] in
+    let fewer = at_most xs (parts.0 ++ parts.1) (pairs-tail (λ one other. one ≢ other) x xs distinct) rest in
+    let whole : length ys ≡ length parts.0 + suc (length parts.1) = ap length parts.2 ∙ length-append parts.0 (x ∷ parts.1) in
+    let without : length (parts.0 ++ parts.1) ≡ length parts.0 + length parts.1 = length-append parts.0 parts.1 in
+    omega arith
+
+-- what is in a relation stays so as it is mapped
+pub pairs-map : {X Y : Type 0} (R : X → X → Type 0) (S : Y → Y → Type 0) (f : X → Y) → ((x y : X) → R x y → S (f x) (f y)) → (xs : List X) → AllPairs R xs
+    → AllPairs S (map f xs)
+pairs-map R S f step [] pairs = λ i j d lt short. absurd (omega arith)
+pairs-map {X} {Y} R S f step (x ∷ xs) pairs =
+    let later : (y : Y) → Contains (map f xs) y → S (f x) y = λ y among.
+    (let from = Contains-map_from f xs y among in
+    subst (S (f x)) (sym from.2) (step x from.0 (pairs-head R x xs pairs from.0 from.1))) in
+    AllPairs-cons S (f x) (map f xs) (all-from_members S (S (f x)) (map f xs) later) (pairs-map R S f step xs (pairs-tail R x xs pairs))
+
+-- lists of rising numbers with the same members are one
+pub same-rising : (xs ys : List Held) → AllPairs below xs → AllPairs below ys → ((t : Held) → Contains xs t ↔ Contains ys t) → xs ≡ ys
+same-rising [] [] rises climbs same = refl
+same-rising [] (y ∷ ys) rises climbs same = absurd (none-in y ((same y).1 (Contains-here y ys)))
+same-rising (x ∷ xs) [] rises climbs same = absurd (none-in x ((same x).0 (Contains-here x xs)))
+same-rising (x ∷ xs) (y ∷ ys) rises climbs same =
+    let rest = same-rising xs ys (pairs-tail below x xs rises) (pairs-tail below y ys climbs) (λ t. (there t, back t)) in
+    λ i. first i ∷ rest i
+  where
+    heads : Contains ys x ⊎ (x ≡ y) → Contains xs y ⊎ (y ≡ x) → x ≡ y
+    heads (inr e) other = e
+    heads (inl one) (inr e) = sym e
+    heads (inl one) (inl other) = let lt = pairs-head below y ys climbs x one in let gt = pairs-head below x xs rises y other in absurd (omega arith)
+
+    first : x ≡ y
+    first = heads (Contains-cons_cases y ys x ((same x).0 (Contains-here x xs))) (Contains-cons_cases x xs y ((same y).1 (Contains-here y ys)))
+
+    there : (t : Held) → Contains xs t → Contains ys t
+    there t among = elim (Contains-cons_cases y ys t ((same t).0 (Contains-later x xs t among))) [
+      | inl later ↦ later
+      | inr e ↦ absurd (let lt = pairs-head below x xs rises t among in let id : t.id ≡ x.id = ap (λ (h : Held). h.id) (e ∙ sym first) in omega arith)
+    ]
+
+    back : (t : Held) → Contains ys t → Contains xs t
+    back t among = elim (Contains-cons_cases x xs t ((same t).1 (Contains-later y ys t among))) [
+      | inl later ↦ later
+      | inr e ↦ absurd (let lt = pairs-head below y ys climbs t among in let id : t.id ≡ y.id = ap (λ (h : Held). h.id) (e ∙ first) in omega arith)
+    ]

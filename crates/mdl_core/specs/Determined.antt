@@ -1,0 +1,212 @@
+-- What each call is answered, by the system of locks: who holds what, who waits for what and what is defined; by the places of its
+-- keys; and by the numbers that were given last. Nothing of how the space of one thread is kept stands here but in the last law.
+use Rattle.std.specs.Prelude.{◌≡◌, ◌≢◌, ◌⊎◌, ◌↔◌, ℕ, zero, suc, ◌+◌, ◌-◌, ◌<◌, ◌^◌, true, false, List, length, map, slice_get, Option, Some, None, MatchOption, Contains, AllPairs}
+use Rattle.mdl_key.specs.declared.mode.Mode.{Mode}
+use Rattle.mdl_key.specs.declared.mode.Mode.TheVariants.{X}
+use Rattle.mdl_key.specs.Words.{KeyName, is_mode_of}
+use Rattle.mdl_book.specs.declared.book_view.BookView.{BookView}
+use Rattle.mdl_defs.specs.declared.change.Change.{Change}
+use Rattle.mdl_defs.specs.declared.definition.Definition.{Definition}
+use Rattle.mdl_defs.specs.Changes.{change_fault}
+use Rattle.mdl_defs.specs.Standings.{suits}
+use Rattle.mdl_calls.specs.declared.answers.Held.{Held}
+use Rattle.mdl_calls.specs.declared.answers.Settled.{Settled}
+use Rattle.mdl_calls.specs.declared.answers.Settled.TheVariants as settled_as
+use Rattle.mdl_calls.specs.declared.answers.TimedOut.TheVariants.{ByThisCall, Already}
+use Rattle.mdl_calls.specs.declared.space_error.SpaceError.{SpaceError}
+use Rattle.mdl_calls.specs.declared.space_error.SpaceError.TheVariants.{NoPlace, NotHeld, NotExclusive, AlreadyWaiting, BadMode, VersionFull, NoWait, Unsettled, CounterFull, Full, Def, WrongKind}
+use Rattle.mdl_calls.specs.Words.{Answer, Refused, Done, At_place, Granted, Would_wait, Waits, No_cycle, Victim_is, Pending, Is_settled, Timed_out, Lost, Has_wait, Has_killed, Holds, Reads, Changed, finds_no_memory, Call, Resolve, Try_now, Begin_wait, Search, Poll_wait, Settle_timeout, End_wait, Wait_of, Kill, Release, Clone_ticket, Read_definition, Change_definition, List_held, Numbers}
+use Rattle.mdl_core.specs.CoreJoins.{Joins, numbers_at}
+use Rattle.mdl_core.specs.Cores.{Core}
+use Rattle.mdl_core.specs.CoreSystems.{state_of, system_of}
+use Rattle.mdl_core.specs.SessionLaws.{WaitsSomewhere}
+use Rattle.mdl_core.specs.Ties.{IsSound}
+use Rattle.mdl_system.specs.Deadlocks.{IsDeadlock, IsChosenDeadlock, IsVictimOf}
+use Rattle.mdl_system.specs.Strength.{covers}
+use Rattle.mdl_system.specs.Systems.{Holding, System, Versioned, Held as IsHeld, HasNoWait, IsGrantable, lock_kind}
+
+-- ---- which answer is right
+
+-- which answers to a call are right
+abbrev pub Right : Type 1
+Right = Answer → Type 0
+
+-- this one alone
+abbrev pub Only : Answer → Right
+Only right answer = answer ≡ right
+
+-- those, where something is so, and else these
+abbrev pub Where : Type 0 → Right → Right → Right
+Where P Then Else answer = (P × Then answer) ⊎ ((P → ⊥) × Else answer)
+
+-- a call asks that something be so, and is refused for this cause where it isn't; of causes that are nested the first is told
+abbrev pub Needs : Type 0 → SpaceError → Right → Right
+Needs P refusal Then = Where P Then (Only (Refused refusal))
+
+-- ---- places
+
+-- the keys that have places, in their order from place 1 on, and how many places there can be
+pub record Places : Type 0 where
+  pub keys : List KeyName
+  pub most : ℕ
+
+-- the key of a place, if it has one
+abbrev pub key_of : Places → ℕ → Option KeyName
+key_of places zero = None
+key_of places (suc index) = slice_get places.keys index
+
+-- right by the key of a place; refused where it has none
+abbrev pub AtPlace : Places → ℕ → (KeyName → Right) → Right
+AtPlace places place Then answer = MatchOption (key_of places place) (answer ≡ Refused NoPlace) (λ key. Then key answer)
+
+-- the place of a key: the one that it has, or else the next, as long as there can be more
+abbrev pub ToResolve : Places → KeyName → Right
+ToResolve places key answer =
+    ((place : ℕ) × (key_of places place ≡ Some key) × (answer ≡ At_place place))
+    ⊎ ((Contains places.keys key → ⊥) × Needs (length places.keys < places.most) NoPlace (Only (At_place (length places.keys + 1))) answer)
+
+-- ---- locks
+
+-- the lock of a key has room for a ticket: whatever granted tickets of the key are counted, each once, with those that wait they are
+-- fewer than 65,535
+abbrev pub HasRoom : {D : Type 0} → System D → KeyName → Type 0
+HasRoom system key =
+    (tickets : List Holding) → AllPairs (λ one other. one ≢ other) tickets
+    → ((ticket : Holding) → Contains tickets ticket → Contains system.granted ticket × (ticket.key ≡ key))
+    → length tickets + length (system.waiting key) < 65535
+
+-- a session has a number left for a ticket
+abbrev pub HasNumber : Numbers → Type 0
+HasNumber numbers = numbers.last_ticket < 2 ^ 60 - 1
+
+-- a lock is granted by the next number, where there is room
+abbrev pub ToGrant : {D : Type 0} → System D → Numbers → KeyName → Right
+ToGrant system numbers key = Needs (HasRoom system key) Full (Only (Granted (numbers.last_ticket + 1)))
+
+-- a lock is asked for: at a place that has a key, by a session that has no wait, in a mode of the key's kind; granted where
+-- the wish for it is grantable
+abbrev pub ToAsk : {D : Type 0} → System D → Places → Numbers → ℕ → ℕ → Mode → (KeyName → Right) → Right
+ToAsk system places numbers who place mode Otherwise =
+    AtPlace places place (λ key.
+    Needs (HasNoWait system who) AlreadyWaiting (
+    Needs (is_mode_of (lock_kind key) mode ≡ true) BadMode (
+    Needs (HasNumber numbers) CounterFull (
+    Where (IsGrantable system who key mode) (ToGrant system numbers key) (Otherwise key)))))
+
+-- a wait begins by the next number, where there is room
+abbrev pub ToWait : {D : Type 0} → System D → Numbers → KeyName → Right
+ToWait system numbers key = Needs (HasRoom system key) Full (Only (Waits (numbers.last_wait + 1)))
+
+-- ---- held tickets
+
+-- right by the ticket of this number that the session holds; refused where it holds none
+abbrev pub OfTicket : {D : Type 0} → System D → ℕ → ℕ → (Holding → Right) → Right
+OfTicket system who id Then answer =
+    ((ticket : Holding) × IsHeld system who ticket × (ticket.number ≡ id) × Then ticket answer)
+    ⊎ (((ticket : Holding) → IsHeld system who ticket → ticket.number ≢ id) × (answer ≡ Refused NotHeld))
+
+-- a second ticket beside a held one, which overtakes those that wait: by a session that has no wait, in a mode of the key's kind
+-- that the held one is at least as strong as
+abbrev pub ToClone : {D : Type 0} → System D → Numbers → ℕ → Mode → Holding → Right
+ToClone system numbers who mode ticket =
+    Needs (HasNoWait system who) AlreadyWaiting (
+    Needs ((covers ticket.mode mode ≡ true) × (is_mode_of (lock_kind ticket.key) mode ≡ true)) BadMode (
+    Needs (HasNumber numbers) CounterFull (ToGrant system numbers ticket.key)))
+
+-- what is defined under a key, with its version
+abbrev pub ToRead : Versioned Definition → Right
+ToRead standing = Only (Reads standing.version standing.definition)
+
+-- a change of it: where a version is left, of what can stand under the key, and for no cause by what stands there; tells the
+-- next version
+abbrev pub ToChange : KeyName → Change → Versioned Definition → Right
+ToChange key change standing =
+    Needs (standing.version < 1000000) VersionFull (
+    Needs (suits key.namespace change ≡ true) WrongKind (λ answer.
+    MatchOption (change_fault standing.definition change) (answer ≡ Changed (standing.version + 1)) (λ why. answer ≡ Refused (Def why))))
+
+-- a session holds this in the system, at the key of its place
+abbrev pub HasInHand : {D : Type 0} → System D → Places → ℕ → Held → Type 0
+HasInHand system places who ticket =
+    (key : KeyName) × (key_of places ticket.place ≡ Some key)
+    × IsHeld system who (record { session = who; number = ticket.id; key = key; mode = ticket.mode })
+
+-- all that the session holds, in rising number
+abbrev pub ToList : {D : Type 0} → System D → Places → ℕ → Right
+ToList system places who answer =
+    (tickets : List Held) × (answer ≡ Holds tickets)
+    × AllPairs (λ (earlier later : Held). earlier.id < later.id) tickets
+    × ((ticket : Held) → Contains tickets ticket ↔ HasInHand system places who ticket)
+
+-- ---- waits
+
+-- a session's wait has this number and its ticket that one, and this is how it is settled, if it is: granted and not ended, or the
+-- ticket still waits somewhere
+abbrev pub IsWait : {D : Type 0} → System D → ℕ → ℕ → ℕ → Option Settled → Type 0
+IsWait system who number id (Some settled_as.Granted) = Contains system.unended (record { session = who; wait = number; ticket = id })
+IsWait system who number id settled =
+    (key : KeyName) × (mode : Mode)
+    × Contains (system.waiting key) (record { ticket = record { session = who; number = id; mode = mode }; wait = number; state = state_of settled })
+
+-- right by the session's wait; or as said for one that has none
+abbrev pub OfWait : {D : Type 0} → System D → ℕ → Right → (ℕ → ℕ → Option Settled → Right) → Right
+OfWait system who Without Then answer =
+    ((number id : ℕ) × (settled : Option Settled) × IsWait system who number id settled × Then number id settled answer)
+    ⊎ (HasNoWait system who × Without answer)
+
+-- how a wait stands
+abbrev pub to_poll : Option Settled → Answer
+to_poll None = Pending
+to_poll (Some how) = Is_settled how
+
+-- the session's patience ends: its wait is lost so, unless it was settled before
+abbrev pub to_time_out : Option Settled → Answer
+to_time_out None = Timed_out ByThisCall
+to_time_out (Some how) = Timed_out (Already how)
+
+-- a wait ends: with its ticket, or lost
+abbrev pub to_end : ℕ → Option Settled → Answer
+to_end id None = Refused Unsettled
+to_end id (Some settled_as.Granted) = Granted id
+to_end id (Some how) = Lost how
+
+-- a deadlock that the session is part of is found exactly where there is one: the victim of the one that is chosen is told
+abbrev pub ToSearch : {D : Type 0} → System D → ℕ → Right
+ToSearch system who =
+    Where ((cycle : List ℕ) × IsDeadlock system who cycle)
+    (λ answer. (cycle : List ℕ) × (victim : ℕ) × IsChosenDeadlock system who cycle × IsVictimOf system cycle victim × (answer ≡ Victim_is victim))
+    (Only No_cycle)
+
+-- ---- all calls
+
+-- what a call is answered
+abbrev pub Determines : System Definition → Places → (ℕ → Numbers) → Call → Right
+Determines system places numbers (Resolve who key) = ToResolve places key
+Determines system places numbers (Try_now who place mode) = ToAsk system places (numbers who) who place mode (λ key. Only Would_wait)
+Determines system places numbers (Begin_wait who place mode) = ToAsk system places (numbers who) who place mode (ToWait system (numbers who))
+Determines system places numbers (Search who) = ToSearch system who
+Determines system places numbers (Poll_wait who) = OfWait system who (Only (Refused NoWait)) (λ number id settled. Only (to_poll settled))
+Determines system places numbers (Settle_timeout who) =
+    OfWait system who (Only (Refused NoWait)) (λ number id settled. Only (to_time_out settled))
+Determines system places numbers (End_wait who) = OfWait system who (Only (Refused NoWait)) (λ number id settled. Only (to_end id settled))
+Determines system places numbers (Wait_of target) =
+    OfWait system target (Only (Has_wait None)) (λ number id settled. Only (Has_wait (Some number)))
+Determines system places numbers (Kill target number) = Where (WaitsSomewhere system target number) (Only (Has_killed true)) (Only (Has_killed false))
+Determines system places numbers (Release who id) = OfTicket system who id (λ ticket. Only Done)
+Determines system places numbers (Clone_ticket who id mode) = OfTicket system who id (ToClone system (numbers who) who mode)
+Determines system places numbers (Read_definition who id) = OfTicket system who id (λ ticket. ToRead (system.definitions ticket.key))
+Determines system places numbers (Change_definition who id change) =
+    OfTicket system who id (λ ticket. Needs (ticket.mode ≡ X) NotExclusive (ToChange ticket.key change (system.definitions ticket.key)))
+Determines system places numbers (List_held who) = ToList system places who
+Determines system places numbers _ = λ answer. ⊥
+
+-- the places of a space
+abbrev pub places_of : Core → Places
+places_of core = record { keys = map (λ (book : BookView). book.key) core.books; most = core.places }
+
+-- what a call of the space is answered, but for want of memory, is what its system determines, by the places of its keys and the
+-- numbers that sessions were given last; and they determine no other answer
+abbrev pub AnswersAreDetermined : Type 0
+AnswersAreDetermined =
+    (a b : Core) (call : Call) (answer other : Answer) → IsSound a → Joins a call answer b → finds_no_memory answer ≡ false →
+    Determines (system_of a) (places_of a) (numbers_at a) call other ↔ (other ≡ answer)
