@@ -132,13 +132,16 @@ module _ (a : Core) (who : ℕ) (sound : IsSound a) (has : has_session who a ≡
   waiting-so some free = false≢true (sym (ap is_some (says.free.1 free)) ∙ some)
 
   -- granted where that can be
+  abbrev OrElse : ℕ → Mode → (KeyName → Right) → Right
+  OrElse place mode Otherwise =
+      Where (IsGrantable (system_of a) who (key_at place a) mode) (ToGrant (system_of a) (numbers_at a who) (key_at place a)) (Otherwise (key_at place a))
+
   granted-or : (place : ℕ) (mode : Mode) (Otherwise : KeyName → Right) (otherwise : Answer × Core) → has_key place a ≡ true
       → IsAnswer (Otherwise (key_at place a)) otherwise.0
-      → IsAnswer (Where (IsGrantable (system_of a) who (key_at place a) mode) (ToGrant (system_of a) (numbers_at a who) (key_at place a)) (Otherwise (key_at place a)))
-      (if not (is_free who place mode a) then otherwise else granted_unless_full who place mode a).0
+      → IsAnswer (OrElse place mode Otherwise) (if not (is_free who place mode a) then otherwise else granted_unless_full who place mode a).0
   granted-or place mode Otherwise otherwise key other =
       let free = free-grantable a who place mode sound.tied key in
-      test_cases (λ (r : Answer × Core). IsAnswer (Where (IsGrantable (system_of a) who (key_at place a) mode) (ToGrant (system_of a) (numbers_at a who) (key_at place a)) (Otherwise (key_at place a))) r.0)
+      test_cases (λ (r : Answer × Core). IsAnswer (OrElse place mode Otherwise) r.0)
       (not (is_free who place mode a)) otherwise (granted_unless_full who place mode a)
       (λ kept. where-not _ _ (Otherwise (key_at place a)) otherwise.0 (λ grantable. not-so _ kept (free.1 grantable)) other)
       (λ may. where-so _ (ToGrant (system_of a) (numbers_at a who) (key_at place a)) _ _ (free.0 (not_false _ may)) (grants a sound.tied place key who mode))
@@ -157,8 +160,10 @@ module _ (a : Core) (who : ℕ) (sound : IsSound a) (has : has_session who a ≡
           λ idle. (
             (λ unfit. at-place a place _ _ key (met _ AlreadyWaiting _ _ (idle-so idle) (unmet _ BadMode _ (not-so _ unfit)))),
             λ fits. (
-              (λ out. at-place a place _ _ key (met _ AlreadyWaiting _ _ (idle-so idle) (met _ BadMode _ _ (not_false _ fits) (unmet _ CounterFull _ (at_limit _ _ out))))),
-              λ some. at-place a place _ _ key (met _ AlreadyWaiting _ _ (idle-so idle) (met _ BadMode _ _ (not_false _ fits) (met _ CounterFull _ _ (below_limit _ _ some)
+              (λ out. at-place a place _ _ key (met _ AlreadyWaiting _ _ (idle-so idle)
+                  (met _ BadMode _ _ (not_false _ fits) (unmet _ CounterFull _ (at_limit _ _ out))))),
+              λ some. at-place a place _ _ key (met _ AlreadyWaiting _ _ (idle-so idle)
+                  (met _ BadMode _ _ (not_false _ fits) (met _ CounterFull _ _ (below_limit _ _ some)
                   (granted-or place mode Otherwise otherwise key (other key))))),
             ),
           ),
@@ -209,15 +214,19 @@ module _ (a : Core) (who : ℕ) (sound : IsSound a) (has : has_session who a ≡
   reads ticket key =
       subst (λ book. IsAnswer (ToRead (defined_in book)) (reading_of (Some ticket) a).0) (sym (book_of-at a ticket.place sound.tied key)) (only _)
 
-  redefines : (change : Change) (ticket : Held) → has_key ticket.place a ≡ true
-      → IsAnswer (Needs (ticket.mode ≡ X) NotExclusive (ToChange (key_at ticket.place a) change ((system_of a).definitions (key_at ticket.place a))))
-      (redefining_of (Some ticket) change a).0
+  -- a change under a held ticket
+  abbrev Redefined : Change → Held → Right
+  Redefined change ticket =
+      Needs (ticket.mode ≡ X) NotExclusive (ToChange (key_at ticket.place a) change ((system_of a).definitions (key_at ticket.place a)))
+
+  redefines : (change : Change) (ticket : Held) → has_key ticket.place a ≡ true → IsAnswer (Redefined change ticket) (redefining_of (Some ticket) change a).0
   redefines change ticket key =
-      test_cases (λ (r : Answer × Core). IsAnswer (Needs (ticket.mode ≡ X) NotExclusive (ToChange (key_at ticket.place a) change ((system_of a).definitions (key_at ticket.place a)))) r.0)
+      test_cases (λ (r : Answer × Core). IsAnswer (Redefined change ticket) r.0)
       (not (same_mode ticket.mode X)) (Refused NotExclusive, a) (redefined_unless (redefining_fault ticket.place change a) ticket.place change a)
       (λ shared. unmet _ NotExclusive _ (λ is. not-so _ shared (ap (λ mode. same_mode mode X) is)))
       (λ exclusive. met _ NotExclusive _ _ (exclusive-is ticket.mode (not_false _ exclusive))
-      (subst (λ book. IsAnswer (ToChange (key_at ticket.place a) change (defined_in book)) (redefined_unless (redefining_fault ticket.place change a) ticket.place change a).0)
+      (subst (λ book. IsAnswer (ToChange (key_at ticket.place a) change (defined_in book))
+      (redefined_unless (redefining_fault ticket.place change a) ticket.place change a).0)
       (sym (book_of-at a ticket.place sound.tied key)) (changes a ticket.place change)))
 
 -- ---- waits of others

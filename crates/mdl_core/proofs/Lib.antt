@@ -21,6 +21,7 @@ pub mod KnownPlaces
 pub mod MadeCalls
 pub mod PairLemmas
 pub mod PlaceAnswers
+pub mod PlacesKept
 pub mod ReadLaws
 pub mod RefusalOrder
 pub mod RightAnswers

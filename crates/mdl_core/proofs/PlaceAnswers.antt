@@ -72,7 +72,7 @@ module _ (core : Core) where
       Contains-map (λ (book : BookView). book.key) core.books (book_at place core)
       (Contains-get_or core.books (place - 1) (empty_book global_key) (omega arith))
 
-  unlisted : IsTied core → (key : KeyName) → index_of key core.books ≡ None → Contains (places_of core).keys key → ⊥
+  pub unlisted : IsTied core → (key : KeyName) → index_of key core.books ≡ None → Contains (places_of core).keys key → ⊥
   unlisted tied key none among =
       let from = Contains-map_from (λ (book : BookView). book.key) core.books key among in
       let inside = from.1.1 in
@@ -117,7 +117,8 @@ module _ (core : Core) where
           test_cases (λ (r : Answer × Core). IsAnswer (ToResolve (places_of core) key) r.0) (nat_le core.places (length core.books)) _ _
           (λ all. nowhere-else (Refused NoPlace) none (unmet _ NoPlace (Only (At_place (length (places_of core).keys + 1)))
           (λ few. (let c = counted in grind (arith, nat_tests)))))
-          (λ some. nowhere-else (At_place (length core.books + 1)) none (met _ NoPlace (Only (At_place (length (places_of core).keys + 1))) (At_place (length core.books + 1))
+          (λ some. nowhere-else (At_place (length core.books + 1)) none
+          (met _ NoPlace (Only (At_place (length (places_of core).keys + 1))) (At_place (length core.books + 1))
           (let c = counted in grind (arith, nat_tests))
           (subst (λ n. IsAnswer (Only (At_place (length (places_of core).keys + 1))) (At_place (n + 1))) counted (only (At_place (length (places_of core).keys + 1))))))
 

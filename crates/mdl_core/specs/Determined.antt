@@ -1,6 +1,6 @@
 -- What each call is answered, by the system of locks: who holds what, who waits for what and what is defined; by the places of its
--- keys; and by the numbers that were given last. Nothing of how the space of one thread is kept stands here but in the last law.
-use Rattle.std.specs.Prelude.{◌≡◌, ◌≢◌, ◌⊎◌, ◌↔◌, ℕ, zero, suc, ◌+◌, ◌-◌, ◌<◌, ◌^◌, true, false, List, length, map, slice_get, Option, Some, None, MatchOption, Contains, AllPairs}
+-- keys; and by the numbers that were given last. How the space of one thread is kept doesn't stand here but in the laws at the end.
+use Rattle.std.specs.Prelude.{◌≡◌, ◌≢◌, ◌⊎◌, ◌↔◌, ℕ, zero, suc, ◌+◌, ◌-◌, ◌<◌, ◌^◌, true, false, List, [], ◌∷◌, ◌++◌, length, map, slice_get, Option, Some, None, MatchOption, Contains, AllPairs}
 use Rattle.mdl_key.specs.declared.mode.Mode.{Mode}
 use Rattle.mdl_key.specs.declared.mode.Mode.TheVariants.{X}
 use Rattle.mdl_key.specs.Words.{KeyName, is_mode_of}
@@ -15,9 +15,9 @@ use Rattle.mdl_calls.specs.declared.answers.Settled.TheVariants as settled_as
 use Rattle.mdl_calls.specs.declared.answers.TimedOut.TheVariants.{ByThisCall, Already}
 use Rattle.mdl_calls.specs.declared.space_error.SpaceError.{SpaceError}
 use Rattle.mdl_calls.specs.declared.space_error.SpaceError.TheVariants.{NoPlace, NotHeld, NotExclusive, AlreadyWaiting, BadMode, VersionFull, NoWait, Unsettled, CounterFull, Full, Def, WrongKind}
-use Rattle.mdl_calls.specs.Words.{Answer, Refused, Done, At_place, Granted, Would_wait, Waits, No_cycle, Victim_is, Pending, Is_settled, Timed_out, Lost, Has_wait, Has_killed, Holds, Reads, Changed, finds_no_memory, Call, Resolve, Try_now, Begin_wait, Search, Poll_wait, Settle_timeout, End_wait, Wait_of, Kill, Release, Clone_ticket, Read_definition, Change_definition, List_held, Numbers}
+use Rattle.mdl_calls.specs.Words.{Answer, Refused, Done, At_place, Granted, Would_wait, Waits, No_cycle, Victim_is, Pending, Is_settled, Timed_out, Lost, Has_wait, Has_killed, Holds, Reads, Changed, finds_no_memory, Call, Resolve, Try_now, Begin_wait, Search, Poll_wait, Settle_timeout, End_wait, Wait_of, Kill, Release, Clone_ticket, Read_definition, Change_definition, List_held, caller, Numbers, Draws}
 use Rattle.mdl_core.specs.CoreJoins.{Joins, numbers_at}
-use Rattle.mdl_core.specs.Cores.{Core}
+use Rattle.mdl_core.specs.Cores.{Core, has_session}
 use Rattle.mdl_core.specs.CoreSystems.{state_of, system_of}
 use Rattle.mdl_core.specs.SessionLaws.{WaitsSomewhere}
 use Rattle.mdl_core.specs.Ties.{IsSound}
@@ -117,8 +117,8 @@ ToClone system numbers who mode ticket =
 abbrev pub ToRead : Versioned Definition → Right
 ToRead standing = Only (Reads standing.version standing.definition)
 
--- a change of it: where a version is left, of what can stand under the key, and for no cause by what stands there; tells the
--- next version
+-- a change of it, which tells the next version: where a version is left, where such a definition can stand under the key, and where
+-- what stands there lets it be changed so
 abbrev pub ToChange : KeyName → Change → Versioned Definition → Right
 ToChange key change standing =
     Needs (standing.version < 1000000) VersionFull (
@@ -179,7 +179,7 @@ ToSearch system who =
 
 -- ---- all calls
 
--- what a call is answered
+-- what a call is answered. Those that aren't named here are still to come.
 abbrev pub Determines : System Definition → Places → (ℕ → Numbers) → Call → Right
 Determines system places numbers (Resolve who key) = ToResolve places key
 Determines system places numbers (Try_now who place mode) = ToAsk system places (numbers who) who place mode (λ key. Only Would_wait)
@@ -200,7 +200,9 @@ Determines system places numbers (Change_definition who id change) =
 Determines system places numbers (List_held who) = ToList system places who
 Determines system places numbers _ = λ answer. ⊥
 
--- the places of a space
+-- ---- the space of one thread
+
+-- the places of its keys
 abbrev pub places_of : Core → Places
 places_of core = record { keys = map (λ (book : BookView). book.key) core.books; most = core.places }
 
@@ -210,3 +212,21 @@ abbrev pub AnswersAreDetermined : Type 0
 AnswersAreDetermined =
     (a b : Core) (call : Call) (answer other : Answer) → IsSound a → Joins a call answer b → finds_no_memory answer ≡ false →
     Determines (system_of a) (places_of a) (numbers_at a) call other ↔ (other ≡ answer)
+
+-- the places after a call with this answer: a key that was given a place is the last that has one, or had it before; no other call
+-- changes them
+abbrev pub PlacesAfter : Call → Answer → Places → Places → Type 0
+PlacesAfter (Resolve who key) (At_place place) before after =
+    (Contains before.keys key × (after ≡ before))
+    ⊎ ((Contains before.keys key → ⊥) × (after ≡ record before { keys = before.keys ++ key ∷ [] }))
+PlacesAfter _ _ before after = after ≡ before
+
+-- the places after a call, and each session's last numbers, follow from those before it, the call and its answer; so does the
+-- system, as is said of all calls that are events
+abbrev pub PlacesAndNumbersFollow : Type 0
+PlacesAndNumbersFollow =
+    (a b : Core) (call : Call) (answer : Answer) → IsSound a → Joins a call answer b →
+    PlacesAfter call answer (places_of a) (places_of b)
+    × ((who : ℕ) → has_session who a ≡ true →
+    (caller call ≡ Some who → Draws call answer (numbers_at a who) (numbers_at b who))
+    × ((caller call ≡ Some who → ⊥) → numbers_at b who ≡ numbers_at a who))

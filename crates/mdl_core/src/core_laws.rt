@@ -1,7 +1,7 @@
 //! Laws of the lock space of one thread: its calls are events of the system of locks. Each is proved as the contract of a
 //! function that does nothing.
 ghost use Rattle.mdl_core.specs.CoreLaws.{CallsAreEvents, CallsKeepSound, GrantsWhatIsGrantable, CallsLeadByEvents};
-ghost use Rattle.mdl_core.specs.Determined.{AnswersAreDetermined};
+ghost use Rattle.mdl_core.specs.Determined.{AnswersAreDetermined, PlacesAndNumbersFollow};
 ghost use Rattle.mdl_core.specs.SearchLaws.{SearchesFindDeadlocks, SearchesSuffice, SearchesLeaveNoDeadlock, OnlyNewWaitsMakeDeadlocks, SearchingEndsDeadlocks, WaitingLeavesNoDeadlock};
 
 /// A call changes nothing in the system of locks, or it is an event there, after which waiters of that event's key are granted,
@@ -20,6 +20,11 @@ pub fn calls_keep_sound()
 /// that sessions were given last.
 pub fn answers_are_determined()
     ensures { AnswersAreDetermined }
+{}
+
+/// The places of the keys and the last numbers after a call follow from those before it, the call and its answer.
+pub fn places_and_numbers_follow()
+    ensures { PlacesAndNumbersFollow }
 {}
 
 /// A lock is had at once exactly where the wish for it is grantable.
