@@ -1,0 +1,3 @@
+mod TurnLemmas
+mod TurnPlays
+mod TurnRows
