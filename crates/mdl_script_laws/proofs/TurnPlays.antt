@@ -26,7 +26,7 @@ use Rattle.mdl_stmt.specs.declared.ending.Ending.{Ending}
 use Rattle.mdl_stmt.specs.declared.ending.Ending.TheVariants.{Answers, Misses, Falls, Starves}
 use Rattle.mdl_stmt.specs.declared.reply.Reply.{Reply}
 use Rattle.mdl_stmt.specs.declared.reply.Reply.TheVariants as reply
-use Rattle.mdl_stmt.specs.Endings.{Pause, closing, ended, ending_of_error, ending_of_loss, ending_of_refusal, gone_at, state_after}
+use Rattle.mdl_stmt.specs.Endings.{Pause, Ends, Begins_to_wait, Waits_on, Faults, closing, ended, ending_of_error, ending_of_loss, ending_of_refusal, gone_at, state_after}
 use Rattle.mdl_stmt.specs.MemoryLaws.{session_at}
 use Rattle.mdl_stmt.specs.Playing as playing
 use Rattle.mdl_stmt.specs.Playing.{going_on, play, with_context}
@@ -42,9 +42,16 @@ abbrev pub IsLeftWithin : ℕ → Option Left → Type 0
 IsLeftWithin most None = Unit {0}
 IsLeftWithin most (Some left) = (fewer : ℕ) × (most ≡ suc fewer) × ((id : ℕ) → AsksForAtMost fewer (left.rest id))
 
--- and so however far it has come
+-- and so however far it has come: where it begins to wait there is such a lock
 abbrev pub PausesWithin : ℕ → Pause → Type 0
+PausesWithin most (Begins_to_wait key mode session) = (1 ≤ most) × IsLeftWithin most session.left
 PausesWithin most pause = IsLeftWithin most (session_at pause).left
+
+pub left-within : (most : ℕ) (pause : Pause) → PausesWithin most pause → IsLeftWithin most (session_at pause).left
+left-within most (Begins_to_wait key mode session) is = is.1
+left-within most (Ends reply session) is = is
+left-within most (Waits_on session) is = is
+left-within most (Faults session) is = is
 
 -- ---- all that may be asked for
 
@@ -69,9 +76,9 @@ within-untold most mark session (Ok (resume.Lost how), context) = within-closing
 within-untold most mark session (Err error, context) = within-closing most Starves mark (with_context session context)
 
 within-waiting : (most : ℕ) (wish : Wish) (left : Left) (session : Session) → IsLeftWithin most (Some left) → Each (PausesWithin most) (playing.beginning_to_wait wish left session)
-within-waiting most wish left session is = (
+within-waiting most wish left session (fewer, same, is) = (
   each_then {A = Outcome Resume} {B = Pause} (PausesWithin most) (giving_up_wait session.context) (playing.untold left.mark session) (within-untold most left.mark session),
-  is,
+  (omega (arith, same), (fewer, same, is)),
 )
 
 within-acquired : (most : ℕ) (wish : Wish) (rest : ℕ → Row Reply) (mark : Mark) (session : Session) (more : ℕ → Session → Program Pause)

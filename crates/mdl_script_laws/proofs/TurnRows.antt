@@ -1,5 +1,5 @@
 -- How many locks each statement asks for.
-use Rattle.std.proofs.Common.{◌≡◌, ℕ, suc, ◌+◌, ◌-◌, ◌≤◌, Bool, true, false, List, [], ◌∷◌, ◌++◌, length, map, Option, Some, None, refl, arith}
+use Rattle.std.proofs.Common.{◌≡◌, ℕ, suc, ◌+◌, ◌-◌, ◌*◌, ◌≤◌, Bool, true, false, List, [], ◌∷◌, ◌++◌, length, map, Option, Some, None, refl, arith}
 use Rattle.std.specs.Prelude.{find, if◌then◌else◌, is_some, not}
 use Rattle.std.proofs.lemmas.List.{length-map}
 use Rattle.std.specs.declared.cmp.Ordering.{Ordering}
@@ -10,7 +10,9 @@ use Rattle.mdl_defs.specs.Columns.{names_twice}
 use Rattle.mdl_context.specs.declared.request.Mark.{Mark}
 use Rattle.mdl_context.specs.Wishes.{Wish}
 use Rattle.mdl_syntax.specs.declared.statement.Priority.{Priority}
+use Rattle.mdl_syntax.specs.declared.statement.Statement.{Statement}
 use Rattle.mdl_syntax.specs.declared.statement.Statement.TheVariants as statement
+use Rattle.mdl_syntax.specs.Laws.{IsWithinLimits}
 use Rattle.mdl_stmt.specs.declared.error_number.ErrorNumber.{ErrorNumber}
 use Rattle.mdl_stmt.specs.declared.error_number.ErrorNumber.TheVariants.{NoSuchTable, ConflictingReadLock, ActiveLocks, UnknownDatabase, TableExists, DuplicateColumn, VersionLimit, TableLockedForRead}
 use Rattle.mdl_stmt.specs.declared.reply.Reply.{Reply}
@@ -21,7 +23,7 @@ use Rattle.mdl_stmt.specs.Rows.{Row, Act, ◌>>=◌, ◌>>◌, check, nothing, a
 use Rattle.mdl_stmt.specs.Rows as row
 use Rattle.mdl_stmt.specs.Statements as stm
 use Rattle.mdl_stmt.specs.States.{Locked, has_locked, written, savepoint_mark}
-use Rattle.mdl_script_laws.specs.Turns.{AsksForAtMost, StatementsAskForFewLocks, most_locks}
+use Rattle.mdl_script_laws.specs.Turns.{AsksForAtMost, StatementsAskForFewLocks, locks_of, most_locks}
 
 -- ---- bounds
 
@@ -272,24 +274,27 @@ few-drop tables =
 few-begin : AsksForAtMost 0 stm.begin_after_commit
 few-begin = few-then 0 0 0 stm.unlock_tables _ (omega arith) few-unlock (λ _. tt)
 
--- a bound, and the greatest
-few-most : (n : ℕ) (asked : Row Reply) → n ≤ most_locks → AsksForAtMost n asked → AsksForAtMost most_locks asked
-few-most n asked less is = few-more n most_locks asked less is
+few-asked : (asked : Statement) → AsksForAtMost (locks_of asked) (stm.row_of asked)
+few-asked statement.Begin = few-commit_first 0 stm.begin_after_commit few-begin
+few-asked statement.Commit = few-commit_first 0 (row.Give reply.Ok) tt
+few-asked statement.Rollback = few-then 0 0 0 stm.rollback (λ _. row.Give reply.Ok) (omega arith) few-rollback (λ _. tt)
+few-asked (statement.Savepoint name) = few-save name
+few-asked (statement.RollbackTo name) = few-rollback_to name
+few-asked (statement.Select tables) = few-select tables
+few-asked (statement.Write table priority) = few-write table priority
+few-asked (statement.CreateTable table columns) = few-ddl_first 3 (stm.create_after_commit table columns) (few-create table columns)
+few-asked (statement.DropTables tables) =
+    let n = length tables in
+    few-more (suc (1 + n + n)) (2 + 2 * n) (stm.row_of (statement.DropTables tables)) (omega arith)
+    (few-ddl_first (1 + n + n) (stm.drop_after_commit tables) (few-drop tables))
+few-asked (statement.KillQuery target) = tt
+few-asked statement.Timeout = tt
+
+-- within the limits of the language
+few-named : (asked : Statement) → IsWithinLimits asked → locks_of asked ≤ most_locks
+few-named (statement.Select tables) within = let n = within.1 in omega (arith, n)
+few-named (statement.DropTables tables) within = let n = within.1 in omega (arith, n)
+few-named _ within = omega arith
 
 pub few-locks : StatementsAskForFewLocks
-few-locks statement.Begin within = few-most 1 (stm.row_of statement.Begin) (omega arith) (few-commit_first 0 stm.begin_after_commit few-begin)
-few-locks statement.Commit within = few-most 1 (stm.row_of statement.Commit) (omega arith) (few-commit_first 0 (row.Give reply.Ok) tt)
-few-locks statement.Rollback within =
-    few-most 0 (stm.row_of statement.Rollback) (omega arith) (few-then 0 0 0 stm.rollback (λ _. row.Give reply.Ok) (omega arith) few-rollback (λ _. tt))
-few-locks (statement.Savepoint name) within = few-most 0 (stm.save name) (omega arith) (few-save name)
-few-locks (statement.RollbackTo name) within = few-most 0 (stm.rollback_to name) (omega arith) (few-rollback_to name)
-few-locks (statement.Select tables) within = let n = within.1 in few-most (length tables) (stm.select tables) (omega (arith, n)) (few-select tables)
-few-locks (statement.Write table priority) within = few-most 3 (stm.write table priority) (omega arith) (few-write table priority)
-few-locks (statement.CreateTable table columns) within =
-    few-most 4 (stm.row_of (statement.CreateTable table columns)) (omega arith) (few-ddl_first 3 (stm.create_after_commit table columns) (few-create table columns))
-few-locks (statement.DropTables tables) within =
-    let n = within.1 in
-    few-most (suc (1 + length tables + length tables)) (stm.row_of (statement.DropTables tables)) (omega (arith, n))
-    (few-ddl_first (1 + length tables + length tables) (stm.drop_after_commit tables) (few-drop tables))
-few-locks (statement.KillQuery target) within = tt
-few-locks statement.Timeout within = tt
+few-locks asked = (few-asked asked, few-named asked)

@@ -4,4 +4,7 @@
 
 mod turns;
 
-pub use turns::{nobody_is_left_settled, statements_ask_for_few_locks, turns_suffice};
+pub use turns::{
+    more_turns_do_nothing, nobody_is_left_settled, statements_ask_for_few_locks,
+    statements_tell_of_few_waits, turns_suffice,
+};
