@@ -1,0 +1,4 @@
+mod TurnLemmas
+mod TurnPlays
+mod TurnRows
+mod TurnWaits

@@ -1,3 +1,10 @@
 //! Laws of whole scripts: what a reader may count on after any line, whatever the script. Each is proved as the contract of a
 //! function that does nothing.
 #![tactic(auto)]
+
+mod turns;
+
+pub use turns::{
+    more_turns_do_nothing, nobody_is_left_settled, statements_ask_for_few_locks,
+    statements_tell_of_few_waits, turns_suffice,
+};

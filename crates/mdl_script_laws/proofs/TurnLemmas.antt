@@ -1,0 +1,310 @@
+-- The turns after a line are always enough: with each of them the locks that are left to ask for become fewer.
+use Rattle.std.proofs.Common.{◌≡◌, ◌≢◌, ◌⊎◌, inl, inr, ℕ, zero, suc, ◌<◌, ◌≤◌, ◌-◌, ◌*◌, Bool, true, false, cond, List, [], ◌∷◌, length, get_or, set, take, replicate, Option, Some, None, Result, Ok, refl, subst, ap, ◌∙◌, sym, arith}
+use Rattle.std.specs.Prelude.{IfOk, if◌then◌else◌, is_some}
+use Rattle.std.specs.List.{All, find, sum_by}
+use Rattle.std.proofs.Math.Dec.{eqb}
+use Rattle.std.proofs.lemmas.Bool.Decides.{eqb_tells}
+use Rattle.std.proofs.lemmas.List.{get_or-set_other, get_or-set_same, get_or-replicate, length-set, length-replicate}
+use Rattle.std.proofs.lemmas.List.Elements.{All-cons, All-head, All-nil, All-replicate, All-set, All-tail}
+use Rattle.std.proofs.lemmas.List.FromFn.{get_or-map-range_with_len}
+use Rattle.std.proofs.lemmas.List.Sums.{sum_by-le, sum_by-set}
+use Rattle.mdl_book.proofs.TicketLemmas.{find-passes}
+use Rattle.mdl_calls.specs.Words.{Program, outcome_of}
+use Rattle.mdl_core.specs.CoreCalls.{has_settled, outcome}
+use Rattle.mdl_core.specs.Cores.{Core}
+use Rattle.mdl_lines.specs.declared.fault.LineError.{LineError}
+use Rattle.mdl_lines.specs.Lines.{lines_of}
+use Rattle.mdl_lines.specs.Sessions.{IsScriptSession}
+use Rattle.mdl_syntax.specs.declared.script.Line.{Line}
+use Rattle.mdl_syntax.specs.declared.statement.Statement.{Statement}
+use Rattle.mdl_syntax.specs.declared.statement.Statement.TheVariants.{Timeout}
+use Rattle.mdl_syntax.specs.Laws.{IsWithinLimits}
+use Rattle.mdl_syntax.specs.Scripts.{parsed}
+use Rattle.mdl_syntax.proofs.LawLemmas.{lines_say-limited}
+use Rattle.mdl_context.specs.Contexts.{mark_of}
+use Rattle.mdl_stmt.specs.Endings.{Pause}
+use Rattle.mdl_stmt.specs.MemoryLaws.{session_at}
+use Rattle.mdl_stmt.specs.Playing.{going_on, starting}
+use Rattle.mdl_stmt.specs.Sessions.{Left}
+use Rattle.mdl_stmt.specs.Statements.{row_of}
+use Rattle.mdl_script.specs.Worlds.{Player, Scene, World, asked, asked_waiting, first_settled, first_world, going, is_waiting, line_played, lines_played, most_turns, most_waits, newcomer, played, player_at, script_played, sessions, settling, started, waiting_in}
+use Rattle.mdl_script.proofs.HallLemmas.{waiting-sessions}
+use Rattle.mdl_script.proofs.ListLemmas.{All-find}
+use Rattle.mdl_script.proofs.SettleLemmas.{settling-none, settling-over, settling-some}
+use Rattle.mdl_script.proofs.SoundLemmas.{IsStaffed, first-session, staffed-asked, staffed-first, staffed-going}
+use Rattle.mdl_script_laws.specs.Turns.{AsksForAtMost, MoreTurnsDoNothing, NobodyIsLeftSettled, TurnsSuffice, locks_of, most_locks}
+use Rattle.mdl_script_laws.proofs.TurnPlays.{IsLeftWithin, PausesWithin, each-outcome, left-within, within-going, within-play}
+use Rattle.mdl_script_laws.proofs.TurnRows.{few-locks}
+
+-- what a session may still ask for: the locks, and the line of its last statement
+pub record Due : Type 0 where
+  pub line : ℕ
+  pub locks : ℕ
+
+abbrev pub nothing_due : Due
+nothing_due = record { line = 0; locks = 0 }
+
+-- all sessions are there, and what is left of each one's statement is within its dues; none are greater than those of a statement
+pub record IsBounded (dues : List Due) (world : World) : Type 0 where
+  pub staffed : IsStaffed world
+  pub all : length dues ≡ 64
+  pub few : All (λ due. due.locks ≤ most_waits) dues
+  pub lines : (who : ℕ) → IsScriptSession who → (get_or dues (who - 1) nothing_due).line ≡ (player_at who world).line
+  pub within : (who : ℕ) → IsScriptSession who → IsLeftWithin (get_or dues (who - 1) nothing_due).locks (player_at who world).session.left
+
+-- the locks that may still be asked for
+abbrev total : List Due → ℕ
+total dues = sum_by (λ due. due.locks) dues
+
+-- ---- statements
+
+-- a program of a session is played, and what is left of its statement is within new dues
+bounded-played : (line who n : ℕ) (program : Program Pause) (world : World) (dues : List Due) → IsScriptSession who → n ≤ most_waits
+    → IsStaffed (played line who program world).world → PausesWithin n (outcome_of outcome program world.core).0 → IsBounded dues world
+    → IsBounded (set dues (who - 1) (record { line = line; locks = n })) (played line who program world).world
+bounded-played line who n program world dues is most staffed here bounded = record {
+  staffed = staffed;
+  all = length-set dues (who - 1) new ∙ bounded.all;
+  few = All-set (λ due. due.locks ≤ most_waits) dues (who - 1) new most bounded.few;
+  lines = λ w session. (by w session (eqb_tells w who)).0;
+  within = λ w session. (by w session (eqb_tells w who)).1;
+} where
+  end : Pause × Core
+  end = outcome_of outcome program world.core
+
+  next : Player
+  next = record { session = session_at end.0; line = line }
+
+  new : Due
+  new = record { line = line; locks = n }
+
+  after : World
+  after = record { core = end.1; players = set world.players (who - 1) next }
+
+  Fits : Due → Player → Type 0
+  Fits due player = (due.line ≡ player.line) × IsLeftWithin due.locks player.session.left
+
+  inside : who - 1 < length world.players
+  inside = let all = bounded.staffed.all in omega (arith, is.0, is.1, all)
+
+  among : who - 1 < length dues
+  among = let all = bounded.all in omega (arith, is.0, is.1, all)
+
+  mine : Fits (get_or (set dues (who - 1) new) (who - 1) nothing_due) (player_at who after)
+  mine =
+      let due : get_or (set dues (who - 1) new) (who - 1) nothing_due ≡ new = get_or-set_same dues (who - 1) new nothing_due among in
+      let player : player_at who after ≡ next = get_or-set_same world.players (who - 1) next (newcomer who) inside in
+      subst (λ (p : Player). Fits (get_or (set dues (who - 1) new) (who - 1) nothing_due) p) (sym player)
+      (subst (λ (d : Due). Fits d next) (sym due) (refl, left-within n end.0 here))
+
+  by : (w : ℕ) → IsScriptSession w → ((eqb w who ≡ true) × (w ≡ who)) ⊎ ((eqb w who ≡ false) × (w ≢ who))
+      → Fits (get_or (set dues (who - 1) new) (w - 1) nothing_due) (player_at w after)
+  by w there (inl same) = subst (λ k. Fits (get_or (set dues (who - 1) new) (k - 1) nothing_due) (player_at k after)) (sym same.1) mine
+  by w there (inr other) =
+      let apart : w - 1 ≢ who - 1 = λ e. other.1 (omega (arith, e, is.0, there.0)) in
+      let due : get_or (set dues (who - 1) new) (w - 1) nothing_due ≡ get_or dues (w - 1) nothing_due = get_or-set_other dues (who - 1) (w - 1) new nothing_due apart in
+      let player : player_at w after ≡ player_at w world = get_or-set_other world.players (who - 1) (w - 1) next (newcomer w) apart in
+      subst (λ (p : Player). Fits (get_or (set dues (who - 1) new) (w - 1) nothing_due) p) (sym player)
+      (subst (λ (d : Due). Fits d (player_at w world)) (sym due) (bounded.lines w there, bounded.within w there))
+
+-- how far a statement comes that a session starts
+pub pauses-started : (line : Line) (world : World)
+    → PausesWithin (locks_of line.statement) (outcome_of outcome (starting line.statement (player_at line.session world).session) world.core).0
+pauses-started line world =
+    let session = (player_at line.session world).session in
+    let most = locks_of line.statement in
+    each-outcome (PausesWithin most) outcome (starting line.statement session) world.core
+    (within-play most most (row_of line.statement) (mark_of session.context.kept) session (omega arith) (few-locks line.statement).0)
+
+pub bounded-started : (line : Line) (world : World) (dues : List Due) → IsScriptSession line.session → IsWithinLimits line.statement
+    → IsStaffed (started line world).world → IsBounded dues world
+    → IsBounded (set dues (line.session - 1) (record { line = line.number; locks = locks_of line.statement })) (started line world).world
+bounded-started line world dues is limited staffed bounded =
+    let few : locks_of line.statement ≤ most_locks = (few-locks line.statement).1 limited in
+    bounded-played line.number line.session (locks_of line.statement) (starting line.statement (player_at line.session world).session) world dues is
+    (omega (arith, few)) staffed (pauses-started line world) bounded
+
+-- ---- turns
+
+-- whoever comes to its turn waits, and its wait is settled
+found-waits : (world : World) (who : ℕ) → first_settled world ≡ Some who → is_waiting world who ≡ true
+found-waits world who found =
+    let P : ℕ → Type 0 = λ w. is_waiting world w ≡ true in
+    All-find P (has_settled world.core) (waiting_in world) who (waiting-sessions P world (λ w session waits. waits)) found
+
+-- so it has something left
+something-left : (most : ℕ) (left : Option Left) → is_some left ≡ true → IsLeftWithin most left
+    → (its : Left) × (fewer : ℕ) × (left ≡ Some its) × (most ≡ suc fewer) × ((id : ℕ) → AsksForAtMost fewer (its.rest id))
+something-left most None waits is = cc
+something-left most (Some its) waits is = (its, is.0, refl, is.1, is.2)
+
+-- a session's turn: it goes on, and then it may ask for one lock less
+pub record Turn (world : World) (dues : List Due) (who : ℕ) : Type 0 where
+  pub fewer : ℕ
+  pub among : who - 1 < length dues
+  pub line : (get_or dues (who - 1) nothing_due).line ≡ (player_at who world).line
+  pub locks : (get_or dues (who - 1) nothing_due).locks ≡ suc fewer
+  pub pauses : PausesWithin fewer (outcome_of outcome (going_on (player_at who world).session) world.core).0
+  pub bounded : IsBounded (set dues (who - 1) (record { line = (player_at who world).line; locks = fewer })) (going who world).world
+
+pub turn-going : (world : World) (dues : List Due) (who : ℕ) → first_settled world ≡ Some who → IsBounded dues world → Turn world dues who
+turn-going world dues who found bounded = record {
+  fewer = fewer;
+  among = among;
+  line = bounded.lines who is;
+  locks = its.3;
+  pauses = pauses;
+  bounded = bounded-played player.line who fewer (going_on player.session) world dues is least (staffed-going who world is bounded.staffed) pauses bounded;
+} where
+  player : Player
+  player = player_at who world
+
+  is : IsScriptSession who
+  is = first-session world who found
+
+  its : (its : Left) × (fewer : ℕ) × (player.session.left ≡ Some its) × ((get_or dues (who - 1) nothing_due).locks ≡ suc fewer) × ((id : ℕ) → AsksForAtMost fewer (its.rest id))
+  its = something-left (get_or dues (who - 1) nothing_due).locks player.session.left (found-waits world who found) (bounded.within who is)
+
+  fewer : ℕ
+  fewer = its.1
+
+  settled : has_settled world.core player.session.context.who ≡ true
+  settled = subst (λ w. has_settled world.core w ≡ true) (sym (bounded.staffed.named who is)) (find-passes (has_settled world.core) (waiting_in world) who found)
+
+  pauses : PausesWithin fewer (outcome_of outcome (going_on player.session) world.core).0
+  pauses = within-going fewer player.session its.0 world.core its.2 its.4 settled
+
+  among : who - 1 < length dues
+  among = let all = bounded.all in omega (arith, is.0, is.1, all)
+
+  least : fewer ≤ most_waits
+  least = let most = bounded.few (who - 1) nothing_due among in let more = its.3 in omega (arith, most, more)
+
+-- so all together may ask for fewer
+total-falls : (world : World) (dues : List Due) (who : ℕ) → (turn : Turn world dues who)
+    → total (set dues (who - 1) (record { line = (player_at who world).line; locks = turn.fewer })) < total dues
+total-falls world dues who turn =
+    let sums = sum_by-set (λ (due : Due). due.locks) dues (who - 1) (record { line = (player_at who world).line; locks = turn.fewer }) nothing_due turn.among in
+    let more = turn.locks in
+    omega (arith, sums, more)
+
+-- a world in which nobody's turn has come, whatever may still be asked for
+record IsAtRest (world : World) : Type 0 where
+  dues : List Due
+  bounded : IsBounded dues world
+  none : first_settled world ≡ None
+
+-- where nothing may be asked for any more, nobody waits
+none-left : (world : World) (dues : List Due) → IsBounded dues world → total dues ≤ 0 → first_settled world ≡ None
+none-left world dues bounded done = by (first_settled world) refl where
+  by : (first : Option ℕ) → first_settled world ≡ first → first ≡ None
+  by None found = refl
+  by (Some who) found = let falls = total-falls world dues who (turn-going world dues who found bounded) in absurd (omega (arith, falls, done))
+
+-- one turn, and what follows
+rests-turn : (n : ℕ) (world : World) (dues : List Due) (first : Option ℕ) → first_settled world ≡ first → IsBounded dues world → total dues ≤ suc n
+    → ((after : World) (left : List Due) → IsBounded left after → total left ≤ n → IsAtRest (settling n after).world) → IsAtRest (settling (suc n) world).world
+rests-turn n world dues None found bounded less rest =
+    let at : IsAtRest world = record { dues = dues; bounded = bounded; none = found } in
+    subst (λ (scene : Scene). IsAtRest scene.world) (sym (settling-none (suc n) world found)) at
+rests-turn n world dues (Some who) found bounded less rest =
+    let turn = turn-going world dues who found bounded in
+    let falls = total-falls world dues who turn in
+    let next = set dues (who - 1) (record { line = (player_at who world).line; locks = turn.fewer }) in
+    subst (λ (scene : Scene). IsAtRest scene.world) (sym (settling-some (suc n) n world who refl found))
+    (rest (going who world).world next turn.bounded (omega (arith, falls, less)))
+
+-- as many turns as locks may still be asked for are enough
+rests-settling : (n : ℕ) (world : World) (dues : List Due) → IsBounded dues world → total dues ≤ n → IsAtRest (settling n world).world
+rests-settling zero world dues bounded less =
+    let at : IsAtRest world = record { dues = dues; bounded = bounded; none = none-left world dues bounded less } in
+    subst (λ (scene : Scene). IsAtRest scene.world) (sym (settling-over world)) at
+rests-settling (suc n) world dues bounded less =
+    rests-turn n world dues (first_settled world) refl bounded less (λ after left there fewer. rests-settling n after left there fewer)
+
+-- ---- lines
+
+pub bounded-waiting : (statement : Statement) (line who : ℕ) (world : World) (dues : List Due) → IsStaffed (asked_waiting statement line who world).world
+    → IsBounded dues world → IsBounded dues (asked_waiting statement line who world).world
+bounded-waiting Timeout line who world dues staffed bounded = record { staffed = staffed; all = bounded.all; few = bounded.few; lines = bounded.lines; within = bounded.within }
+bounded-waiting _ line who world dues staffed bounded = bounded
+
+bounded-asked : (line : Line) (world : World) (dues : List Due) → IsScriptSession line.session → IsWithinLimits line.statement → IsBounded dues world
+    → (after : List Due) × IsBounded after (asked line world).world
+bounded-asked line world dues is limited bounded = by (is_waiting world line.session) refl (staffed-asked line world is bounded.staffed) where
+  scene : Bool → Scene
+  scene waits = if waits then asked_waiting line.statement line.number line.session world else started line world
+
+  by : (waits : Bool) → is_waiting world line.session ≡ waits → IsStaffed (scene (is_waiting world line.session)).world
+      → (after : List Due) × IsBounded after (scene (is_waiting world line.session)).world
+  by true e staffed =
+      let there = subst (λ b. IsStaffed (scene b).world) e staffed in
+      subst (λ b. (after : List Due) × IsBounded after (scene b).world) (sym e)
+      (dues, bounded-waiting line.statement line.number line.session world dues there bounded)
+  by false e staffed =
+      let there = subst (λ b. IsStaffed (scene b).world) e staffed in
+      subst (λ b. (after : List Due) × IsBounded after (scene b).world) (sym e)
+      (set dues (line.session - 1) (record { line = line.number; locks = locks_of line.statement }), bounded-started line world dues is limited there bounded)
+
+rests-line : (line : Line) (world : World) → IsScriptSession line.session → IsWithinLimits line.statement → IsAtRest world → IsAtRest (line_played line world).world
+rests-line line world is limited rest =
+    let begun = bounded-asked line world rest.dues is limited rest.bounded in
+    let most = sum_by-le (λ (due : Due). due.locks) most_waits begun.0 begun.1.few in
+    let all = begun.1.all in
+    let count : total begun.0 ≤ most_turns = subst (λ k. total begun.0 ≤ k * most_waits) all most in
+    rests-settling most_turns (asked line world).world begun.0 begun.1 count
+
+rests-lines : (n : ℕ) (lines : List Line) (world : World) → All (λ line. IsScriptSession line.session × IsWithinLimits line.statement) lines → IsAtRest world
+    → IsAtRest (lines_played (take n lines) world).world
+rests-lines zero lines world are rest = rest
+rests-lines (suc n) [] world are rest = rest
+rests-lines (suc n) (line ∷ lines) world are rest =
+    let P : Line → Type 0 = λ line. IsScriptSession line.session × IsWithinLimits line.statement in
+    let here = All-head P line lines are in
+    rests-lines n lines (line_played line world).world (All-tail P line lines are) (rests-line line world here.0 here.1 rest)
+
+-- ---- scripts
+
+newcomer-at : (who : ℕ) → IsScriptSession who → player_at who first_world ≡ newcomer who
+unfolding sessions
+newcomer-at who is = get_or-map-range_with_len newcomer 1 64 (who - 1) who (newcomer who) (omega (arith, is.0, is.1)) (omega (arith, is.0))
+
+pub bounded-first : IsBounded (replicate 64 nothing_due) first_world
+unfolding sessions
+bounded-first = record {
+  staffed = staffed-first;
+  all = length-replicate {A = Due} 64 nothing_due;
+  few = All-replicate (λ (due : Due). due.locks ≤ most_waits) 64 nothing_due (omega arith);
+  lines = λ who is. rw (newcomer-at who is) (ap (λ (due : Due). due.line) (get_or-replicate 64 (who - 1) nothing_due nothing_due (omega (arith, is.0, is.1))));
+  within = λ who is.
+      subst (λ (p : Player). IsLeftWithin (get_or (replicate 64 nothing_due) (who - 1) nothing_due).locks p.session.left) (sym (newcomer-at who is)) tt;
+}
+
+rests-first : IsAtRest first_world
+rests-first = record { dues = replicate 64 nothing_due; bounded = bounded-first; none = none-left first_world (replicate 64 nothing_due) bounded-first (omega arith) }
+
+-- the lines that were read are of sessions that a script can name, and their statements are within the limits
+pub read-limits : (text : List ℕ) (lines : List Line) → parsed text ≡ Ok lines → All (λ line. IsScriptSession line.session × IsWithinLimits line.statement) lines
+read-limits text lines read =
+    subst (λ (said : Result (List Line) (ℕ × LineError)). IfOk said (All (λ line. IsScriptSession line.session × IsWithinLimits line.statement))) read (lines_say-limited 1 (lines_of text))
+
+rests-throughout : (text : List ℕ) (lines : List Line) → parsed text ≡ Ok lines → (n : ℕ) → IsAtRest (script_played (take n lines)).world
+rests-throughout text lines read n = rests-lines n lines first_world (read-limits text lines read) rests-first
+
+pub turns-suffice : TurnsSuffice
+turns-suffice text lines read n = (rests-throughout text lines read n).none
+
+pub more-nothing : MoreTurnsDoNothing
+more-nothing text lines read n turns = settling-none turns (script_played (take n lines)).world (turns-suffice text lines read n)
+
+-- what isn't found passes nowhere
+none-passes : (p : ℕ → Bool) (xs : List ℕ) → find p xs ≡ None → All (λ x. p x ≡ false) xs
+none-passes p [] none = All-nil (λ x. p x ≡ false)
+none-passes p (x ∷ xs) none =
+    elim (p x) as (λ b. p x ≡ b → cond b (Some x) (find p xs) ≡ None → All (λ x. p x ≡ false) (x ∷ xs)) [
+      | true ↦ λ passes e. cc
+      | false ↦ λ fails e. All-cons (λ x. p x ≡ false) x xs fails (none-passes p xs e)
+    ] refl none
+
+pub nobody-left : NobodyIsLeftSettled
+nobody-left text lines read n = let world = (script_played (take n lines)).world in none-passes (has_settled world.core) (waiting_in world) (turns-suffice text lines read n)

@@ -1,0 +1,92 @@
+-- That a script's turns come to their end: how many locks a statement asks for, that nobody is left whose turn has come, and how many
+-- waits are told.
+use Rattle.std.specs.Prelude.{◌≡◌, ℕ, suc, ◌+◌, ◌*◌, ◌≤◌, Bool, true, false, ◌&&◌, ◌==◌, List, length, filter, take, None, Ok}
+use Rattle.std.specs.List.{All}
+use Rattle.mdl_core.specs.CoreCalls.{has_settled}
+use Rattle.mdl_context.specs.declared.request.Mark.{Mark}
+use Rattle.mdl_defs.specs.declared.standing.Standing.{Standing}
+use Rattle.mdl_syntax.specs.declared.script.Line.{Line}
+use Rattle.mdl_syntax.specs.declared.statement.Statement.{Statement}
+use Rattle.mdl_syntax.specs.declared.statement.Statement.TheVariants.{Begin, Commit, Select, Write, CreateTable, DropTables}
+use Rattle.mdl_syntax.specs.Laws.{IsWithinLimits}
+use Rattle.mdl_syntax.specs.Scripts.{parsed}
+use Rattle.mdl_stmt.specs.Rows.{Row}
+use Rattle.mdl_stmt.specs.Rows as row
+use Rattle.mdl_stmt.specs.States.{State}
+use Rattle.mdl_stmt.specs.Statements.{row_of}
+use Rattle.mdl_script.specs.declared.told.News.{News}
+use Rattle.mdl_script.specs.declared.told.News.TheVariants.{Waits}
+use Rattle.mdl_script.specs.declared.told.Told.{Told}
+use Rattle.mdl_script.specs.Worlds.{World, first_settled, script_played, settling, silent, waiting_in}
+
+-- a statement asks for at most so many locks, one after the other, whatever it is told meanwhile
+abbrev pub AsksForAtMost : {A : Type 0} → ℕ → Row A → Type 0
+AsksForAtMost most (row.Give x) = Unit {0}
+AsksForAtMost most (row.Fail number) = Unit {0}
+AsksForAtMost most (row.Room rest) = AsksForAtMost most rest
+AsksForAtMost most (row.Look rest) = (state : State) → AsksForAtMost most (rest state)
+AsksForAtMost most (row.Set change rest) = AsksForAtMost most rest
+AsksForAtMost most (row.Here rest) = (mark : Mark) → AsksForAtMost most (rest mark)
+AsksForAtMost most (row.Acquire wish rest) = (fewer : ℕ) × (most ≡ suc fewer) × ((id : ℕ) → AsksForAtMost fewer (rest id))
+AsksForAtMost most (row.Give_up which rest) = AsksForAtMost most rest
+AsksForAtMost most (row.Release id rest) = AsksForAtMost most rest
+AsksForAtMost most (row.Read id rest) = (standing : Standing) → AsksForAtMost most (rest standing)
+AsksForAtMost most (row.Redefine id change rest) = AsksForAtMost most rest
+AsksForAtMost most (row.Kill target rest) = AsksForAtMost most rest
+
+-- the most locks that a statement asks for: the COMMIT lock where it has to commit, the global lock where it writes or changes
+-- definitions, and the tables that it names, with their schemas where they are created or dropped
+abbrev pub locks_of : Statement → ℕ
+locks_of Begin = 1
+locks_of Commit = 1
+locks_of (Select tables) = length tables
+locks_of (Write table priority) = 3
+locks_of (CreateTable table columns) = 4
+locks_of (DropTables tables) = 2 + 2 * length tables
+locks_of _ = 0
+
+-- that of a DROP TABLE of eight tables is the most that the language has
+abbrev pub most_locks : ℕ
+most_locks = 2 + 2 * 8
+
+-- no statement asks for more
+abbrev pub StatementsAskForFewLocks : Type 0
+StatementsAskForFewLocks =
+    (statement : Statement) → AsksForAtMost (locks_of statement) (row_of statement) × (IsWithinLimits statement → locks_of statement ≤ most_locks)
+
+-- whoever waits has a wait that isn't settled
+abbrev pub WaitersAreUnsettled : World → Type 0
+WaitersAreUnsettled world = All (λ who. has_settled world.core who ≡ false) (waiting_in world)
+
+-- the turns after a line are always enough: after each line of a script nobody is left whose turn has come
+abbrev pub TurnsSuffice : Type 0
+TurnsSuffice = (text : List ℕ) (lines : List Line) → parsed text ≡ Ok lines → (n : ℕ) → first_settled (script_played (take n lines)).world ≡ None
+
+-- so more turns would do nothing, and tell nothing
+abbrev pub MoreTurnsDoNothing : Type 0
+MoreTurnsDoNothing =
+    (text : List ℕ) (lines : List Line) → parsed text ≡ Ok lines → (n turns : ℕ) →
+    let world = (script_played (take n lines)).world in settling turns world ≡ silent world
+
+-- and whoever waits then has a wait that isn't settled
+abbrev pub NobodyIsLeftSettled : Type 0
+NobodyIsLeftSettled =
+    (text : List ℕ) (lines : List Line) → parsed text ≡ Ok lines → (n : ℕ) → WaitersAreUnsettled (script_played (take n lines)).world
+
+-- whether it is told that a statement waits
+abbrev pub is_wait : News → Bool
+is_wait (Waits key mode) = true
+is_wait _ = false
+
+-- whether that is the statement of the line of this number
+abbrev pub is_wait_of : ℕ → Told → Bool
+is_wait_of number told = told.line == number && is_wait told.news
+
+-- how many waits are told of that statement
+abbrev pub waits_told : ℕ → List Told → ℕ
+waits_told number told = length (filter (is_wait_of number) told)
+
+-- a whole script tells of no more waits of a statement than it asks for locks
+abbrev pub StatementsTellOfFewWaits : Type 0
+StatementsTellOfFewWaits =
+    (text : List ℕ) (lines : List Line) → parsed text ≡ Ok lines → All (λ line. waits_told line.number (script_played lines).told ≤ locks_of line.statement) lines

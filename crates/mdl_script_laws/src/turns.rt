@@ -1,0 +1,30 @@
+//! Laws of turns: how many locks a statement asks for, that all whose turn comes after a line get it, and how many waits are told.
+//! Each is proved as the contract of a function that does nothing.
+ghost use Rattle.mdl_script_laws.specs.Turns.{StatementsAskForFewLocks, StatementsTellOfFewWaits, TurnsSuffice, MoreTurnsDoNothing, NobodyIsLeftSettled};
+
+/// A statement asks for no more locks than it can need: its tables, with their schemas where they are created or dropped, the
+/// global lock, and the COMMIT lock. That is at most eighteen, whatever stands and whatever its session keeps.
+pub fn statements_ask_for_few_locks()
+    ensures { StatementsAskForFewLocks }
+{}
+
+/// After each line of a script no session is left waiting whose wait is settled: the turns that are counted off after a line are
+/// never used up.
+pub fn turns_suffice()
+    ensures { TurnsSuffice }
+{}
+
+/// So more turns than are counted off would do nothing, and tell nothing.
+pub fn more_turns_do_nothing()
+    ensures { MoreTurnsDoNothing }
+{}
+
+/// And after each line whoever waits has a wait that isn't settled.
+pub fn nobody_is_left_settled()
+    ensures { NobodyIsLeftSettled }
+{}
+
+/// A script tells of no more waits of a statement than that statement asks for locks.
+pub fn statements_tell_of_few_waits()
+    ensures { StatementsTellOfFewWaits }
+{}
