@@ -1,5 +1,9 @@
+pub mod EarlyPlays
+pub mod EarlyRows
 pub mod NoDeadlockCalls
 pub mod NoDeadlockContexts
 pub mod NoDeadlockPrograms
 pub mod NoDeadlockRows
 pub mod NoDeadlockWorlds
+pub mod OrderlyPlays
+pub mod TidyLemmas

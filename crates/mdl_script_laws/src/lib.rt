@@ -3,5 +3,7 @@
 #![tactic(auto)]
 
 mod deadlocks;
+mod refusals;
 
 pub use deadlocks::no_deadlock_stands;
+pub use refusals::{early_errors_change_nothing, sessions_stay_tidy};
