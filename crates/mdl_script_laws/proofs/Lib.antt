@@ -1,4 +1,13 @@
-mod TurnLemmas
-mod TurnPlays
-mod TurnRows
-mod TurnWaits
+pub mod EarlyPlays
+pub mod EarlyRows
+pub mod NoDeadlockCalls
+pub mod NoDeadlockContexts
+pub mod NoDeadlockPrograms
+pub mod NoDeadlockRows
+pub mod NoDeadlockWorlds
+pub mod OrderlyPlays
+pub mod TidyLemmas
+pub mod TurnLemmas
+pub mod TurnPlays
+pub mod TurnRows
+pub mod TurnWaits

@@ -1,0 +1,262 @@
+-- A statement that ends by an early error has changed nothing, and none that has waited ends so.
+use Rattle.std.proofs.Common.{◌≡◌, ℕ, true, false, Option, Some, None, Ok, Err, List, [], inl, inr, refl, sym, ap, subst, ◌∙◌}
+use Rattle.std.proofs.lemmas.Bool.{false≢true}
+use Rattle.mdl_defs.specs.declared.standing.Standing.{Standing}
+use Rattle.mdl_calls.specs.Words.{Answer, Reads, Changed, Program, Give, ◌>>=◌, Each, Read_definition, Runs}
+use Rattle.mdl_calls.specs.declared.answers.Held.{Held}
+use Rattle.mdl_calls.specs.declared.answers.Settled.{Settled}
+use Rattle.mdl_calls.specs.declared.answers.Settled.TheVariants as settled
+use Rattle.mdl_calls.specs.declared.space_error.SpaceError.{SpaceError}
+use Rattle.mdl_calls.specs.declared.space_error.SpaceError.TheVariants as space
+use Rattle.mdl_calls.proofs.FaithfulLemmas.{each_reply, each_then}
+use Rattle.mdl_core.specs.CoreCalls.{held_ticket, reading_of}
+use Rattle.mdl_core.specs.CoreJoins.{Joins}
+use Rattle.mdl_core.specs.Cores.{Core}
+use Rattle.mdl_context.specs.declared.context_error.ContextError.{ContextError}
+use Rattle.mdl_context.specs.declared.context_error.ContextError.TheVariants.{Space}
+use Rattle.mdl_context.specs.declared.kept.Kept.{Kept}
+use Rattle.mdl_context.specs.declared.request.Acquire.{Acquire}
+use Rattle.mdl_context.specs.declared.request.Acquire.TheVariants as acquire
+use Rattle.mdl_context.specs.declared.request.Mark.{Mark}
+use Rattle.mdl_context.specs.declared.request.Resume.{Resume}
+use Rattle.mdl_context.specs.declared.request.Resume.TheVariants as resume
+use Rattle.mdl_context.specs.Contexts.{ContextView, mark_of, without}
+use Rattle.mdl_context.specs.Gains.{refusal_of}
+use Rattle.mdl_context.specs.Releases.{giving_up, releasing}
+use Rattle.mdl_context.specs.Requests.{Outcome, acquiring}
+use Rattle.mdl_context.specs.Waits.{giving_up_wait, resuming}
+use Rattle.mdl_context.specs.Wishes.{Wish}
+use Rattle.mdl_context.proofs.BeyondLemmas.{without-none}
+use Rattle.mdl_stmt.specs.declared.ending.Ending.{Ending}
+use Rattle.mdl_stmt.specs.declared.ending.Ending.TheVariants.{Answers, Misses, Falls, Starves}
+use Rattle.mdl_stmt.specs.declared.reply.Reply.{Reply}
+use Rattle.mdl_stmt.specs.declared.reply.Reply.TheVariants as reply
+use Rattle.mdl_stmt.specs.Endings.{Pause, Ends, Begins_to_wait, Waits_on, Faults, closing, ended, ending_of_error, ending_of_loss, ending_of_refusal, gone_at, state_after}
+use Rattle.mdl_stmt.specs.Playing as playing
+use Rattle.mdl_stmt.specs.Playing.{play, with_context}
+use Rattle.mdl_stmt.specs.Rows.{Row}
+use Rattle.mdl_stmt.specs.Rows as row
+use Rattle.mdl_stmt.specs.Sessions.{Left, Session}
+use Rattle.mdl_stmt.specs.Statements.{row_of}
+use Rattle.mdl_syntax.specs.declared.statement.Statement.{Statement}
+use Rattle.mdl_script_laws.specs.RefusalsFirst.{IsTidy, EarlyErrorsChangeNothing, is_early}
+use Rattle.mdl_script_laws.proofs.EarlyRows.{ChecksFirst, FailsLate, IsLate, statements_check}
+use Rattle.mdl_script_laws.proofs.TidyLemmas.{none-gone}
+
+-- what is left of a statement never fails by an early error
+abbrev pub IsLateLeft : Option Left → Type 0
+IsLateLeft None = Unit {0}
+IsLateLeft (Some left) = (id : ℕ) → FailsLate IsLate (left.rest id)
+
+-- a statement hasn't ended by one, and where it waits, it never will
+abbrev pub IsLatePause : Pause → Type 0
+IsLatePause (Ends reply session) = IsLate reply
+IsLatePause (Begins_to_wait key mode session) = IsLateLeft session.left
+IsLatePause (Waits_on session) = IsLateLeft session.left
+IsLatePause (Faults session) = Unit {0}
+
+abbrev pub AllLate : Program Pause → Type 0
+AllLate program = Each IsLatePause program
+
+-- ---- ends
+
+-- an ending by none
+abbrev IsLateEnding : Ending → Type 0
+IsLateEnding (Answers reply) = IsLate reply
+IsLateEnding (Misses number) = is_early number ≡ false
+IsLateEnding _ = Unit {0}
+
+late_ended : (ending : Ending) (session : Session) → IsLateEnding ending → IsLatePause (ended ending session)
+late_ended (Answers reply) session so = so
+late_ended (Misses number) session so = so
+late_ended Falls session so = refl
+late_ended Starves session so = tt
+
+late_refusal : (refusal : SpaceError) → IsLateEnding (ending_of_refusal refusal)
+late_refusal space.OutOfMemory = tt
+late_refusal space.NoPlace = refl
+late_refusal _ = refl
+
+late_error : (error : ContextError) → IsLateEnding (ending_of_error error)
+late_error (Space refusal) = late_refusal refusal
+late_error _ = refl
+
+late_loss : (how : Settled) → IsLateEnding (ending_of_loss how)
+late_loss settled.Timeout = refl
+late_loss settled.Killed = refl
+late_loss _ = tt
+
+late_closing : (ending : Ending) (mark : Mark) (session : Session) → IsLateEnding ending → AllLate (closing ending mark session)
+late_closing ending mark session so =
+    each_then {A = Outcome (Unit {0})} {B = Pause} IsLatePause (giving_up (gone_at ending session.state.is_open mark session.context.kept) session.context)
+    (λ outcome. Give (ended ending (record { context = outcome.1; state = state_after ending session.state; left = None })))
+    (λ outcome. late_ended ending (record { context = outcome.1; state = state_after ending session.state; left = None }) so)
+
+-- ---- locks
+
+late_untold : (mark : Mark) (session : Session) (outcome : Outcome Resume) → AllLate (playing.untold mark session outcome)
+late_untold mark session (Ok (resume.Acquired id), context) =
+    each_then {A = Outcome (Unit {0})} {B = Pause} IsLatePause (releasing id context) (λ outcome. closing Starves mark (with_context session outcome.1))
+    (λ outcome. late_closing Starves mark (with_context session outcome.1) tt)
+late_untold mark session (Ok resume.Waiting, context) = late_closing Starves mark (with_context session context) tt
+late_untold mark session (Ok (resume.Lost how), context) = late_closing Starves mark (with_context session context) tt
+late_untold mark session (Err error, context) = late_closing Starves mark (with_context session context) tt
+
+late_waiting : (wish : Wish) (left : Left) (session : Session) → IsLateLeft (Some left) → AllLate (playing.beginning_to_wait wish left session)
+late_waiting wish left session so = (
+  each_then {A = Outcome Resume} {B = Pause} IsLatePause (giving_up_wait session.context) (playing.untold left.mark session) (late_untold left.mark session),
+  so,
+)
+
+late_acquired : (wish : Wish) (rest : ℕ → Row Reply) (mark : Mark) (session : Session) (more : ℕ → Session → Program Pause) → ((id : ℕ) → FailsLate IsLate (rest id))
+    → ((id : ℕ) (after : Session) → AllLate (more id after)) → (outcome : Outcome Acquire) → AllLate (playing.acquired wish rest mark session more outcome)
+late_acquired wish rest mark session more so made (Ok (acquire.Acquired id), context) = made id (with_context session context)
+late_acquired wish rest mark session more so made (Ok (acquire.MustWait number), context) =
+    late_waiting wish (record { rest = rest; mark = mark }) (with_context session context) so
+late_acquired wish rest mark session more so made (Err error, context) = late_closing (ending_of_error error) mark (with_context session context) (late_error error)
+
+-- ---- what stands
+
+late_read : (mark : Mark) (session : Session) (more : Standing → Program Pause) → ((standing : Standing) → AllLate (more standing))
+    → (answer : Answer) → AllLate (playing.read_answered mark session more answer)
+late_read mark session more made (Reads version definition) = made (record { version = version; definition = definition })
+late_read mark session more made answer = late_closing (ending_of_refusal (refusal_of answer)) mark session (late_refusal (refusal_of answer))
+
+late_change : (mark : Mark) (session : Session) (more : Program Pause) → AllLate more → (answer : Answer) → AllLate (playing.change_answered mark session more answer)
+late_change mark session more made (Changed version) = made
+late_change mark session more made answer = late_closing (ending_of_refusal (refusal_of answer)) mark session (late_refusal (refusal_of answer))
+
+-- ---- what never fails so
+
+late_play : (asked : Row Reply) (mark : Mark) (session : Session) → FailsLate IsLate asked → AllLate (play asked mark session)
+late_play (row.Give reply) mark session so = late_closing (Answers reply) mark session so
+late_play (row.Fail number) mark session so = late_closing (Answers (reply.Error number)) mark session so
+late_play (row.Room rest) mark session so = (late_closing Starves mark session tt, late_play rest mark session so)
+late_play (row.Look rest) mark session so = late_play (rest session.state) mark session (so session.state)
+late_play (row.Set change rest) mark session so = late_play rest mark (record session { state = change session.state }) so
+late_play (row.Here rest) mark session so = late_play (rest (mark_of session.context.kept)) mark session (so (mark_of session.context.kept))
+late_play (row.Acquire wish rest) mark session so =
+    let more = λ (id : ℕ) (after : Session). play (rest id) mark after in
+    each_then {A = Outcome Acquire} {B = Pause} IsLatePause (acquiring wish session.context) (playing.acquired wish rest mark session more)
+    (late_acquired wish rest mark session more so (λ id after. late_play (rest id) mark after (so id)))
+late_play (row.Give_up which rest) mark session so =
+    each_then {A = Outcome (Unit {0})} {B = Pause} IsLatePause (giving_up (which session.context.kept) session.context)
+    (λ outcome. play rest mark (with_context session outcome.1)) (λ outcome. late_play rest mark (with_context session outcome.1) so)
+late_play (row.Release id rest) mark session so =
+    each_then {A = Outcome (Unit {0})} {B = Pause} IsLatePause (releasing id session.context) (λ outcome. play rest mark (with_context session outcome.1))
+    (λ outcome. late_play rest mark (with_context session outcome.1) so)
+late_play (row.Read id rest) mark session so =
+    let more = λ (standing : Standing). play (rest standing) mark session in
+    late_read mark session more (λ standing. late_play (rest standing) mark session (so standing))
+late_play (row.Redefine id change rest) mark session so = late_change mark session (play rest mark session) (late_play rest mark session so)
+late_play (row.Kill target rest) mark session so =
+    each_then {A = Unit {0}} {B = Pause} IsLatePause (playing.killing target) (λ _. play rest mark session) (λ _. late_play rest mark session so)
+
+late_resumed : (left : Left) (session : Session) → IsLateLeft (Some left) → (outcome : Outcome Resume) → AllLate (playing.resumed left session outcome)
+late_resumed left session so (Ok resume.Waiting, context) = so
+late_resumed left session so (Ok (resume.Acquired id), context) = late_play (left.rest id) left.mark (with_context session context) (so id)
+late_resumed left session so (Ok (resume.Lost how), context) = late_closing (ending_of_loss how) left.mark (with_context session context) (late_loss how)
+late_resumed left session so (Err error, context) = late_closing (ending_of_error error) left.mark (with_context session context) (late_error error)
+
+-- a statement that has waited never ends so
+pub late_going_on : (left : Option Left) (session : Session) → IsLateLeft left → AllLate (playing.going_on_with left session)
+late_going_on None session so = tt
+late_going_on (Some left) session so =
+    each_then {A = Outcome Resume} {B = Pause} IsLatePause (resuming session.context) (playing.resumed left session) (late_resumed left session so)
+
+-- ---- what fails so before it changes anything
+
+-- it hasn't ended by an early error, or nothing has changed
+abbrev pub IsUntouched : Session → Core → Pause → Core → Type 0
+IsUntouched session a (Ends (reply.Error number) after) b = is_early number ≡ true → (after ≡ session) × (b ≡ a)
+IsUntouched session a pause b = IsLatePause pause
+
+late_untouched : (session : Session) (a b : Core) (pause : Pause) → IsLatePause pause → IsUntouched session a pause b
+late_untouched session a b (Ends (reply.Error number) after) so = λ early. absurd (false≢true (sym so ∙ early))
+late_untouched session a b (Ends reply.Ok after) so = so
+late_untouched session a b (Ends (reply.Columns tables) after) so = so
+late_untouched session a b (Begins_to_wait key mode after) so = so
+late_untouched session a b (Waits_on after) so = so
+late_untouched session a b (Faults after) so = so
+
+run_late : (session : Session) (program : Program Pause) (a b c : Core) (pause : Pause) → AllLate program → Runs Joins a program pause b → IsUntouched session c pause b
+run_late session program a b c pause so run = late_untouched session c b pause (each_reply Joins IsLatePause program a b pause so run)
+
+-- a tidy session gives nothing up
+same_session : (session : Session) (kept : List Kept) → session.left ≡ None → kept ≡ session.context.kept
+    → let after : Session = record { context = record session.context { kept = kept }; state = session.state; left = None } in after ≡ session
+same_session session kept over same = λ i. record { context = record session.context { kept = same i }; state = session.state; left = sym over i }
+
+answered_tidy : (answer : Reply) (mark : Mark) (session : Session) (a b : Core) (pause : Pause) → IsTidy session → Runs Joins a (closing (Answers answer) mark session) pause b
+    → (Ends answer session ≡ pause) × (b ≡ a)
+answered_tidy answer mark session a b pause tidy run =
+    (ap (Ends answer) (sym (same_session session (without [] session.context.kept) tidy.over (without-none session.context.kept))) ∙ done.0, sym done.1)
+  where
+    after : ContextView → Session
+    after context = record { context = context; state = session.state; left = None }
+
+    done : (Ends answer (after (record session.context { kept = without [] session.context.kept })) ≡ pause) × (a ≡ b)
+    done =
+        subst (λ gone. Runs Joins a (giving_up gone session.context >>= (λ outcome. Give (Ends answer (after outcome.1)))) pause b)
+        (none-gone session.state.is_open answer mark session.context.kept tidy.statement tidy.transaction) run
+
+answered_untouched : (answer : Reply) (mark : Mark) (session : Session) (a b : Core) (pause : Pause) → IsTidy session → Runs Joins a (closing (Answers answer) mark session) pause b
+    → IsUntouched session a pause b
+answered_untouched answer mark session a b pause tidy run =
+    let h = answered_tidy answer mark session a b pause tidy run in subst (λ p. IsUntouched session a p b) h.0 (by answer h.1)
+  where
+    by : (said : Reply) → b ≡ a → IsUntouched session a (Ends said session) b
+    by (reply.Error number) same = λ _. (refl, same)
+    by reply.Ok same = tt
+    by (reply.Columns tables) same = tt
+
+-- to read changes nothing
+reads_same : (a b : Core) (who id : ℕ) (answer : Answer) → Joins a (Read_definition who id) answer b → b ≡ a
+reads_same a b who id answer (speaks, has, inl made) = made.2
+reads_same a b who id answer (speaks, has, inr made) = by (held_ticket who id a) made where
+  by : (ticket : Option Held) → reading_of ticket a ≡ (answer, b) → b ≡ a
+  by None e = sym (ap (λ (x : Answer × Core). x.1) e)
+  by (Some ticket) e = sym (ap (λ (x : Answer × Core). x.1) e)
+
+untouched_read : (mark : Mark) (session : Session) (a b : Core) (pause : Pause) (more : Standing → Program Pause)
+    → ((standing : Standing) → Runs Joins a (more standing) pause b → IsUntouched session a pause b)
+    → (answer : Answer) → Runs Joins a (playing.read_answered mark session more answer) pause b → IsUntouched session a pause b
+untouched_read mark session a b pause more made (Reads version definition) run = made (record { version = version; definition = definition }) run
+untouched_read mark session a b pause more made answer run =
+    run_late session (closing (ending_of_refusal (refusal_of answer)) mark session) a b a pause
+    (late_closing (ending_of_refusal (refusal_of answer)) mark session (late_refusal (refusal_of answer))) run
+
+untouched_play : (asked : Row Reply) (mark : Mark) (session : Session) (a b : Core) (pause : Pause) → IsTidy session → ChecksFirst IsLate IsLate asked
+    → Runs Joins a (play asked mark session) pause b → IsUntouched session a pause b
+untouched_play (row.Give answer) mark session a b pause tidy checks run = answered_untouched answer mark session a b pause tidy run
+untouched_play (row.Fail number) mark session a b pause tidy checks run = answered_untouched (reply.Error number) mark session a b pause tidy run
+untouched_play (row.Room rest) mark session a b pause tidy checks (inl run) =
+    run_late session (closing Starves mark session) a b a pause (late_closing Starves mark session tt) run
+untouched_play (row.Room rest) mark session a b pause tidy checks (inr run) = untouched_play rest mark session a b pause tidy checks run
+untouched_play (row.Look rest) mark session a b pause tidy checks run = untouched_play (rest session.state) mark session a b pause tidy (checks session.state) run
+untouched_play (row.Here rest) mark session a b pause tidy checks run =
+    let now = mark_of session.context.kept in untouched_play (rest now) mark session a b pause tidy (checks now) run
+untouched_play (row.Read id rest) mark session a b pause tidy checks (answer, mid, joins, run) =
+    let more = λ (standing : Standing). play (rest standing) mark session in
+    subst (λ c. IsUntouched session c pause b) (reads_same a mid session.context.who id answer joins)
+    (untouched_read mark session mid b pause more (λ standing there. untouched_play (rest standing) mark session mid b pause tidy (checks standing) there) answer run)
+untouched_play (row.Set change rest) mark session a b pause tidy checks run =
+    run_late session (play (row.Set change rest) mark session) a b a pause (late_play (row.Set change rest) mark session checks) run
+untouched_play (row.Acquire wish rest) mark session a b pause tidy checks run =
+    run_late session (play (row.Acquire wish rest) mark session) a b a pause (late_play (row.Acquire wish rest) mark session checks) run
+untouched_play (row.Give_up which rest) mark session a b pause tidy checks run =
+    run_late session (play (row.Give_up which rest) mark session) a b a pause (late_play (row.Give_up which rest) mark session checks) run
+untouched_play (row.Release id rest) mark session a b pause tidy checks run =
+    run_late session (play (row.Release id rest) mark session) a b a pause (late_play (row.Release id rest) mark session checks) run
+untouched_play (row.Redefine id change rest) mark session a b pause tidy checks run =
+    run_late session (play (row.Redefine id change rest) mark session) a b a pause (late_play (row.Redefine id change rest) mark session checks) run
+untouched_play (row.Kill target rest) mark session a b pause tidy checks run =
+    run_late session (play (row.Kill target rest) mark session) a b a pause (late_play (row.Kill target rest) mark session checks) run
+
+pub statements_untouched : (asked : Statement) (session : Session) (a b : Core) (pause : Pause) → IsTidy session → Runs Joins a (playing.starting asked session) pause b
+    → IsUntouched session a pause b
+statements_untouched asked session a b pause tidy run =
+    untouched_play (row_of asked) (mark_of session.context.kept) session a b pause tidy (statements_check asked) run
+
+pub early_nothing : EarlyErrorsChangeNothing
+early_nothing asked session after a b number tidy early run = statements_untouched asked session a b (Ends (reply.Error number) after) tidy run early

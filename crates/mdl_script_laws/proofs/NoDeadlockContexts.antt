@@ -1,0 +1,159 @@
+-- What a context does leaves a space without a deadlock: where a wait begins, it searches until there is none.
+use Rattle.std.proofs.Common.{◌≡◌, ℕ, true, false, List, Option, Some, None, Err, refl, sym, ap, subst, ◌∙◌}
+use Rattle.std.specs.Prelude.{Bool, is_some}
+use Rattle.mdl_key.specs.declared.mode.Mode.{Mode}
+use Rattle.mdl_calls.specs.declared.answers.Held.{Held}
+use Rattle.mdl_calls.specs.Words.{Answer, At_place, Granted, Would_wait, Waits, Pending, Is_settled, Lost, Begin_wait, Call, Clone_ticket, Resolve, Try_now, Program, Give, Ask, ◌>>◌, EachCall, SearchEnd, Over, Cut_off, Failed, outcome_of, seeking, most_searches}
+use Rattle.mdl_calls.proofs.FaithfulLemmas.{either, calls_bind}
+use Rattle.mdl_calls.proofs.SeekingLemmas.{calls_seeking}
+use Rattle.mdl_core.specs.CoreCalls.{outcome}
+use Rattle.mdl_core.specs.CoreJoins.{Joins}
+use Rattle.mdl_core.specs.Cores.{Core}
+use Rattle.mdl_core.specs.RunLaws.{IsMadeFor}
+use Rattle.mdl_core.proofs.CallDeadlocks.{waiting-leaves}
+use Rattle.mdl_context.specs.declared.context_error.ContextError.TheVariants.{Waiting, Space}
+use Rattle.mdl_context.specs.declared.kept.Kept.{Kept}
+use Rattle.mdl_context.specs.declared.request.Acquire.{Acquire}
+use Rattle.mdl_context.specs.declared.request.Resume.{Resume}
+use Rattle.mdl_context.specs.Contexts.{ContextView, place_known}
+use Rattle.mdl_context.specs.Gains as gains
+use Rattle.mdl_context.specs.Holdings.{earliest}
+use Rattle.mdl_context.specs.Releases as releases
+use Rattle.mdl_context.specs.Requests as requests
+use Rattle.mdl_context.specs.Requests.{Outcome}
+use Rattle.mdl_context.specs.Waits as waits
+use Rattle.mdl_context.specs.Wishes.{Wish}
+use Rattle.mdl_context.proofs.MemoryLemmas.{frugal_giving_up, frugal_releasing}
+use Rattle.mdl_context.proofs.OwnCallLemmas.{own_giving_up, own_releasing, own_resuming}
+use Rattle.mdl_script_laws.proofs.NoDeadlockCalls.{IsCalm, IsQuiet, calm-call, calm-joined, made-joins, still-managed}
+use Rattle.mdl_script_laws.proofs.NoDeadlockPrograms.{LeavesCalm, calm-bind, calm-frugal, calm-own, outcome-bind, seeks}
+
+-- ---- a lock at a place
+
+-- a wait begins, and its session searches until it is part of no deadlock
+calm-waits : (who place number : ℕ) (mode : Mode) (a b : Core) → Joins a (Begin_wait who place mode) (Waits number) b → IsCalm who a
+    → IsCalm who (outcome_of outcome (gains.waiting_on who number) b).1
+calm-waits who place number mode a b joins calm =
+    let h = seeks who b (still-managed who a b (Begin_wait who place mode) (Waits number) calm.managed joins) in
+    let end : SearchEnd × Core = outcome_of outcome (seeking most_searches who) b in
+    let same : outcome_of outcome (gains.waiting_on who number) b ≡ outcome_of outcome (gains.wish_sought who number Over) end.1 =
+    outcome-bind (seeking most_searches who) (gains.wish_sought who number) b ∙ ap (λ said. outcome_of outcome (gains.wish_sought who number said) end.1) h.over in
+    subst (IsCalm who) (sym (ap (λ whole. whole.1) same))
+    (record { managed = h.managed; free = waiting-leaves a b end.1 who place number mode joins h.run calm.free })
+
+calm-begun : (who place : ℕ) (mode : Mode) (a b : Core) (answer : Answer) → Joins a (Begin_wait who place mode) answer b → IsCalm who a
+    → IsCalm who (outcome_of outcome (gains.wish_answered who answer) b).1
+calm-begun who place mode a b (Waits number) joins calm = calm-waits who place number mode a b joins calm
+calm-begun who place mode a b (Granted id) joins calm = calm-joined who a b (Begin_wait who place mode) (Granted id) (λ session. refl) joins calm
+calm-begun who place mode a b answer joins calm = calm-joined who a b (Begin_wait who place mode) answer (λ session. refl) joins calm
+
+calm-waiting : (who place : ℕ) (mode : Mode) → LeavesCalm who (gains.waiting_at who place mode)
+calm-waiting who place mode a calm =
+    let call = Begin_wait who place mode in
+    calm-begun who place mode a (outcome call a).1 (outcome call a).0 (made-joins who call a calm.managed.speaks (refl, refl)) calm
+
+calm-tried : (who place : ℕ) (mode : Mode) (answer : Answer) → LeavesCalm who (gains.try_answered who place mode answer)
+calm-tried who place mode (Granted id) = λ a calm. calm
+calm-tried who place mode Would_wait = calm-waiting who place mode
+calm-tried who place mode _ = λ a calm. calm
+
+calm-copied : (who : ℕ) (answer : Answer) → LeavesCalm who (gains.copy_answered answer)
+calm-copied who (Granted id) = λ a calm. calm
+calm-copied who _ = λ a calm. calm
+
+-- a call that begins no wait, and then what its answer leads to
+pub calm-ask : {A : Type 0} (who : ℕ) (call : Call) (next : Answer → Program A) → IsMadeFor who call → IsQuiet call → ((answer : Answer) → LeavesCalm who (next answer))
+    → LeavesCalm who (Ask call next)
+calm-ask who call next made quiet later a calm = later (outcome call a).0 (outcome call a).1 (calm-call who call a made quiet calm)
+
+calm-gaining : (ticket : Option Held) (who place : ℕ) (mode : Mode) → LeavesCalm who (gains.gaining_from ticket who place mode)
+calm-gaining (Some ticket) who place mode =
+    calm-ask who (Clone_ticket who ticket.id mode) gains.copy_answered (refl, refl) (λ answer session. refl) (calm-copied who)
+calm-gaining None who place mode =
+    calm-ask who (Try_now who place mode) (gains.try_answered who place mode) (refl, refl) (λ answer session. refl) (calm-tried who place mode)
+
+-- ---- wishes
+
+calm-reusing : (ticket : Option Held) (place : ℕ) (request : Wish) (context : ContextView) → LeavesCalm context.who (requests.reusing ticket place request context)
+calm-reusing (Some ticket) place request context = λ a calm. calm
+calm-reusing None place request context =
+    let serving = earliest (requests.suffices place request) context.kept in
+    calm-bind context.who (gains.gaining_from serving context.who place request.mode)
+    (λ end. Give (requests.outcome_got place request context end)) (calm-gaining serving context.who place request.mode) (λ end a calm. calm)
+
+calm-place : (request : Wish) (context : ContextView) (answer : Answer) → LeavesCalm context.who (requests.place_answered request context answer)
+calm-place request context (At_place place) =
+    let after = requests.remembering request.key place context in
+    calm-reusing (earliest (requests.is_reusable place request) after.kept) place request after
+calm-place request context _ = λ a calm. calm
+
+calm-finding : (place : Option ℕ) (request : Wish) (context : ContextView) → LeavesCalm context.who (requests.finding place request context)
+calm-finding (Some place) request context = calm-reusing (earliest (requests.is_reusable place request) context.kept) place request context
+calm-finding None request context =
+    calm-ask {A = Outcome Acquire} context.who (Resolve context.who request.key) (requests.place_answered request context) (refl, refl) (λ answer session. refl)
+    (calm-place request context)
+
+-- a lock is wished for
+pub calm-acquiring : (request : Wish) (context : ContextView) → LeavesCalm context.who (requests.acquiring request context)
+calm-acquiring request context =
+    let place = place_known request.key context.known in
+    either {A = Outcome Acquire} (LeavesCalm context.who) (is_some context.wait) (Give (Err Waiting, context)) (requests.finding place request context)
+    (λ a calm. calm) (calm-finding place request context)
+
+-- ---- waits that go on
+
+-- no wait begins by any call of it
+abbrev AreQuiet : {A : Type 0} → Program A → Type 0
+AreQuiet program = EachCall IsQuiet program
+
+quiet-unwanted : (who : ℕ) (answer : Answer) → AreQuiet (gains.unwanted_end_answered who answer)
+quiet-unwanted who (Granted id) = (λ answer session. refl, λ _. tt)
+quiet-unwanted who _ = tt
+
+quiet-abandoning : (context : ContextView) (reply : Outcome Resume) → AreQuiet (gains.abandoning context.who >> Give reply)
+quiet-abandoning context reply =
+    calls_bind {A = Unit {0}} {B = Outcome Resume} IsQuiet (gains.abandoning context.who) (λ _. Give reply)
+    (λ answer session. refl, λ _. (λ answer session. refl, quiet-unwanted context.who)) (λ _. tt)
+
+quiet-end : (context : ContextView) (answer : Answer) → AreQuiet (waits.end_answered context answer)
+quiet-end context (Granted id) = tt
+quiet-end context (Lost how) = tt
+quiet-end context _ = tt
+
+quiet-poll : (context : ContextView) (answer : Answer) → AreQuiet (waits.poll_answered context answer)
+quiet-poll context Pending = tt
+quiet-poll context (Is_settled how) = (λ answer session. refl, quiet-end context)
+quiet-poll context _ = tt
+
+quiet-looking : (context : ContextView) → AreQuiet (waits.looking context)
+quiet-looking context = (λ answer session. refl, quiet-poll context)
+
+quiet-sought : (context : ContextView) (end : SearchEnd) → AreQuiet (waits.wait_sought context end)
+quiet-sought context Over = quiet-looking (waits.searched context)
+quiet-sought context Cut_off = quiet-looking context
+quiet-sought context (Failed refusal) = quiet-abandoning context (Err (Space refusal), waits.without_wait context)
+
+quiet-cut_off : (context : ContextView) (answer : Answer) → AreQuiet (waits.cut_off_answered context answer)
+quiet-cut_off context Pending =
+    calls_bind {A = SearchEnd} {B = Outcome Resume} IsQuiet (seeking most_searches context.who) (waits.wait_sought context)
+    (calls_seeking IsQuiet context.who (λ answer session. refl) most_searches) (quiet-sought context)
+quiet-cut_off context (Is_settled how) = (λ answer session. refl, quiet-end context)
+quiet-cut_off context _ = tt
+
+quiet-going_on : (searched : Option Bool) (context : ContextView) → AreQuiet (waits.going_on searched context)
+quiet-going_on None context = tt
+quiet-going_on (Some true) context = quiet-looking context
+quiet-going_on (Some false) context = (λ answer session. refl, quiet-cut_off context)
+
+-- a wait goes on
+pub calm-resuming : (context : ContextView) → LeavesCalm context.who (waits.resuming context)
+calm-resuming context = calm-own {A = Outcome Resume} context.who (waits.resuming context) (own_resuming context) (quiet-going_on (waits.is_searched context.wait) context)
+
+-- ---- releases
+
+pub calm-giving_up : (gone : List Kept) (context : ContextView) → LeavesCalm context.who (releases.giving_up gone context)
+calm-giving_up gone context =
+    calm-frugal {A = Outcome (Unit {0})} context.who (releases.giving_up gone context) (own_giving_up gone context) (frugal_giving_up gone context)
+
+pub calm-releasing : (id : ℕ) (context : ContextView) → LeavesCalm context.who (releases.releasing id context)
+calm-releasing id context = calm-frugal {A = Outcome (Unit {0})} context.who (releases.releasing id context) (own_releasing id context) (frugal_releasing id context)

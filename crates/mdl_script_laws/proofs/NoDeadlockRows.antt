@@ -1,0 +1,128 @@
+-- Each statement leaves a space without a deadlock, however far it comes.
+use Rattle.std.proofs.Common.{ℕ, Option, Some, None, Ok, Err, refl}
+use Rattle.mdl_defs.specs.declared.standing.Standing.{Standing}
+use Rattle.mdl_calls.specs.Words.{Answer, Has_wait, Reads, Changed, Change_definition, Kill, Read_definition, Wait_of, Program, Give, ◌>>=◌}
+use Rattle.mdl_context.specs.declared.request.Acquire.{Acquire}
+use Rattle.mdl_context.specs.declared.request.Acquire.TheVariants as acquire
+use Rattle.mdl_context.specs.declared.request.Mark.{Mark}
+use Rattle.mdl_context.specs.declared.request.Resume.{Resume}
+use Rattle.mdl_context.specs.declared.request.Resume.TheVariants as resume
+use Rattle.mdl_context.specs.Contexts.{mark_of}
+use Rattle.mdl_context.specs.Gains.{refusal_of}
+use Rattle.mdl_context.specs.Releases.{giving_up, releasing}
+use Rattle.mdl_context.specs.Requests.{Outcome, acquiring}
+use Rattle.mdl_context.specs.Waits.{resuming}
+use Rattle.mdl_context.specs.Wishes.{Wish}
+use Rattle.mdl_context.proofs.WhoLemmas.{of_acquiring, of_resuming, of_giving_up, of_releasing}
+use Rattle.mdl_stmt.specs.declared.ending.Ending.{Ending}
+use Rattle.mdl_stmt.specs.declared.ending.Ending.TheVariants.{Answers}
+use Rattle.mdl_stmt.specs.declared.reply.Reply.{Reply}
+use Rattle.mdl_stmt.specs.declared.reply.Reply.TheVariants as reply
+use Rattle.mdl_stmt.specs.Endings.{Pause, closing, ended, ending_of_error, ending_of_loss, ending_of_refusal, gone_at, state_after}
+use Rattle.mdl_stmt.specs.MemoryLaws.{EachPlay}
+use Rattle.mdl_stmt.specs.Playing as playing
+use Rattle.mdl_stmt.specs.Playing.{play, with_context}
+use Rattle.mdl_stmt.specs.Rows.{Row}
+use Rattle.mdl_stmt.specs.Rows as row
+use Rattle.mdl_stmt.specs.Sessions.{Left, Session}
+use Rattle.mdl_stmt.specs.Statements.{row_of}
+use Rattle.mdl_script_laws.proofs.NoDeadlockContexts.{calm-acquiring, calm-ask, calm-giving_up, calm-releasing, calm-resuming}
+use Rattle.mdl_script_laws.proofs.NoDeadlockPrograms.{LeavesCalm, calm-then}
+
+-- a program of a statement, for its session
+abbrev pub IsCalmFor : ℕ → Program Pause → Type 0
+IsCalmFor who program = LeavesCalm who program
+
+-- ---- ends
+
+calm-closing : (ending : Ending) (mark : Mark) (session : Session) → IsCalmFor session.context.who (closing ending mark session)
+calm-closing ending mark session =
+    let gone = gone_at ending session.state.is_open mark session.context.kept in
+    calm-then {A = Unit {0}} {B = Pause} session.context.who (giving_up gone session.context)
+    (λ outcome. Give (ended ending (record { context = outcome.1; state = state_after ending session.state; left = None })))
+    (calm-giving_up gone session.context) (of_giving_up gone session.context) (λ outcome a calm. calm)
+
+-- ---- locks
+
+calm-acquired : (wish : Wish) (rest : ℕ → Row Reply) (mark : Mark) (session : Session) (more : ℕ → Session → Program Pause)
+    → ((id : ℕ) (after : Session) → IsCalmFor after.context.who (more id after)) → (outcome : Outcome Acquire)
+    → IsCalmFor outcome.1.who (playing.acquired wish rest mark session more outcome)
+calm-acquired wish rest mark session more made (Ok (acquire.Acquired id), context) = made id (with_context session context)
+calm-acquired wish rest mark session more made (Ok (acquire.MustWait number), context) = λ a calm. calm
+calm-acquired wish rest mark session more made (Err error, context) = calm-closing (ending_of_error error) mark (with_context session context)
+
+-- ---- what stands
+
+calm-read : (mark : Mark) (session : Session) (more : Standing → Program Pause) → ((standing : Standing) → IsCalmFor session.context.who (more standing))
+    → (answer : Answer) → IsCalmFor session.context.who (playing.read_answered mark session more answer)
+calm-read mark session more made (Reads version definition) = made (record { version = version; definition = definition })
+calm-read mark session more made answer = calm-closing (ending_of_refusal (refusal_of answer)) mark session
+
+calm-change : (mark : Mark) (session : Session) (more : Program Pause) → IsCalmFor session.context.who more
+    → (answer : Answer) → IsCalmFor session.context.who (playing.change_answered mark session more answer)
+calm-change mark session more made (Changed version) = made
+calm-change mark session more made answer = calm-closing (ending_of_refusal (refusal_of answer)) mark session
+
+-- ---- kills
+
+calm-told : (who target : ℕ) (more : Program Pause) → IsCalmFor who more → (answer : Answer) → IsCalmFor who (playing.wait_told target answer >>= (λ _. more))
+calm-told who target more made (Has_wait (Some number)) =
+    calm-ask {A = Pause} who (Kill target number) (λ _. more) (refl, tt) (λ answer session. refl) (λ _. made)
+calm-told who target more made _ = made
+
+-- ---- all that may be asked for
+
+calm-play : (asked : Row Reply) (mark : Mark) (session : Session) → IsCalmFor session.context.who (play asked mark session)
+calm-play (row.Give reply) mark session = calm-closing (Answers reply) mark session
+calm-play (row.Fail number) mark session = calm-closing (Answers (reply.Error number)) mark session
+calm-play (row.Room rest) mark session = calm-play rest mark session
+calm-play (row.Look rest) mark session = calm-play (rest session.state) mark session
+calm-play (row.Set change rest) mark session = calm-play rest mark (record session { state = change session.state })
+calm-play (row.Here rest) mark session = calm-play (rest (mark_of session.context.kept)) mark session
+calm-play (row.Acquire wish rest) mark session =
+    let more = λ (id : ℕ) (after : Session). play (rest id) mark after in
+    calm-then {A = Acquire} {B = Pause} session.context.who (acquiring wish session.context) (playing.acquired wish rest mark session more)
+    (calm-acquiring wish session.context) (of_acquiring wish session.context)
+    (calm-acquired wish rest mark session more (λ id after. calm-play (rest id) mark after))
+calm-play (row.Give_up which rest) mark session =
+    let gone = which session.context.kept in
+    calm-then {A = Unit {0}} {B = Pause} session.context.who (giving_up gone session.context) (λ outcome. play rest mark (with_context session outcome.1))
+    (calm-giving_up gone session.context) (of_giving_up gone session.context) (λ outcome. calm-play rest mark (with_context session outcome.1))
+calm-play (row.Release id rest) mark session =
+    calm-then {A = Unit {0}} {B = Pause} session.context.who (releasing id session.context) (λ outcome. play rest mark (with_context session outcome.1))
+    (calm-releasing id session.context) (of_releasing id session.context) (λ outcome. calm-play rest mark (with_context session outcome.1))
+calm-play (row.Read id rest) mark session =
+    let more = λ (standing : Standing). play (rest standing) mark session in
+    calm-ask {A = Pause} session.context.who (Read_definition session.context.who id) (playing.read_answered mark session more) (refl, refl)
+    (λ answer session. refl) (calm-read mark session more (λ standing. calm-play (rest standing) mark session))
+calm-play (row.Redefine id change rest) mark session =
+    let more = play rest mark session in
+    calm-ask {A = Pause} session.context.who (Change_definition session.context.who id change) (playing.change_answered mark session more) (refl, refl)
+    (λ answer session. refl) (calm-change mark session more (calm-play rest mark session))
+calm-play (row.Kill target rest) mark session =
+    let more = play rest mark session in
+    calm-ask {A = Pause} session.context.who (Wait_of target) (λ answer. playing.wait_told target answer >>= (λ _. more)) (refl, tt)
+    (λ answer session. refl) (calm-told session.context.who target more (calm-play rest mark session))
+
+-- ---- what is left of a statement
+
+calm-resumed : (left : Left) (session : Session) (outcome : Outcome Resume) → IsCalmFor outcome.1.who (playing.resumed left session outcome)
+calm-resumed left session (Ok resume.Waiting, context) = λ a calm. calm
+calm-resumed left session (Ok (resume.Acquired id), context) = calm-play (left.rest id) left.mark (with_context session context)
+calm-resumed left session (Ok (resume.Lost how), context) = calm-closing (ending_of_loss how) left.mark (with_context session context)
+calm-resumed left session (Err error, context) = calm-closing (ending_of_error error) left.mark (with_context session context)
+
+calm-going_on : (left : Option Left) (session : Session) → IsCalmFor session.context.who (playing.going_on_with left session)
+calm-going_on None session = λ a calm. calm
+calm-going_on (Some left) session =
+    calm-then {A = Resume} {B = Pause} session.context.who (resuming session.context) (playing.resumed left session) (calm-resuming session.context)
+    (of_resuming session.context) (calm-resumed left session)
+
+-- ---- statements
+
+pub rows_calm : EachPlay (λ session program. IsCalmFor session.context.who program)
+rows_calm session = (
+  λ asked mark. calm-play asked mark session,
+  λ statement. calm-play (row_of statement) (mark_of session.context.kept) session,
+  calm-going_on session.left (record session { left = None }),
+)

@@ -1,0 +1,104 @@
+-- Which tickets are left as a statement ends: none of a statement, and none of a transaction unless one is open.
+use Rattle.std.proofs.Common.{◌≡◌, Bool, true, false, cond, List, [], ◌∷◌, ◌++◌, refl, sym, ap, subst, ◌∙◌, arith}
+use Rattle.std.specs.Prelude.{filter}
+use Rattle.std.proofs.lemmas.Bool.{false≢true}
+use Rattle.std.proofs.lemmas.Bool.Decides.{nat_tests}
+use Rattle.mdl_key.specs.declared.mode.Duration.TheVariants.{Statement, Transaction}
+use Rattle.mdl_context.specs.declared.kept.Kept.{Kept}
+use Rattle.mdl_context.specs.declared.request.Mark.{Mark}
+use Rattle.mdl_context.specs.Contexts.{beyond, beyond_mark, has_number, held_for, lasts, of_transaction, without}
+use Rattle.mdl_stmt.specs.declared.ending.Ending.{Ending}
+use Rattle.mdl_stmt.specs.declared.ending.Ending.TheVariants.{Answers, Misses, Falls, Starves}
+use Rattle.mdl_stmt.specs.declared.reply.Reply.{Reply}
+use Rattle.mdl_stmt.specs.Endings.{gone_at, state_after}
+use Rattle.mdl_stmt.specs.States.{State}
+
+-- each of the tickets that passes the test has the number of one that goes
+abbrev Covers : (Kept → Bool) → List Kept → List Kept → Type 0
+Covers p gone [] = Unit {0}
+Covers p gone (t ∷ ts) = (p t ≡ true → has_number gone t.id ≡ true) × Covers p gone ts
+
+-- then none that passes it is left
+none-left : (p : Kept → Bool) (gone kept : List Kept) → Covers p gone kept → filter p (without gone kept) ≡ []
+none-left p gone [] covers = refl
+none-left p gone (t ∷ ts) covers = grind (arith, covers.0, none-left p gone ts covers.1)
+
+-- with more that go
+covers-before : (p : Kept → Bool) (more gone kept : List Kept) → Covers p gone kept → Covers p (more ++ gone) kept
+covers-before p more gone [] covers = tt
+covers-before p more gone (t ∷ ts) covers = (λ passes. among more (covers.0 passes), covers-before p more gone ts covers.1) where
+  among : (front : List Kept) → has_number gone t.id ≡ true → has_number (front ++ gone) t.id ≡ true
+  among [] has = has
+  among (x ∷ xs) has = grind (arith, among xs has)
+
+covers-behind : (p : Kept → Bool) (gone more kept : List Kept) → Covers p gone kept → Covers p (gone ++ more) kept
+covers-behind p gone more [] covers = tt
+covers-behind p gone more (t ∷ ts) covers = (λ passes. among gone (covers.0 passes), covers-behind p gone more ts covers.1) where
+  among : (front : List Kept) → has_number front t.id ≡ true → has_number (front ++ more) t.id ≡ true
+  among [] has = absurd (false≢true has)
+  among (x ∷ xs) has = grind (arith, nat_tests, among xs)
+
+-- those that pass it go
+covers-own : (p : Kept → Bool) (kept : List Kept) → Covers p (filter p kept) kept
+covers-own p [] = tt
+covers-own p (t ∷ ts) = by (p t) refl (covers-own p ts) where
+  by : (b : Bool) → p t ≡ b → Covers p (filter p ts) ts → Covers p (filter p (t ∷ ts)) (t ∷ ts)
+  by true passes rest =
+      subst (λ gone. Covers p gone (t ∷ ts)) (sym (ap (λ b. cond b (t ∷ filter p ts) (filter p ts)) passes))
+      (λ _. grind (arith, nat_tests), covers-before p (t ∷ []) (filter p ts) ts rest)
+  by false fails rest =
+      subst (λ gone. Covers p gone (t ∷ ts)) (sym (ap (λ b. cond b (t ∷ filter p ts) (filter p ts)) fails))
+      (λ passes. absurd (false≢true (sym fails ∙ passes)), rest)
+
+-- ---- how statements end
+
+-- the tickets of a statement, where it began with none
+covers-since : (mark : Mark) (kept : List Kept) → mark.statement ≡ 0 → Covers (lasts Statement) (beyond_mark mark kept) kept
+covers-since mark kept none =
+    covers-behind (lasts Statement) (beyond Statement mark.statement kept) (beyond Transaction mark.transaction kept) kept
+    (subst (λ n. Covers (lasts Statement) (beyond Statement n kept) kept) (sym none) (covers-own (lasts Statement) kept))
+
+covers-statement : (kept : List Kept) → Covers (lasts Statement) (of_transaction kept) kept
+covers-statement kept = covers-behind (lasts Statement) (held_for Statement kept) (held_for Transaction kept) kept (covers-own (lasts Statement) kept)
+
+covers-transaction : (kept : List Kept) → Covers (lasts Transaction) (of_transaction kept) kept
+covers-transaction kept = covers-before (lasts Transaction) (held_for Statement kept) (held_for Transaction kept) kept (covers-own (lasts Transaction) kept)
+
+-- however it ends, the statement's go
+covers-ending : (ending : Ending) (is_open : Bool) (mark : Mark) (kept : List Kept) → mark.statement ≡ 0 → Covers (lasts Statement) (gone_at ending is_open mark kept) kept
+covers-ending (Answers reply) true mark kept none = covers-own (lasts Statement) kept
+covers-ending (Misses number) true mark kept none = covers-since mark kept none
+covers-ending Starves true mark kept none = covers-since mark kept none
+covers-ending (Answers reply) false mark kept none = covers-statement kept
+covers-ending (Misses number) false mark kept none = covers-statement kept
+covers-ending Starves false mark kept none = covers-statement kept
+covers-ending Falls is_open mark kept none = covers-statement kept
+
+-- and where no transaction is open then, the transaction's
+covers-closed : (ending : Ending) (is_open : Bool) (mark : Mark) (kept : List Kept) (state : State) → state.is_open ≡ is_open → (state_after ending state).is_open ≡ false
+    → Covers (lasts Transaction) (gone_at ending is_open mark kept) kept
+covers-closed (Answers reply) true mark kept state same shut = absurd (false≢true (sym shut ∙ same))
+covers-closed (Misses number) true mark kept state same shut = absurd (false≢true (sym shut ∙ same))
+covers-closed Starves true mark kept state same shut = absurd (false≢true (sym shut ∙ same))
+covers-closed (Answers reply) false mark kept state same shut = covers-transaction kept
+covers-closed (Misses number) false mark kept state same shut = covers-transaction kept
+covers-closed Starves false mark kept state same shut = covers-transaction kept
+covers-closed Falls is_open mark kept state same shut = covers-transaction kept
+
+pub none-of_statement : (ending : Ending) (is_open : Bool) (mark : Mark) (kept : List Kept) → mark.statement ≡ 0
+    → held_for Statement (without (gone_at ending is_open mark kept) kept) ≡ []
+none-of_statement ending is_open mark kept none =
+    none-left (lasts Statement) (gone_at ending is_open mark kept) kept (covers-ending ending is_open mark kept none)
+
+pub none-of_transaction : (ending : Ending) (mark : Mark) (kept : List Kept) (state : State) → (state_after ending state).is_open ≡ false
+    → held_for Transaction (without (gone_at ending state.is_open mark kept) kept) ≡ []
+none-of_transaction ending mark kept state shut =
+    none-left (lasts Transaction) (gone_at ending state.is_open mark kept) kept (covers-closed ending state.is_open mark kept state refl shut)
+
+-- ---- a statement that was answered
+
+-- where there is none that has to go, none goes
+pub none-gone : (is_open : Bool) (answer : Reply) (mark : Mark) (kept : List Kept) → held_for Statement kept ≡ [] → (is_open ≡ false → held_for Transaction kept ≡ [])
+    → gone_at (Answers answer) is_open mark kept ≡ []
+none-gone true answer mark kept statement transaction = statement
+none-gone false answer mark kept statement transaction = ap (λ xs. xs ++ held_for Transaction kept) statement ∙ transaction refl

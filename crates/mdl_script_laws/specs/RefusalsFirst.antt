@@ -1,0 +1,58 @@
+-- Statements that are refused before they ask for their first lock, after MySQL 5.7: the Reference Manual, "LOCK TABLES and UNLOCK
+-- TABLES Statements" and "SAVEPOINT, ROLLBACK TO SAVEPOINT, and RELEASE SAVEPOINT Statements". That such a statement hasn't committed
+-- anything either is this project's own choice.
+use Rattle.std.specs.Prelude.{◌≡◌, Bool, true, false, [], Some, None, IsTrue}
+use Rattle.mdl_key.specs.declared.mode.Duration.TheVariants as for
+use Rattle.mdl_calls.specs.Words.{Each, Runs}
+use Rattle.mdl_core.specs.CoreJoins.{Joins}
+use Rattle.mdl_core.specs.Cores.{Core}
+use Rattle.mdl_context.specs.Contexts.{held_for}
+use Rattle.mdl_syntax.specs.declared.statement.Statement.{Statement}
+use Rattle.mdl_stmt.specs.declared.error_number.ErrorNumber.{ErrorNumber}
+use Rattle.mdl_stmt.specs.declared.error_number.ErrorNumber.TheVariants.{TableLockedForRead, TableNotLocked, ActiveLocks, ConflictingReadLock, NoSuchSavepoint}
+use Rattle.mdl_stmt.specs.declared.reply.Reply.TheVariants as reply
+use Rattle.mdl_stmt.specs.Endings.{Pause, Ends, Begins_to_wait, Waits_on, Faults}
+use Rattle.mdl_stmt.specs.Playing.{starting, going_on}
+use Rattle.mdl_stmt.specs.Sessions.{Left, Session}
+
+-- whether an error is of a check that comes before a statement's first lock: tables that its session has locked are in its way, or
+-- the global read lock that it has; or it has no such savepoint
+abbrev pub is_early : ErrorNumber → Bool
+is_early TableLockedForRead = true
+is_early TableNotLocked = true
+is_early ActiveLocks = true
+is_early ConflictingReadLock = true
+is_early NoSuchSavepoint = true
+is_early _ = false
+
+-- a session between statements is tidy: it has nothing left to do, it keeps no ticket for a statement, and none for a transaction
+-- unless one is open
+pub record IsTidy (session : Session) : Type 0 where
+  pub over : session.left ≡ None
+  pub statement : held_for for.Statement session.context.kept ≡ []
+  pub transaction : session.state.is_open ≡ false → held_for for.Transaction session.context.kept ≡ []
+
+-- in the midst of a statement, it has something left to do, and it kept no ticket for a statement as that began
+abbrev pub IsUnderway : Session → Type 0
+IsUnderway session = (left : Left) × (session.left ≡ Some left) × (left.mark.statement ≡ 0)
+
+-- however far a statement comes, its session is tidy once it has ended, and underway until then
+abbrev pub IsOrderly : Pause → Type 0
+IsOrderly (Ends reply session) = IsTidy session
+IsOrderly (Begins_to_wait key mode session) = IsUnderway session
+IsOrderly (Waits_on session) = IsUnderway session
+IsOrderly (Faults session) = IsTidy session
+
+-- a statement that starts in a tidy session, and ends with such an error, has changed nothing: the session is as it was, and so is
+-- the space
+abbrev pub EarlyErrorsChangeNothing : Type 0
+EarlyErrorsChangeNothing =
+    (statement : Statement) (session after : Session) (a b : Core) (number : ErrorNumber) → IsTidy session → IsTrue (is_early number) →
+    Runs Joins a (starting statement session) (Ends (reply.Error number) after) b → (after ≡ session) × (b ≡ a)
+
+-- sessions are tidy between statements: what starts in a tidy one leaves it tidy as it ends, however often it waits
+abbrev pub SessionsStayTidy : Type 0
+SessionsStayTidy =
+    (session : Session) →
+    ((statement : Statement) → IsTidy session → Each IsOrderly (starting statement session))
+    × (IsUnderway session → Each IsOrderly (going_on session))
