@@ -1,8 +1,10 @@
 # The two commands of the README, `make run` and `make test`, and the benchmark, `make bench`.
 
-# The script that `make run` runs. With OPTIONS=--scoped it is one of a scoped lock.
+# The script that `make run` runs. By its ending it is one of statements (NAME.replay), of a scoped lock (NAME.scoped.lock), or of
+# an object lock. With OPTIONS=--scoped it is one of a scoped lock whatever its ending.
 SCRIPT = crates/mdlsim/stdin
-OPTIONS =
+SUBCOMMAND = $(if $(filter %.replay,$(SCRIPT)),replay,lock)
+OPTIONS = $(if $(filter %.scoped.lock,$(SCRIPT)),--scoped)
 
 PROGRAM = crates/mdlsim/out/mdlsim
 
@@ -12,7 +14,7 @@ BENCH = crates/mdl_bench/out/mdl_bench
 
 # Builds mdlsim, proved, and prints its answers to the script.
 run: build
-	@$(PROGRAM) lock $(OPTIONS) < $(SCRIPT)
+	@$(PROGRAM) $(SUBCOMMAND) $(OPTIONS) < $(SCRIPT)
 
 # The gate: the examples have their answers, refused growths lose nothing, and everything is proved and tested from nothing.
 test: examples growths

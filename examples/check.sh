@@ -1,6 +1,7 @@
 #!/bin/sh
 # Runs each example by mdlsim, and compares what it answers with the answers that lie beside it.
-# A script NAME.scoped.lock is one of a scoped lock. mdlsim is built here once, without its proof, which `rt ci` gives.
+# A script NAME.lock is one of an object lock, NAME.scoped.lock one of a scoped lock, and NAME.replay one of statements.
+# mdlsim is built here once, without its proof, which `rt ci` gives.
 # Usage: sh examples/check.sh            all examples
 #        sh examples/check.sh SCRIPT     one of them
 examples=$(cd "$(dirname "$0")" && pwd)
@@ -10,16 +11,18 @@ mkdir "$made/cases"
 
 # Lays a script, its words and its answers side by side, as the kit wants its cases.
 lay() {
-    name=$(basename "$1" .lock)
-    case "$1" in
+    name=$(basename "$1")
+    case "$name" in
         *.scoped.lock) printf 'lock\n--scoped\n' ;;
-        *) printf 'lock\n' ;;
+        *.lock) printf 'lock\n' ;;
+        *.replay) printf 'replay\n' ;;
+        *) echo "$1: a script ends with .lock or .replay" >&2; return 1 ;;
     esac > "$made/cases/$name.args"
-    cp "$1" "$made/cases/$name" && cp "${1%.lock}.answers" "$made/cases/$name.stdout"
+    cp "$1" "$made/cases/$name" && cp "${1%.*}.answers" "$made/cases/$name.stdout"
 }
 
 if [ $# -eq 0 ]; then
-    set -- "$examples"/*.lock
+    set -- "$examples"/*.lock "$examples"/*.replay
 fi
 for script in "$@"; do
     lay "$script" || exit 1

@@ -3,5 +3,4 @@ pub mod Answers
 pub mod Locks
 pub mod MatrixText
 pub mod Output
-pub mod Runs
 pub mod Scripts

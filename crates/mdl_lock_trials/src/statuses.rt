@@ -1,7 +1,7 @@
 //! What a program answers, and what it tells on which stream.
 use crate::fakes::{Habit, Slip, Source, Target};
 use mdl_key::Kind;
-use mdl_lock::{Run, lack_words, run_asked};
+use mdl_program::{Run, lack_words, run_asked};
 use std::alloc::{AllocError, Global};
 use std::io;
 use std::io::ErrorKind;
@@ -15,6 +15,8 @@ const LOCK: Asked = Ok(Run::Lock(Kind::Object));
 const SCOPED: Asked = Ok(Run::Lock(Kind::Scoped));
 
 const MATRIX: Asked = Ok(Run::Matrix);
+
+const REPLAY: Asked = Ok(Run::Replay);
 
 // What is seen of a run: its status, what it wrote, and what it told.
 #[derive(Drop)]
@@ -52,6 +54,8 @@ fn statuses_and_lines_of_a_run(rt: HostRuntime) {
     let sound = Habit::steps_of(7);
     let device = "fault: device\n";
     let both = "1 GRANTED SR\n2 WAITS X\n";
+    let statements = "1 BEGIN\n2 COMMIT\n";
+    let told = "1 1 OK\n2 2 OK\n";
     for (asked, script, input, output, status, answers, line) in [
         (LOCK, "1 SR\n2 X\n", sound, sound, 0, both, ""),
         (
@@ -77,6 +81,19 @@ fn statuses_and_lines_of_a_run(rt: HostRuntime) {
         (LOCK, "1 SR\n2 X\n", sound, gone, 3, "1 GRANTED", device),
         (LOCK, "1 SR\n2 X\n", gone, sound, 3, "", device),
         (MATRIX, "", sound, gone, 3, "SCOPED GR", device),
+        (REPLAY, statements, sound, sound, 0, told, ""),
+        (REPLAY, "", sound, sound, 0, "", ""),
+        (
+            REPLAY,
+            "1 BEGIN\n1 SR\n",
+            sound,
+            gone,
+            1,
+            "",
+            "line 2: BadWord\n",
+        ),
+        (REPLAY, statements, sound, gone, 3, "1 1 OK\n2 ", device),
+        (REPLAY, statements, gone, sound, 3, "", device),
     ] {
         let mut source = Source::new(script.as_bytes(), input);
         let seen = look_at(rt.alloc(), &asked, &mut source, output);

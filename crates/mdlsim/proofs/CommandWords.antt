@@ -12,9 +12,9 @@ use Rattle.clap.specs.Takes.{takes}
 use Rattle.clap.specs.Faults.{defaults_fault, built_fault, bundle_fault, bundle_step_fault, entered_fault, fault_of, flag_word_fault, flags_fault, is_simple_and_free, level_fault, long_fault, other_fault, short_fault, step_fault, turn_fault, walk_fault}
 use Rattle.clap.specs.declared.error.kind.ErrorKind.{ErrorKind}
 use Rattle.mdl_key.specs.declared.namespace.Kind.TheVariants.{Scoped, Object}
-use Rattle.mdl_lock.specs.declared.program.Run.{Run}
-use Rattle.mdl_lock.specs.declared.program.Run.TheVariants.{Lock, Matrix}
-use Rattle.mdlsim.specs.CommandLine.{Asks, lock_subcommand, mdlsim, scoped_flag}
+use Rattle.mdl_program.specs.declared.program.Run.{Run}
+use Rattle.mdl_program.specs.declared.program.Run.TheVariants.{Lock, Matrix, Replay}
+use Rattle.mdlsim.specs.CommandLine.{Asks, lock_subcommand, mdlsim, scoped_flag, words_of_run}
 use Rattle.clap.proofs.OnLiterals.{clap_on_literals}
 use Rattle.clap.proofs.WalkLemmas.{walk_stopped}
 use Rattle.mdlsim.proofs.LongOptions.{spelled}
@@ -25,28 +25,32 @@ lock = codes "lock"
 abbrev pub matrix : Text
 matrix = codes "matrix"
 
+abbrev pub replay : Text
+replay = codes "replay"
+
 abbrev scoped : Text
 scoped = codes "--scoped"
 
 abbrev dash : Text
 dash = codes "--"
 
--- `mdlsim`, `lock` and `matrix` as clap builds them: each has the flag `--help`, `lock` has `--scoped` before it, and `mdlsim`
+-- `mdlsim` and its subcommands as clap builds them: each has the flag `--help`, `lock` has `--scoped` before it, and `mdlsim`
 -- the subcommand `help`
 abbrev top : Shape
 top = (built mdlsim).top
 
-abbrev matrix_level : Shape
-matrix_level = record top { name = matrix; is_leaf = true; subcommand_required = false; disable_help_subcommand = true }
+-- a subcommand of this name without options of its own
+abbrev plain_level : Text → Shape
+plain_level name = record top { name = name; is_leaf = true; subcommand_required = false; disable_help_subcommand = true }
 
 abbrev flags : List Rule
 flags = map filled lock_subcommand.top.rules ++ top.rules
 
 abbrev lock_level : Shape
-lock_level = record matrix_level { name = lock; rules = flags }
+lock_level = record (plain_level lock) { rules = flags }
 
 abbrev names : Names
-names = (lock, []) ∷ (matrix, []) ∷ (codes "help", []) ∷ []
+names = (lock, []) ∷ (matrix, []) ∷ (replay, []) ∷ (codes "help", []) ∷ []
 
 -- what is held between words, where these options were met
 abbrev holds : List Row → Held
@@ -65,6 +69,8 @@ taken_from words (Lock Scoped) (inl e) = ap (λ rest. takes mdlsim (lock ∷ res
 taken_from words (Lock Scoped) (inr e) = ap (λ rest. takes mdlsim (lock ∷ rest)) e
 taken_from words Matrix (inl e) = ap (λ rest. takes mdlsim (lock ∷ rest)) e
 taken_from words Matrix (inr e) = ap (λ rest. takes mdlsim (lock ∷ rest)) e
+taken_from words Replay (inl e) = ap (λ rest. takes mdlsim (lock ∷ rest)) e
+taken_from words Replay (inr e) = ap (λ rest. takes mdlsim (lock ∷ rest)) e
 
 -- ---- what is refused
 
@@ -128,25 +134,30 @@ turn_by s stray false w e =
     absurd (stray held (subst (λ st. step_fault s 1 held st ≡ []) (long_stray (long_of w) w parts.0) parts.1))
 
 -- nothing follows `--` on a level that refuses positionals
-matrix_ends : (rest : List Text) → walk_fault matrix_level [] start (dash ∷ rest) ≡ [] → rest ≡ []
+plain_ends : (name : Text) (rest : List Text) → walk_fault (plain_level name) [] start (dash ∷ rest) ≡ [] → rest ≡ []
 unfolding walk_fault walked
-matrix_ends [] e = refl
-matrix_ends (x ∷ xs) e = absurd (refuses _ _ e)
+plain_ends name [] e = refl
+plain_ends name (x ∷ xs) e = absurd (refuses _ _ e)
 
 lock_ends : (rows : List Row) (rest : List Text) → walk_fault lock_level [] (walk_from (holds rows)) (dash ∷ rest) ≡ [] → rest ≡ []
 unfolding walk_fault walked
 lock_ends rows [] e = refl
 lock_ends rows (x ∷ xs) e = absurd (refuses _ _ e)
 
--- the words behind `matrix`
-matrix_asks : (words : List Text) → level_fault matrix_level [] nothing_held words false [] ≡ [] → (words ≡ []) ⊎ (words ≡ dash ∷ [])
+-- nothing more, or a closing `--`
+abbrev IsEnd : List Text → Type 0
+IsEnd words = (words ≡ []) ⊎ (words ≡ dash ∷ [])
+
+-- the words behind a subcommand without options
+plain_asks : (name : Text) (words : List Text) → level_fault (plain_level name) [] nothing_held words false [] ≡ [] → IsEnd words
 unfolding walk_fault
-matrix_asks [] e = inl refl
-matrix_asks (w ∷ rest) e =
-    let walks = neither (walk_fault matrix_level [] start (w ∷ rest)) _ e in
-    let turn = neither (turn_fault matrix_level [] start w) _ walks.0 in
-    let is_dash = (bytes_eq-Decides w dash).0 (turn_by matrix_level (λ h bad. refuses _ _ bad) (bytes_eq w dash) w turn.0) in
-    let ends = matrix_ends rest (subst (λ x. walk_fault matrix_level [] start (x ∷ rest) ≡ []) is_dash walks.0) in
+plain_asks name [] e = inl refl
+plain_asks name (w ∷ rest) e =
+    let level = plain_level name in
+    let walks = neither (walk_fault level [] start (w ∷ rest)) _ e in
+    let turn = neither (turn_fault level [] start w) _ walks.0 in
+    let is_dash = (bytes_eq-Decides w dash).0 (turn_by level (λ h bad. refuses _ _ bad) (bytes_eq w dash) w turn.0) in
+    let ends = plain_ends name rest (subst (λ x. walk_fault level [] start (x ∷ rest) ≡ []) is_dash walks.0) in
     inr (ap₂ (λ x xs. x ∷ xs) is_dash ends)
 
 -- ---- the flag `--scoped`
@@ -185,10 +196,6 @@ lock_turn rows w e = elim (lock_by rows (bytes_eq w dash) (long_of w) w refl e) 
   | inr is ↦ inr is
 ]
 
--- nothing more, or a closing `--`
-abbrev IsEnd : List Text → Type 0
-IsEnd words = (words ≡ []) ⊎ (words ≡ dash ∷ [])
-
 -- what is found once `--scoped` was met
 abbrev scoped_rows : List Row
 scoped_rows = used (filled scoped_flag) [] []
@@ -214,26 +221,29 @@ lock_asks (w ∷ rest) e = elim (lock_turn [] w (neither (turn_fault lock_level 
 
 -- ---- the words of the program
 
--- the subcommand that a first word names, by whether it is `lock`, `matrix` or `help`
-abbrev met : Bool → Bool → Bool → Option Text
-met l m h = option_map (λ (s : Text × List Text). s.0)
-    (if l || false then Some (lock, []) else (if m || false then Some (matrix, []) else (if h || false then Some (codes "help", []) else None)))
+-- the subcommand that a first word names, by whether it is `lock`, `matrix`, `replay` or `help`
+abbrev met : Bool → Bool → Bool → Bool → Option Text
+met l m r h = option_map (λ (s : Text × List Text). s.0)
+    (if l || false then Some (lock, []) else (if m || false then Some (matrix, []) else (if r || false then Some (replay, [])
+    else (if h || false then Some (codes "help", []) else None))))
 
-top_by : (l m h : Bool) (w : Text)
-    → or_else (other_fault top (met l m h) w nothing_held)
-    (step_fault top 1 (subcommand_or_other top.rules (met l m h) idle 1 w nothing_held).0 (subcommand_or_other top.rules (met l m h) idle 1 w nothing_held).1) ≡ []
-    → (l ≡ true) ⊎ ((m ≡ true) ⊎ (bytes_eq w dash ≡ true))
-top_by true m h w e = inl refl
-top_by false true h w e = inr (inl refl)
-top_by false false true w e = absurd (refuses _ _ e)
-top_by false false false w e = inr (inr (turn_by top (λ h bad. refuses _ _ bad) (bytes_eq w dash) w e))
+top_by : (l m r h : Bool) (w : Text)
+    → or_else (other_fault top (met l m r h) w nothing_held)
+    (step_fault top 1 (subcommand_or_other top.rules (met l m r h) idle 1 w nothing_held).0 (subcommand_or_other top.rules (met l m r h) idle 1 w nothing_held).1) ≡ []
+    → (l ≡ true) ⊎ ((m ≡ true) ⊎ ((r ≡ true) ⊎ (bytes_eq w dash ≡ true)))
+top_by true m r h w e = inl refl
+top_by false true r h w e = inr (inl refl)
+top_by false false true h w e = inr (inr (inl refl))
+top_by false false false true w e = absurd (refuses _ _ e)
+top_by false false false false w e = inr (inr (inr (turn_by top (λ h bad. refuses _ _ bad) (bytes_eq w dash) w e)))
 
 -- a first word that is not refused
-top_turn : (w : Text) → turn_fault top names start w ≡ [] → (lock ≡ w) ⊎ ((matrix ≡ w) ⊎ (w ≡ dash))
-top_turn w e = elim (top_by (bytes_eq lock w) (bytes_eq matrix w) (bytes_eq (codes "help") w) w e) [
+top_turn : (w : Text) → turn_fault top names start w ≡ [] → (lock ≡ w) ⊎ ((matrix ≡ w) ⊎ ((replay ≡ w) ⊎ (w ≡ dash)))
+top_turn w e = elim (top_by (bytes_eq lock w) (bytes_eq matrix w) (bytes_eq replay w) (bytes_eq (codes "help") w) w e) [
   | inl l ↦ inl ((bytes_eq-Decides lock w).0 l)
   | inr (inl m) ↦ inr (inl ((bytes_eq-Decides matrix w).0 m))
-  | inr (inr d) ↦ inr (inr ((bytes_eq-Decides w dash).0 d))
+  | inr (inr (inl r)) ↦ inr (inr (inl ((bytes_eq-Decides replay w).0 r)))
+  | inr (inr (inr d)) ↦ inr (inr (inr ((bytes_eq-Decides w dash).0 d)))
 ]
 
 -- `--` comes too early: no subcommand follows
@@ -263,12 +273,18 @@ lock_first rest e =
       | inr (more, is, inr end) ↦ (Lock Scoped, inr (ap (λ xs. lock ∷ xs) is ∙ ap (λ xs. lock ∷ scoped ∷ xs) end))
     ]
 
+-- a subcommand without options, whose name alone asks for a run
+plain_first : (run : Run) (name : Text) (rest : List Text) → name ∷ [] ≡ words_of_run run → IsEnd rest → (run : Run) × Asks (name ∷ rest) run
+plain_first run name rest is (inl none) = (run, inl (ap (λ xs. name ∷ xs) none ∙ is))
+plain_first run name rest is (inr end) = (run, inr (ap (λ xs. name ∷ xs) end ∙ ap (λ xs. xs ++ dash ∷ []) is))
+
 matrix_first : (rest : List Text) → built_fault (built mdlsim) nothing_held (matrix ∷ rest) ≡ [] → (run : Run) × Asks (matrix ∷ rest) run
 unfolding walked
-matrix_first rest e = elim (matrix_asks rest (below matrix rest refl e)) [
-  | inl none ↦ (Matrix, inl (ap (λ xs. matrix ∷ xs) none))
-  | inr end ↦ (Matrix, inr (ap (λ xs. matrix ∷ xs) end))
-]
+matrix_first rest e = plain_first Matrix matrix rest refl (plain_asks matrix rest (below matrix rest refl e))
+
+replay_first : (rest : List Text) → built_fault (built mdlsim) nothing_held (replay ∷ rest) ≡ [] → (run : Run) × Asks (replay ∷ rest) run
+unfolding walked
+replay_first rest e = plain_first Replay replay rest refl (plain_asks replay rest (below replay rest refl e))
 
 asks_from : (words : List Text) → built_fault (built mdlsim) nothing_held words ≡ [] → (run : Run) × Asks words run
 unfolding walk_fault defaults_fault
@@ -280,7 +296,9 @@ asks_from (w ∷ rest) e =
           (lock_first rest (subst (λ x. built_fault (built mdlsim) nothing_held (x ∷ rest) ≡ []) (sym is) e))
       | inr (inl is) ↦ subst (λ x. (run : Run) × Asks (x ∷ rest) run) is
           (matrix_first rest (subst (λ x. built_fault (built mdlsim) nothing_held (x ∷ rest) ≡ []) (sym is) e))
-      | inr (inr is) ↦ absurd (dash_first rest (subst (λ x. built_fault (built mdlsim) nothing_held (x ∷ rest) ≡ []) is e))
+      | inr (inr (inl is)) ↦ subst (λ x. (run : Run) × Asks (x ∷ rest) run) is
+          (replay_first rest (subst (λ x. built_fault (built mdlsim) nothing_held (x ∷ rest) ≡ []) (sym is) e))
+      | inr (inr (inr is)) ↦ absurd (dash_first rest (subst (λ x. built_fault (built mdlsim) nothing_held (x ∷ rest) ≡ []) is e))
     ]
 
 -- ---- what `command` cites, of a command with the shape of `mdlsim`

@@ -1,13 +1,13 @@
 //! What the command line asks for.
 ghost use Rattle.std.specs.Prelude.{◌≡◌, IfErr, IfOk, Some, codes, drop, map};
 ghost use Rattle.clap.specs.Words.{app_of, found_of, kind_of, one_text};
-ghost use Rattle.mdl_lock.specs.declared.program.Run.{Run};
+ghost use Rattle.mdl_program.specs.declared.program.Run.{Run};
 ghost use Rattle.mdlsim.specs.CommandLine.{Asks, Finds, mdlsim};
 
 use clap::error::ErrorKind;
 use clap::{Arg, ArgAction, ArgMatches, Command, Error};
 use mdl_key::Kind;
-pub use mdl_lock::Run;
+pub use mdl_program::Run;
 use std::alloc::{AllocError, Global};
 use std::convert::AsStr;
 
@@ -29,6 +29,7 @@ fn run_found(matches: &ArgMatches) -> Run
     match matches.subcommand() {
         Some(("lock", options)) => Run::Lock(kind_found(options)),
         Some(("matrix", _)) => Run::Matrix,
+        Some(("replay", _)) => Run::Replay,
         _ => unreachable!(),
     }
 }
@@ -59,10 +60,14 @@ fn program<'a>(alloc: Global) -> Result<Command<'a>, AllocError>
     let matrix = Command::new(alloc, "matrix").about(
         "Prints which modes clash, and which wait behind which",
     );
+    let replay = Command::new(alloc, "replay").about(
+        "Plays a script of statements read from standard input",
+    );
     Command::new(alloc, "mdlsim")
         .subcommand_required(true)
         .subcommand(lock)?
-        .subcommand(matrix)
+        .subcommand(matrix)?
+        .subcommand(replay)
 }
 
 #[cfg(test)]

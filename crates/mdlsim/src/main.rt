@@ -1,11 +1,12 @@
 //! `mdlsim` drives metadata locks by scripts: `mdlsim lock` reads the script of one lock from standard input, and prints
-//! what the lock answers. `mdlsim matrix` prints which modes clash, and which wait behind which.
+//! what the lock answers. `mdlsim replay` reads a script of statements, and prints what becomes of each. `mdlsim matrix`
+//! prints which modes clash, and which wait behind which.
 #![tactic(auto)]
 
 mod command_line;
 mod program;
 
-use mdl_lock::lack_words;
+use mdl_program::lack_words;
 use program::run_words;
 use std::io;
 use std::process::ExitCode;

@@ -2,12 +2,12 @@
 ghost use Rattle.std.specs.Prelude.{◌≡◌, ◌⊎◌, drop, map, Result, IsOk};
 ghost use Rattle.std.specs.Io.KnownBytes.{Keeps};
 ghost use Rattle.mdl_lines.specs.declared.fault.Fault.{Fault};
-ghost use Rattle.mdl_lock.specs.declared.program.Run.{Run};
-ghost use Rattle.mdl_lock.specs.Runs.{EndsAs, end_status};
+ghost use Rattle.mdl_program.specs.declared.program.Run.{Run};
+ghost use Rattle.mdl_program.specs.Runs.{EndsAs, end_status};
 ghost use Rattle.mdlsim.specs.CommandLine.{Asks};
 
 use crate::command_line::command;
-use mdl_lock::run_asked;
+use mdl_program::run_asked;
 use std::alloc::Global;
 use std::convert::AsStr;
 use std::io::{Read, Write};

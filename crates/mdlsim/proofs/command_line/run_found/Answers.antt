@@ -1,14 +1,17 @@
 -- What is found names the run's subcommand, and says of `--scoped` whether it was there.
-use Rattle.std.proofs.Common.{◌∙◌, rules, inl, inr}
-use Rattle.mdlsim.proofs.FoundRuns.{is_either, is_lock, is_matrix}
+use Rattle.std.proofs.Common.{◌∙◌, refl, rules, inl, inr}
+use Rattle.mdl_program.specs.declared.program.Run.TheVariants.{Matrix, Replay}
+use Rattle.mdlsim.proofs.FoundRuns.{is_lock, is_one, is_plain}
 use Rattle.mdlsim.proofs.command_line.run_found.Goals as goal
 use Rattle.mdlsim.proofs.command_line.run_found.Goals.{in_default-via-in-Some+in_default, in_default-via-in_default}
 
 pub unreachable-requires : goal.unreachable-requires
-unreachable-requires c = elim (is_either c.requires.0 c.args.matches.now c.requires.1) [
+unreachable-requires c = elim (is_one c.requires.0 c.args.matches.now c.requires.1) [
   | inl name ↦ let found = c.subcommand.ensures.name ∙ name in
       elim c.in_default.branch [ in_default-via-in-Some+in_default w ↦ search rules | in_default-via-in_default w ↦ search rules ]
-  | inr name ↦ let found = c.subcommand.ensures.name ∙ name in
+  | inr (inl name) ↦ let found = c.subcommand.ensures.name ∙ name in
+      elim c.in_default.branch [ in_default-via-in-Some+in_default w ↦ search rules | in_default-via-in_default w ↦ search rules ]
+  | inr (inr name) ↦ let found = c.subcommand.ensures.name ∙ name in
       elim c.in_default.branch [ in_default-via-in-Some+in_default w ↦ search rules | in_default-via-in_default w ↦ search rules ]
 ]
 
@@ -17,4 +20,7 @@ returns-in-Some-lock-default c run is =
     is_lock run c.args.matches.now c.in-Some-lock-default.options.now c.kind_found.result is (search rules) (search rules) c.kind_found.ensures.scoped c.kind_found.ensures.object
 
 pub returns-in-Some-matrix-default : goal.returns-in-Some-matrix-default
-returns-in-Some-matrix-default c run is = is_matrix run c.args.matches.now is (search rules)
+returns-in-Some-matrix-default c run is = is_plain Matrix run c.args.matches.now refl is (search rules)
+
+pub returns-in-Some-replay-default : goal.returns-in-Some-replay-default
+returns-in-Some-replay-default c run is = is_plain Replay run c.args.matches.now refl is (search rules)

@@ -3,12 +3,12 @@ ghost use Rattle.std.specs.Prelude.{◌≡◌, ◌≢◌, IfOk, IfErr, IsOk, Res
 ghost use Rattle.std.specs.Io.KnownBytes.{Keeps};
 ghost use Rattle.std.specs.IoError.{error_kind};
 ghost use Rattle.mdl_lines.specs.declared.fault.Fault.{Fault};
-ghost use Rattle.mdl_lock.specs.Runs.{EndsAs, end_status};
+ghost use Rattle.mdl_program.specs.Runs.{EndsAs, end_status};
 
-use crate::lock_script::lock_run;
-use crate::matrices::matrix_run;
 use mdl_key::Kind;
 use mdl_lines::{Fault, report};
+use mdl_lock::{lock_run, matrix_run};
+use mdl_script::replay;
 use std::alloc::Global;
 use std::io::{ErrorKind, Read, Write};
 use std::{fmt, io};
@@ -23,6 +23,8 @@ pub enum Run {
     Lock(Kind),
     /// Print the two matrices of each kind of lock.
     Matrix,
+    /// Play a script of statements.
+    Replay,
 }
 
 /// Does what is asked for, and answers the status. Words that ask for no run are refused: what there is to say of them is told
@@ -59,6 +61,7 @@ fn end_of<R: Read, W: Write>(
     match asked {
         Run::Lock(kind) => lock_run(alloc, kind, input, output),
         Run::Matrix => matrix_run(alloc, output),
+        Run::Replay => replay(alloc, input, output),
     }
 }
 

@@ -1,0 +1,46 @@
+-- What the runs of the program are to write, how they may end, and with which status.
+use Rattle.std.specs.Prelude.{ℕ, List, Option, Some, IfSome, Result, Ok, Err}
+use Rattle.std.specs.Option.{option_map}
+use Rattle.std.specs.Io.KnownBytes.{Appends}
+use Rattle.mdl_lines.specs.declared.fault.Fault.{Fault}
+use Rattle.mdl_lines.specs.declared.fault.Fault.TheVariants.{Refused, Memory, Read, Write}
+use Rattle.mdl_lines.specs.Words.{LeavesWritten, MayEnd, fault_status}
+use Rattle.mdl_lock.specs.MatrixText.{matrix_text}
+use Rattle.mdl_lock.specs.Output.{lock_output_of}
+use Rattle.mdl_lock.specs.Scripts as commands
+use Rattle.mdl_script.specs.Output as played
+use Rattle.mdl_syntax.specs.Scripts as statements
+use Rattle.mdl_program.specs.declared.program.Run.{Run}
+use Rattle.mdl_program.specs.declared.program.Run.TheVariants.{Lock, Matrix, Replay}
+
+-- the output of a run on this input, where that is known: the answers to a script, what becomes of the statements of one, or the
+-- matrices, which need no input
+abbrev pub output_of : Run → Option (List ℕ) → Option (List ℕ)
+output_of (Lock kind) input = option_map (lock_output_of kind) input
+output_of Matrix input = Some matrix_text
+output_of Replay input = option_map played.output_of input
+
+-- a run may end so on this input: a script's is refused just by its first refused line, and the matrices, which are not read, fail
+-- for want of memory or in writing alone
+abbrev pub IsEndOf : Run → Option (List ℕ) → Result (Unit {0}) Fault → Type 0
+IsEndOf (Lock kind) input end = IfSome input (λ script. MayEnd (commands.parsed kind script) end)
+IsEndOf Replay input end = IfSome input (λ script. MayEnd (statements.parsed script) end)
+IsEndOf Matrix input (Ok done) = Unit {0}
+IsEndOf Matrix input (Err (Refused line error)) = ⊥
+IsEndOf Matrix input (Err Memory) = Unit {0}
+IsEndOf Matrix input (Err Read) = ⊥
+IsEndOf Matrix input (Err Write) = Unit {0}
+
+-- what is written by a run that ends so: all of its output where it was done, and else no more than its fault leaves
+abbrev pub Writes : Result (Unit {0}) Fault → Option (List ℕ) → Option (List ℕ) → List ℕ → Type 0
+Writes (Ok done) old new output = Appends old new output
+Writes (Err fault) old new output = LeavesWritten fault old new output
+
+-- a run may end so on this input, and leave this written
+abbrev pub EndsAs : Run → Option (List ℕ) → Option (List ℕ) → Option (List ℕ) → Result (Unit {0}) Fault → Type 0
+EndsAs run input old new end = IsEndOf run input end × IfSome (output_of run input) (Writes end old new)
+
+-- the status of a program whose run ended so
+abbrev pub end_status : Result (Unit {0}) Fault → ℕ
+end_status (Ok done) = 0
+end_status (Err fault) = fault_status fault
