@@ -6,4 +6,5 @@ pub mod NoDeadlockPrograms
 pub mod NoDeadlockRows
 pub mod NoDeadlockWorlds
 pub mod OrderlyPlays
+pub mod ScriptLemmas
 pub mod TidyLemmas
