@@ -6,5 +6,6 @@ pub mod NoDeadlockPrograms
 pub mod NoDeadlockRows
 pub mod NoDeadlockWorlds
 pub mod OrderlyPlays
+pub mod RefusedWorlds
 pub mod ScriptLemmas
 pub mod TidyLemmas

@@ -6,4 +6,7 @@ mod deadlocks;
 mod refusals;
 
 pub use deadlocks::no_deadlock_stands;
-pub use refusals::{early_errors_change_nothing, sessions_stay_tidy};
+pub use refusals::{
+    early_errors_change_nothing, idle_sessions_are_tidy, refused_lines_change_nothing,
+    sessions_stay_tidy,
+};
