@@ -46,7 +46,8 @@ calm-played line who program world is staffed leaves calm =
     (leaves session world.core (subst (λ w. IsCalm w world.core) (sym (staffed.named who is)) (calm-by world.core who is staffed.speaks calm)))
 
 -- calls of one session by which no wait begins
-calm-calls : (who : ℕ) (program : Program (Unit {0})) (core : Core) → IsScriptSession who → SpeakForAll core → EachCall (IsMadeFor who) program → EachCall IsQuiet program
+calm-calls : (who : ℕ) (program : Program (Unit {0})) (core : Core) → IsScriptSession who → SpeakForAll core → EachCall (IsMadeFor who) program
+    → EachCall IsQuiet program
     → IsCalmSpace core → IsCalmSpace (outcome_of outcome program core).1
 calm-calls who program core is speaks made quiet calm =
     calm-from (outcome_of outcome program core).1 who (calm-quiet who program made quiet core (calm-by core who is speaks calm))
@@ -91,4 +92,5 @@ calm-first =
 
 pub no_deadlock : NoDeadlockStands
 no_deadlock text lines read n =
-    (kept-lines (λ world. IsCalmSpace world.core) Anything keeps-calm n lines first_world (read-sessions text lines read) (record { staffed = staffed-first; so = calm-first })).so.1
+    (kept-lines (λ world. IsCalmSpace world.core) Anything keeps-calm n lines first_world (read-sessions text lines read)
+    (record { staffed = staffed-first; so = calm-first })).so.1

@@ -174,7 +174,8 @@ keeps-ready = record {
 }
 
 -- a session that waits is told no early refusal
-told-waiting : (statement : Statement) (line : Line) (world after : World) → All (IsOfThisLine line world after) (asked_waiting statement line.number line.session world).told
+told-waiting : (statement : Statement) (line : Line) (world after : World)
+    → All (IsOfThisLine line world after) (asked_waiting statement line.number line.session world).told
 told-waiting Timeout line world after =
     All-cons (IsOfThisLine line world after) _ [] (λ early. absurd (false≢true early)) (All-nil (IsOfThisLine line world after))
 told-waiting _ line world after =
@@ -193,8 +194,8 @@ told-asked line world is kept = by (is_waiting world line.session) refl where
 -- early refusals are told of lines, and each of these leaves the world as it was
 abbrev IsOfLineFrom : List Line → World → Told → Type 0
 IsOfLineFrom lines world told =
-    IsTrue (is_early_refusal told.news) → (n : ℕ) × (line : Line) × (more : List Line) × (drop n lines ≡ line ∷ more) × (told.line ≡ line.number) × (told.who ≡ line.session)
-    × (let before = (lines_played (take n lines) world).world in IsSameWorld before (asked line before).world)
+    IsTrue (is_early_refusal told.news) → (n : ℕ) × (line : Line) × (more : List Line) × (drop n lines ≡ line ∷ more) × (told.line ≡ line.number)
+    × (told.who ≡ line.session) × (let before = (lines_played (take n lines) world).world in IsSameWorld before (asked line before).world)
 
 -- those that are told as the first line is played, and those that are told later
 told-line : (line : Line) (lines : List Line) (world : World) → IsScriptSession line.session → IsKept AreReady world
@@ -228,12 +229,14 @@ told-lines [] world is kept = All-nil (IsOfLineFrom [] world)
 told-lines (line ∷ lines) world is kept =
     let here = All-head (λ l. IsScriptSession l.session) line lines is in
     told-line line lines world here kept
-    (told-lines lines (line_played line world).world (All-tail (λ l. IsScriptSession l.session) line lines is) (kept-line AreReady IsNoRefusal keeps-ready line world here kept))
+    (told-lines lines (line_played line world).world (All-tail (λ l. IsScriptSession l.session) line lines is)
+    (kept-line AreReady IsNoRefusal keeps-ready line world here kept))
 
 -- ---- scripts
 
 ready-first : AreReady first_world
-ready-first who is = subst (λ (p : Player). IsReady p.session) (sym (new-session who is)) (inl (record { over = refl; statement = refl; transaction = λ _. refl }))
+ready-first who is =
+    subst (λ (p : Player). IsReady p.session) (sym (new-session who is)) (inl (record { over = refl; statement = refl; transaction = λ _. refl }))
 
 kept-first : IsKept AreReady first_world
 kept-first = record { staffed = staffed-first; so = ready-first }

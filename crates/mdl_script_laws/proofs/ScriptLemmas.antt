@@ -92,7 +92,8 @@ module _ (line who : ℕ) (program : Session → Program Pause) (world : World) 
 
 staffed-started : (line : Line) (world : World) → IsScriptSession line.session → IsStaffed world → IsStaffed (started line world).world
 staffed-started line world is staffed =
-    staffed-played line.number line.session (λ session. starting line.statement session) world is staffed (λ session. (rows_keep_sound session).1 line.statement)
+    staffed-played line.number line.session (λ session. starting line.statement session) world is staffed
+    (λ session. (rows_keep_sound session).1 line.statement)
     (λ session. (rows_keep_number session).1 line.statement)
 
 staffed-going : (who : ℕ) (world : World) → IsScriptSession who → IsStaffed world → IsStaffed (going who world).world
@@ -119,7 +120,8 @@ staffed-timed_out who world is staffed = record {
 -- what is so of a world stays so as a statement starts in a session that doesn't wait, as one goes on, of which only such things are
 -- told, and as the patience of one ends
 pub record Keeps (I : World → Type 0) (T : Told → Type 0) : Type 0 where
-  pub starts : (line : Line) (world : World) → IsScriptSession line.session → is_waiting world line.session ≡ false → IsStaffed world → I world → I (started line world).world
+  pub starts : (line : Line) (world : World) → IsScriptSession line.session → is_waiting world line.session ≡ false → IsStaffed world → I world
+      → I (started line world).world
   pub goes : (who : ℕ) (world : World) → IsScriptSession who → IsStaffed world → I world → I (going who world).world × All T (going who world).told
   pub ends : (who : ℕ) (world : World) → IsScriptSession who → IsStaffed world → I world → I (timed_out who world)
 
@@ -131,7 +133,8 @@ pub record IsKept (I : World → Type 0) (world : World) : Type 0 where
 module _ (I : World → Type 0) (T : Told → Type 0) (keeps : Keeps I T) where
   kept-waiting : (statement : Statement) (line who : ℕ) (world : World) → IsScriptSession who → IsKept I world
       → IsKept I (asked_waiting statement line who world).world
-  kept-waiting Timeout line who world is kept = record { staffed = staffed-timed_out who world is kept.staffed; so = keeps.ends who world is kept.staffed kept.so }
+  kept-waiting Timeout line who world is kept =
+      record { staffed = staffed-timed_out who world is kept.staffed; so = keeps.ends who world is kept.staffed kept.so }
   kept-waiting _ line who world is kept = kept
 
   pub kept-asked : (line : Line) (world : World) → IsScriptSession line.session → IsKept I world → IsKept I (asked line world).world
@@ -157,8 +160,8 @@ module _ (I : World → Type 0) (T : Told → Type 0) (keeps : Keeps I T) where
   kept-going (Some who) world more found kept rest =
       let is = first-session world who found in
       let gone = keeps.goes who world is kept.staffed kept.so in
-      let then_ = rest (going who world).world (record { staffed = staffed-going who world is kept.staffed; so = gone.0 }) in
-      (then_.0, All-append T (going who world).told (more (going who world).world).told gone.1 then_.1)
+      let later = rest (going who world).world (record { staffed = staffed-going who world is kept.staffed; so = gone.0 }) in
+      (later.0, All-append T (going who world).told (more (going who world).world).told gone.1 later.1)
 
   pub kept-settling : (n : ℕ) (world : World) → IsKept I world → IsKeptBy (settling n world)
   unfolding settling
