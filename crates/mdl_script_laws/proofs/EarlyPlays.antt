@@ -108,12 +108,14 @@ late_waiting wish left session so = (
   so,
 )
 
-late_acquired : (wish : Wish) (rest : ℕ → Row Reply) (mark : Mark) (session : Session) (more : ℕ → Session → Program Pause) → ((id : ℕ) → FailsLate IsLate (rest id))
+late_acquired : (wish : Wish) (rest : ℕ → Row Reply) (mark : Mark) (session : Session) (more : ℕ → Session → Program Pause)
+    → ((id : ℕ) → FailsLate IsLate (rest id))
     → ((id : ℕ) (after : Session) → AllLate (more id after)) → (outcome : Outcome Acquire) → AllLate (playing.acquired wish rest mark session more outcome)
 late_acquired wish rest mark session more so made (Ok (acquire.Acquired id), context) = made id (with_context session context)
 late_acquired wish rest mark session more so made (Ok (acquire.MustWait number), context) =
     late_waiting wish (record { rest = rest; mark = mark }) (with_context session context) so
-late_acquired wish rest mark session more so made (Err error, context) = late_closing (ending_of_error error) mark (with_context session context) (late_error error)
+late_acquired wish rest mark session more so made (Err error, context) =
+    late_closing (ending_of_error error) mark (with_context session context) (late_error error)
 
 -- ---- what stands
 
@@ -122,7 +124,8 @@ late_read : (mark : Mark) (session : Session) (more : Standing → Program Pause
 late_read mark session more made (Reads version definition) = made (record { version = version; definition = definition })
 late_read mark session more made answer = late_closing (ending_of_refusal (refusal_of answer)) mark session (late_refusal (refusal_of answer))
 
-late_change : (mark : Mark) (session : Session) (more : Program Pause) → AllLate more → (answer : Answer) → AllLate (playing.change_answered mark session more answer)
+late_change : (mark : Mark) (session : Session) (more : Program Pause) → AllLate more → (answer : Answer)
+    → AllLate (playing.change_answered mark session more answer)
 late_change mark session more made (Changed version) = made
 late_change mark session more made answer = late_closing (ending_of_refusal (refusal_of answer)) mark session (late_refusal (refusal_of answer))
 
@@ -179,7 +182,8 @@ late_untouched session a b (Begins_to_wait key mode after) so = so
 late_untouched session a b (Waits_on after) so = so
 late_untouched session a b (Faults after) so = so
 
-run_late : (session : Session) (program : Program Pause) (a b c : Core) (pause : Pause) → AllLate program → Runs Joins a program pause b → IsUntouched session c pause b
+run_late : (session : Session) (program : Program Pause) (a b c : Core) (pause : Pause) → AllLate program → Runs Joins a program pause b
+    → IsUntouched session c pause b
 run_late session program a b c pause so run = late_untouched session c b pause (each_reply Joins IsLatePause program a b pause so run)
 
 -- a tidy session gives nothing up
@@ -187,7 +191,8 @@ same_session : (session : Session) (kept : List Kept) → session.left ≡ None 
     → let after : Session = record { context = record session.context { kept = kept }; state = session.state; left = None } in after ≡ session
 same_session session kept over same = λ i. record { context = record session.context { kept = same i }; state = session.state; left = sym over i }
 
-answered_tidy : (answer : Reply) (mark : Mark) (session : Session) (a b : Core) (pause : Pause) → IsTidy session → Runs Joins a (closing (Answers answer) mark session) pause b
+answered_tidy : (answer : Reply) (mark : Mark) (session : Session) (a b : Core) (pause : Pause) → IsTidy session
+    → Runs Joins a (closing (Answers answer) mark session) pause b
     → (Ends answer session ≡ pause) × (b ≡ a)
 answered_tidy answer mark session a b pause tidy run =
     (ap (Ends answer) (sym (same_session session (without [] session.context.kept) tidy.over (without-none session.context.kept))) ∙ done.0, sym done.1)
@@ -200,7 +205,8 @@ answered_tidy answer mark session a b pause tidy run =
         subst (λ gone. Runs Joins a (giving_up gone session.context >>= (λ outcome. Give (Ends answer (after outcome.1)))) pause b)
         (none-gone session.state.is_open answer mark session.context.kept tidy.statement tidy.transaction) run
 
-answered_untouched : (answer : Reply) (mark : Mark) (session : Session) (a b : Core) (pause : Pause) → IsTidy session → Runs Joins a (closing (Answers answer) mark session) pause b
+answered_untouched : (answer : Reply) (mark : Mark) (session : Session) (a b : Core) (pause : Pause) → IsTidy session
+    → Runs Joins a (closing (Answers answer) mark session) pause b
     → IsUntouched session a pause b
 answered_untouched answer mark session a b pause tidy run =
     let h = answered_tidy answer mark session a b pause tidy run in subst (λ p. IsUntouched session a p b) h.0 (by answer h.1)
@@ -233,7 +239,8 @@ untouched_play (row.Fail number) mark session a b pause tidy checks run = answer
 untouched_play (row.Room rest) mark session a b pause tidy checks (inl run) =
     run_late session (closing Starves mark session) a b a pause (late_closing Starves mark session tt) run
 untouched_play (row.Room rest) mark session a b pause tidy checks (inr run) = untouched_play rest mark session a b pause tidy checks run
-untouched_play (row.Look rest) mark session a b pause tidy checks run = untouched_play (rest session.state) mark session a b pause tidy (checks session.state) run
+untouched_play (row.Look rest) mark session a b pause tidy checks run =
+    untouched_play (rest session.state) mark session a b pause tidy (checks session.state) run
 untouched_play (row.Here rest) mark session a b pause tidy checks run =
     let now = mark_of session.context.kept in untouched_play (rest now) mark session a b pause tidy (checks now) run
 untouched_play (row.Read id rest) mark session a b pause tidy checks (answer, mid, joins, run) =
@@ -253,7 +260,8 @@ untouched_play (row.Redefine id change rest) mark session a b pause tidy checks 
 untouched_play (row.Kill target rest) mark session a b pause tidy checks run =
     run_late session (play (row.Kill target rest) mark session) a b a pause (late_play (row.Kill target rest) mark session checks) run
 
-pub statements_untouched : (asked : Statement) (session : Session) (a b : Core) (pause : Pause) → IsTidy session → Runs Joins a (playing.starting asked session) pause b
+pub statements_untouched : (asked : Statement) (session : Session) (a b : Core) (pause : Pause) → IsTidy session
+    → Runs Joins a (playing.starting asked session) pause b
     → IsUntouched session a pause b
 statements_untouched asked session a b pause tidy run =
     untouched_play (row_of asked) (mark_of session.context.kept) session a b pause tidy (statements_check asked) run

@@ -161,7 +161,9 @@ checks_back name (Some mark) = tt
 -- ---- what stands
 
 late_exists : (ticket : ℕ) → FailsLate Any (rows.exists ticket)
-late_exists ticket = λ standing. late_bind Any Any (check (rows.is_defined standing) NoSuchTable) (λ _. Give standing) (late_check (rows.is_defined standing) NoSuchTable refl) (λ _ _. tt)
+late_exists ticket = λ standing.
+    late_bind Any Any (check (rows.is_defined standing) NoSuchTable) (λ _. Give standing)
+    (late_check (rows.is_defined standing) NoSuchTable refl) (λ _ _. tt)
 
 checks_exists : (ticket : ℕ) → ChecksFirst Any Never (rows.exists ticket)
 checks_exists ticket = λ standing.
@@ -170,21 +172,26 @@ checks_exists ticket = λ standing.
 
 -- ---- SELECT
 
+-- those that were shown before, and this one
+abbrev with_table : List TableShown → KeyName → Standing → List TableShown
+with_table shown table standing = shown ++ record { key = table; version = standing.version; columns = rows.columns_of standing.definition } ∷ []
+
 late_show : (shown : List TableShown) (table : KeyName) (ticket : ℕ) → FailsLate Any (rows.show shown table ticket)
 late_show shown table ticket =
-    late_bind Any Any (rows.exists ticket) (λ standing. room >> Give (shown ++ record { key = table; version = standing.version; columns = rows.columns_of standing.definition } ∷ []))
+    late_bind Any Any (rows.exists ticket) (λ standing. room >> Give (with_table shown table standing))
     (late_exists ticket) (λ standing _. tt)
 
 checks_show : (shown : List TableShown) (table : KeyName) (ticket : ℕ) → ChecksFirst Any Never (rows.show shown table ticket)
 checks_show shown table ticket =
-    checks_bind Any Never Any Never (rows.exists ticket) (λ standing. room >> Give (shown ++ record { key = table; version = standing.version; columns = rows.columns_of standing.definition } ∷ []))
+    checks_bind Any Never Any Never (rows.exists ticket) (λ standing. room >> Give (with_table shown table standing))
     (checks_exists ticket) (λ standing _. tt) (λ standing none. absurd none)
 
 -- tables that are locked as they are shown
 late_shows : (shown : List TableShown) (tables : List KeyName) → FailsLate IsLate (rows.show_all rows.lock_to_read shown tables)
 late_shows shown [] = tt
 late_shows shown (table ∷ tables) = λ ticket.
-    late_bind Any IsLate (rows.show shown table ticket) (λ more. rows.show_all rows.lock_to_read more tables) (late_show shown table ticket) (λ more _. late_shows more tables)
+    late_bind Any IsLate (rows.show shown table ticket) (λ more. rows.show_all rows.lock_to_read more tables) (late_show shown table ticket)
+    (λ more _. late_shows more tables)
 
 checks_among : (found : Option Locked) → ChecksFirst Any Never (rows.among_locked found)
 checks_among None = tt
@@ -194,17 +201,21 @@ checks_held : (table : KeyName) → ChecksFirst Any Never (rows.held_lock table)
 checks_held table = λ state. checks_among (find (λ (locked : Locked). key_eq table locked.key) state.locked)
 
 checks_lock : (table : KeyName) → ChecksFirst Any Never (rows.lock_held table)
-checks_lock table = checks_bind Any Never Any Never (rows.held_lock table) (λ locked. Give locked.ticket) (checks_held table) (λ locked _. tt) (λ locked none. absurd none)
+checks_lock table =
+    checks_bind Any Never Any Never (rows.held_lock table) (λ locked. Give locked.ticket) (checks_held table) (λ locked _. tt) (λ locked none. absurd none)
 
 -- tables that are among the locked ones
 checks_shows : (shown : List TableShown) (tables : List KeyName) → ChecksFirst IsLate IsLate (rows.show_all rows.lock_held shown tables)
 checks_shows shown [] = tt
 checks_shows shown (table ∷ tables) =
-    checks_bind Any Never IsLate IsLate (rows.lock_held table) (λ ticket. rows.show shown table ticket >>= (λ more. rows.show_all rows.lock_held more tables)) (checks_lock table)
-    (λ ticket _. checks_bind Any Never IsLate IsLate (rows.show shown table ticket) (λ more. rows.show_all rows.lock_held more tables) (checks_show shown table ticket)
+    checks_bind Any Never IsLate IsLate (rows.lock_held table)
+    (λ ticket. rows.show shown table ticket >>= (λ more. rows.show_all rows.lock_held more tables)) (checks_lock table)
+    (λ ticket _. checks_bind Any Never IsLate IsLate (rows.show shown table ticket) (λ more. rows.show_all rows.lock_held more tables)
+    (checks_show shown table ticket)
     (λ more _. checks_shows more tables) (λ more none. absurd none)) (λ ticket none. absurd none)
 
-checks_select : (locked : Bool) (tables : List KeyName) → ChecksFirst IsLate IsLate (rows.show_all (if locked then rows.lock_held else rows.lock_to_read) [] tables)
+checks_select : (locked : Bool) (tables : List KeyName)
+    → ChecksFirst IsLate IsLate (rows.show_all (if locked then rows.lock_held else rows.lock_to_read) [] tables)
 checks_select true tables = checks_shows [] tables
 checks_select false tables = late_first IsLate (rows.show_all rows.lock_to_read [] tables) (late_shows [] tables)
 
@@ -230,15 +241,19 @@ checks_then first rest checks later = checks_bind Any Never IsLate IsLate first 
 
 checks_unlocked : (table : KeyName) (priority : Priority) → ChecksFirst IsLate IsLate (rows.write_unlocked table priority)
 checks_unlocked table priority =
-    checks_then rows.no_read_lock (acquire global_key IX for.Statement >> rows.lock_and_write table priority) checks_no_read_lock (λ _. late_write table priority)
+    checks_then rows.no_read_lock (acquire global_key IX for.Statement >> rows.lock_and_write table priority) checks_no_read_lock
+    (λ _. late_write table priority)
 
 checks_locked : (table : KeyName) → ChecksFirst IsLate IsLate (rows.write_locked table)
 checks_locked table =
-    checks_bind Any Never IsLate IsLate (rows.held_lock table) (λ (locked : Locked). check locked.may_write TableLockedForRead >> rows.wrote) (checks_held table)
-    (λ locked _. checks_then (check locked.may_write TableLockedForRead) rows.wrote (checks_check locked.may_write TableLockedForRead) (late_first IsLate rows.wrote late_wrote))
+    checks_bind Any Never IsLate IsLate (rows.held_lock table) (λ (locked : Locked). check locked.may_write TableLockedForRead >> rows.wrote)
+    (checks_held table)
+    (λ locked _. checks_then (check locked.may_write TableLockedForRead) rows.wrote (checks_check locked.may_write TableLockedForRead)
+    (late_first IsLate rows.wrote late_wrote))
     (λ locked none. absurd none)
 
-checks_write : (locked : Bool) (table : KeyName) (priority : Priority) → ChecksFirst IsLate IsLate (if locked then rows.write_locked table else rows.write_unlocked table priority)
+checks_write : (locked : Bool) (table : KeyName) (priority : Priority)
+    → ChecksFirst IsLate IsLate (if locked then rows.write_locked table else rows.write_unlocked table priority)
 checks_write true table priority = checks_locked table
 checks_write false table priority = checks_unlocked table priority
 
@@ -247,7 +262,8 @@ checks_write false table priority = checks_unlocked table priority
 checks_ddl : ChecksFirst Any Any rows.ddl
 checks_ddl =
     checks_bind Any Never Any Any rows.no_read_lock (λ _. rows.no_locked_tables >> rows.commit) checks_no_read_lock
-    (λ _ _. checks_bind Any Never Any Any rows.no_locked_tables (λ _. rows.commit) checks_no_locked (λ _ _. late_first Any rows.commit late_commit) (λ _ none. absurd none))
+    (λ _ _. checks_bind Any Never Any Any rows.no_locked_tables (λ _. rows.commit) checks_no_locked (λ _ _. late_first Any rows.commit late_commit)
+    (λ _ none. absurd none))
     (λ _ none. absurd none)
 
 -- after it nothing fails by an early error
@@ -259,7 +275,8 @@ late_schema schema = λ over. late_check (rows.is_defined over) UnknownDatabase 
 
 late_new : (columns : List (List ℕ)) (table : ℕ) → FailsLate Any (rows.check_new columns table)
 late_new columns table = λ standing.
-    late_bind Any Any (check (not (rows.is_defined standing)) TableExists) (λ _. check (not (names_twice columns)) DuplicateColumn >> check (rows.has_version_left standing) VersionLimit)
+    late_bind Any Any (check (not (rows.is_defined standing)) TableExists)
+    (λ _. check (not (names_twice columns)) DuplicateColumn >> check (rows.has_version_left standing) VersionLimit)
     (late_check (not (rows.is_defined standing)) TableExists refl)
     (λ _ _. late_bind Any Any (check (not (names_twice columns)) DuplicateColumn) (λ _. check (rows.has_version_left standing) VersionLimit)
     (late_check (not (names_twice columns)) DuplicateColumn refl) (λ _ _. late_check (rows.has_version_left standing) VersionLimit refl))
@@ -281,7 +298,8 @@ late_stands ticket = late_bind Any Any (rows.exists ticket) (λ _. nothing) (lat
 late_drop_under : (tickets : List ℕ) → FailsLate IsLate (rows.drop_under tickets)
 late_drop_under tickets =
     let dropping = for_each (λ ticket. redefine ticket change.Drop) tickets in
-    late_bind Any IsLate (for_each rows.stands tickets) (λ _. for_each rows.can_change tickets >> (dropping >> Give reply.Ok)) (late_each rows.stands late_stands tickets)
+    late_bind Any IsLate (for_each rows.stands tickets) (λ _. for_each rows.can_change tickets >> (dropping >> Give reply.Ok))
+    (late_each rows.stands late_stands tickets)
     (λ _ _. late_bind Any IsLate (for_each rows.can_change tickets) (λ _. dropping >> Give reply.Ok) (late_each rows.can_change late_can_change tickets)
     (λ _ _. late_bind Any IsLate dropping (λ _. Give reply.Ok) (late_each (λ ticket. redefine ticket change.Drop) (λ _. tt) tickets) (λ _ _. tt)))
 

@@ -6,6 +6,8 @@ pub mod NoDeadlockPrograms
 pub mod NoDeadlockRows
 pub mod NoDeadlockWorlds
 pub mod OrderlyPlays
+pub mod RefusedWorlds
+pub mod ScriptLemmas
 pub mod TidyLemmas
 pub mod TurnLemmas
 pub mod TurnPlays

@@ -16,14 +16,16 @@ use Rattle.mdl_core.proofs.CallDeadlocks.{only-new_waits}
 use Rattle.mdl_core.proofs.CallLaws.{core-keeps, joins-comes}
 use Rattle.mdl_core.proofs.CoreSound.{calls_keep-sound}
 use Rattle.mdl_core.proofs.Ways.{Way, Stay, Open, Settle_wait, Make, makes_room, served_if, space_by}
-use Rattle.mdl_system.specs.Deadlocks.{HasNoDeadlock}
+use Rattle.mdl_system.specs.Deadlocks.{DeadlocksGoThrough, HasNoDeadlock}
 
 -- ---- there are as many sessions after a call as before it
 
 seats-changing : (a : Core) (who place : ℕ) (change : Change) → length (changing who place change a).seats ≡ length a.seats
 seats-changing a who place change = by (is_of_book change) where
-  by : (t : Bool)
-      → length (booked_if t place (book_after who (seat_at who a) change (book_at place a)) (seating who (seat_after place change (seat_at who a)) a)).seats ≡ length a.seats
+  seated : Core
+  seated = seating who (seat_after place change (seat_at who a)) a
+
+  by : (t : Bool) → length (booked_if t place (book_after who (seat_at who a) change (book_at place a)) seated).seats ≡ length a.seats
   by true = length-set a.seats (who - 1) (seat_after place change (seat_at who a))
   by false = length-set a.seats (who - 1) (seat_after place change (seat_at who a))
 
@@ -77,7 +79,8 @@ pub calm-joined : (who : ℕ) (a b : Core) (call : Call) (answer : Answer) → (
 calm-joined who a b call answer quiet joins calm = record {
   managed = still-managed who a b call answer calm.managed joins;
   free = λ from cycle is. (
-      let h = only-new_waits a b call answer (λ _. false) calm.managed.speaks.1 joins (λ first other is_one. absurd (calm.free first other is_one)) from cycle is in
+      let none : DeadlocksGoThrough (λ _. false) (system_of a) = λ first other is_one. absurd (calm.free first other is_one) in
+      let h = only-new_waits a b call answer (λ _. false) calm.managed.speaks.1 joins none from cycle is in
       false≢true (sym (quiet h.0) ∙ h.2));
 }
 

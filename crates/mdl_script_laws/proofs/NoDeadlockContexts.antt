@@ -37,7 +37,8 @@ calm-waits who place number mode a b joins calm =
     let h = seeks who b (still-managed who a b (Begin_wait who place mode) (Waits number) calm.managed joins) in
     let end : SearchEnd × Core = outcome_of outcome (seeking most_searches who) b in
     let same : outcome_of outcome (gains.waiting_on who number) b ≡ outcome_of outcome (gains.wish_sought who number Over) end.1 =
-    outcome-bind (seeking most_searches who) (gains.wish_sought who number) b ∙ ap (λ said. outcome_of outcome (gains.wish_sought who number said) end.1) h.over in
+    outcome-bind (seeking most_searches who) (gains.wish_sought who number) b
+    ∙ ap (λ said. outcome_of outcome (gains.wish_sought who number said) end.1) h.over in
     subst (IsCalm who) (sym (ap (λ whole. whole.1) same))
     (record { managed = h.managed; free = waiting-leaves a b end.1 who place number mode joins h.run calm.free })
 
@@ -62,7 +63,8 @@ calm-copied who (Granted id) = λ a calm. calm
 calm-copied who _ = λ a calm. calm
 
 -- a call that begins no wait, and then what its answer leads to
-pub calm-ask : {A : Type 0} (who : ℕ) (call : Call) (next : Answer → Program A) → IsMadeFor who call → IsQuiet call → ((answer : Answer) → LeavesCalm who (next answer))
+pub calm-ask : {A : Type 0} (who : ℕ) (call : Call) (next : Answer → Program A) → IsMadeFor who call → IsQuiet call
+    → ((answer : Answer) → LeavesCalm who (next answer))
     → LeavesCalm who (Ask call next)
 calm-ask who call next made quiet later a calm = later (outcome call a).0 (outcome call a).1 (calm-call who call a made quiet calm)
 
@@ -74,7 +76,8 @@ calm-gaining None who place mode =
 
 -- ---- wishes
 
-calm-reusing : (ticket : Option Held) (place : ℕ) (request : Wish) (context : ContextView) → LeavesCalm context.who (requests.reusing ticket place request context)
+calm-reusing : (ticket : Option Held) (place : ℕ) (request : Wish) (context : ContextView)
+    → LeavesCalm context.who (requests.reusing ticket place request context)
 calm-reusing (Some ticket) place request context = λ a calm. calm
 calm-reusing None place request context =
     let serving = earliest (requests.suffices place request) context.kept in
@@ -147,7 +150,8 @@ quiet-going_on (Some false) context = (λ answer session. refl, quiet-cut_off co
 
 -- a wait goes on
 pub calm-resuming : (context : ContextView) → LeavesCalm context.who (waits.resuming context)
-calm-resuming context = calm-own {A = Outcome Resume} context.who (waits.resuming context) (own_resuming context) (quiet-going_on (waits.is_searched context.wait) context)
+calm-resuming context =
+    calm-own {A = Outcome Resume} context.who (waits.resuming context) (own_resuming context) (quiet-going_on (waits.is_searched context.wait) context)
 
 -- ---- releases
 
@@ -156,4 +160,5 @@ calm-giving_up gone context =
     calm-frugal {A = Outcome (Unit {0})} context.who (releases.giving_up gone context) (own_giving_up gone context) (frugal_giving_up gone context)
 
 pub calm-releasing : (id : ℕ) (context : ContextView) → LeavesCalm context.who (releases.releasing id context)
-calm-releasing id context = calm-frugal {A = Outcome (Unit {0})} context.who (releases.releasing id context) (own_releasing id context) (frugal_releasing id context)
+calm-releasing id context =
+    calm-frugal {A = Outcome (Unit {0})} context.who (releases.releasing id context) (own_releasing id context) (frugal_releasing id context)

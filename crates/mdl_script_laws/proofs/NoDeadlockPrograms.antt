@@ -44,7 +44,8 @@ calm-bind {A} {B} who first next leaves later a calm =
     subst (λ (whole : B × Core). IsCalm who whole.1) (sym (outcome-bind first next a)) (later end.0 end.1 (leaves a calm))
 
 -- what a context does, and then what it leads to
-pub calm-then : {A B : Type 0} (who : ℕ) (first : Program (Outcome A)) (next : Outcome A → Program B) → LeavesCalm {A = Outcome A} who first → StaysOf {A = A} who first
+pub calm-then : {A B : Type 0} (who : ℕ) (first : Program (Outcome A)) (next : Outcome A → Program B)
+    → LeavesCalm {A = Outcome A} who first → StaysOf {A = A} who first
     → ((x : Outcome A) → LeavesCalm x.1.who (next x)) → LeavesCalm who (first >>= next)
 calm-then {A} {B} who first next leaves stays later a calm =
     let end : Outcome A × Core = outcome_of outcome first a in
@@ -57,7 +58,8 @@ calm-then {A} {B} who first next leaves stays later a calm =
 pub calm-quiet : {A : Type 0} (who : ℕ) (program : Program A) → EachCall (IsMadeFor who) program → EachCall IsQuiet program → LeavesCalm who program
 calm-quiet who (Give x) made quiet a calm = calm
 calm-quiet who (Ask call more) made quiet a calm =
-    calm-quiet who (more (outcome call a).0) (made.1 (outcome call a).0) (quiet.1 (outcome call a).0) (outcome call a).1 (calm-call who call a made.0 quiet.0 calm)
+    calm-quiet who (more (outcome call a).0) (made.1 (outcome call a).0) (quiet.1 (outcome call a).0) (outcome call a).1
+    (calm-call who call a made.0 quiet.0 calm)
 calm-quiet who (Grow refused found) made quiet a calm = calm-quiet who found made.1 quiet.1 a calm
 
 -- all of its calls are a context's
@@ -107,7 +109,8 @@ pub seeks : (who : ℕ) (a : Core) → IsManaged who a → Sought who a
 seeks who a managed = record {
   run = subst (λ said. Runs Joins a (seeking most_searches who) said end.1) over run;
   over = over;
-  managed = runs_keeps Joins (IsManaged who) (λ b c call answer m joins. still-managed who b c call answer m joins) (seeking most_searches who) a end.1 end.0 managed run;
+  managed = runs_keeps Joins (IsManaged who) (λ b c call answer m joins. still-managed who b c call answer m joins) (seeking most_searches who) a
+      end.1 end.0 managed run;
 } where
   end : SearchEnd × Core
   end = outcome_of outcome (seeking most_searches who) a
@@ -118,5 +121,6 @@ seeks who a managed = record {
   over : end.0 ≡ Over
   over = elim (over-or_cut most_searches who a) [
     | inl ends ↦ ends
-    | inr cut ↦ absurd (searches-suffice calls_keep-sound a end.1 who managed.few managed.speaks (subst (λ said. Runs Joins a (seeking most_searches who) said end.1) cut run))
+    | inr cut ↦ absurd (searches-suffice calls_keep-sound a end.1 who managed.few managed.speaks
+        (subst (λ said. Runs Joins a (seeking most_searches who) said end.1) cut run))
   ]

@@ -85,12 +85,14 @@ orderly_untold mark session start (Err error, context) = orderly_closing Starves
 
 orderly_waiting : (wish : Wish) (left : Left) (session : Session) → IsAtStart left.mark → AllOrderly (playing.beginning_to_wait wish left session)
 orderly_waiting wish left session start = (
-  each_then {A = Outcome Resume} {B = Pause} IsOrderly (giving_up_wait session.context) (playing.untold left.mark session) (orderly_untold left.mark session start),
+  each_then {A = Outcome Resume} {B = Pause} IsOrderly (giving_up_wait session.context) (playing.untold left.mark session)
+      (orderly_untold left.mark session start),
   (left, refl, start),
 )
 
 orderly_acquired : (wish : Wish) (rest : ℕ → Row Reply) (mark : Mark) (session : Session) (more : ℕ → Session → Program Pause) → IsAtStart mark
-    → ((id : ℕ) (after : Session) → AllOrderly (more id after)) → (outcome : Outcome Acquire) → AllOrderly (playing.acquired wish rest mark session more outcome)
+    → ((id : ℕ) (after : Session) → AllOrderly (more id after)) → (outcome : Outcome Acquire)
+    → AllOrderly (playing.acquired wish rest mark session more outcome)
 orderly_acquired wish rest mark session more start made (Ok (acquire.Acquired id), context) = made id (with_context session context)
 orderly_acquired wish rest mark session more start made (Ok (acquire.MustWait number), context) =
     orderly_waiting wish (record { rest = rest; mark = mark }) (with_context session context) start

@@ -65,7 +65,8 @@ covers-transaction : (kept : List Kept) → Covers (lasts Transaction) (of_trans
 covers-transaction kept = covers-before (lasts Transaction) (held_for Statement kept) (held_for Transaction kept) kept (covers-own (lasts Transaction) kept)
 
 -- however it ends, the statement's go
-covers-ending : (ending : Ending) (is_open : Bool) (mark : Mark) (kept : List Kept) → mark.statement ≡ 0 → Covers (lasts Statement) (gone_at ending is_open mark kept) kept
+covers-ending : (ending : Ending) (is_open : Bool) (mark : Mark) (kept : List Kept) → mark.statement ≡ 0
+    → Covers (lasts Statement) (gone_at ending is_open mark kept) kept
 covers-ending (Answers reply) true mark kept none = covers-own (lasts Statement) kept
 covers-ending (Misses number) true mark kept none = covers-since mark kept none
 covers-ending Starves true mark kept none = covers-since mark kept none
@@ -75,7 +76,8 @@ covers-ending Starves false mark kept none = covers-statement kept
 covers-ending Falls is_open mark kept none = covers-statement kept
 
 -- and where no transaction is open then, the transaction's
-covers-closed : (ending : Ending) (is_open : Bool) (mark : Mark) (kept : List Kept) (state : State) → state.is_open ≡ is_open → (state_after ending state).is_open ≡ false
+covers-closed : (ending : Ending) (is_open : Bool) (mark : Mark) (kept : List Kept) (state : State) → state.is_open ≡ is_open
+    → (state_after ending state).is_open ≡ false
     → Covers (lasts Transaction) (gone_at ending is_open mark kept) kept
 covers-closed (Answers reply) true mark kept state same shut = absurd (false≢true (sym shut ∙ same))
 covers-closed (Misses number) true mark kept state same shut = absurd (false≢true (sym shut ∙ same))
@@ -98,7 +100,8 @@ none-of_transaction ending mark kept state shut =
 -- ---- a statement that was answered
 
 -- where there is none that has to go, none goes
-pub none-gone : (is_open : Bool) (answer : Reply) (mark : Mark) (kept : List Kept) → held_for Statement kept ≡ [] → (is_open ≡ false → held_for Transaction kept ≡ [])
+pub none-gone : (is_open : Bool) (answer : Reply) (mark : Mark) (kept : List Kept) → held_for Statement kept ≡ []
+    → (is_open ≡ false → held_for Transaction kept ≡ [])
     → gone_at (Answers answer) is_open mark kept ≡ []
 none-gone true answer mark kept statement transaction = statement
 none-gone false answer mark kept statement transaction = ap (λ xs. xs ++ held_for Transaction kept) statement ∙ transaction refl

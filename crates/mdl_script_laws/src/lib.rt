@@ -7,7 +7,10 @@ mod refusals;
 mod turns;
 
 pub use deadlocks::no_deadlock_stands;
-pub use refusals::{early_errors_change_nothing, sessions_stay_tidy};
+pub use refusals::{
+    early_errors_change_nothing, idle_sessions_are_tidy, refused_lines_change_nothing,
+    sessions_stay_tidy,
+};
 pub use turns::{
     more_turns_do_nothing, nobody_is_left_settled, statements_ask_for_few_locks,
     statements_tell_of_few_waits, turns_suffice,

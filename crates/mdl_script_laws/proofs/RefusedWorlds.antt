@@ -1,0 +1,250 @@
+-- Line by line, early refusals are answers of lines that changed nothing.
+use Rattle.std.proofs.Common.{◌≡◌, ℕ, zero, suc, Bool, true, false, List, [], ◌∷◌, drop, take, None, ◌⊎◌, inl, inr, refl, sym, ap, ◌∙◌, subst}
+use Rattle.std.specs.Prelude.{is_some, if◌then◌else◌, IsTrue}
+use Rattle.std.specs.List.{All}
+use Rattle.std.proofs.lemmas.Bool.{false≢true}
+use Rattle.std.proofs.lemmas.List.Elements.{All-append, All-cons, All-head, All-nil, All-tail}
+use Rattle.mdl_calls.specs.Words.{Each, Program, Runs, outcome_of}
+use Rattle.mdl_calls.proofs.FaithfulLemmas.{each_reply}
+use Rattle.mdl_core.specs.CoreCalls.{outcome}
+use Rattle.mdl_core.specs.CoreJoins.{Joins}
+use Rattle.mdl_core.specs.Cores.{Core}
+use Rattle.mdl_lines.specs.Sessions.{IsScriptSession}
+use Rattle.mdl_syntax.specs.declared.script.Line.{Line}
+use Rattle.mdl_syntax.specs.declared.statement.Statement.{Statement}
+use Rattle.mdl_syntax.specs.declared.statement.Statement.TheVariants.{Timeout}
+use Rattle.mdl_stmt.specs.declared.reply.Reply.TheVariants as reply
+use Rattle.mdl_stmt.specs.Endings.{Pause, Ends, Begins_to_wait, Waits_on, Faults}
+use Rattle.mdl_stmt.specs.MemoryLaws.{KeepsSpaceSound, session_at}
+use Rattle.mdl_stmt.specs.Playing.{going_on, going_on_with, starting}
+use Rattle.mdl_stmt.specs.Sessions.{Session}
+use Rattle.mdl_stmt.proofs.RowCalls.{rows_keep_number}
+use Rattle.mdl_stmt.proofs.RowOutcomes.{rows_keep_sound}
+use Rattle.mdl_script.specs.declared.told.Told.{Told}
+use Rattle.mdl_script.specs.Worlds.{Player, Scene, World, asked, asked_waiting, first_world, going, is_waiting, line_played, lines_played, most_turns, player_at, script_played, settling, started, told_of}
+use Rattle.mdl_script.proofs.SettleLemmas.{read-sessions}
+use Rattle.mdl_script_laws.specs.IdleSessions.{IdleSessionsAreTidy}
+use Rattle.mdl_script_laws.specs.RefusalsFirst.{IsOrderly, IsTidy, IsUnderway}
+use Rattle.mdl_script_laws.specs.RefusedLines.{IsSameWorld, RefusedLinesChangeNothing, is_early_refusal}
+use Rattle.mdl_script_laws.proofs.EarlyPlays.{IsLateLeft, IsLatePause, IsUntouched, late_going_on, statements_untouched}
+use Rattle.mdl_script_laws.proofs.OrderlyPlays.{stay_tidy}
+use Rattle.mdl_script_laws.proofs.ScriptLemmas.{IsKept, IsStaffed, Keeps, kept-asked, kept-line, kept-lines, kept-settling, new-session, plays-each, plays-run, staffed-first}
+
+-- a session is tidy, or in the midst of a statement that is no longer refused early
+abbrev IsReady : Session → Type 0
+IsReady session = IsTidy session ⊎ (IsUnderway session × IsLateLeft session.left)
+
+-- as a statement has come so far, it is
+ready-at : (pause : Pause) → IsOrderly pause → IsLatePause pause → IsReady (session_at pause)
+ready-at (Ends answer session) orderly late = inl orderly
+ready-at (Begins_to_wait key mode session) orderly late = inr (orderly, late)
+ready-at (Waits_on session) orderly late = inr (orderly, late)
+ready-at (Faults session) orderly late = inl orderly
+
+ready-untouched : (session : Session) (a b : Core) (pause : Pause) → IsOrderly pause → IsUntouched session a pause b → IsReady (session_at pause)
+ready-untouched session a b (Ends answer after) orderly untouched = inl orderly
+ready-untouched session a b (Begins_to_wait key mode after) orderly untouched = inr (orderly, untouched)
+ready-untouched session a b (Waits_on after) orderly untouched = inr (orderly, untouched)
+ready-untouched session a b (Faults after) orderly untouched = inl orderly
+
+-- one that doesn't wait is tidy
+ready-rests : (session : Session) → is_some session.left ≡ false → IsReady session → IsTidy session
+ready-rests session rests (inl tidy) = tidy
+ready-rests session rests (inr ((left, is, start), late)) = absurd (false≢true (sym rests ∙ ap (λ o. is_some o) is))
+
+-- and all sessions are
+abbrev AreReady : World → Type 0
+AreReady world = (who : ℕ) → IsScriptSession who → IsReady (player_at who world).session
+
+-- no statement that goes on is refused early
+abbrev IsNoRefusal : Told → Type 0
+IsNoRefusal told = is_early_refusal told.news ≡ false
+
+-- ---- statements that go on
+
+-- what is left of one comes in order, and is never refused early
+goes-late : (session : Session) → IsReady session → Each IsOrderly (going_on session) × Each IsLatePause (going_on session)
+goes-late session (inr (underway, late)) = ((stay_tidy session).1 underway, late_going_on session.left (record session { left = None }) late)
+goes-late session (inl tidy) =
+    let resting : Session = record session { left = None } in
+    subst (λ left. Each IsOrderly (going_on_with left resting) × Each IsLatePause (going_on_with left resting)) (sym tidy.over)
+    (record { over = refl; statement = tidy.statement; transaction = tidy.transaction }, tt)
+
+told-late : (line who : ℕ) (pause : Pause) → IsLatePause pause → All IsNoRefusal (told_of line who pause)
+told-late line who (Ends reply.Ok session) late = All-cons IsNoRefusal _ [] refl (All-nil IsNoRefusal)
+told-late line who (Ends (reply.Columns tables) session) late = All-cons IsNoRefusal _ [] refl (All-nil IsNoRefusal)
+told-late line who (Ends (reply.Error number) session) late = All-cons IsNoRefusal _ [] late (All-nil IsNoRefusal)
+told-late line who (Begins_to_wait key mode session) late = All-cons IsNoRefusal _ [] refl (All-nil IsNoRefusal)
+told-late line who (Waits_on session) late = All-nil IsNoRefusal
+told-late line who (Faults session) late = All-nil IsNoRefusal
+
+ready-going : (who : ℕ) (world : World) → IsScriptSession who → IsStaffed world → AreReady world
+    → AreReady (going who world).world × All IsNoRefusal (going who world).told
+ready-going who world is staffed ready =
+    (plays-each line who going_on world is staffed keeps names (λ w. IsReady) (ready-at end.0 orderly late) ready, told-late line who end.0 late)
+  where
+    session : Session
+    session = (player_at who world).session
+
+    line : ℕ
+    line = (player_at who world).line
+
+    end : Pause × Core
+    end = outcome_of outcome (going_on session) world.core
+
+    keeps : (s : Session) → KeepsSpaceSound s (going_on s)
+    keeps s = (rows_keep_sound s).2
+
+    names : (s : Session) → Each (λ pause. (session_at pause).context.who ≡ s.context.who) (going_on s)
+    names s = (rows_keep_number s).2
+
+    run : Runs Joins world.core (going_on session) end.0 end.1
+    run = (plays-run line who going_on world is staffed keeps names).0
+
+    orderly : IsOrderly end.0
+    orderly = each_reply Joins IsOrderly (going_on session) world.core end.1 end.0 (goes-late session (ready who is)).0 run
+
+    late : IsLatePause end.0
+    late = each_reply Joins IsLatePause (going_on session) world.core end.1 end.0 (goes-late session (ready who is)).1 run
+
+-- ---- statements that start
+
+-- early refusals are told of this line, and the world is as it was
+abbrev IsOfThisLine : Line → World → World → Told → Type 0
+IsOfThisLine line world after told = IsTrue (is_early_refusal told.news) → (told.line ≡ line.number) × (told.who ≡ line.session) × IsSameWorld world after
+
+told-untouched : (line : Line) (world after : World) (session : Session) (a b : Core) (pause : Pause) → IsUntouched session a pause b
+    → (session_at pause ≡ session → b ≡ a → IsSameWorld world after) → All (IsOfThisLine line world after) (told_of line.number line.session pause)
+told-untouched line world after session a b (Ends (reply.Error number) s) untouched same =
+    All-cons (IsOfThisLine line world after) _ [] (λ early. let h = untouched early in (refl, refl, same h.0 h.1)) (All-nil (IsOfThisLine line world after))
+told-untouched line world after session a b (Ends reply.Ok s) untouched same =
+    All-cons (IsOfThisLine line world after) _ [] (λ early. absurd (false≢true early)) (All-nil (IsOfThisLine line world after))
+told-untouched line world after session a b (Ends (reply.Columns tables) s) untouched same =
+    All-cons (IsOfThisLine line world after) _ [] (λ early. absurd (false≢true early)) (All-nil (IsOfThisLine line world after))
+told-untouched line world after session a b (Begins_to_wait key mode s) untouched same =
+    All-cons (IsOfThisLine line world after) _ [] (λ early. absurd (false≢true early)) (All-nil (IsOfThisLine line world after))
+told-untouched line world after session a b (Waits_on s) untouched same = All-nil (IsOfThisLine line world after)
+told-untouched line world after session a b (Faults s) untouched same = All-nil (IsOfThisLine line world after)
+
+ready-started : (line : Line) (world : World) → IsScriptSession line.session → is_waiting world line.session ≡ false → IsStaffed world → AreReady world
+    → AreReady (started line world).world × All (IsOfThisLine line world (started line world).world) (started line world).told
+ready-started line world is rests staffed ready = (
+  each (λ w. IsReady) (ready-untouched session world.core end.1 end.0 orderly untouched) ready,
+  told-untouched line world (started line world).world session world.core end.1 end.0 untouched
+      (λ same there. record { space = there; sessions = each (λ w s. s ≡ (player_at w world).session) same (λ w _. refl) }),
+) where
+  session : Session
+  session = (player_at line.session world).session
+
+  program : Session → Program Pause
+  program s = starting line.statement s
+
+  end : Pause × Core
+  end = outcome_of outcome (program session) world.core
+
+  keeps : (s : Session) → KeepsSpaceSound s (program s)
+  keeps s = (rows_keep_sound s).1 line.statement
+
+  names : (s : Session) → Each (λ pause. (session_at pause).context.who ≡ s.context.who) (program s)
+  names s = (rows_keep_number s).1 line.statement
+
+  each : (P : ℕ → Session → Type 0) → P line.session (session_at end.0) → ((w : ℕ) → IsScriptSession w → P w (player_at w world).session)
+      → (w : ℕ) → IsScriptSession w → P w (player_at w (started line world).world).session
+  each = plays-each line.number line.session program world is staffed keeps names
+
+  tidy : IsTidy session
+  tidy = ready-rests session rests (ready line.session is)
+
+  run : Runs Joins world.core (program session) end.0 end.1
+  run = (plays-run line.number line.session program world is staffed keeps names).0
+
+  orderly : IsOrderly end.0
+  orderly = each_reply Joins IsOrderly (program session) world.core end.1 end.0 ((stay_tidy session).0 line.statement tidy) run
+
+  untouched : IsUntouched session world.core end.0 end.1
+  untouched = statements_untouched line.statement session world.core end.1 end.0 tidy run
+
+-- ---- lines
+
+keeps-ready : Keeps AreReady IsNoRefusal
+keeps-ready = record {
+  starts = λ line world is rests staffed ready. (ready-started line world is rests staffed ready).0;
+  goes = ready-going;
+  ends = λ who world is staffed ready. ready;
+}
+
+-- a session that waits is told no early refusal
+told-waiting : (statement : Statement) (line : Line) (world after : World)
+    → All (IsOfThisLine line world after) (asked_waiting statement line.number line.session world).told
+told-waiting Timeout line world after =
+    All-cons (IsOfThisLine line world after) _ [] (λ early. absurd (false≢true early)) (All-nil (IsOfThisLine line world after))
+told-waiting _ line world after =
+    All-cons (IsOfThisLine line world after) _ [] (λ early. absurd (false≢true early)) (All-nil (IsOfThisLine line world after))
+
+told-asked : (line : Line) (world : World) → IsScriptSession line.session → IsKept AreReady world
+    → All (IsOfThisLine line world (asked line world).world) (asked line world).told
+told-asked line world is kept = by (is_waiting world line.session) refl where
+  scene : Bool → Scene
+  scene waits = if waits then asked_waiting line.statement line.number line.session world else started line world
+
+  by : (waits : Bool) → is_waiting world line.session ≡ waits → All (IsOfThisLine line world (scene waits).world) (scene waits).told
+  by true e = told-waiting line.statement line world (scene true).world
+  by false e = (ready-started line world is e kept.staffed kept.so).1
+
+-- early refusals are told of lines, and each of these leaves the world as it was
+abbrev IsOfLineFrom : List Line → World → Told → Type 0
+IsOfLineFrom lines world told =
+    IsTrue (is_early_refusal told.news) → (n : ℕ) × (line : Line) × (more : List Line) × (drop n lines ≡ line ∷ more) × (told.line ≡ line.number)
+    × (told.who ≡ line.session) × (let before = (lines_played (take n lines) world).world in IsSameWorld before (asked line before).world)
+
+-- those that are told as the first line is played, and those that are told later
+told-line : (line : Line) (lines : List Line) (world : World) → IsScriptSession line.session → IsKept AreReady world
+    → All (IsOfLineFrom lines (line_played line world).world) (lines_played lines (line_played line world).world).told
+    → All (IsOfLineFrom (line ∷ lines) world) (lines_played (line ∷ lines) world).told
+told-line line lines world here kept others =
+    All-append P (line_played line world).told (lines_played lines (line_played line world).world).told
+    (All-append P (asked line world).told (settling most_turns after).told first later) rest
+  where
+    P : Told → Type 0
+    P = IsOfLineFrom (line ∷ lines) world
+
+    after : World
+    after = (asked line world).world
+
+    first : All P (asked line world).told
+    first k d inside = λ early. let h = told-asked line world here kept k d inside early in (zero, line, lines, refl, h.0, h.1, h.2)
+
+    settled : All IsNoRefusal (settling most_turns after).told
+    settled = (kept-settling AreReady IsNoRefusal keeps-ready most_turns after (kept-asked AreReady IsNoRefusal keeps-ready line world here kept)).1
+
+    later : All P (settling most_turns after).told
+    later k d inside = λ early. absurd (false≢true (sym (settled k d inside) ∙ early))
+
+    rest : All P (lines_played lines (line_played line world).world).told
+    rest k d inside = λ early. let h = others k d inside early in (suc h.0, h.1, h.2, h.3, h.4, h.5, h.6)
+
+told-lines : (lines : List Line) (world : World) → All (λ line. IsScriptSession line.session) lines → IsKept AreReady world
+    → All (IsOfLineFrom lines world) (lines_played lines world).told
+told-lines [] world is kept = All-nil (IsOfLineFrom [] world)
+told-lines (line ∷ lines) world is kept =
+    let here = All-head (λ l. IsScriptSession l.session) line lines is in
+    told-line line lines world here kept
+    (told-lines lines (line_played line world).world (All-tail (λ l. IsScriptSession l.session) line lines is)
+    (kept-line AreReady IsNoRefusal keeps-ready line world here kept))
+
+-- ---- scripts
+
+ready-first : AreReady first_world
+ready-first who is =
+    subst (λ (p : Player). IsReady p.session) (sym (new-session who is)) (inl (record { over = refl; statement = refl; transaction = λ _. refl }))
+
+kept-first : IsKept AreReady first_world
+kept-first = record { staffed = staffed-first; so = ready-first }
+
+pub refused_nothing : RefusedLinesChangeNothing
+refused_nothing text lines read = told-lines lines first_world (read-sessions text lines read) kept-first
+
+pub idle_tidy : IdleSessionsAreTidy
+idle_tidy text lines read n who is rests =
+    let kept = kept-lines AreReady IsNoRefusal keeps-ready n lines first_world (read-sessions text lines read) kept-first in
+    ready-rests (player_at who (script_played (take n lines)).world).session rests (kept.so who is)

@@ -1,0 +1,15 @@
+-- Sessions of a script between their statements, after MySQL 5.7: the Reference Manual, "Metadata Locking", by which locks are held to
+-- the end of the transaction, and to the end of the statement where none is open.
+use Rattle.std.specs.Prelude.{◌≡◌, ℕ, false, List, Ok, take}
+use Rattle.mdl_lines.specs.Sessions.{IsScriptSession}
+use Rattle.mdl_syntax.specs.declared.script.Line.{Line}
+use Rattle.mdl_syntax.specs.Scripts.{parsed}
+use Rattle.mdl_script.specs.Worlds.{is_waiting, player_at, script_played}
+use Rattle.mdl_script_laws.specs.RefusalsFirst.{IsTidy}
+
+-- after any number of a script's lines, each session that doesn't wait keeps no ticket for a statement, and none for a transaction
+-- unless one is open
+abbrev pub IdleSessionsAreTidy : Type 0
+IdleSessionsAreTidy =
+    (text : List ℕ) (lines : List Line) → parsed text ≡ Ok lines → (n who : ℕ) → IsScriptSession who →
+    let world = (script_played (take n lines)).world in is_waiting world who ≡ false → IsTidy (player_at who world).session
