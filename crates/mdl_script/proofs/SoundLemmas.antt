@@ -152,10 +152,10 @@ made-at : (answer : Answer) → EachCall (IsMadeFor 1) (create_at answer)
 made-at (At_place place) = ((refl, refl), made-under)
 made-at _ = tt
 
-made-creating : (schema : KeyName) → EachCall (IsMadeFor 1) (creating schema)
+pub made-creating : (schema : KeyName) → EachCall (IsMadeFor 1) (creating schema)
 made-creating schema = ((refl, refl), made-at)
 
-speak-empty : SpeakForAll (empty_core 256 64)
+pub speak-empty : SpeakForAll (empty_core 256 64)
 speak-empty who least most = (grind (arith, nat_tests, length-replicate 64 empty_seat), empty-sound 256 64)
 
 speak-first : SpeakForAll first_core

@@ -12,4 +12,7 @@ pub mod TidyLemmas
 pub mod TurnLemmas
 pub mod TurnPlays
 pub mod TurnRows
+pub mod TurnSpaces
+pub mod TurnTies
+pub mod TurnTracks
 pub mod TurnWaits

@@ -102,7 +102,8 @@ bounded-played line who n program world dues is most staffed here bounded = reco
   by w there (inl same) = subst (λ k. Fits (get_or (set dues (who - 1) new) (k - 1) nothing_due) (player_at k after)) (sym same.1) mine
   by w there (inr other) =
       let apart : w - 1 ≢ who - 1 = λ e. other.1 (omega (arith, e, is.0, there.0)) in
-      let due : get_or (set dues (who - 1) new) (w - 1) nothing_due ≡ get_or dues (w - 1) nothing_due = get_or-set_other dues (who - 1) (w - 1) new nothing_due apart in
+      let due : get_or (set dues (who - 1) new) (w - 1) nothing_due ≡ get_or dues (w - 1) nothing_due = get_or-set_other dues (who - 1)
+      (w - 1) new nothing_due apart in
       let player : player_at w after ≡ player_at w world = get_or-set_other world.players (who - 1) (w - 1) next (newcomer w) apart in
       subst (λ (p : Player). Fits (get_or (set dues (who - 1) new) (w - 1) nothing_due) p) (sym player)
       (subst (λ (d : Due). Fits d (player_at w world)) (sym due) (bounded.lines w there, bounded.within w there))
@@ -127,7 +128,7 @@ bounded-started line world dues is limited staffed bounded =
 -- ---- turns
 
 -- whoever comes to its turn waits, and its wait is settled
-found-waits : (world : World) (who : ℕ) → first_settled world ≡ Some who → is_waiting world who ≡ true
+pub found-waits : (world : World) (who : ℕ) → first_settled world ≡ Some who → is_waiting world who ≡ true
 found-waits world who found =
     let P : ℕ → Type 0 = λ w. is_waiting world w ≡ true in
     All-find P (has_settled world.core) (waiting_in world) who (waiting-sessions P world (λ w session waits. waits)) found
@@ -162,7 +163,8 @@ turn-going world dues who found bounded = record {
   is : IsScriptSession who
   is = first-session world who found
 
-  its : (its : Left) × (fewer : ℕ) × (player.session.left ≡ Some its) × ((get_or dues (who - 1) nothing_due).locks ≡ suc fewer) × ((id : ℕ) → AsksForAtMost fewer (its.rest id))
+  its : (its : Left) × (fewer : ℕ) × (player.session.left ≡ Some its) × ((get_or dues
+      (who - 1) nothing_due).locks ≡ suc fewer) × ((id : ℕ) → AsksForAtMost fewer (its.rest id))
   its = something-left (get_or dues (who - 1) nothing_due).locks player.session.left (found-waits world who found) (bounded.within who is)
 
   fewer : ℕ
@@ -246,7 +248,8 @@ bounded-asked line world dues is limited bounded = by (is_waiting world line.ses
       subst (λ b. (after : List Due) × IsBounded after (scene b).world) (sym e)
       (set dues (line.session - 1) (record { line = line.number; locks = locks_of line.statement }), bounded-started line world dues is limited there bounded)
 
-rests-line : (line : Line) (world : World) → IsScriptSession line.session → IsWithinLimits line.statement → IsAtRest world → IsAtRest (line_played line world).world
+rests-line : (line : Line) (world : World) → IsScriptSession line.session → IsWithinLimits line.statement → IsAtRest world
+    → IsAtRest (line_played line world).world
 rests-line line world is limited rest =
     let begun = bounded-asked line world rest.dues is limited rest.bounded in
     let most = sum_by-le (λ (due : Due). due.locks) most_waits begun.0 begun.1.few in
@@ -265,7 +268,7 @@ rests-lines (suc n) (line ∷ lines) world are rest =
 
 -- ---- scripts
 
-newcomer-at : (who : ℕ) → IsScriptSession who → player_at who first_world ≡ newcomer who
+pub newcomer-at : (who : ℕ) → IsScriptSession who → player_at who first_world ≡ newcomer who
 unfolding sessions
 newcomer-at who is = get_or-map-range_with_len newcomer 1 64 (who - 1) who (newcomer who) (omega (arith, is.0, is.1)) (omega (arith, is.0))
 
@@ -281,12 +284,18 @@ bounded-first = record {
 }
 
 rests-first : IsAtRest first_world
-rests-first = record { dues = replicate 64 nothing_due; bounded = bounded-first; none = none-left first_world (replicate 64 nothing_due) bounded-first (omega arith) }
+rests-first = record {
+  dues = replicate 64 nothing_due;
+  bounded = bounded-first;
+  none = none-left first_world (replicate 64 nothing_due) bounded-first
+      (omega arith);
+}
 
 -- the lines that were read are of sessions that a script can name, and their statements are within the limits
 pub read-limits : (text : List ℕ) (lines : List Line) → parsed text ≡ Ok lines → All (λ line. IsScriptSession line.session × IsWithinLimits line.statement) lines
 read-limits text lines read =
-    subst (λ (said : Result (List Line) (ℕ × LineError)). IfOk said (All (λ line. IsScriptSession line.session × IsWithinLimits line.statement))) read (lines_say-limited 1 (lines_of text))
+    subst (λ (said : Result (List Line) (ℕ × LineError)). IfOk said (All (λ line. IsScriptSession line.session × IsWithinLimits line.statement))) read
+    (lines_say-limited 1 (lines_of text))
 
 rests-throughout : (text : List ℕ) (lines : List Line) → parsed text ≡ Ok lines → (n : ℕ) → IsAtRest (script_played (take n lines)).world
 rests-throughout text lines read n = rests-lines n lines first_world (read-limits text lines read) rests-first
@@ -307,4 +316,5 @@ none-passes p (x ∷ xs) none =
     ] refl none
 
 pub nobody-left : NobodyIsLeftSettled
-nobody-left text lines read n = let world = (script_played (take n lines)).world in none-passes (has_settled world.core) (waiting_in world) (turns-suffice text lines read n)
+nobody-left text lines read n = let world = (script_played (take n lines)).world in none-passes (has_settled world.core) (waiting_in world)
+    (turns-suffice text lines read n)

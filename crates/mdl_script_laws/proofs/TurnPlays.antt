@@ -55,7 +55,8 @@ left-within most (Faults session) is = is
 
 -- ---- all that may be asked for
 
-within-ended : (most : ℕ) (ending : Ending) (context : ContextView) (state : State) → PausesWithin most (ended ending (record { context = context; state = state; left = None }))
+within-ended : (most : ℕ) (ending : Ending) (context : ContextView) (state : State)
+    → PausesWithin most (ended ending (record { context = context; state = state; left = None }))
 within-ended most (Answers reply) context state = tt
 within-ended most (Misses number) context state = tt
 within-ended most Falls context state = tt
@@ -63,7 +64,8 @@ within-ended most Starves context state = tt
 
 within-closing : (most : ℕ) (ending : Ending) (mark : Mark) (session : Session) → Each (PausesWithin most) (closing ending mark session)
 within-closing most ending mark session =
-    each_then {A = Outcome (Unit {0})} {B = Pause} (PausesWithin most) (giving_up (gone_at ending session.state.is_open mark session.context.kept) session.context)
+    each_then {A = Outcome (Unit {0})} {B = Pause} (PausesWithin most) (giving_up
+    (gone_at ending session.state.is_open mark session.context.kept) session.context)
     (λ outcome. Give (ended ending (record { context = outcome.1; state = state_after ending session.state; left = None })))
     (λ outcome. within-ended most ending outcome.1 (state_after ending session.state))
 
@@ -75,14 +77,17 @@ within-untold most mark session (Ok resume.Waiting, context) = within-closing mo
 within-untold most mark session (Ok (resume.Lost how), context) = within-closing most Starves mark (with_context session context)
 within-untold most mark session (Err error, context) = within-closing most Starves mark (with_context session context)
 
-within-waiting : (most : ℕ) (wish : Wish) (left : Left) (session : Session) → IsLeftWithin most (Some left) → Each (PausesWithin most) (playing.beginning_to_wait wish left session)
+within-waiting : (most : ℕ) (wish : Wish) (left : Left) (session : Session) → IsLeftWithin most (Some left)
+    → Each (PausesWithin most) (playing.beginning_to_wait wish left session)
 within-waiting most wish left session (fewer, same, is) = (
-  each_then {A = Outcome Resume} {B = Pause} (PausesWithin most) (giving_up_wait session.context) (playing.untold left.mark session) (within-untold most left.mark session),
+  each_then {A = Outcome Resume} {B = Pause} (PausesWithin most) (giving_up_wait session.context) (playing.untold left.mark session)
+      (within-untold most left.mark session),
   (omega (arith, same), (fewer, same, is)),
 )
 
 within-acquired : (most : ℕ) (wish : Wish) (rest : ℕ → Row Reply) (mark : Mark) (session : Session) (more : ℕ → Session → Program Pause)
-    → IsLeftWithin most (Some (record { rest = rest; mark = mark })) → ((id : ℕ) (after : Session) → Each (PausesWithin most) (more id after)) → (outcome : Outcome Acquire)
+    → IsLeftWithin most (Some (record { rest = rest; mark = mark })) → ((id : ℕ) (after : Session) → Each (PausesWithin most)
+    (more id after)) → (outcome : Outcome Acquire)
     → Each (PausesWithin most) (playing.acquired wish rest mark session more outcome)
 within-acquired most wish rest mark session more is made (Ok (acquire.Acquired id), context) = made id (with_context session context)
 within-acquired most wish rest mark session more is made (Ok (acquire.MustWait number), context) =
@@ -100,7 +105,8 @@ within-change most mark session more made (Changed version) = made
 within-change most mark session more made answer = within-closing most (ending_of_refusal (refusal_of answer)) mark session
 
 -- the bound may be greater than what is left, so that a lock that is had at once leaves it as it is
-pub within-play : (n most : ℕ) (asked : Row Reply) (mark : Mark) (session : Session) → n ≤ most → AsksForAtMost n asked → Each (PausesWithin most) (play asked mark session)
+pub within-play : (n most : ℕ) (asked : Row Reply) (mark : Mark) (session : Session) → n ≤ most → AsksForAtMost n asked
+    → Each (PausesWithin most) (play asked mark session)
 within-play n most (row.Give reply) mark session less is = within-closing most (Answers reply) mark session
 within-play n most (row.Fail number) mark session less is = within-closing most (Answers (reply.Error number)) mark session
 within-play n most (row.Room rest) mark session less is = (within-closing most Starves mark session, within-play n most rest mark session less is)
@@ -127,7 +133,8 @@ within-play n most (row.Read id rest) mark session less is =
 within-play n most (row.Redefine id change rest) mark session less is =
     within-change most mark session (play rest mark session) (within-play n most rest mark session less is)
 within-play n most (row.Kill target rest) mark session less is =
-    each_then {A = Unit {0}} {B = Pause} (PausesWithin most) (playing.killing target) (λ _. play rest mark session) (λ _. within-play n most rest mark session less is)
+    each_then {A = Unit {0}} {B = Pause} (PausesWithin most) (playing.killing target) (λ _. play rest mark session)
+    (λ _. within-play n most rest mark session less is)
 
 -- ---- what is left of a statement
 
@@ -142,14 +149,15 @@ IsOver (Err error, context) = Unit {0}
 within-resumed : (n : ℕ) (left : Left) (session : Session) (outcome : Outcome Resume) → ((id : ℕ) → AsksForAtMost n (left.rest id)) → IsOver outcome
     → Each (PausesWithin n) (playing.resumed left session outcome)
 within-resumed n left session (Ok resume.Waiting, context) is over = absurd over
-within-resumed n left session (Ok (resume.Acquired id), context) is over = within-play n n (left.rest id) left.mark (with_context session context) (omega arith) (is id)
+within-resumed n left session (Ok (resume.Acquired id), context) is over = within-play n n (left.rest id) left.mark (with_context session context)
+    (omega arith) (is id)
 within-resumed n left session (Ok (resume.Lost how), context) is over = within-closing n (ending_of_loss how) left.mark (with_context session context)
 within-resumed n left session (Err error, context) is over = within-closing n (ending_of_error error) left.mark (with_context session context)
 
 -- ---- a settled wait
 
 -- the wait, and how it is settled
-settled-wait : (here : Bool) (wait : Option Pending) → is_closed (if here then wait else None) ≡ true
+pub settled-wait : (here : Bool) (wait : Option Pending) → is_closed (if here then wait else None) ≡ true
     → (its : Pending) × (how : Settled) × (wait ≡ Some its) × (its.settled ≡ Some how)
 settled-wait true (Some its) settled = by its.settled refl settled where
   by : (how : Option Settled) → its.settled ≡ how → is_some how ≡ true → (one : Pending) × (way : Settled) × (Some its ≡ Some one) × (one.settled ≡ Some way)
@@ -159,10 +167,11 @@ settled-wait true None settled = cc
 settled-wait false wait settled = cc
 
 -- that is what a poll tells
-polled-settled : (wait : Option Pending) (its : Pending) (how : Settled) (core : Core) → wait ≡ Some its → its.settled ≡ Some how → polling_of wait core ≡ (Is_settled how, core)
+polled-settled : (wait : Option Pending) (its : Pending) (how : Settled) (core : Core) → wait ≡ Some its → its.settled ≡ Some how
+    → polling_of wait core ≡ (Is_settled how, core)
 polled-settled wait its how core same settled = rw same (rw settled refl)
 
-polls-settled : (who : ℕ) (core : Core) → has_settled core who ≡ true → (how : Settled) × (polling who core ≡ (Is_settled how, core))
+pub polls-settled : (who : ℕ) (core : Core) → has_settled core who ≡ true → (how : Settled) × (polling who core ≡ (Is_settled how, core))
 polls-settled who core settled =
     let it = settled-wait (has_session who core) (seat_at who core).wait settled in
     (it.1, polled-settled (seat_at who core).wait it.0 it.1 core it.2 it.3)

@@ -157,7 +157,8 @@ few-show_all : (lock : KeyName → Row ℕ) (shown : List TableShown) (tables : 
 few-show_all lock shown [] each = tt
 few-show_all lock shown (table ∷ tables) each =
     let n = length tables in
-    few-then 1 n (length (table ∷ tables)) (lock table) (λ ticket. stm.show shown table ticket >>= (λ more. stm.show_all lock more tables)) (omega arith) (each table)
+    few-then 1 n (length (table ∷ tables)) (lock table) (λ ticket. stm.show shown table ticket >>= (λ more. stm.show_all lock more tables)) (omega arith)
+    (each table)
     (λ ticket. few-then 0 n n (stm.show shown table ticket) (λ more. stm.show_all lock more tables) (omega arith) (few-show shown table ticket)
     (λ more. few-show_all lock more tables each))
 
@@ -195,7 +196,8 @@ few-write_locked table =
 
 few-write : (table : KeyName) (priority : Priority) → AsksForAtMost 3 (stm.write table priority)
 few-write table priority state =
-    few-either 3 (has_locked state.locked) (stm.write_locked table) (stm.write_unlocked table priority) (few-write_locked table) (few-write_unlocked table priority)
+    few-either 3 (has_locked state.locked) (stm.write_locked table) (stm.write_unlocked table priority) (few-write_locked table)
+    (few-write_unlocked table priority)
 
 -- ---- CREATE TABLE, DROP TABLE
 

@@ -82,7 +82,8 @@ paid-silent world dues bounded = record { after = dues; bounded = bounded; waits
 
 -- one scene after another
 paid-then : (dues between after : List Due) (one other : List Told)
-    → ((number : ℕ) → waits_told number one + owed number between ≤ owed number dues) → ((number : ℕ) → waits_told number other + owed number after ≤ owed number between)
+    → ((number : ℕ) → waits_told number one + owed number between ≤ owed number dues)
+    → ((number : ℕ) → waits_told number other + owed number after ≤ owed number between)
     → (number : ℕ) → waits_told number (one ++ other) + owed number after ≤ owed number dues
 paid-then dues between after one other first second number =
     let told = waits-append number one other in
@@ -93,7 +94,8 @@ paid-then dues between after one other first second number =
 -- one turn, and what follows
 paid-turn : (n : ℕ) (world : World) (dues : List Due) (first : Option ℕ) → first_settled world ≡ first → IsBounded dues world
     → ((after : World) (left : List Due) → IsBounded left after → IsPaid left (settling n after)) → IsPaid dues (settling (suc n) world)
-paid-turn n world dues None found bounded rest = subst (λ (scene : Scene). IsPaid dues scene) (sym (settling-none (suc n) world found)) (paid-silent world dues bounded)
+paid-turn n world dues None found bounded rest = subst (λ (scene : Scene). IsPaid dues scene) (sym (settling-none (suc n) world found))
+    (paid-silent world dues bounded)
 paid-turn n world dues (Some who) found bounded rest =
     let turn = turn-going world dues who found bounded in
     let next = set dues (who - 1) (record { line = (player_at who world).line; locks = turn.fewer }) in
@@ -128,7 +130,8 @@ waits-busy statement line who world number = by statement (eqb line number) refl
   by _ true e = rw e refl
   by _ false e = rw e refl
 
-begun-waiting : (line : Line) (world : World) (dues : List Due) → IsStaffed (asked_waiting line.statement line.number line.session world).world → IsBounded dues world
+begun-waiting : (line : Line) (world : World) (dues : List Due) → IsStaffed (asked_waiting line.statement line.number line.session world).world
+    → IsBounded dues world
     → IsBegun dues line (asked_waiting line.statement line.number line.session world)
 begun-waiting line world dues staffed bounded = record {
   after = dues;
@@ -142,7 +145,8 @@ begun-started : (line : Line) (world : World) (dues : List Due) → IsScriptSess
 begun-started line world dues is limited staffed bounded = record {
   after = set dues (line.session - 1) new;
   bounded = bounded-started line world dues is limited staffed bounded;
-  others = λ number other. let sums = sum_by-set (owed_at number) dues (line.session - 1) new nothing_due among in by number (eqb_tells line.number number) other sums;
+  others = λ number other. let sums = sum_by-set (owed_at number) dues (line.session - 1) new nothing_due among in by number
+      (eqb_tells line.number number) other sums;
   its = λ nothing.
       let here = told line.number in
       let sums = sum_by-set (owed_at line.number) dues (line.session - 1) new nothing_due among in
@@ -162,8 +166,10 @@ begun-started line world dues is limited staffed bounded = record {
   least true = omega arith
   least false = omega arith
 
-  by : (number : ℕ) → ((eqb line.number number ≡ true) × (line.number ≡ number)) ⊎ ((eqb line.number number ≡ false) × (line.number ≢ number)) → number ≢ line.number
-      → sum_by (owed_at number) (set dues (line.session - 1) new) + owed_at number (get_or dues (line.session - 1) nothing_due) ≡ sum_by (owed_at number) dues + owed_at number new
+  by : (number : ℕ) → ((eqb line.number number ≡ true) × (line.number ≡ number)) ⊎ ((eqb line.number number ≡ false) × (line.number ≢ number))
+      → number ≢ line.number
+      → sum_by (owed_at number) (set dues (line.session - 1) new) + owed_at number (get_or dues (line.session - 1) nothing_due) ≡ sum_by
+      (owed_at number) dues + owed_at number new
       → waits_told number (started line world).told + owed number (set dues (line.session - 1) new) ≤ owed number dues
   by number (inl same) other sums = absurd (other (sym same.1))
   by number (inr apart) other sums =

@@ -1,8 +1,10 @@
--- That a script's turns come to their end: how many locks a statement asks for, that nobody is left whose turn has come, and how many
--- waits are told.
+-- That a script's turns come to their end: how many locks a statement asks for, that nobody is left whose turn has come, that a
+-- statement waits just where its session has an unsettled wait, and how many waits are told.
 use Rattle.std.specs.Prelude.{◌≡◌, ℕ, suc, ◌+◌, ◌*◌, ◌≤◌, Bool, true, false, ◌&&◌, ◌==◌, List, length, filter, take, None, Ok}
 use Rattle.std.specs.List.{All}
-use Rattle.mdl_core.specs.CoreCalls.{has_settled}
+use Rattle.mdl_core.specs.CoreCalls.{has_settled, wait_at}
+use Rattle.mdl_core.specs.Seats.{is_open}
+use Rattle.mdl_lines.specs.Sessions.{IsScriptSession}
 use Rattle.mdl_context.specs.declared.request.Mark.{Mark}
 use Rattle.mdl_defs.specs.declared.standing.Standing.{Standing}
 use Rattle.mdl_syntax.specs.declared.script.Line.{Line}
@@ -17,7 +19,7 @@ use Rattle.mdl_stmt.specs.Statements.{row_of}
 use Rattle.mdl_script.specs.declared.told.News.{News}
 use Rattle.mdl_script.specs.declared.told.News.TheVariants.{Waits}
 use Rattle.mdl_script.specs.declared.told.Told.{Told}
-use Rattle.mdl_script.specs.Worlds.{World, first_settled, script_played, settling, silent, waiting_in}
+use Rattle.mdl_script.specs.Worlds.{World, first_settled, is_waiting, script_played, settling, silent, waiting_in}
 
 -- a statement asks for at most so many locks, one after the other, whatever it is told meanwhile
 abbrev pub AsksForAtMost : {A : Type 0} → ℕ → Row A → Type 0
@@ -72,6 +74,14 @@ MoreTurnsDoNothing =
 abbrev pub NobodyIsLeftSettled : Type 0
 NobodyIsLeftSettled =
     (text : List ℕ) (lines : List Line) → parsed text ≡ Ok lines → (n : ℕ) → WaitersAreUnsettled (script_played (take n lines)).world
+
+-- a session's statement waits exactly where the session has a wait in the lock space that isn't settled
+abbrev pub WaitsInTheSpace : World → Type 0
+WaitsInTheSpace world = (who : ℕ) → IsScriptSession who → is_waiting world who ≡ is_open (wait_at who world.core)
+
+-- that is so after each line
+abbrev pub StatementsWaitInTheSpace : Type 0
+StatementsWaitInTheSpace = (text : List ℕ) (lines : List Line) → parsed text ≡ Ok lines → (n : ℕ) → WaitsInTheSpace (script_played (take n lines)).world
 
 -- whether it is told that a statement waits
 abbrev pub is_wait : News → Bool

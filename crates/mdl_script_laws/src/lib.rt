@@ -13,5 +13,5 @@ pub use refusals::{
 };
 pub use turns::{
     more_turns_do_nothing, nobody_is_left_settled, statements_ask_for_few_locks,
-    statements_tell_of_few_waits, turns_suffice,
+    statements_tell_of_few_waits, statements_wait_in_the_space, turns_suffice,
 };

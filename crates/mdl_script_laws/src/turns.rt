@@ -1,6 +1,6 @@
-//! Laws of turns: how many locks a statement asks for, that all whose turn comes after a line get it, and how many waits are told.
-//! Each is proved as the contract of a function that does nothing.
-ghost use Rattle.mdl_script_laws.specs.Turns.{StatementsAskForFewLocks, StatementsTellOfFewWaits, TurnsSuffice, MoreTurnsDoNothing, NobodyIsLeftSettled};
+//! Laws of waits and turns: how many locks a statement asks for, that all whose turn comes after a line get it, who waits then, and
+//! how many waits are told. Each is proved as the contract of a function that does nothing.
+ghost use Rattle.mdl_script_laws.specs.Turns.{StatementsAskForFewLocks, StatementsTellOfFewWaits, TurnsSuffice, MoreTurnsDoNothing, NobodyIsLeftSettled, StatementsWaitInTheSpace};
 
 /// A statement asks for no more locks than it can need: its tables, with their schemas where they are created or dropped, the
 /// global lock, and the COMMIT lock. That is at most eighteen, whatever stands and whatever its session keeps.
@@ -22,6 +22,11 @@ pub fn more_turns_do_nothing()
 /// And after each line whoever waits has a wait that isn't settled.
 pub fn nobody_is_left_settled()
     ensures { NobodyIsLeftSettled }
+{}
+
+/// After each line a session's statement waits exactly where the session has a wait in the lock space, and that one isn't settled.
+pub fn statements_wait_in_the_space()
+    ensures { StatementsWaitInTheSpace }
 {}
 
 /// A script tells of no more waits of a statement than that statement asks for locks.

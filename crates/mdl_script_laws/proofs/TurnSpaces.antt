@@ -1,0 +1,432 @@
+-- After each line a session's statement waits exactly where the session has a wait in the space.
+use Rattle.std.proofs.Common.{◌≡◌, ◌≢◌, ◌⊎◌, inl, inr, ℕ, zero, suc, ◌<◌, ◌≤◌, ◌+◌, ◌-◌, Bool, true, false, cond, List, [], ◌∷◌, length, set, filter, take, Option, Some, None, Ok, Err, refl, subst, ap, ◌∙◌, sym, arith}
+use Rattle.std.specs.Prelude.{codes, if◌then◌else◌, is_some, not}
+use Rattle.std.specs.List.{All, find, range_with_len}
+use Rattle.std.proofs.Math.Dec.{eqb}
+use Rattle.std.proofs.lemmas.Bool.Decides.{eqb_tells}
+use Rattle.std.proofs.lemmas.List.{get_or-replicate, get_or-set_other, get_or-set_same}
+use Rattle.std.proofs.lemmas.List.Elements.{All-head, All-tail}
+use Rattle.mdl_book.proofs.TicketLemmas.{find-passes}
+use Rattle.mdl_key.specs.Keys.{KeyName, schema_key}
+use Rattle.mdl_calls.specs.declared.answers.Settled.{Settled}
+use Rattle.mdl_calls.specs.declared.answers.Settled.TheVariants as settled_as
+use Rattle.mdl_calls.specs.Words.{Answer, At_place, Granted, Lost, Is_settled, Call, End_wait, Settle_timeout, Own, Program, Give, Ask, Grow, ◌>>=◌, EachCall, outcome_of}
+use Rattle.mdl_core.specs.declared.pending.Pending.{Pending}
+use Rattle.mdl_core.specs.CoreCalls.{ending, ending_at, ending_of, has_settled, outcome, polling}
+use Rattle.mdl_core.specs.CoreJoins.{SpeaksFor, own_at}
+use Rattle.mdl_core.specs.Cores.{Core, empty_core, has_session, seat_at}
+use Rattle.mdl_core.specs.RunLaws.{IsMadeFor}
+use Rattle.mdl_core.specs.Seats.{SeatView, empty_seat, is_closed, is_open, own_of}
+use Rattle.mdl_core.proofs.CallLaws.{core-others}
+use Rattle.mdl_core.proofs.RunOutcomes.{outcomes-are_runs}
+use Rattle.mdl_lines.specs.Sessions.{IsScriptSession}
+use Rattle.mdl_syntax.specs.declared.script.Line.{Line}
+use Rattle.mdl_syntax.specs.declared.statement.Statement.{Statement}
+use Rattle.mdl_syntax.specs.declared.statement.Statement.TheVariants.{Timeout}
+use Rattle.mdl_context.specs.declared.kept.Wanted.{Wanted}
+use Rattle.mdl_context.specs.declared.request.Resume.{Resume}
+use Rattle.mdl_context.specs.declared.request.Resume.TheVariants as resume
+use Rattle.mdl_context.specs.Contexts.{ContextView, mark_of}
+use Rattle.mdl_context.specs.Requests.{Outcome}
+use Rattle.mdl_context.specs.Waits as waits
+use Rattle.mdl_context.specs.Waits.{resuming}
+use Rattle.mdl_stmt.specs.Endings.{Pause, closing, ending_of_error, ending_of_loss}
+use Rattle.mdl_stmt.specs.MemoryLaws.{session_at}
+use Rattle.mdl_stmt.specs.Playing as playing
+use Rattle.mdl_stmt.specs.Playing.{going_on, play, starting, with_context}
+use Rattle.mdl_stmt.specs.Sessions.{Left, Session}
+use Rattle.mdl_stmt.specs.Statements.{row_of}
+use Rattle.mdl_stmt.proofs.RowCalls.{rows_call}
+use Rattle.mdl_script.specs.Worlds.{Player, Scene, World, asked, asked_waiting, create_at, create_under, creating, first_core, first_settled, first_world, going, is_waiting, line_played, lines_played, most_turns, newcomer, played, player_at, script_played, sessions, settling, started, timed_out, waiting_in}
+use Rattle.mdl_script.proofs.SettleLemmas.{settling-none, settling-over, settling-some, read-sessions}
+use Rattle.mdl_script.proofs.SoundLemmas.{IsStaffed, first-session, made-creating, speak-empty, staffed-asked, staffed-first, staffed-going}
+use Rattle.mdl_script_laws.specs.Turns.{StatementsWaitInTheSpace}
+use Rattle.mdl_script_laws.proofs.TurnLemmas.{found-waits, newcomer-at, turns-suffice}
+use Rattle.mdl_script_laws.proofs.TurnPlays.{polls-settled, settled-wait}
+use Rattle.mdl_script_laws.proofs.TurnTies.{IsTied, PausesTied, tied-closing, tied-play}
+use Rattle.mdl_script_laws.proofs.TurnTracks.{Tracks, call-waits, joins-outcome, others-outcome, tracks-outcome, wait_after}
+
+-- ---- one program after another
+
+outcome-then : {S A B : Type 0} (step : Call → S → Answer × S) (first : Program A) (next : A → Program B) (s : S)
+    → outcome_of step (first >>= next) s ≡ outcome_of step (next (outcome_of step first s).0) (outcome_of step first s).1
+outcome-then step (Give x) next s = refl
+outcome-then step (Ask call more) next s = outcome-then step (more (step call s).0) next (step call s).1
+outcome-then step (Grow refused found) next s = outcome-then step found next s
+
+calls-first : {A B : Type 0} (P : Call → Type 0) (first : Program A) (next : A → Program B) → EachCall P (first >>= next) → EachCall P first
+calls-first P (Give x) next each = tt
+calls-first P (Ask call more) next each = (each.0, λ answer. calls-first P (more answer) next (each.1 answer))
+calls-first P (Grow refused found) next each = (calls-first P refused next each.0, calls-first P found next each.1)
+
+calls-next : {S A B : Type 0} (P : Call → Type 0) (step : Call → S → Answer × S) (first : Program A) (next : A → Program B) (s : S) → EachCall P (first >>= next)
+    → EachCall P (next (outcome_of step first s).0)
+calls-next P step (Give x) next s each = each
+calls-next P step (Ask call more) next s each = calls-next P step (more (step call s).0) next (step call s).1 (each.1 (step call s).0)
+calls-next P step (Grow refused found) next s each = calls-next P step found next s each.1
+
+-- ---- a settled wait
+
+-- a wait has come to its end, and the session has none
+abbrev IsEnded : Outcome Resume → Bool → Type 0
+IsEnded (Ok resume.Waiting, context) waits = ⊥
+IsEnded (Ok (resume.Acquired id), context) waits = waits ≡ false
+IsEnded (Ok (resume.Lost how), context) waits = waits ≡ false
+IsEnded (Err error, context) waits = waits ≡ false
+
+abbrev IsEndAnswer : Answer → Type 0
+IsEndAnswer (Granted id) = Unit {0}
+IsEndAnswer (Lost how) = Unit {0}
+IsEndAnswer _ = ⊥
+
+ends-at : (who : ℕ) (its : Pending) (how : Settled) (core : Core) → IsEndAnswer (ending_at who its (Some how) core).0
+ends-at who its settled_as.Granted core = tt
+ends-at who its settled_as.Victim core = tt
+ends-at who its settled_as.Timeout core = tt
+ends-at who its settled_as.Killed core = tt
+
+ends-of : (who : ℕ) (wait : Option Pending) (its : Pending) (how : Settled) (core : Core) → wait ≡ Some its → its.settled ≡ Some how
+    → IsEndAnswer (ending_of who wait core).0
+ends-of who wait its how core same settled = rw same (rw settled (ends-at who its how core))
+
+-- where the wait is settled its end is told
+ends-settled : (who : ℕ) (core : Core) → has_settled core who ≡ true → IsEndAnswer (ending who core).0
+ends-settled who core settled =
+    let it = settled-wait (has_session who core) (seat_at who core).wait settled in ends-of who (seat_at who core).wait it.0 it.1 core it.2 it.3
+
+-- what is left then, by the answer
+ended-answered : (context : ContextView) (answer : Answer) (core : Core) (before : Bool) → IsEndAnswer answer
+    → is_some (own_at core context.who).wait ≡ wait_after (End_wait context.who) answer before
+    → let end = outcome_of outcome (waits.end_answered context answer) core in IsEnded end.0 (is_some (own_at end.1 context.who).wait)
+ended-answered context (Granted id) core before is e = e
+ended-answered context (Lost how) core before is e = e
+ended-answered context _ core before is e = absurd is
+
+-- what a program comes to is so, with whether the session has a wait then
+abbrev Ends : ContextView → Program (Outcome Resume) → Core → Type 0
+Ends context program core = let end = outcome_of outcome program core in IsEnded end.0 (is_some (own_at end.1 context.who).wait)
+
+ended-ending : (context : ContextView) (core : Core) → SpeaksFor core context.who → has_settled core context.who ≡ true → Ends context (waits.ending context) core
+ended-ending context core speaks settled =
+    ended-answered context (ending context.who core).0 (ending context.who core).1 (is_some (own_at core context.who).wait)
+    (ends-settled context.who core settled)
+    (call-waits context.who core (End_wait context.who) speaks (refl, refl))
+
+ended-going : (searched : Option Bool) (context : ContextView) (core : Core) (how : Settled) → is_some searched ≡ true
+    → polling context.who core ≡ (Is_settled how, core)
+    → Ends context (waits.ending context) core → Ends context (waits.going_on searched context) core
+ended-going None context core how some polls ends = cc
+ended-going (Some true) context core how some polls ends =
+    subst (λ (told : Answer × Core). Ends context (waits.poll_answered context told.0) told.1) (sym polls) ends
+ended-going (Some false) context core how some polls ends =
+    subst (λ (told : Answer × Core). Ends context (waits.cut_off_answered context told.0) told.1) (sym polls) ends
+
+is_some-searched : (wait : Option Wanted) → is_some wait ≡ true → is_some (waits.is_searched wait) ≡ true
+is_some-searched None some = cc
+is_some-searched (Some wanted) some = refl
+
+ended-resuming : (context : ContextView) (core : Core) → SpeaksFor core context.who → is_some context.wait ≡ true → has_settled core context.who ≡ true
+    → Ends context (resuming context) core
+ended-resuming context core speaks some settled =
+    let polls = polls-settled context.who core settled in
+    ended-going (waits.is_searched context.wait) context core polls.0 (is_some-searched context.wait some) polls.1 (ended-ending context core speaks settled)
+
+-- then the statement goes on, without a wait
+tied-resumed : (left : Left) (session : Session) (end : Outcome Resume) (waits : Bool) → IsEnded end waits
+    → Tracks PausesTied (playing.resumed left session end) waits
+tied-resumed left session (Ok resume.Waiting, context) waits is = absurd is
+tied-resumed left session (Ok (resume.Acquired id), context) waits is =
+    subst (λ w. Tracks PausesTied (play (left.rest id) left.mark (with_context session context)) w) (sym is)
+    (tied-play (left.rest id) left.mark (with_context session context))
+tied-resumed left session (Ok (resume.Lost how), context) waits is =
+    subst (λ w. Tracks PausesTied (closing (ending_of_loss how) left.mark (with_context session context)) w) (sym is)
+    (tied-closing (ending_of_loss how) left.mark (with_context session context))
+tied-resumed left session (Err error, context) waits is =
+    subst (λ w. Tracks PausesTied (closing (ending_of_error error) left.mark (with_context session context)) w) (sym is)
+    (tied-closing (ending_of_error error) left.mark (with_context session context))
+
+-- what a program of a session comes to is tied to whether the session has a wait then
+abbrev ComesTied : ℕ → Program Pause → Core → Type 0
+ComesTied who program core = let end = outcome_of outcome program core in IsTied (session_at end.0) (is_some (own_at end.1 who).wait)
+
+tied-going_on : (session : Session) (left : Left) (core : Core) → session.left ≡ Some left → SpeaksFor core session.context.who
+    → is_some session.context.wait ≡ true
+    → has_settled core session.context.who ≡ true → ComesTied session.context.who (going_on session) core
+tied-going_on session left core same speaks some settled =
+    subst (λ (its : Option Left). ComesTied who (playing.going_on_with its bare) core) (sym same)
+    (subst (λ (end : Pause × Core). IsTied (session_at end.0) (is_some (own_at end.1 who).wait)) (sym (outcome-then outcome (resuming session.context) rest core))
+    (tracks-outcome PausesTied (rest end.0) end.1 who ((outcomes-are_runs (Outcome Resume) (resuming session.context) core who speaks
+    (calls-first (IsMadeFor who) (resuming session.context) rest calls)).1 who speaks)
+    (calls-next (IsMadeFor who) outcome (resuming session.context) rest core calls)
+    (tied-resumed left bare end.0 (is_some (own_at end.1 who).wait) (ended-resuming session.context core speaks some settled)))) where
+      who : ℕ
+      who = session.context.who
+
+      bare : Session
+      bare = record session { left = None }
+
+      rest : Outcome Resume → Program Pause
+      rest = playing.resumed left bare
+
+      end : Outcome Resume × Core
+      end = outcome_of outcome (resuming session.context) core
+
+      calls : EachCall (IsMadeFor who) (resuming session.context >>= rest)
+      calls = subst (λ (its : Option Left). EachCall (IsMadeFor who) (playing.going_on_with its bare)) same (rows_call session).2
+
+-- ---- worlds
+
+-- all sessions are there, and each one's statement waits where the session has a wait
+record IsSeen (world : World) : Type 0 where
+  staffed : IsStaffed world
+  tied : (who : ℕ) → IsScriptSession who → IsTied (player_at who world).session (is_some (own_at world.core who).wait)
+
+-- a program of a session is played
+seen-played : (line who : ℕ) (program : Program Pause) (world : World) → IsScriptSession who → EachCall (IsMadeFor who) program
+    → IsStaffed (played line who program world).world → ComesTied who program world.core → IsSeen world → IsSeen (played line who program world).world
+seen-played line who program world is made staffed tied seen = record { staffed = staffed; tied = λ w session. by w session (eqb_tells w who) } where
+  end : Pause × Core
+  end = outcome_of outcome program world.core
+
+  next : Player
+  next = record { session = session_at end.0; line = line }
+
+  after : World
+  after = record { core = end.1; players = set world.players (who - 1) next }
+
+  inside : who - 1 < length world.players
+  inside = let all = seen.staffed.all in omega (arith, is.0, is.1, all)
+
+  mine : IsTied (player_at who after).session (is_some (own_at end.1 who).wait)
+  mine =
+      let player : player_at who after ≡ next = get_or-set_same world.players (who - 1) next (newcomer who) inside in
+      subst (λ (p : Player). IsTied p.session (is_some (own_at end.1 who).wait)) (sym player) tied
+
+  by : (w : ℕ) → IsScriptSession w → ((eqb w who ≡ true) × (w ≡ who)) ⊎ ((eqb w who ≡ false) × (w ≢ who))
+      → IsTied (player_at w after).session (is_some (own_at end.1 w).wait)
+  by w there (inl same) = subst (λ k. IsTied (player_at k after).session (is_some (own_at end.1 k).wait)) (sym same.1) mine
+  by w there (inr other) =
+      let player : player_at w after ≡ player_at w world =
+      get_or-set_other world.players (who - 1) (w - 1) next (newcomer w) (λ e. other.1 (omega (arith, e, is.0, there.0))) in
+      let own : own_at end.1 w ≡ own_at world.core w =
+      others-outcome program world.core who w (seen.staffed.speaks who is.0 is.1) (seen.staffed.speaks w there.0 there.1) other.1 made in
+      subst (λ (p : Player). IsTied p.session (is_some (own_at end.1 w).wait)) (sym player)
+      (subst (λ (has : Own). IsTied (player_at w world).session (is_some has.wait)) (sym own) (seen.tied w there))
+
+seen-started : (line : Line) (world : World) → IsScriptSession line.session → is_waiting world line.session ≡ false → IsStaffed (started line world).world
+    → IsSeen world → IsSeen (started line world).world
+seen-started line world is free staffed seen =
+    seen-played line.number line.session program world is made staffed
+    (tracks-outcome PausesTied program world.core line.session (seen.staffed.speaks line.session is.0 is.1) made tracks) seen where
+      session : Session
+      session = (player_at line.session world).session
+
+      program : Program Pause
+      program = starting line.statement session
+
+      made : EachCall (IsMadeFor line.session) program
+      made = subst (λ k. EachCall (IsMadeFor k) program) (seen.staffed.named line.session is) ((rows_call session).1 line.statement)
+
+      tracks : Tracks PausesTied program (is_some (own_at world.core line.session).wait)
+      tracks =
+          let none : is_some (own_at world.core line.session).wait ≡ false = sym (seen.tied line.session is).left ∙ free in
+          subst (λ w. Tracks PausesTied program w) (sym none) (tied-play (row_of line.statement) (mark_of session.context.kept) session)
+
+-- who has something left
+left-some : (left : Option Left) → is_some left ≡ true → (its : Left) × (left ≡ Some its)
+left-some None some = cc
+left-some (Some its) some = (its, refl)
+
+seen-going : (world : World) (who : ℕ) → first_settled world ≡ Some who → IsSeen world → IsSeen (going who world).world
+seen-going world who found seen =
+    seen-played player.line who (going_on player.session) world is made (staffed-going who world is seen.staffed) tied seen where
+      player : Player
+      player = player_at who world
+
+      is : IsScriptSession who
+      is = first-session world who found
+
+      named : player.session.context.who ≡ who
+      named = seen.staffed.named who is
+
+      made : EachCall (IsMadeFor who) (going_on player.session)
+      made = subst (λ k. EachCall (IsMadeFor k) (going_on player.session)) named (rows_call player.session).2
+
+      waits : is_some player.session.left ≡ true
+      waits = found-waits world who found
+
+      tied : ComesTied who (going_on player.session) world.core
+      tied =
+          let its = left-some player.session.left waits in
+          let here = seen.tied who is in
+          let speaks : SpeaksFor world.core player.session.context.who = subst (λ k. SpeaksFor world.core k) (sym named) (seen.staffed.speaks who is.0 is.1) in
+          let settled : has_settled world.core player.session.context.who ≡ true =
+          subst (λ k. has_settled world.core k ≡ true) (sym named) (find-passes (has_settled world.core) (waiting_in world) who found) in
+          subst (λ k. ComesTied k (going_on player.session) world.core) named
+          (tied-going_on player.session its.0 world.core its.1 speaks (here.wait (sym here.left ∙ waits)) settled)
+
+-- ---- turns
+
+seen-turn : (n : ℕ) (world : World) (first : Option ℕ) → first_settled world ≡ first → IsSeen world
+    → ((after : World) → IsSeen after → IsSeen (settling n after).world)
+    → IsSeen (settling (suc n) world).world
+seen-turn n world None found seen rest = subst (λ (scene : Scene). IsSeen scene.world) (sym (settling-none (suc n) world found)) seen
+seen-turn n world (Some who) found seen rest =
+    subst (λ (scene : Scene). IsSeen scene.world) (sym (settling-some (suc n) n world who refl found))
+    (rest (going who world).world (seen-going world who found seen))
+
+seen-settling : (n : ℕ) (world : World) → IsSeen world → IsSeen (settling n world).world
+seen-settling zero world seen = subst (λ (scene : Scene). IsSeen scene.world) (sym (settling-over world)) seen
+seen-settling (suc n) world seen = seen-turn n world (first_settled world) refl seen (λ after there. seen-settling n after there)
+
+-- ---- lines
+
+seen-timed_out : (who : ℕ) (world : World) → IsScriptSession who → IsStaffed (timed_out who world) → IsSeen world → IsSeen (timed_out who world)
+seen-timed_out who world is staffed seen = record { staffed = staffed; tied = λ w session. by w session (eqb_tells w who) } where
+  speaks : SpeaksFor world.core who
+  speaks = seen.staffed.speaks who is.0 is.1
+
+  after : Core
+  after = (outcome (Settle_timeout who) world.core).1
+
+  by : (w : ℕ) → IsScriptSession w → ((eqb w who ≡ true) × (w ≡ who)) ⊎ ((eqb w who ≡ false) × (w ≢ who))
+      → IsTied (player_at w world).session (is_some (own_at after w).wait)
+  by w there (inl same) =
+      let own : is_some (own_at after who).wait ≡ is_some (own_at world.core who).wait = call-waits who world.core (Settle_timeout who) speaks (refl, refl) in
+      subst (λ k. IsTied (player_at k world).session (is_some (own_at after k).wait)) (sym same.1)
+      (subst (λ waits. IsTied (player_at who world).session waits) (sym own) (seen.tied who is))
+  by w there (inr other) =
+      let joins = joins-outcome who world.core (Settle_timeout who) speaks (refl, refl) in
+      let own : own_at after w ≡ own_at world.core w =
+      core-others world.core after (Settle_timeout who) (outcome (Settle_timeout who) world.core).0 w (seen.staffed.speaks w there.0 there.1)
+      (λ e. other.1 (cc)) joins in
+      subst (λ (has : Own). IsTied (player_at w world).session (is_some has.wait)) (sym own) (seen.tied w there)
+
+seen-waiting : (statement : Statement) (line who : ℕ) (world : World) → IsScriptSession who → IsStaffed (asked_waiting statement line who world).world
+    → IsSeen world → IsSeen (asked_waiting statement line who world).world
+seen-waiting Timeout line who world is staffed seen = seen-timed_out who world is staffed seen
+seen-waiting _ line who world is staffed seen = seen
+
+seen-asked : (line : Line) (world : World) → IsScriptSession line.session → IsSeen world → IsSeen (asked line world).world
+seen-asked line world is seen = by (is_waiting world line.session) refl (staffed-asked line world is seen.staffed) where
+  scene : Bool → Scene
+  scene waits = if waits then asked_waiting line.statement line.number line.session world else started line world
+
+  by : (waits : Bool) → is_waiting world line.session ≡ waits → IsStaffed (scene waits).world → IsSeen (scene waits).world
+  by true e staffed = seen-waiting line.statement line.number line.session world is staffed seen
+  by false e staffed = seen-started line world is e staffed seen
+
+seen-line : (line : Line) (world : World) → IsScriptSession line.session → IsSeen world → IsSeen (line_played line world).world
+seen-line line world is seen = seen-settling most_turns (asked line world).world (seen-asked line world is seen)
+
+seen-lines : (n : ℕ) (lines : List Line) (world : World) → All (λ line. IsScriptSession line.session) lines → IsSeen world
+    → IsSeen (lines_played (take n lines) world).world
+seen-lines zero lines world are seen = seen
+seen-lines (suc n) [] world are seen = seen
+seen-lines (suc n) (line ∷ lines) world are seen =
+    let P : Line → Type 0 = λ line. IsScriptSession line.session in
+    seen-lines n lines (line_played line world).world (All-tail P line lines are) (seen-line line world (All-head P line lines are) seen)
+
+-- ---- the world at first
+
+-- to create a schema begins no wait
+abbrev HasNone : {A : Type 0} → A → Bool → Type 0
+HasNone x waits = waits ≡ false
+
+none-under : (answer : Answer) → Tracks (HasNone {A = Unit {0}}) (create_under answer) false
+none-under (Granted id) = λ one is other its. refl
+none-under _ = refl
+
+none-at : (answer : Answer) → Tracks (HasNone {A = Unit {0}}) (create_at answer) false
+none-at (At_place place) = λ answer is. none-under answer
+none-at _ = refl
+
+-- nobody has a wait in a space to which nothing was done
+none-empty : (who : ℕ) → IsScriptSession who → own_at (empty_core 256 64) who ≡ own_of empty_seat
+none-empty who is = ap own_of (get_or-replicate 64 (who - 1) empty_seat empty_seat (omega (arith, is.0, is.1)))
+
+-- nor in the first one
+none-first : (who : ℕ) → IsScriptSession who → is_some (own_at first_core who).wait ≡ false
+none-first who is = by (eqb_tells who 1) where
+  test : KeyName
+  test = schema_key (codes "test")
+
+  one : IsScriptSession 1
+  one = (omega arith, omega arith)
+
+  by : ((eqb who 1 ≡ true) × (who ≡ 1)) ⊎ ((eqb who 1 ≡ false) × (who ≢ 1)) → is_some (own_at first_core who).wait ≡ false
+  by (inl same) =
+      let tracks : Tracks HasNone (creating test) (is_some (own_at (empty_core 256 64) 1).wait) =
+      subst (λ (has : Own). Tracks HasNone (creating test) (is_some has.wait)) (sym (none-empty 1 one)) (λ answer is. none-at answer) in
+      subst (λ k. is_some (own_at first_core k).wait ≡ false) (sym same.1)
+      (tracks-outcome HasNone (creating test) (empty_core 256 64) 1 (speak-empty 1 one.0 one.1) (made-creating test) tracks)
+  by (inr other) =
+      ap (λ (has : Own). is_some has.wait)
+      (others-outcome (creating test) (empty_core 256 64) 1 who (speak-empty 1 one.0 one.1) (speak-empty who is.0 is.1) other.1
+      (made-creating test) ∙ none-empty who is)
+
+seen-first : IsSeen first_world
+seen-first = record {
+  staffed = staffed-first;
+  tied = λ who is.
+      subst (λ (p : Player). IsTied p.session (is_some (own_at first_core who).wait)) (sym (newcomer-at who is))
+      (record { left = sym (none-first who is); wait = λ some. let none = none-first who is in cc });
+}
+
+-- ---- scripts
+
+-- it isn't the first one, which fails too
+unfound-here : (p : ℕ → Bool) (a k : ℕ) → p a ≡ false → (a ≢ k → p k ≡ false) → ((eqb a k ≡ true) × (a ≡ k)) ⊎ ((eqb a k ≡ false) × (a ≢ k)) → p k ≡ false
+unfound-here p a k fails rest (inl same) = ap p (sym same.1) ∙ fails
+unfound-here p a k fails rest (inr other) = rest other.1
+
+-- what isn't found among those that pass a test
+unfound : (p q : ℕ → Bool) (a n k : ℕ) → find p (filter q (range_with_len a n)) ≡ None → a ≤ k → k < a + n → q k ≡ true → p k ≡ false
+unfound p q a zero k none least most passes = absurd (omega (arith, least, most))
+unfound p q a (suc n) k none least most passes =
+    let rest = filter q (range_with_len (a + 1) n) in
+    let later : find p rest ≡ None → a ≢ k → p k ≡ false = λ without other. unfound p q (a + 1) n k without (omega (arith, least, other))
+    (omega (arith, most)) passes in
+    elim (q a) as (λ b. q a ≡ b → find p (cond b (a ∷ rest) rest) ≡ None → p k ≡ false) [
+      | true ↦ λ here. elim (p a) as (λ c. p a ≡ c → cond c (Some a) (find p rest) ≡ None → p k ≡ false) [
+        | true ↦ λ its found. cc
+        | false ↦ λ fails without. unfound-here p a k fails (later without) (eqb_tells a k)
+      ] refl
+      | false ↦ λ fails without. later without (λ same. cc)
+    ] refl none
+
+is_some-own : (seat : SeatView) → is_some (own_of seat).wait ≡ is_some seat.wait
+is_some-own seat = elim seat.wait as (λ wait. is_some (own_of (record seat { wait = wait })).wait ≡ is_some wait) [ None ↦ refl | Some wait ↦ refl ]
+
+open-wait : (wait : Option Pending) (waits : Bool) → waits ≡ is_some wait → (waits ≡ true → is_closed wait ≡ false) → waits ≡ is_open wait
+open-wait None waits tied unsettled = tied
+open-wait (Some its) waits tied unsettled = tied ∙ sym (ap not (unsettled tied))
+
+-- a wait that isn't settled, or none
+open-same : (here : Bool) (seat : SeatView) (waits : Bool) → here ≡ true → waits ≡ is_some (own_of seat).wait
+    → (waits ≡ true → is_closed (if here then seat.wait else None) ≡ false) → waits ≡ is_open (if here then seat.wait else None)
+open-same here seat waits is tied unsettled =
+    subst (λ h. waits ≡ is_open (if h then seat.wait else None)) (sym is)
+    (open-wait seat.wait waits (tied ∙ is_some-own seat) (subst (λ h. waits ≡ true → is_closed (if h then seat.wait else None) ≡ false) is unsettled))
+
+settled-none : (world : World) (who : ℕ) → IsScriptSession who → is_waiting world who ≡ true → first_settled world ≡ None → has_settled world.core who ≡ false
+unfolding sessions
+settled-none world who is waits none = unfound (has_settled world.core) (is_waiting world) 1 64 who none is.0 (omega (arith, is.1)) waits
+
+-- a statement waits exactly where the session has a wait that isn't settled
+pub waits-in-space : StatementsWaitInTheSpace
+waits-in-space text lines read n who is = open-same (has_session who world.core) (seat_at who world.core) (is_waiting world who) (speaks.0) tied unsettled where
+  world : World
+  world = (script_played (take n lines)).world
+
+  seen : IsSeen world
+  seen = seen-lines n lines first_world (read-sessions text lines read) seen-first
+
+  speaks : SpeaksFor world.core who
+  speaks = seen.staffed.speaks who is.0 is.1
+
+  tied : is_waiting world who ≡ is_some (own_at world.core who).wait
+  tied = (seen.tied who is).left
+
+  unsettled : is_waiting world who ≡ true → has_settled world.core who ≡ false
+  unsettled waits = settled-none world who is waits (turns-suffice text lines read n)

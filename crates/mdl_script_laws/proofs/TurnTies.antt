@@ -1,0 +1,221 @@
+-- A statement waits exactly where its session has a wait in the space.
+use Rattle.std.proofs.Common.{◌≡◌, ℕ, zero, suc, Bool, true, false, List, [], ◌∷◌, Option, Some, None, Ok, Err, refl, subst, sym}
+use Rattle.std.specs.Prelude.{if◌then◌else◌, is_some, ◌==◌}
+use Rattle.mdl_defs.specs.declared.standing.Standing.{Standing}
+use Rattle.mdl_calls.specs.declared.answers.Held.{Held}
+use Rattle.mdl_calls.specs.Words.{Answer, At_place, Changed, Granted, Has_wait, Reads, Refused, Victim_is, Waits, Would_wait, Begin_wait, Release, Search, Program, Give, Ask, ◌>>=◌, SearchEnd, Over, Cut_off, Failed, after_search, seeking, most_searches}
+use Rattle.mdl_context.specs.declared.context_error.ContextError.{ContextError}
+use Rattle.mdl_context.specs.declared.context_error.ContextError.TheVariants.{Waiting}
+use Rattle.mdl_context.specs.declared.kept.Kept.{Kept}
+use Rattle.mdl_context.specs.declared.request.Acquire.{Acquire}
+use Rattle.mdl_context.specs.declared.request.Acquire.TheVariants as acquire
+use Rattle.mdl_context.specs.declared.request.Mark.{Mark}
+use Rattle.mdl_context.specs.Contexts.{ContextView, mark_of, place_known, without}
+use Rattle.mdl_context.specs.Gains as gains
+use Rattle.mdl_context.specs.Gains.{refusal_of}
+use Rattle.mdl_context.specs.Holdings.{earliest, without_number}
+use Rattle.mdl_context.specs.Releases as releases
+use Rattle.mdl_context.specs.Requests as requests
+use Rattle.mdl_context.specs.Requests.{Outcome}
+use Rattle.mdl_context.specs.Wishes.{Wish}
+use Rattle.mdl_stmt.specs.declared.ending.Ending.{Ending}
+use Rattle.mdl_stmt.specs.declared.ending.Ending.TheVariants.{Answers, Misses, Falls, Starves}
+use Rattle.mdl_stmt.specs.declared.reply.Reply.{Reply}
+use Rattle.mdl_stmt.specs.declared.reply.Reply.TheVariants as reply
+use Rattle.mdl_stmt.specs.Endings.{Pause, closing, ended, ending_of_error, ending_of_refusal, gone_at, state_after}
+use Rattle.mdl_stmt.specs.MemoryLaws.{session_at}
+use Rattle.mdl_stmt.specs.Playing as playing
+use Rattle.mdl_stmt.specs.Playing.{play, with_context}
+use Rattle.mdl_stmt.specs.Rows.{Row}
+use Rattle.mdl_stmt.specs.Rows as row
+use Rattle.mdl_stmt.specs.Sessions.{Session}
+use Rattle.mdl_stmt.specs.States.{State}
+use Rattle.mdl_script_laws.proofs.TurnTracks.{IsAnswer, Tracks, tracks-then, wait_after}
+
+-- a statement is left waiting exactly where the session has a wait, and then its context has it too
+pub record IsTied (session : Session) (waits : Bool) : Type 0 where
+  pub left : is_some session.left ≡ waits
+  pub wait : waits ≡ true → is_some session.context.wait ≡ true
+
+abbrev pub PausesTied : Pause → Bool → Type 0
+PausesTied pause waits = IsTied (session_at pause) waits
+
+-- nothing that a session does here changes whether it has a wait
+abbrev Stays : {A : Type 0} → Bool → A → Bool → Type 0
+Stays before x after = after ≡ before
+
+-- ---- ends
+
+stays-releasing : (who : ℕ) (gone : List Kept) (waits : Bool) → Tracks (Stays {A = Unit {0}} waits) (releases.releasing_all who gone) waits
+stays-releasing who [] waits = refl
+stays-releasing who (ticket ∷ tickets) waits = λ answer is. stays-releasing who tickets waits
+
+stays-giving_up : (gone : List Kept) (context : ContextView) (waits : Bool)
+    → Tracks (Stays {A = Outcome (Unit {0})} waits) (releases.giving_up gone context) waits
+stays-giving_up gone context waits =
+    tracks-then {A = Unit {0}} {B = Outcome (Unit {0})} (Stays waits) (Stays waits) (releases.releasing_all context.who gone)
+    (λ _. Give (Ok tt, record context { kept = without gone context.kept })) waits (stays-releasing context.who gone waits) (λ x after same. same)
+
+stays-released : (id : ℕ) (context : ContextView) (waits : Bool) → Tracks (Stays {A = Outcome (Unit {0})} waits) (releases.releasing id context) waits
+stays-released id context waits = by (releases.release_fault id context) where
+  by : (fault : Option ContextError) → Tracks (Stays {A = Outcome (Unit {0})} waits)
+      (releases.unless fault context (Ask (Release context.who id) (λ _. Give (Ok tt, record context { kept = without_number id context.kept })))) waits
+  by (Some fault) = refl
+  by None = λ answer is. refl
+
+tied-ended : (ending : Ending) (context : ContextView) (state : State) (waits : Bool) → waits ≡ false
+    → PausesTied (ended ending (record { context = context; state = state; left = None })) waits
+tied-ended (Answers reply) context state waits none = record { left = sym none; wait = λ some. cc }
+tied-ended (Misses number) context state waits none = record { left = sym none; wait = λ some. cc }
+tied-ended Falls context state waits none = record { left = sym none; wait = λ some. cc }
+tied-ended Starves context state waits none = record { left = sym none; wait = λ some. cc }
+
+pub tied-closing : (ending : Ending) (mark : Mark) (session : Session) → Tracks PausesTied (closing ending mark session) false
+tied-closing ending mark session =
+    let gone = gone_at ending session.state.is_open mark session.context.kept in
+    tracks-then {A = Outcome (Unit {0})} {B = Pause} (Stays false) PausesTied (releases.giving_up gone session.context)
+    (λ outcome. Give (ended ending (record { context = outcome.1; state = state_after ending session.state; left = None }))) false
+    (stays-giving_up gone session.context false) (λ outcome waits none. tied-ended ending outcome.1 (state_after ending session.state) waits none)
+
+-- ---- locks
+
+-- searches go on while there is a wait, and none is refused
+abbrev IsSought : SearchEnd → Bool → Type 0
+IsSought (Failed refusal) waits = ⊥
+IsSought end waits = waits ≡ true
+
+sought-after : (who : ℕ) (more : Program SearchEnd) (answer : Answer) → IsAnswer (Search who) answer → Tracks IsSought more true
+    → Tracks IsSought (after_search who more answer) true
+sought-after who more (Victim_is victim) is rest =
+    elim (victim == who) as (λ same. Tracks IsSought (if same then Give Over else more) true) [ true ↦ refl | false ↦ rest ]
+sought-after who more (Refused refusal) is rest = absurd is
+sought-after who more _ is rest = refl
+
+sought-seeking : (n who : ℕ) → Tracks IsSought (seeking n who) true
+unfolding seeking
+sought-seeking zero who = refl
+sought-seeking (suc n) who = λ answer is. sought-after who (seeking n who) answer is (sought-seeking n who)
+
+-- a lock was asked for: there is a wait just where the session has to wait
+abbrev IsAskedTied : Outcome Acquire → Bool → Type 0
+IsAskedTied (Ok (acquire.MustWait number), context) waits = (waits ≡ true) × (is_some context.wait ≡ true)
+IsAskedTied (Ok (acquire.Acquired id), context) waits = waits ≡ false
+IsAskedTied (Err error, context) waits = waits ≡ false
+
+-- the same by what this comes to
+abbrev ComesTied : {A : Type 0} → (A → Outcome Acquire) → A → Bool → Type 0
+ComesTied come end waits = IsAskedTied (come end) waits
+
+tied-sought : (place : ℕ) (wish : Wish) (context : ContextView) (number : ℕ) (end : SearchEnd) (waits : Bool) → IsSought end waits
+    → Tracks (ComesTied (requests.outcome_got place wish context)) (gains.wish_sought context.who number end) waits
+tied-sought place wish context number Over waits is = (is, refl)
+tied-sought place wish context number Cut_off waits is = (is, refl)
+tied-sought place wish context number (Failed refusal) waits is = absurd is
+
+tied-wished : (place : ℕ) (wish : Wish) (context : ContextView) (answer : Answer)
+    → Tracks (ComesTied (requests.outcome_got place wish context)) (gains.wish_answered context.who answer)
+    (wait_after (Begin_wait context.who place wish.mode) answer false)
+tied-wished place wish context (Granted id) = refl
+tied-wished place wish context (Waits number) =
+    tracks-then {A = SearchEnd} IsSought (ComesTied (requests.outcome_got place wish context)) (seeking most_searches context.who)
+    (gains.wish_sought context.who number) true
+    (sought-seeking most_searches context.who) (tied-sought place wish context number)
+tied-wished place wish context _ = refl
+
+tied-tried : (place : ℕ) (wish : Wish) (context : ContextView) (answer : Answer)
+    → Tracks (ComesTied (requests.outcome_got place wish context)) (gains.try_answered context.who place wish.mode answer) false
+tied-tried place wish context (Granted id) = refl
+tied-tried place wish context Would_wait = λ answer is. tied-wished place wish context answer
+tied-tried place wish context _ = refl
+
+tied-copied : (place : ℕ) (wish : Wish) (context : ContextView) (answer : Answer)
+    → Tracks (ComesTied (requests.outcome_got place wish context)) (gains.copy_answered answer) false
+tied-copied place wish context (Granted id) = refl
+tied-copied place wish context _ = refl
+
+tied-gaining : (ticket : Option Held) (place : ℕ) (wish : Wish) (context : ContextView)
+    → Tracks (ComesTied (requests.outcome_got place wish context)) (gains.gaining_from ticket context.who place wish.mode) false
+tied-gaining (Some ticket) place wish context = λ answer is. tied-copied place wish context answer
+tied-gaining None place wish context = λ answer is. tied-tried place wish context answer
+
+tied-reusing : (ticket : Option Held) (place : ℕ) (wish : Wish) (context : ContextView) → Tracks IsAskedTied (requests.reusing ticket place wish context) false
+tied-reusing (Some ticket) place wish context = refl
+tied-reusing None place wish context =
+    let serving = earliest (requests.suffices place wish) context.kept in
+    tracks-then {B = Outcome Acquire} (ComesTied (requests.outcome_got place wish context)) IsAskedTied (gains.gaining_from serving context.who place wish.mode)
+    (λ end. Give (requests.outcome_got place wish context end)) false (tied-gaining serving place wish context) (λ end waits is. is)
+
+tied-placed : (wish : Wish) (context : ContextView) (answer : Answer) → Tracks IsAskedTied (requests.place_answered wish context answer) false
+tied-placed wish context (At_place place) =
+    let after = requests.remembering wish.key place context in tied-reusing (earliest (requests.is_reusable place wish) after.kept) place wish after
+tied-placed wish context _ = refl
+
+tied-finding : (place : Option ℕ) (wish : Wish) (context : ContextView) → Tracks IsAskedTied (requests.finding place wish context) false
+tied-finding (Some place) wish context = tied-reusing (earliest (requests.is_reusable place wish) context.kept) place wish context
+tied-finding None wish context = λ answer is. tied-placed wish context answer
+
+tied-acquiring : (wish : Wish) (context : ContextView) → Tracks IsAskedTied (requests.acquiring wish context) false
+tied-acquiring wish context =
+    elim (is_some context.wait) as (λ waits. Tracks IsAskedTied (if waits then Give (Err Waiting, context) else requests.finding
+    (place_known wish.key context.known) wish context) false) [
+      | true ↦ refl
+      | false ↦ tied-finding (place_known wish.key context.known) wish context
+    ]
+
+-- ---- all that may be asked for
+
+-- a wait that isn't there
+tied-at : (program : Program Pause) (waits : Bool) → waits ≡ false → Tracks PausesTied program false → Tracks PausesTied program waits
+tied-at program waits none tied = subst (λ w. Tracks PausesTied program w) (sym none) tied
+
+tied-asked : (wish : Wish) (rest : ℕ → Row Reply) (mark : Mark) (session : Session) (more : ℕ → Session → Program Pause)
+    → ((id : ℕ) (after : Session) → Tracks PausesTied (more id after) false) → (outcome : Outcome Acquire) (waits : Bool) → IsAskedTied outcome waits
+    → Tracks PausesTied (playing.acquired wish rest mark session more outcome) waits
+tied-asked wish rest mark session more made (Ok (acquire.Acquired id), context) waits is =
+    tied-at (more id (with_context session context)) waits is (made id (with_context session context))
+tied-asked wish rest mark session more made (Ok (acquire.MustWait number), context) waits is = record { left = sym is.0; wait = λ _. is.1 }
+tied-asked wish rest mark session more made (Err error, context) waits is =
+    tied-at (closing (ending_of_error error) mark (with_context session context)) waits is
+    (tied-closing (ending_of_error error) mark (with_context session context))
+
+tied-read : (mark : Mark) (session : Session) (more : Standing → Program Pause) → ((standing : Standing) → Tracks PausesTied (more standing) false)
+    → (answer : Answer) → Tracks PausesTied (playing.read_answered mark session more answer) false
+tied-read mark session more made (Reads version definition) = made (record { version = version; definition = definition })
+tied-read mark session more made answer = tied-closing (ending_of_refusal (refusal_of answer)) mark session
+
+tied-change : (mark : Mark) (session : Session) (more : Program Pause) → Tracks PausesTied more false
+    → (answer : Answer) → Tracks PausesTied (playing.change_answered mark session more answer) false
+tied-change mark session more made (Changed version) = made
+tied-change mark session more made answer = tied-closing (ending_of_refusal (refusal_of answer)) mark session
+
+tied-told : (target : ℕ) (more : Program Pause) → Tracks PausesTied more false → (answer : Answer)
+    → Tracks PausesTied (playing.wait_told target answer >>= (λ _. more)) false
+tied-told target more made (Has_wait (Some number)) = λ answer is. made
+tied-told target more made _ = made
+
+pub tied-play : (asked : Row Reply) (mark : Mark) (session : Session) → Tracks PausesTied (play asked mark session) false
+tied-play (row.Give reply) mark session = tied-closing (Answers reply) mark session
+tied-play (row.Fail number) mark session = tied-closing (Answers (reply.Error number)) mark session
+tied-play (row.Room rest) mark session = tied-play rest mark session
+tied-play (row.Look rest) mark session = tied-play (rest session.state) mark session
+tied-play (row.Set change rest) mark session = tied-play rest mark (record session { state = change session.state })
+tied-play (row.Here rest) mark session = tied-play (rest (mark_of session.context.kept)) mark session
+tied-play (row.Acquire wish rest) mark session =
+    let more : ℕ → Session → Program Pause = λ id after. play (rest id) mark after in
+    tracks-then {A = Outcome Acquire} {B = Pause} IsAskedTied PausesTied (requests.acquiring wish session.context)
+    (playing.acquired wish rest mark session more) false
+    (tied-acquiring wish session.context) (tied-asked wish rest mark session more (λ id after. tied-play (rest id) mark after))
+tied-play (row.Give_up which rest) mark session =
+    let more : Outcome (Unit {0}) → Program Pause = λ outcome. play rest mark (with_context session outcome.1) in
+    tracks-then {A = Outcome (Unit {0})} {B = Pause} (Stays false) PausesTied (releases.giving_up (which session.context.kept) session.context) more false
+    (stays-giving_up (which session.context.kept) session.context false)
+    (λ outcome waits none. tied-at (more outcome) waits none (tied-play rest mark (with_context session outcome.1)))
+tied-play (row.Release id rest) mark session =
+    let more : Outcome (Unit {0}) → Program Pause = λ outcome. play rest mark (with_context session outcome.1) in
+    tracks-then {A = Outcome (Unit {0})} {B = Pause} (Stays false) PausesTied (releases.releasing id session.context) more false
+    (stays-released id session.context false)
+    (λ outcome waits none. tied-at (more outcome) waits none (tied-play rest mark (with_context session outcome.1)))
+tied-play (row.Read id rest) mark session =
+    λ answer is. tied-read mark session (λ standing. play (rest standing) mark session) (λ standing. tied-play (rest standing) mark session) answer
+tied-play (row.Redefine id change rest) mark session = λ answer is. tied-change mark session (play rest mark session) (tied-play rest mark session) answer
+tied-play (row.Kill target rest) mark session = λ answer is. tied-told target (play rest mark session) (tied-play rest mark session) answer
