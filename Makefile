@@ -20,9 +20,11 @@ run: build
 test: examples growths
 	@rt ci
 
-# Lines a second and peak memory of scripts of three sizes; what calls cost on books of four sizes, and chains of grants.
+# Lines a second and peak memory of scripts of three sizes, of one lock and of statements; what calls cost on books of four sizes, and chains
+# of grants.
 bench: build
 	@sh bench/lock.sh $(PROGRAM)
+	@sh bench/replay.sh $(PROGRAM)
 	@mkdir -p crates/mdl_bench/out
 	@cd crates/mdl_bench && rt run -- quick > out/build.log 2>&1 || { cat out/build.log >&2; exit 1; }
 	@$(BENCH)

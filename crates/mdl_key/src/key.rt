@@ -1,5 +1,5 @@
 //! Keys: the names of locks.
-ghost use Rattle.std.specs.Prelude.{◌≡◌, ℕ, Some, [], ◌∷◌, ◌++◌, IfOk, IsOkUnless, not, position};
+ghost use Rattle.std.specs.Prelude.{◌≡◌, ◌≤◌, ℕ, Some, [], ◌∷◌, ◌++◌, IfOk, IsOkUnless, length, not, position};
 ghost use Rattle.std.specs.String.{string_bytes};
 ghost use Rattle.std.proofs.Common.{rules};
 ghost use Rattle.std.specs.Ordering.{as_partial_cmp};
@@ -27,17 +27,23 @@ const LONGEST_NAME: usize = 64;
 #[derive(Drop)]
 pub struct Key {
     namespace: Namespace,
-    schema: String,
-    table: String,
+    // The schema's name and behind it the table's, so that a key takes one piece of memory.
+    names: String,
+    // Where the table's name begins.
+    cut: u8,
 }
 
 impl Model for Key {
+    ghost use Rattle.std.specs.Prelude.{drop, take};
+    ghost use Rattle.std.specs.Str.{IsCharBoundary};
     ghost use Rattle.std.specs.String.{string_bytes};
     ghost use Rattle.mdl_key.specs.Keys.{KeyName};
 
     ghost Value = { KeyName };
 
-    ghost view = { λ key. record { namespace = key.namespace; schema = string_bytes key.schema; table = string_bytes key.table } };
+    ghost view = { λ key. record { namespace = key.namespace; schema = take key.cut (string_bytes key.names); table = drop key.cut (string_bytes key.names) } };
+
+    ghost invariant = { λ key. IsCharBoundary (string_bytes key.names) key.cut };
 }
 
 impl Key {
@@ -61,11 +67,7 @@ impl Key {
         ensures refused { Refuses (name_fault schema.now) KeyError.OutOfMemory result }
     {
         check_name(schema)?;
-        Ok(Key {
-            namespace: Namespace::Schema,
-            schema: text(alloc, schema)?,
-            table: String::new(alloc),
-        })
+        Key::named(alloc, Namespace::Schema, schema, "")
     }
 
     /// The key of a table. The schema's name is looked at first.
@@ -75,11 +77,7 @@ impl Key {
     {
         check_name(schema)?;
         check_name(table)?;
-        Ok(Key {
-            namespace: Namespace::Table,
-            schema: text(alloc, schema)?,
-            table: text(alloc, table)?,
-        })
+        Key::named(alloc, Namespace::Table, schema, table)
     }
 
     fn unnamed(alloc: Global, namespace: Namespace) -> Key
@@ -87,9 +85,26 @@ impl Key {
     {
         Key {
             namespace,
-            schema: String::new(alloc),
-            table: String::new(alloc),
+            names: String::new(alloc),
+            cut: 0,
         }
+    }
+
+    fn named(
+        alloc: Global,
+        namespace: Namespace,
+        schema: &str,
+        table: &str,
+    ) -> Result<Key, KeyError>
+        requires { length schema.now ≤ 64 }
+        ensures made { IfOk result (λ key. key ≡ record { namespace = namespace; schema = schema.now; table = table.now }) }
+        ensures memory { IsOkUnless result KeyError.OutOfMemory }
+    {
+        Ok(Key {
+            namespace,
+            names: joined(alloc, schema, table)?,
+            cut: schema.len() as u8,
+        })
     }
 
     /// Where the key lives.
@@ -110,14 +125,21 @@ impl Key {
     pub fn schema_name(&self) -> &str
         ensures { result.now ≡ self.now.schema }
     {
-        self.schema.as_str()
+        self.parts().0
     }
 
     /// The name of the key's table. It is empty for a key that has none.
     pub fn table_name(&self) -> &str
         ensures { result.now ≡ self.now.table }
     {
-        self.table.as_str()
+        self.parts().1
+    }
+
+    fn parts(&self) -> (&str, &str)
+        ensures schema { result.0.now ≡ self.now.schema }
+        ensures table { result.1.now ≡ self.now.table }
+    {
+        self.names.as_str().split_at(usize::from(self.cut))
     }
 }
 
@@ -127,8 +149,8 @@ impl Clone for Key {
     fn clone(&self) -> Result<Key, AllocError> {
         Ok(Key {
             namespace: self.namespace,
-            schema: self.schema.clone()?,
-            table: self.table.clone()?,
+            names: self.names.clone()?,
+            cut: self.cut,
         })
     }
 }
@@ -140,8 +162,8 @@ impl PartialEq for Key {
 
     fn eq(&self, other: &Key) -> bool {
         self.namespace == other.namespace
-            && self.schema.as_str() == other.schema.as_str()
-            && self.table.as_str() == other.table.as_str()
+            && self.schema_name() == other.schema_name()
+            && self.table_name() == other.table_name()
     }
 }
 
@@ -171,8 +193,8 @@ impl Ord for Key {
     fn cmp(&self, other: &Key) -> Ordering {
         self.namespace
             .cmp(&other.namespace)
-            .then_with(|| self.schema.as_str().cmp(other.schema.as_str()))
-            .then_with(|| self.table.as_str().cmp(other.table.as_str()))
+            .then_with(|| self.schema_name().cmp(other.schema_name()))
+            .then_with(|| self.table_name().cmp(other.table_name()))
     }
 }
 
@@ -183,8 +205,8 @@ impl Hash for Key {
     ghost respects_eq = { Prim.search (hashing, rules) depth 9 };
 
     fn hash<H: Hasher>(&self, state: &mut H) {
-        self.schema.as_str().hash(state);
-        self.table.as_str().hash(state);
+        self.schema_name().hash(state);
+        self.table_name().hash(state);
     }
 }
 
@@ -193,8 +215,7 @@ impl fmt::Display for Key {
     ghost output = { λ key. Some (key_text key) };
 
     fn fmt<W: fmt::Write>(&self, f: &mut fmt::Formatter<W>) -> fmt::Result {
-        let schema = self.schema.as_str();
-        let table = self.table.as_str();
+        let (schema, table) = self.parts();
         match self.namespace {
             Namespace::Global => f.write_str("GLOBAL"),
             Namespace::Schema => write!(f, "SCHEMA {schema}"),
@@ -233,13 +254,16 @@ fn is_name_byte(byte: u8) -> bool
     matches!(byte, b'a'..=b'z' | b'0'..=b'9' | b'_')
 }
 
-// A copy of a name.
-fn text(alloc: Global, name: &str) -> Result<String, KeyError>
-    ensures copy { IfOk result (λ text. string_bytes text ≡ name.now) }
+// Two names, one behind the other.
+fn joined(alloc: Global, schema: &str, table: &str) -> Result<String, KeyError>
+    ensures both { IfOk result (λ text. string_bytes text ≡ schema.now ++ table.now) }
     ensures memory { IsOkUnless result KeyError.OutOfMemory }
 {
-    match String::from_str(alloc, name) {
-        Ok(text) => Ok(text),
-        Err(AllocError) => Err(KeyError::OutOfMemory),
+    let Ok(mut names) = String::with_capacity(alloc, schema.len() + table.len()) else {
+        return Err(KeyError::OutOfMemory);
+    };
+    if names.push_str(schema).is_err() || names.push_str(table).is_err() {
+        return Err(KeyError::OutOfMemory);
     }
+    Ok(names)
 }

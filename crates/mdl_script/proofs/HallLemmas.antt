@@ -1,11 +1,12 @@
 -- The sessions of a hall, and the world that they are.
-use Rattle.std.proofs.Common.{◌≡◌, ◌≢◌, ℕ, zero, suc, ◌<◌, ◌≤◌, ◌+◌, ◌-◌, Bool, true, false, List, [], ◌∷◌, ◌++◌, length, get_or, set, map, filter, Some, None, refl, sym, ap, ◌∙◌, subst, arith, ◌⊎◌, inl, inr}
-use Rattle.std.specs.Prelude.{is_some}
-use Rattle.std.specs.List.{All, range_with_len}
+use Rattle.std.proofs.Common.{◌≡◌, ◌≢◌, ℕ, zero, suc, ◌<◌, ◌≤◌, ◌+◌, ◌-◌, true, false, List, [], ◌∷◌, length, get_or, set, map, filter, Some, None, refl, sym, ap, ◌∙◌, subst, arith, ◌⊎◌, inl, inr}
+use Rattle.std.specs.Prelude.{insert, is_some, not, ◌==◌}
+use Rattle.std.specs.List.{All}
 use Rattle.std.proofs.Math.Dec.{eqb}
 use Rattle.std.proofs.lemmas.Bool.Decides.{eqb_tells}
 use Rattle.std.proofs.lemmas.List.{get_or-map, get_or-set_other}
-use Rattle.mdl_calls.specs.Words.{Answer, Call}
+use Rattle.mdl_calls.specs.Words.{Answer, Call, outcome_of}
+use Rattle.mdl_core.specs.CoreCalls.{outcome}
 use Rattle.mdl_core.specs.Words.{Core, SpeaksFor, own_at, Knows}
 use Rattle.mdl_core.specs.CoreJoins.{Joins}
 use Rattle.mdl_core.proofs.CallLaws.{core-keeps}
@@ -13,10 +14,14 @@ use Rattle.mdl_core.proofs.CoreSound.{calls_keep-sound}
 use Rattle.mdl_context.specs.Contexts.{ContextView, Attends, LeavesOthers}
 use Rattle.mdl_context.proofs.AttendLemmas.{attends-same}
 use Rattle.mdl_lines.specs.Sessions.{IsScriptSession}
+use Rattle.mdl_stmt.specs.Endings.{Pause}
+use Rattle.mdl_stmt.specs.Playing.{going_on, starting}
+use Rattle.mdl_syntax.specs.declared.script.Line.{Line}
+use Rattle.mdl_script.specs.declared.hall.Hall.{Hall}
 use Rattle.mdl_script.specs.declared.hall.Player as kept
-use Rattle.mdl_script.specs.Halls.{AreSeated, player_of}
-use Rattle.mdl_script.specs.Worlds.{Player, World, is_waiting, newcomer, player_at, sessions, waiting_in}
-use Rattle.mdl_script.proofs.ListLemmas.{All-filter_range, filter-more, filter-same}
+use Rattle.mdl_script.specs.Halls.{AreSeated, IsManned, place_of, player_of, world_of}
+use Rattle.mdl_script.specs.Worlds.{Player, World, came, going, is_waiting, newcomer, player_at, sessions, started, waiting_in}
+use Rattle.mdl_script.proofs.ListLemmas.{All-filter_range, filter-noted, filter-same, filter-struck}
 
 -- ---- sessions in their seats
 
@@ -85,37 +90,64 @@ waits-other : (core after : Core) (players : List Player) (who w : ℕ) (x : Pla
 waits-other core after players who w x least positive other =
     ap (λ (p : Player). is_some p.session.left) (get_or-set_other players (who - 1) (w - 1) x (newcomer w) (λ e. other (omega arith)))
 
--- a session that didn't wait doesn't wait now either: the same wait
-pub waiting-same : (core after : Core) (players : List Player) (who : ℕ) (x : Player) → IsScriptSession who
-    → is_waiting (record { core = core; players = players }) who ≡ false → is_waiting (record { core = after; players = set players (who - 1) x }) who ≡ false
-    → waiting_in (record { core = after; players = set players (who - 1) x }) ≡ waiting_in (record { core = core; players = players })
+-- a statement of a session came so far: whether any other session waits is as before
+others-wait : (line who : ℕ) (so : Pause × Core) (world : World) (w : ℕ) → 1 ≤ who → 1 ≤ w → w ≢ who → is_waiting (came line who so world).world w ≡ is_waiting world w
+others-wait line who (pause, core) world w least positive other = waits-other world.core core world.players who w _ least positive other
+
+-- it waits as before: the same wait
+pub waiting-same : (line who : ℕ) (so : Pause × Core) (world after : World) → IsScriptSession who → after ≡ (came line who so world).world
+    → is_waiting after who ≡ is_waiting world who → waiting_in after ≡ waiting_in world
 unfolding sessions
-waiting-same core after players who x session before now = filter-same _ _ 1 64 (λ w least most. by w least (eqb_tells w who)) where
-  by : (w : ℕ) → 1 ≤ w → ((eqb w who ≡ true) × (w ≡ who)) ⊎ ((eqb w who ≡ false) × (w ≢ who))
-      → is_waiting (record { core = after; players = set players (who - 1) x }) w ≡ is_waiting (record { core = core; players = players }) w
-  by w least (inl same) =
-      let P : ℕ → Type 0 = λ k. is_waiting (record { core = after; players = set players (who - 1) x }) k ≡ is_waiting (record { core = core; players = players }) k in
-      subst P (sym same.1) (now ∙ sym before)
-  by w least (inr other) = waits-other core after players who w x session.0 least other.1
+waiting-same line who so world after session left alike = filter-same (is_waiting after) (is_waiting world) 1 64 (λ w least most. by w least (eqb_tells w who)) where
+  by : (w : ℕ) → 1 ≤ w → ((eqb w who ≡ true) × (w ≡ who)) ⊎ ((eqb w who ≡ false) × (w ≢ who)) → is_waiting after w ≡ is_waiting world w
+  by w least (inl same) = subst (λ k. is_waiting after k ≡ is_waiting world k) (sym same.1) alike
+  by w least (inr other) = ap (λ v. is_waiting v w) left ∙ others-wait line who so world w session.0 least other.1
+
+-- it begins to wait: it is noted in its place
+pub waiting-noted : (line who : ℕ) (so : Pause × Core) (world after : World) → IsScriptSession who → after ≡ (came line who so world).world
+    → is_waiting world who ≡ false → is_waiting after who ≡ true → waiting_in after ≡ insert (waiting_in world) (place_of who (waiting_in world)) who
+unfolding sessions
+waiting-noted line who so world after session left before now =
+    filter-noted (is_waiting world) (is_waiting after) who 1 64 (λ w least other. ap (λ v. is_waiting v w) left ∙ others-wait line who so world w session.0 least other)
+    before now session.0 (omega (arith, session.1))
+
+-- it waits no more: it is struck
+pub waiting-struck : (line who : ℕ) (so : Pause × Core) (world after : World) → IsScriptSession who → after ≡ (came line who so world).world
+    → is_waiting after who ≡ false → waiting_in after ≡ filter (λ w. not (w == who)) (waiting_in world)
+unfolding sessions
+waiting-struck line who so world after session left now =
+    filter-struck (is_waiting world) (is_waiting after) who 1 64 (λ w least other. ap (λ v. is_waiting v w) left ∙ others-wait line who so world w session.0 least other) now
 
 -- whoever waits is one of the sessions
 pub waiting-sessions : (P : ℕ → Type 0) (world : World) → ((who : ℕ) → IsScriptSession who → is_waiting world who ≡ true → P who) → All P (waiting_in world)
 unfolding sessions
 waiting-sessions P world each = All-filter_range P (is_waiting world) 1 64 (λ k least most waits. each k (least, omega arith) waits)
 
--- those noted up to the last
-pub noted-all : (world : World) (who : ℕ) → 65 ≤ who → who ≤ 65 → filter (is_waiting world) (range_with_len 1 (who - 1)) ≡ waiting_in world
-unfolding sessions
-noted-all world who least most = let same : who - 1 ≡ 64 = omega (arith, least, most) in ap (λ n. filter (is_waiting world) (range_with_len 1 n)) same
-
--- one more was noted
-pub noted-more : (p : ℕ → Bool) (before after : List ℕ) (who : ℕ) → 1 ≤ who → before ≡ filter p (range_with_len 1 (who - 1))
-    → after ≡ before ++ filter p (who ∷ []) → after ≡ filter p (range_with_len 1 (who + 1 - 1))
-noted-more p before after who least so now =
-    let count : suc (who - 1) ≡ who + 1 - 1 = omega (arith, least) in
-    now ∙ ap (λ xs. xs ++ filter p (who ∷ [])) so ∙ filter-more p 1 (who - 1) who (omega (arith, least)) ∙ ap (λ n. filter p (range_with_len 1 n)) count
+-- ---- a hall after a turn of a session
 
 -- the same space and the same players are the same world
-pub world-same : (core after : Core) (players then_ : List kept.Player) → after ≡ core → then_ ≡ players
+world-same : (core after : Core) (players then_ : List kept.Player) → after ≡ core → then_ ≡ players
     → let old : World = record { core = core; players = map player_of players } in let new : World = record { core = after; players = map player_of then_ } in new ≡ old
 world-same core after players then_ cores same = rw (cores, same) refl
+
+-- only what is noted has changed, and that tells who waits
+pub manned-again : (hall then_ : Hall) → then_.space ≡ hall.space → then_.players.items ≡ hall.players.items → length hall.players.items ≡ 64
+    → AreSeated hall.space 1 hall.players.items → then_.waiting.items ≡ waiting_in (world_of hall) → IsManned then_
+manned-again hall then_ spaces players all seated waiting = record {
+  all = ap length players ∙ all;
+  seated = rw (spaces, players) seated;
+  waiting = waiting ∙ ap waiting_in (sym (world-same hall.space then_.space hall.players.items then_.players.items spaces players));
+}
+
+-- a session began to wait with its statement
+pub noted-starting : (line : Line) (world after : World) → IsScriptSession line.session → after ≡ (started line world).world
+    → is_waiting world line.session ≡ false → is_waiting after line.session ≡ true
+    → insert (waiting_in world) (place_of line.session (waiting_in world)) line.session ≡ waiting_in after
+noted-starting line world after session left before now =
+    sym (waiting-noted line.number line.session (outcome_of outcome (starting line.statement (player_at line.session world).session) world.core) world after session left before now)
+
+-- a session went on, and waits no more
+pub struck-going : (who : ℕ) (world after : World) → IsScriptSession who → after ≡ (going who world).world → is_waiting after who ≡ false
+    → filter (λ w. not (w == who)) (waiting_in world) ≡ waiting_in after
+struck-going who world after session left now =
+    sym (waiting-struck (player_at who world).line who (outcome_of outcome (going_on (player_at who world).session) world.core) world after session left now)

@@ -1,6 +1,13 @@
 -- What passes a test among numbers, and what is found.
-use Rattle.std.proofs.Common.{◌≡◌, ℕ, zero, suc, ◌<◌, ◌≤◌, ◌+◌, Bool, true, false, cond, List, [], ◌∷◌, ◌++◌, length, take, get_or, filter, Some, None, refl, ap, subst, arith, add-one}
-use Rattle.std.specs.List.{All, find, range_with_len}
+use Rattle.std.proofs.Common.{◌≡◌, ◌≢◌, ℕ, zero, suc, ◌<◌, ◌≤◌, ◌+◌, Bool, true, false, cond, List, [], ◌∷◌, length, take, get_or, filter, Some, None, refl, sym, ap, subst, arith, add-one, ◌⊎◌, inl, inr}
+use Rattle.std.specs.Prelude.{not, ◌==◌, insert}
+use Rattle.std.specs.List.{All, find, position, position_or_len, range_with_len}
+use Rattle.std.specs.Option.{unwrap_or}
+use Rattle.std.proofs.Math.Dec.{eqb, leb}
+use Rattle.std.proofs.lemmas.Bool.{le-ltb, lt-ltb}
+use Rattle.std.proofs.lemmas.Bool.Decides.{eqb_tells, leb_tells}
+use Rattle.std.proofs.lemmas.List.Sums.{prefix_len-le-length}
+use Rattle.mdl_script.specs.Halls.{place_of}
 use Rattle.std.proofs.lemmas.List.Elements.{All-nil, All-cons, All-head, All-tail}
 
 -- two tests that say the same of each number
@@ -11,16 +18,73 @@ filter-same p q a (suc n) same =
     let here = same a (omega arith) (omega arith) in
     rw (here, rest)
 
--- one number more
-pub filter-more : (p : ℕ → Bool) (a n m : ℕ) → a + n ≡ m → filter p (range_with_len a n) ++ filter p (m ∷ []) ≡ filter p (range_with_len a (suc n))
-filter-more p a zero m same = let here : a ≡ m = omega (arith, same) in subst (λ k. filter p (k ∷ []) ≡ filter p (a ∷ [])) here refl
-filter-more p a (suc n) m same =
-    let rest = filter-more p (a + 1) n m (omega (arith, same)) in
-    elim (p a) as (λ b. cond b (a ∷ filter p (range_with_len (a + 1) n)) (filter p (range_with_len (a + 1) n)) ++ filter p (m ∷ [])
-    ≡ cond b (a ∷ filter p (range_with_len (a + 1) (suc n))) (filter p (range_with_len (a + 1) (suc n)))) [
-      | true ↦ ap (λ xs. a ∷ xs) rest
-      | false ↦ rest
+-- numbers from a greater one on have it before all of them
+place-first : (p : ℕ → Bool) (who a n : ℕ) → who < a → place_of who (filter p (range_with_len a n)) ≡ 0
+place-first p who a zero less = refl
+place-first p who a (suc n) less =
+    let later = place-first p who (a + 1) n (omega (arith, less)) in
+    let greater = lt-ltb who a less in
+    elim (p a) as (λ b. place_of who (cond b (a ∷ filter p (range_with_len (a + 1) n)) (filter p (range_with_len (a + 1) n))) ≡ 0) [
+      | true ↦ rw greater refl
+      | false ↦ later
     ]
+
+-- one number more passes: it stands in its place
+pub filter-noted : (p q : ℕ → Bool) (who a n : ℕ) → ((k : ℕ) → a ≤ k → k ≢ who → q k ≡ p k) → p who ≡ false → q who ≡ true → a ≤ who → who < a + n
+    → filter q (range_with_len a n) ≡ insert (filter p (range_with_len a n)) (place_of who (filter p (range_with_len a n))) who
+filter-noted p q who a zero same before now least most = absurd (omega (arith, least, most))
+filter-noted p q who a (suc n) same before now least most =
+    by (λ above. filter-noted p q who (a + 1) n (λ k least. same k (omega (arith, least))) before now above (omega (arith, most))) (eqb_tells a who) where
+      by : (a + 1 ≤ who → filter q (range_with_len (a + 1) n) ≡ insert (filter p (range_with_len (a + 1) n)) (place_of who (filter p (range_with_len (a + 1) n))) who)
+          → ((eqb a who ≡ true) × (a ≡ who)) ⊎ ((eqb a who ≡ false) × (a ≢ who))
+          → filter q (range_with_len a (suc n)) ≡ insert (filter p (range_with_len a (suc n))) (place_of who (filter p (range_with_len a (suc n)))) who
+      by later (inl here) =
+          let passed : p a ≡ false = subst (λ k. p k ≡ false) (sym here.1) before in
+          let passes : q a ≡ true = subst (λ k. q k ≡ true) (sym here.1) now in
+          let others = filter-same q p (a + 1) n (λ k least most. same k (omega (arith, least)) (λ e. omega (arith, least, e, here.1))) in
+          let first = place-first p who (a + 1) n (omega (arith, here.1)) in
+          rw (passed, passes, first, others) (ap (λ k. k ∷ filter p (range_with_len (a + 1) n)) here.1)
+      by later (inr other) =
+          let rest = later (omega (arith, least, other.1)) in
+          let lower = le-ltb who a (omega (arith, least)) in
+          let one : 1 + place_of who (filter p (range_with_len (a + 1) n)) ≡ suc (place_of who (filter p (range_with_len (a + 1) n))) = omega arith in
+          let as_before = same a (omega arith) other.1 in
+          rw as_before (elim (p a) as (λ b. cond b (a ∷ filter q (range_with_len (a + 1) n)) (filter q (range_with_len (a + 1) n))
+          ≡ insert (cond b (a ∷ filter p (range_with_len (a + 1) n)) (filter p (range_with_len (a + 1) n))) (place_of who (cond b (a ∷ filter p (range_with_len (a + 1) n)) (filter p (range_with_len (a + 1) n)))) who) [
+            | true ↦ rw (lower, one) (ap (λ xs. a ∷ xs) rest)
+            | false ↦ rest
+          ])
+
+-- one number passes no more: it is struck
+pub filter-struck : (p q : ℕ → Bool) (who a n : ℕ) → ((k : ℕ) → a ≤ k → k ≢ who → q k ≡ p k) → q who ≡ false
+    → filter q (range_with_len a n) ≡ filter (λ k. not (k == who)) (filter p (range_with_len a n))
+filter-struck p q who a zero same now = refl
+filter-struck p q who a (suc n) same now = by (filter-struck p q who (a + 1) n (λ k least. same k (omega (arith, least))) now) (eqb_tells a who) where
+  by : filter q (range_with_len (a + 1) n) ≡ filter (λ k. not (k == who)) (filter p (range_with_len (a + 1) n)) → ((eqb a who ≡ true) × (a ≡ who)) ⊎ ((eqb a who ≡ false) × (a ≢ who))
+      → filter q (range_with_len a (suc n)) ≡ filter (λ k. not (k == who)) (filter p (range_with_len a (suc n)))
+  by rest (inl here) =
+      let fails : q a ≡ false = subst (λ k. q k ≡ false) (sym here.1) now in
+      rw fails (elim (p a) as (λ b. filter q (range_with_len (a + 1) n)
+      ≡ filter (λ k. not (k == who)) (cond b (a ∷ filter p (range_with_len (a + 1) n)) (filter p (range_with_len (a + 1) n)))) [
+        | true ↦ rw here.0 rest
+        | false ↦ rest
+      ])
+  by rest (inr other) =
+      let as_before = same a (omega arith) other.1 in
+      rw as_before (elim (p a) as (λ b. cond b (a ∷ filter q (range_with_len (a + 1) n)) (filter q (range_with_len (a + 1) n))
+      ≡ filter (λ k. not (k == who)) (cond b (a ∷ filter p (range_with_len (a + 1) n)) (filter p (range_with_len (a + 1) n)))) [
+        | true ↦ rw other.0 (ap (λ xs. a ∷ xs) rest)
+        | false ↦ rest
+      ])
+
+-- the first that passes, or behind all
+pub first-or-len : (p : ℕ → Bool) (xs : List ℕ) → unwrap_or (position p xs) (length xs) ≡ position_or_len p xs
+first-or-len p xs = by (leb_tells (suc (position_or_len p xs)) (length xs)) where
+  by : ((leb (suc (position_or_len p xs)) (length xs) ≡ true) × (suc (position_or_len p xs) ≤ length xs))
+      ⊎ ((leb (suc (position_or_len p xs)) (length xs) ≡ false) × (length xs < suc (position_or_len p xs)))
+      → unwrap_or (position p xs) (length xs) ≡ position_or_len p xs
+  by (inl inside) = rw inside.0 refl
+  by (inr past) = rw past.0 (omega (arith, past.1, prefix_len-le-length (λ x. not (p x)) xs))
 
 -- what is so of all numbers is so of those that pass
 pub All-filter_range : (P : ℕ → Type 0) (p : ℕ → Bool) (a n : ℕ) → ((k : ℕ) → a ≤ k → k < a + n → p k ≡ true → P k) → All P (filter p (range_with_len a n))

@@ -1,5 +1,6 @@
 -- A lock space and the sessions of a script as the code keeps them, and the world that they are.
-use Rattle.std.specs.Prelude.{◌≡◌, ℕ, ◌+◌, List, [], ◌∷◌, length, map, None}
+use Rattle.std.specs.Prelude.{◌≡◌, ℕ, ◌+◌, List, [], ◌∷◌, length, map, nat_lt, None}
+use Rattle.std.specs.List.{position_or_len}
 use Rattle.mdl_core.specs.CoreJoins.{SpeaksFor, own_at, Knows}
 use Rattle.mdl_core.specs.Cores.{Core}
 use Rattle.mdl_context.specs.Contexts.{Attends}
@@ -25,6 +26,10 @@ abbrev pub AreSeated : Core → ℕ → List kept.Player → Type 0
 AreSeated core who [] = Unit {0}
 AreSeated core who (player ∷ players) =
     (player.runner.context.who ≡ who) × Attends SpeaksFor own_at Knows core player.runner.context × AreSeated core (who + 1) players
+
+-- the place of a session among others in rising order: that of the first greater one, or behind all
+abbrev pub place_of : ℕ → List ℕ → ℕ
+place_of who others = position_or_len (λ other. nat_lt who other) others
 
 -- all sessions are there, and it is noted which of them wait
 pub record IsManned (hall : Hall) : Type 0 where

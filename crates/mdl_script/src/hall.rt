@@ -1,10 +1,10 @@
 //! The sessions of a script over one lock space.
-ghost use Rattle.std.specs.Prelude.{◌≡◌, ◌++◌, ◌≤◌, ℕ, true, false, Some, ◌∷◌, [], OnOk, IfOk, All, filter, find, flat_map, is_some, length, map};
+ghost use Rattle.std.specs.Prelude.{◌≡◌, ◌++◌, ◌≤◌, ℕ, true, false, Some, ◌∷◌, [], ◌==◌, OnOk, IfOk, All, filter, find, flat_map, insert, is_some, length, map, nat_lt, not, position};
 ghost use Rattle.std.specs.String.{string_bytes};
 ghost use Rattle.mdl_core.specs.CoreCalls.{has_settled};
 ghost use Rattle.mdl_core.specs.CoreJoins.{SpeaksFor};
 ghost use Rattle.mdl_lines.specs.Sessions.{IsScriptSession};
-ghost use Rattle.mdl_script.specs.Halls.{AreSeated, IsManned, new_player, world_of};
+ghost use Rattle.mdl_script.specs.Halls.{AreSeated, IsManned, new_player, place_of, world_of};
 ghost use Rattle.mdl_script.specs.Texts.{end_line, told_text};
 ghost use Rattle.mdl_script.specs.Worlds.{asked, asked_waiting, first_settled, first_world, going, is_waiting, line_played, most_turns, sessions, settling, started, timed_out, told_of, waiting_in};
 ghost use Rattle.mdl_stmt.specs.Gets.{paused};
@@ -135,7 +135,7 @@ impl<'s> Hall<'s> {
     {
         self.begin(line, out)?;
         if self.waits(line.session) {
-            return self.note_waiting();
+            return self.note(line.session);
         }
         Ok(())
     }
@@ -192,7 +192,10 @@ impl<'s> Hall<'s> {
         ensures manned { OnOk result (IsManned self.new) }
     {
         self.resume(who, out)?;
-        self.note_waiting()
+        if !self.waits(who) {
+            self.strike(who);
+        }
+        Ok(())
     }
 
     /// Lets it go on, and tells how far it comes. Whether it still waits is to be noted.
@@ -204,6 +207,7 @@ impl<'s> Hall<'s> {
         ensures left { OnOk result (world_of self.new ≡ (going who (world_of self.old)).world) }
         ensures seated { OnOk result (AreSeated self.new.space 1 self.new.players.items) }
         ensures all { length self.new.players.items ≡ 64 }
+        ensures noted { self.new.waiting.items ≡ self.old.waiting.items }
     {
         let player = &mut self.players[usize::from(who) - 1];
         let line = player.line;
@@ -211,34 +215,47 @@ impl<'s> Hall<'s> {
         tell_progress(out, line, who, progress)
     }
 
-    /// Notes which sessions wait.
-    fn note_waiting(&mut self) -> Result<(), AllocError>
-        requires { length self.old.players.items ≡ 64 }
-        ensures noted { OnOk result (self.new.waiting.items ≡ waiting_in (world_of self.old)) }
+    /// Notes that a session waits, in its place among those that do.
+    fn note(&mut self, who: u16) -> Result<(), AllocError>
+        ensures noted { OnOk result (self.new.waiting.items ≡ insert self.old.waiting.items (place_of who self.old.waiting.items) who) }
         ensures space { self.new.space ≡ self.old.space }
         ensures players { self.new.players.items ≡ self.old.players.items }
     {
-        self.waiting.clear();
-        for who in 1..SESSIONS + 1 {
-            self.note(who)?;
-        }
+        let place = place_of(&self.waiting, who);
+        self.waiting.insert(place, who)?;
         Ok(())
     }
 
-    /// Notes that a session waits, if it does.
-    fn note(&mut self, who: u16) -> Result<(), AllocError>
-        requires all { length self.old.players.items ≡ 64 }
-        requires session { IsScriptSession who }
-        ensures noted { OnOk result (self.new.waiting.items ≡ self.old.waiting.items ++ filter (is_waiting (world_of self.old)) (who ∷ [])) }
+    /// Strikes a session that waits no more from those that do.
+    fn strike(&mut self, who: u16)
+        ensures struck { self.new.waiting.items ≡ filter (λ other. not (other == who)) self.old.waiting.items }
         ensures space { self.new.space ≡ self.old.space }
         ensures players { self.new.players.items ≡ self.old.players.items }
     {
-        if !self.waits(who) {
-            return Ok(());
-        }
-        self.waiting.push(who)?;
-        Ok(())
+        leave_others(&mut self.waiting, who);
     }
+}
+
+// Keeps the sessions of other numbers.
+fn leave_others(waiting: &mut Vec<u16>, who: u16)
+    ensures { waiting.new.items ≡ filter (λ other. not (other == who)) waiting.old.items }
+{
+    waiting.retain(|other| *other != who);
+}
+
+// The place of a session among others in rising order.
+fn place_of(waiting: &[u16], who: u16) -> usize
+    ensures place { result ≡ place_of who waiting.now }
+    ensures inside { result ≤ length waiting.now }
+{
+    first_greater(waiting, who).unwrap_or(waiting.len())
+}
+
+// The place of the first greater session.
+fn first_greater(waiting: &[u16], who: u16) -> Option<usize>
+    ensures { result ≡ position (λ other. nat_lt who other) waiting.now }
+{
+    waiting.iter().position(|other| *other > who)
 }
 
 // All sessions, which were asked for nothing yet.

@@ -40,18 +40,19 @@ pub fn replay<R: Read, W: Write>(alloc: Global, reader: &mut R, writer: &mut W) 
     ensures none_forgotten { IfSome (R.remaining reader.old) (λ input. NeverForgets (parsed input)) }
 {
     let input = read_all(alloc, reader)?;
-    let output = output(alloc, &input)?;
+    let output = output(alloc, input)?;
     write_all(writer, output.as_bytes())?;
     Ok(())
 }
 
-// The output of a script.
-fn output(alloc: Global, text: &[u8]) -> Result<String, Fault>
-    ensures output { IfOk result (λ output. string_bytes output ≡ output_of text.now) }
-    ensures accepted { OnOk result (IsOk (parsed text.now)) }
-    ensures fault { IfErr result (IsFaultOf (parsed text.now)) }
+// The output of a script. Its text goes before its lines are played, which keep what is said of them.
+fn output(alloc: Global, text: Vec<u8>) -> Result<String, Fault>
+    ensures output { IfOk result (λ output. string_bytes output ≡ output_of text.items) }
+    ensures accepted { OnOk result (IsOk (parsed text.items)) }
+    ensures fault { IfErr result (IsFaultOf (parsed text.items)) }
 {
-    let script = parse(alloc, text)?;
+    let script = parse(alloc, &text)?;
+    drop(text);
     match play(alloc, script.lines()) {
         Ok(output) => Ok(output),
         Err(AllocError) => Err(Fault::Memory),

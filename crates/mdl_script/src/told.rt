@@ -1,9 +1,11 @@
 //! What becomes of the lines of a script, as text.
 ghost use Rattle.std.specs.Prelude.{◌≡◌, ◌++◌, ◌∷◌, [], OnOk, flat_map, codes};
+ghost use Rattle.std.specs.Fmt.{decimal};
 ghost use Rattle.std.specs.List.{join_by};
 ghost use Rattle.std.specs.String.{string_bytes};
 ghost use Rattle.mdl_script.specs.Texts.{columns_text, end_line, error_text, heading, news_text, reply_text, table_text, tables_text, told_line, wait_text};
 
+use itoa::Buffer;
 use mdl_defs::Column;
 use mdl_key::{Key, Mode};
 use mdl_stmt::{Reply, TableShown};
@@ -54,10 +56,18 @@ pub fn push_end(out: &mut String, who: u16) -> Result<(), AllocError>
 fn push_heading(out: &mut String, line: u64, who: u16) -> Result<(), AllocError>
     ensures { OnOk result (string_bytes out.new ≡ string_bytes out.old ++ heading line who) }
 {
-    match write!(out, "{line} {who} ") {
-        Ok(()) => Ok(()),
-        Err(_) => Err(AllocError),
-    }
+    push_number(out, line)?;
+    out.push(' ')?;
+    push_number(out, u64::from(who))?;
+    out.push(' ')
+}
+
+// A number. Most of the text is numbers, and a formatter takes longer for them.
+fn push_number(out: &mut String, number: u64) -> Result<(), AllocError>
+    ensures { OnOk result (string_bytes out.new ≡ string_bytes out.old ++ decimal number) }
+{
+    let mut digits = Buffer::new();
+    out.push_str(digits.format(number))
 }
 
 // What became of a line.
@@ -119,12 +129,12 @@ fn push_tables(out: &mut String, tables: &[TableShown]) -> Result<(), AllocError
 fn push_table(out: &mut String, table: &TableShown) -> Result<(), AllocError>
     ensures { OnOk result (string_bytes out.new ≡ string_bytes out.old ++ table_text table.now) }
 {
-    let schema = table.key.schema_name();
-    let name = table.key.table_name();
-    let version = table.version;
-    if write!(out, " {schema}.{name}@{version}").is_err() {
-        return Err(AllocError);
-    }
+    out.push(' ')?;
+    out.push_str(table.key.schema_name())?;
+    out.push('.')?;
+    out.push_str(table.key.table_name())?;
+    out.push('@')?;
+    push_number(out, table.version)?;
     push_columns(out, table.columns.as_slice())
 }
 

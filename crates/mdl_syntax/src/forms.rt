@@ -151,7 +151,7 @@ fn some_tables(alloc: Global, words: &[u8]) -> Result<Tables, NoStatement>
 fn keys_of(alloc: Global, names: &[TableName]) -> Result<Tables, AllocError>
     ensures { IfOk result (λ tables. tables ≡ map (λ name. table_key name.schema.now name.table.now) names.now) }
 {
-    let mut tables = Tables::new(alloc);
+    let mut tables = Tables::with_room(alloc, names.len())?;
     for name in names {
         tables.push(key_of(alloc, name)?)?;
     }

@@ -1,5 +1,5 @@
 //! The tables of a statement.
-ghost use Rattle.std.specs.Prelude.{◌≡◌, [], ◌∷◌, ◌++◌, OnOk, OnErr};
+ghost use Rattle.std.specs.Prelude.{◌≡◌, [], ◌∷◌, ◌++◌, IfOk, OnOk, OnErr};
 
 use mdl_key::Key;
 use std::alloc::{AllocError, Global};
@@ -28,6 +28,15 @@ impl Tables {
         Tables {
             list: Vec::new(alloc),
         }
+    }
+
+    /// No tables, and room for so many of them and no more: scripts keep their tables to their ends.
+    pub(crate) fn with_room(alloc: Global, most: usize) -> Result<Tables, AllocError>
+        ensures { IfOk result (λ tables. tables ≡ []) }
+    {
+        Ok(Tables {
+            list: Vec::with_capacity(alloc, most)?,
+        })
     }
 
     /// Puts a table last.

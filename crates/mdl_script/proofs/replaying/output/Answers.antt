@@ -1,6 +1,10 @@
 -- A script names only sessions from 1 to 64.
+use Rattle.std.proofs.Common.{◌≡◌, ℕ, List, Ok, subst}
+use Rattle.mdl_syntax.specs.Scripts.{parsed}
 use Rattle.mdl_script.proofs.SettleLemmas.{read-sessions}
 use Rattle.mdl_script.proofs.replaying.output.Goals as goal
 
 pub play-requires : goal.play-requires
-play-requires c = rw c.lines.ensures (read-sessions c.args.text.now c.in_ok-script.script c.in_ok-script.ensures.parsed)
+play-requires c =
+    let read = subst (λ (text : List ℕ). parsed text ≡ Ok c.in_ok-script.script) c.deref.ensures.value c.in_ok-script.ensures.parsed in
+    rw c.lines.ensures (read-sessions c.args.text.items c.in_ok-script.script read)

@@ -1,0 +1,48 @@
+#!/bin/sh
+# Times `mdlsim replay` on seeded scripts of statements of three sizes: lines a second, and peak memory against the size of the script.
+# Usage: sh bench/replay.sh PROGRAM
+# It needs awk and GNU time (the Debian package time). Its seconds are those that the processor spent, with the kernel's part in them, so
+# that other work on the machine weighs on them little.
+program=$1
+folder=$(dirname "$0")
+scripts=$(mktemp -d)
+trap 'rm -rf "$scripts"' EXIT
+
+if [ ! -x /usr/bin/time ]; then
+    echo "GNU time is missing: install the package time" >&2
+    exit 1
+fi
+
+# Runs a script so many times, and prints the time of one run, the peak memory and how many of its statements wait, and then the
+# nanoseconds of a line for a program to read: ROW, the workload, the threads, the figure's name and the figure.
+measure() {
+    open=$1
+    lines=$2
+    turns=$3
+    script="$scripts/$open.$lines.script"
+    awk -v LINES="$lines" -v SEED=7 -v CHANGES=100 -v OPEN="$open" -f "$folder/replay_scripts.awk" > "$script"
+    bytes=$(wc -c < "$script")
+    /usr/bin/time -f '%M' -o "$scripts/memory" "$program" replay < "$script" > "$scripts/answers" || exit 1
+    if grep -q -e ' BUSY$' -e ' ERR 1213$' "$scripts/answers"; then
+        echo "$open: a session that waits was asked, or came to a deadlock" >&2
+        exit 1
+    fi
+    waits=$(grep -c ' WAIT [A-Z]' "$scripts/answers")
+    /usr/bin/time -f '%U %S' -o "$scripts/seconds" sh -c '
+        for turn in $(seq "$3"); do
+            "$0" replay < "$1" > "$2"
+        done' "$program" "$script" "$scripts/answers" "$turns"
+    awk -v open="$open" -v lines="$lines" -v bytes="$bytes" -v memory="$(cat "$scripts/memory")" -v waits="$waits" -v turns="$turns" '{
+        seconds = ($1 + $2) / turns
+        printf "%2d open  %9d lines  %9d bytes  %8.4f s  %9.0f lines/s  %6d KiB, %.1f times the script, %4.1f of 100 lines wait\n",
+            open, lines, bytes, seconds, lines / seconds, memory, memory * 1024 / bytes, waits / lines * 100
+        printf "ROW replay_%d 1 line_of_%d %.0f\n", open, lines, seconds / lines * 1e9
+    }' "$scripts/seconds"
+}
+
+# All sessions have transactions open, or a quarter of them.
+for open in 64 16; do
+    measure "$open" 10000 50
+    measure "$open" 100000 10
+    measure "$open" 1000000 3
+done
