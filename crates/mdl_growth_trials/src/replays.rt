@@ -3,18 +3,15 @@ use mdl_lines::Fault;
 use mdl_script::replay;
 use std::alloc::Global;
 
-// Waits that are granted, one that is a victim, one that times out and one that is killed, a savepoint, changes of
-// definitions, and a wait that is left.
+// Waits that are granted and one that is a victim, a savepoint, changes of definitions, and a wait that is left.
 const SCRIPT: &[u8] =
-    b"1 CREATE TABLE a x\n1 CREATE TABLE t x y\n1 BEGIN\n1 SAVEPOINT p\n1 SELECT t\n2 DROP TABLE t a\n\
-    3 INSERT t\n1 SELECT a\n4 SELECT a t\n3 CREATE TABLE t z\n1 SELECT t\n5 BEGIN\n5 INSERT t\n5 SAVEPOINT q\n5 SELECT u\n\
-    5 ROLLBACK TO q\n6 DROP TABLE t\n6 TIMEOUT\n6 DROP TABLE t\n1 KILL QUERY 6\n7 CREATE TABLE t x\n";
+    b"1 CREATE TABLE a x\n1 CREATE TABLE t x y\n1 BEGIN\n1 SAVEPOINT p\n1 SELECT t\n2 DROP TABLE t a\n3 INSERT t\n\
+    1 SELECT a\n3 CREATE TABLE t z\n1 BEGIN\n1 SELECT t\n4 DROP TABLE t\n";
 
 const ANSWERS: &[u8] =
     b"1 1 OK\n2 1 OK\n3 1 OK\n4 1 OK\n5 1 OK test.t@1(x,y)\n6 2 WAIT TABLE test.t X\n7 3 WAIT TABLE test.t SW\n\
-    8 1 WAIT TABLE test.a SR\n8 1 ERR 1213\n6 2 OK\n7 3 ERR 1146\n9 4 ERR 1146\n10 3 OK\n11 1 OK test.t@3(z)\n12 5 OK\n\
-    13 5 OK\n14 5 OK\n15 5 ERR 1146\n16 5 OK\n17 6 WAIT TABLE test.t X\n18 6 OK\n17 6 ERR 1205\n\
-    19 6 WAIT TABLE test.t X\n20 1 OK\n19 6 ERR 1317\n21 7 WAIT TABLE test.t X\nEND 7 WAIT\n";
+    8 1 WAIT TABLE test.a SR\n8 1 ERR 1213\n6 2 OK\n7 3 ERR 1146\n9 3 OK\n10 1 OK\n11 1 OK test.t@3(z)\n\
+    12 4 WAIT TABLE test.t X\nEND 4 WAIT\n";
 
 // Room for the answers, and one byte more.
 const ROOM: usize = 1_000;

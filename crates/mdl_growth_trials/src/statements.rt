@@ -130,7 +130,7 @@ fn is_created<S: LockSpace>(space: &mut S, who: u16, schema: &Key) -> bool
     create(space, who, schema).is_ok() || create(space, who, schema).is_ok()
 }
 
-// A session creates a schema, whose lock nobody else has.
+// A session creates a schema, whose lock nobody else has, and gives the lock up.
 fn create<S: LockSpace>(space: &mut S, who: u16, schema: &Key) -> Result<(), SpaceError>
     requires { S.speaks_for space.old who }
     ensures speaks { S.speaks_for space.new who }
@@ -140,8 +140,14 @@ fn create<S: LockSpace>(space: &mut S, who: u16, schema: &Key) -> Result<(), Spa
     let Attempt::Granted(id) = space.try_now(who, place, Mode::X)? else {
         return Err(SpaceError::Full);
     };
-    space.change_definition(who, id, &Change::Create(Definition::Schema))?;
-    space.release(who, id)
+    let change = Change::Create(Definition::Schema);
+    let is_made = space.change_definition(who, id, &change).is_ok();
+    space.release(who, id)?;
+    if is_made {
+        Ok(())
+    } else {
+        Err(SpaceError::OutOfMemory)
+    }
 }
 
 fn start<'s>(
