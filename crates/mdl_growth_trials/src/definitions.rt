@@ -54,16 +54,16 @@ fn changed(alloc: Global, standing: &Option<Definition>, change: &Change) -> Out
     }
 }
 
-// Likewise, a column.
-fn column(alloc: Global, name: &str) -> Result<Column, KeyError> {
+/// A column, at the second try, where memory was refused to the first.
+pub(crate) fn column(alloc: Global, name: &str) -> Result<Column, KeyError> {
     match Column::new(alloc, name) {
         Err(KeyError::OutOfMemory) => Column::new(alloc, name),
         made => made,
     }
 }
 
-// The creation of a table of two columns.
-fn creation(alloc: Global) -> Option<Change> {
+/// The creation of a table of two columns.
+pub(crate) fn creation(alloc: Global) -> Option<Change> {
     let mut columns = Columns::new(alloc);
     for name in ["x", "y"] {
         if !is_put(alloc, &mut columns, name) {

@@ -7,8 +7,12 @@
 #![tactic(auto)]
 
 mod books;
+mod contexts;
 mod definitions;
+mod replays;
 mod scripts;
+mod spaces;
+mod statements;
 
 use std::alloc::Global;
 use std::process::ExitCode;
@@ -60,11 +64,23 @@ fn first_wrong(alloc: Global) -> Option<&'static str> {
     if !definitions::changes_are_made(alloc) {
         return Some("a table's definition");
     }
+    if !spaces::calls_are_answered(alloc) {
+        return Some("a space");
+    }
+    if !contexts::calls_are_answered(alloc) {
+        return Some("two contexts");
+    }
+    if !statements::statements_are_made(alloc) {
+        return Some("statements");
+    }
     if !scripts::statements_are_read(alloc) {
         return Some("a script of statements");
     }
     if !scripts::locks_are_driven(alloc) {
         return Some("a lock's script");
+    }
+    if !replays::scripts_are_replayed(alloc) {
+        return Some("a replayed script");
     }
     None
 }

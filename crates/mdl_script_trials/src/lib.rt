@@ -9,6 +9,10 @@
 #[cfg(test)]
 mod chance;
 #[cfg(test)]
+mod devices;
+#[cfg(test)]
+mod faults;
+#[cfg(test)]
 mod plain;
 #[cfg(test)]
 mod scripts;

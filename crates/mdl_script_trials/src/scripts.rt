@@ -82,10 +82,11 @@ const ROWS: &str = "\
 1 SELECT T => line 1: BadName
 1 SELECT a.b.c => line 1: BadName
 1 SELECT t test.t => line 1: BadName
+1 LOCK TABLES a WRITE b => line 1: BadWord
 # \u{80} => line 1: NotAscii";
 
-// The lines of a row, which are parted by ` / `.
-fn lines(alloc: Global, row: &str) -> Result<String, AllocError> {
+/// The lines of a row, which are parted by ` / `.
+pub(crate) fn lines(alloc: Global, row: &str) -> Result<String, AllocError> {
     let mut text = String::new(alloc);
     for line in row.split(" / ") {
         text.push_str(line)?;
@@ -94,16 +95,16 @@ fn lines(alloc: Global, row: &str) -> Result<String, AllocError> {
     Ok(text)
 }
 
-// What the plain program answers to a script, or why it is refused.
-fn told(alloc: Global, script: &[u8]) -> Result<String, Fail> {
+/// What the plain program answers to a script, or why it is refused.
+pub(crate) fn told(alloc: Global, script: &[u8]) -> Result<String, Fail> {
     match answers_of(alloc, script) {
         Ok(answers) => Ok(String::from_utf8(answers)?),
         Err(fault) => Ok(format!(in alloc; "{fault}\n")?),
     }
 }
 
-// What `replay` writes for a script, or why it is refused.
-fn replayed(alloc: Global, script: &[u8]) -> Result<String, Fail> {
+/// What `replay` writes for a script, or why it is refused.
+pub(crate) fn replayed(alloc: Global, script: &[u8]) -> Result<String, Fail> {
     let mut reader = script;
     let mut written = Vec::new(alloc);
     match replay(alloc, &mut reader, &mut written) {
@@ -113,8 +114,8 @@ fn replayed(alloc: Global, script: &[u8]) -> Result<String, Fail> {
 }
 
 // The first of these scripts by chance for which the two don't write the same.
-fn first_apart(alloc: Global, scripts: u64) -> Result<Option<u64>, Fail> {
-    for number in 0..scripts {
+fn first_apart(alloc: Global, from: u64, to: u64) -> Result<Option<u64>, Fail> {
+    for number in from..to {
         let script = script_by_chance(alloc, number)?;
         if told(alloc, script.as_slice())? != replayed(alloc, script.as_slice())? {
             return Ok(Some(number));
@@ -141,7 +142,37 @@ fn rows_are_answered(rt: HostRuntime) -> Result<(), Fail> {
 
 #[test]
 fn scripts_by_chance_are_replayed_alike(rt: HostRuntime) -> Result<(), Fail> {
-    assert_eq!(rt; first_apart(rt.alloc(), 300)?, None);
+    assert_eq!(rt; first_apart(rt.alloc(), 0, 1_000)?, None);
+    Ok(())
+}
+
+#[test]
+fn more_scripts_by_chance_are_replayed_alike(rt: HostRuntime) -> Result<(), Fail> {
+    assert_eq!(rt; first_apart(rt.alloc(), 1_000, 2_000)?, None);
+    Ok(())
+}
+
+// Rounds in which a session reads, another one waits for it, and goes on when it is done.
+const ROUNDS: u64 = 250_000;
+
+// However many lines there are, all are answered.
+#[test]
+fn a_million_lines_are_answered(rt: HostRuntime) -> Result<(), Fail> {
+    let mut script = String::from_str(rt.alloc(), "1 CREATE TABLE t x\n")?;
+    let mut answers = String::from_str(rt.alloc(), "1 1 OK\n")?;
+    let mut line = 1_u64;
+    for _round in 0..ROUNDS {
+        script.push_str("1 BEGIN\n1 SELECT t\n2 CREATE TABLE t x\n1 COMMIT\n")?;
+        let [begin, read, create, commit] = [1, 2, 3, 4].map(|step| line.wrapping_add(step));
+        writeln!(answers, "{begin} 1 OK")?;
+        writeln!(answers, "{read} 1 OK test.t@1(x)")?;
+        writeln!(answers, "{create} 2 WAIT TABLE test.t X")?;
+        writeln!(answers, "{commit} 1 OK")?;
+        writeln!(answers, "{create} 2 ERR 1050")?;
+        line = commit;
+    }
+    let replayed = replayed(rt.alloc(), script.as_bytes())?;
+    assert!(rt; replayed == answers);
     Ok(())
 }
 
@@ -160,6 +191,70 @@ fn line_ends_make_no_difference(rt: HostRuntime) -> Result<(), Fail> {
             "{script:?}"
         );
     }
+    Ok(())
+}
+
+// A line that begins so, has this byte behind that up to so many bytes, and ends so.
+fn stretched(
+    alloc: Global,
+    start: &[u8],
+    byte: u8,
+    count: usize,
+    end: &[u8],
+) -> Result<Vec<u8>, AllocError> {
+    let mut line = Vec::from_slice(alloc, start)?;
+    line.resize(count, byte)?;
+    line.extend_from_slice(end)?;
+    Ok(line)
+}
+
+// A line has at most 4,096 bytes, none of them from 0x80 up, and one carriage return before its line feed isn't part of it.
+#[test]
+fn lines_are_looked_at_by_bytes(rt: HostRuntime) -> Result<(), Fail> {
+    for (start, byte, count, end, want) in [
+        (
+            b"1 SELECT \x80".as_slice(),
+            b'x',
+            4097,
+            b"\n".as_slice(),
+            "line 1: LongLine\n",
+        ),
+        (b"1 SELECT ", b'x', 4096, b"\x80\r\n", "line 1: LongLine\n"),
+        (b"1 SELECT \x80", b'x', 4096, b"\n", "line 1: NotAscii\n"),
+        (b"#\x80", b'x', 2, b"\n", "line 1: NotAscii\n"),
+        (b"#", b'x', 4096, b"\r\n1 BEGIN", "2 1 OK\n"),
+        (b"#", b'x', 4097, b"\r\n1 BEGIN", "line 1: LongLine\n"),
+        (b"1 BEGIN", b' ', 4096, b"\r\n", "1 1 OK\n"),
+        (b"1 BEGIN", b'\r', 9, b"\n", "line 1: BadWord\n"),
+        (b"1 SELECT ", b'x', 74, b"\n", "line 1: BadName\n"),
+        (b"1 SELECT ", b'x', 73, b"\n", "1 1 ERR 1146\n"),
+    ] {
+        let script = stretched(rt.alloc(), start, byte, count, end)?;
+        let replayed = replayed(rt.alloc(), script.as_slice())?;
+        assert_eq!(rt; replayed.as_str(), want, "{start:?} up to {count}");
+    }
+    Ok(())
+}
+
+// A script that makes a table of so many columns and reads it.
+fn made_of_columns(alloc: Global, columns: u32) -> Result<String, AllocError> {
+    let mut script = String::from_str(alloc, "1 CREATE TABLE t")?;
+    for number in 1..=columns {
+        write!(script, " c{number}")?;
+    }
+    script.push_str("\n1 SELECT t\n")?;
+    Ok(script)
+}
+
+#[test]
+fn a_table_has_at_most_64_columns(rt: HostRuntime) -> Result<(), Fail> {
+    let script = made_of_columns(rt.alloc(), 64)?;
+    let answers = replayed(rt.alloc(), script.as_bytes())?;
+    assert!(rt; answers.starts_with("1 1 OK\n2 1 OK test.t@1(c1,c2,"));
+    assert!(rt; answers.ends_with(",c63,c64)\n"));
+    let script = made_of_columns(rt.alloc(), 65)?;
+    let answers = replayed(rt.alloc(), script.as_bytes())?;
+    assert_eq!(rt; answers.as_str(), "line 1: BadWord\n");
     Ok(())
 }
 

@@ -1,6 +1,7 @@
 //! Limits, places and lists of the space.
 use crate::acts::{Act, Reply};
-use crate::room::Room;
+use crate::room::{Room, SCHEMA};
+use crate::wishes::{Shown, Wish};
 use mdl_key::{Key, KeyError, Mode};
 use mdl_space::{CoreSpace, Held, NewError, Place, SpaceError};
 use std::alloc::Global;
@@ -87,4 +88,49 @@ fn what_is_held_is_listed(rt: HostRuntime) {
         None => false,
     };
     assert!(rt; are_listed);
+}
+
+const MOST_VERSIONS: u64 = 1_000_000;
+
+// Lets another schema stand again and again, and gives the last version that came of it, up to this one.
+fn change_until_refused(room: &mut Room, most: u64) -> u64 {
+    let mut last = 0;
+    for version in 1..most {
+        if room.make(Act::Redefine(1, 1, Wish::PutSchema)) != Reply::Changed(version) {
+            return last;
+        }
+        last = version;
+    }
+    last
+}
+
+const LOCKED: &[(Act, Reply)] = &[(Act::TryNow(1, SCHEMA, Mode::X), Reply::Granted(1))];
+
+const VERSION_FULL: Reply = Reply::Refused(SpaceError::VersionFull);
+
+const NO_VERSION_LEFT: &[(Act, Reply)] = &[
+    (Act::Redefine(1, 1, Wish::PutSchema), VERSION_FULL),
+    (Act::Redefine(1, 1, Wish::Drop), VERSION_FULL),
+    (Act::Read(1, 1), Reply::Reads(MOST_VERSIONS, Shown::Schema)),
+    // That is told before any other reason why it can't be made.
+    (Act::Redefine(1, 1, Wish::CreateTable), VERSION_FULL),
+    (Act::Release(1, 1), Reply::Done),
+    (Act::TryNow(2, SCHEMA, Mode::X), Reply::Granted(1)),
+    (Act::Redefine(2, 1, Wish::Drop), VERSION_FULL),
+];
+
+// Whether the versions of a schema end at this many.
+fn has_versions_up_to_the_last(room: &mut Room) -> bool {
+    room.first_wrong(LOCKED).is_none()
+        && change_until_refused(room, MOST_VERSIONS + 9) == MOST_VERSIONS
+        && room.first_wrong(NO_VERSION_LEFT).is_none()
+}
+
+#[test]
+fn a_definition_has_a_last_version(rt: HostRuntime) {
+    let has_one = match Room::of_three(rt.alloc()) {
+        Some(mut room) => has_versions_up_to_the_last(&mut room),
+        None => false,
+    };
+    assert!(rt; has_one);
 }

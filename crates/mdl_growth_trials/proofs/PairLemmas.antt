@@ -1,0 +1,63 @@
+-- Two sessions over one lock space, of which one makes calls.
+use Rattle.std.proofs.Common.{◌≡◌, ◌≢◌, ℕ, [], Some, None, refl, ◌∙◌, arith}
+use Rattle.std.proofs.lemmas.List.Elements.{All-nil}
+use Rattle.mdl_key.specs.Keys.{KeyName}
+use Rattle.mdl_core.specs.Words.{Core, SpeaksFor, own_at, Knows}
+use Rattle.mdl_calls.specs.Words.{Answer, Done, Call, Unpin, caller, Own, Ask, Give}
+use Rattle.mdl_context.specs.Contexts.{ContextView, Attends, LeavesOthers}
+use Rattle.mdl_context.proofs.AttendLemmas.{attends-same}
+use Rattle.mdl_context.proofs.OthersLemmas.{leaves}
+use Rattle.mdl_growth_trials.specs.Pairs.{AreTwo}
+
+-- the other one has made a call
+still_attended : (before after : Core) (x : ContextView) (who : ℕ) → LeavesOthers SpeaksFor own_at Knows who before after → x.who ≢ who
+    → Attends SpeaksFor own_at Knows before x → Attends SpeaksFor own_at Knows after x
+still_attended before after x who by other attends =
+    let kept = by x.who other attends.speaks in attends-same before after x attends kept.2 kept.0 kept.1
+
+-- the first has made a call
+pub first_then : (before after : Core) (first second x : ContextView) → AreTwo before first second → x.who ≡ first.who
+    → Attends SpeaksFor own_at Knows after x → LeavesOthers SpeaksFor own_at Knows first.who before after → AreTwo after x second
+first_then before after first second x two who attends by = record {
+  one = who ∙ two.one;
+  two = two.two;
+  first_served = attends;
+  second_served = still_attended before after second first.who by (λ e. omega (arith, e, two.one, two.two)) two.second_served;
+}
+
+-- the second has made a call
+pub second_then : (before after : Core) (first second x : ContextView) → AreTwo before first second → x.who ≡ second.who
+    → Attends SpeaksFor own_at Knows after x → LeavesOthers SpeaksFor own_at Knows second.who before after → AreTwo after first x
+second_then before after first second x two who attends by = record {
+  one = two.one;
+  two = who ∙ two.two;
+  first_served = still_attended before after first second.who by (λ e. omega (arith, e, two.one, two.two)) two.first_served;
+  second_served = attends;
+}
+
+-- a new context of a session that has nothing
+pub fresh : (space : Core) (who : ℕ) (x : ContextView) → x ≡ record { who = who; kept = []; known = []; wait = None } → SpeaksFor space who
+    → own_at space who ≡ record { held = []; wait = None } → Attends SpeaksFor own_at Knows space x
+fresh space who x new speaks nothing =
+    rw new (record { speaks = speaks; serves = rw nothing (record { held = refl; wait = refl }); known = All-nil _; places = All-nil _; wish = tt })
+
+-- one call leaves all but the caller as they are
+pub by_one : {S : Type 0} {speaks_for : S → ℕ → Type 0} {own : S → ℕ → Own} {knows : S → ℕ → ℕ → KeyName → Type 0} {joins : S → Call → Answer → S → Type 0}
+    → ((a b : S) (call : Call) (answer : Answer) (w : ℕ) → speaks_for a w → joins a call answer b → speaks_for b w)
+    → ((a b : S) (call : Call) (answer : Answer) (w : ℕ) → speaks_for a w → (caller call ≡ Some w → ⊥) → joins a call answer b → own b w ≡ own a w)
+    → ((a b : S) (call : Call) (answer : Answer) (w place : ℕ) (key : KeyName) → speaks_for a w → (call ≡ Unpin w place → answer ≡ Done → ⊥) → joins a call answer b
+    → knows a w place key → knows b w place key)
+    → (who : ℕ) (call : Call) (a b : S) (answer : Answer) → caller call ≡ Some who → joins a call answer b → LeavesOthers speaks_for own knows who a b
+by_one keeps others remembers who call a b answer made step =
+    leaves keeps others remembers who (Ask call Give) a b answer (made, λ _. tt) (answer, b, step, (refl, refl))
+
+-- two sessions that have nothing
+pub fresh_two : (space : Core) (first second : ContextView) → first ≡ record { who = 1; kept = []; known = []; wait = None }
+    → second ≡ record { who = 2; kept = []; known = []; wait = None } → SpeaksFor space 1 → SpeaksFor space 2
+    → own_at space 1 ≡ record { held = []; wait = None } → own_at space 2 ≡ record { held = []; wait = None } → AreTwo space first second
+fresh_two space first second is_first is_second speaks_first speaks_second first_own second_own = record {
+  one = rw is_first refl;
+  two = rw is_second refl;
+  first_served = fresh space 1 first is_first speaks_first first_own;
+  second_served = fresh space 2 second is_second speaks_second second_own;
+}

@@ -1,0 +1,300 @@
+//! The contexts of two sessions over a space: tickets by duration, waits and a deadlock. Where a call is refused for want of
+//! memory, the session holds what it held and waits for nothing, and the call is made again. What gives up takes no memory.
+ghost use Rattle.std.specs.Prelude.{◌≡◌};
+ghost use Rattle.mdl_core.specs.CoreJoins.{SpeaksFor, own_at, Knows};
+ghost use Rattle.mdl_context.specs.Contexts.{Attends, LeavesOthers};
+
+use crate::spaces::{new_space, table};
+use mdl_context::{Acquire, Context, ContextError, Kept, Mark, Request, Resume};
+use mdl_key::{Duration, Mode};
+use mdl_space::{CoreSpace, Held, LockSpace, Settled, SpaceError};
+use std::alloc::Global;
+use std::marker::Model;
+
+// A call of a session.
+#[derive(Clone, Copy)]
+enum Act {
+    Acquire(&'static str, Mode, Duration),
+    // To a mark of so many tickets of the statement and of the transaction.
+    GoBack(usize, usize),
+    EndStatement,
+    EndTransaction,
+    Resume,
+    GiveUp,
+}
+
+// What it answers.
+#[derive(Clone, Copy, PartialEq, Eq)]
+enum Reply {
+    Acquired,
+    MustWait,
+    Waits,
+    Lost(Settled),
+    Done,
+    Refused(ContextError),
+}
+
+const NO_MEMORY: Reply = Reply::Refused(ContextError::Space(SpaceError::OutOfMemory));
+
+impl Act {
+    // Whether it may take memory.
+    fn takes_memory(self) -> bool {
+        matches!(self, Act::Acquire(_, _, _))
+    }
+}
+
+// The two sessions.
+#[derive(Clone, Copy)]
+enum Who {
+    First,
+    Second,
+}
+
+// A space with the contexts of its sessions 1 and 2.
+#[derive(Drop)]
+struct Pair {
+    alloc: Global,
+    space: CoreSpace,
+    first: Context<CoreSpace>,
+    second: Context<CoreSpace>,
+}
+
+impl Model for Pair {
+    ghost use Rattle.mdl_growth_trials.specs.Pairs.{AreTwo};
+
+    ghost Value = { Unit };
+
+    ghost view = { λ _. tt };
+
+    ghost invariant = { λ pair. AreTwo pair.space pair.first pair.second };
+}
+
+impl Pair {
+    // Nobody has asked for anything.
+    fn new(alloc: Global) -> Option<Pair> {
+        let space = new_space(alloc, 2, 2)?;
+        Some(Pair {
+            alloc,
+            space,
+            first: Context::new(alloc, 1),
+            second: Context::new(alloc, 2),
+        })
+    }
+
+    // Makes a call of a session.
+    fn make(&mut self, who: Who, act: Act) -> Reply {
+        match who {
+            Who::First => make(self.alloc, &mut self.space, &mut self.first, act),
+            Who::Second => make(self.alloc, &mut self.space, &mut self.second, act),
+        }
+    }
+
+    // Whether a session's context keeps the tickets that it holds, and so many of them.
+    fn keeps(&self, who: Who, count: usize) -> bool {
+        match who {
+            Who::First => keeps(&self.space, &self.first, count),
+            Who::Second => keeps(&self.space, &self.second, count),
+        }
+    }
+
+    // How many tickets a session has of the statement, of the transaction and in all, and whether it waits.
+    fn stands(&self, who: Who) -> (Mark, usize, bool) {
+        match who {
+            Who::First => stands(&self.first),
+            Who::Second => stands(&self.second),
+        }
+    }
+}
+
+fn stands(context: &Context<CoreSpace>) -> (Mark, usize, bool) {
+    (
+        context.savepoint(),
+        context.kept().len(),
+        context.wish().is_some(),
+    )
+}
+
+fn keeps(space: &CoreSpace, context: &Context<CoreSpace>, count: usize) -> bool
+    requires { Attends SpeaksFor own_at Knows space.now context.now }
+{
+    let who = context.who();
+    let held = match space.held(who) {
+        Err(SpaceError::OutOfMemory) => space.held(who),
+        outcome => outcome,
+    };
+    match held {
+        Ok(held) => held.len() == count && are_kept(context.kept(), &held),
+        Err(_) => false,
+    }
+}
+
+// Whether these tickets are kept.
+fn are_kept(kept: &[Kept], held: &[Held]) -> bool {
+    kept.len() == held.len()
+        && kept.iter().zip(held).all(|(ticket, other)| ticket.id == other.id
+            && ticket.place == other.place
+            && ticket.mode == other.mode)
+}
+
+// Makes a call.
+fn make<S: LockSpace>(alloc: Global, space: &mut S, context: &mut Context<S>, act: Act) -> Reply
+    requires { Attends S.speaks_for S.own S.knows space.old context.old }
+    ensures attends { Attends S.speaks_for S.own S.knows space.new context.new }
+    ensures who { context.new.who ≡ context.old.who }
+    ensures others { LeavesOthers S.speaks_for S.own S.knows context.old.who space.old space.new }
+{
+    match act {
+        Act::Acquire(name, mode, duration) => {
+            let Ok(key) = table(alloc, name) else {
+                return Reply::Waits;
+            };
+            let request = Request {
+                key: &key,
+                mode,
+                duration,
+            };
+            acquired(context.acquire(space, request))
+        }
+        Act::GoBack(statement, transaction) => {
+            let mark = Mark {
+                statement,
+                transaction,
+            };
+            done(context.rollback_to(space, mark))
+        }
+        Act::EndStatement => done(context.end_statement(space)),
+        Act::EndTransaction => done(context.end_transaction(space)),
+        Act::Resume => resumed(context.resume(space)),
+        Act::GiveUp => resumed(context.give_up(space)),
+    }
+}
+
+fn acquired(outcome: Result<Acquire, ContextError>) -> Reply {
+    match outcome {
+        Ok(Acquire::Acquired(_)) => Reply::Acquired,
+        Ok(Acquire::MustWait(_)) => Reply::MustWait,
+        Err(error) => Reply::Refused(error),
+    }
+}
+
+fn resumed(outcome: Result<Resume, ContextError>) -> Reply {
+    match outcome {
+        Ok(Resume::Waiting) => Reply::Waits,
+        Ok(Resume::Acquired(_)) => Reply::Acquired,
+        Ok(Resume::Lost(how)) => Reply::Lost(how),
+        Err(error) => Reply::Refused(error),
+    }
+}
+
+fn done(outcome: Result<(), ContextError>) -> Reply {
+    match outcome {
+        Ok(()) => Reply::Done,
+        Err(error) => Reply::Refused(error),
+    }
+}
+
+// A session's call, what it answers, and how many tickets the session has then.
+type Row = (Who, Act, Reply, usize);
+
+const STATEMENT: Duration = Duration::Statement;
+
+const TRANSACTION: Duration = Duration::Transaction;
+
+const EXPLICIT: Duration = Duration::Explicit;
+
+const LIFE: &[Row] = &[
+    (
+        Who::First,
+        Act::Acquire("a", Mode::SW, TRANSACTION),
+        Reply::Acquired,
+        1,
+    ),
+    (
+        Who::Second,
+        Act::Acquire("b", Mode::SU, TRANSACTION),
+        Reply::Acquired,
+        1,
+    ),
+    // It is used again, and cloned twice.
+    (
+        Who::Second,
+        Act::Acquire("b", Mode::SR, TRANSACTION),
+        Reply::Acquired,
+        1,
+    ),
+    (
+        Who::Second,
+        Act::Acquire("b", Mode::SR, STATEMENT),
+        Reply::Acquired,
+        2,
+    ),
+    (
+        Who::Second,
+        Act::Acquire("b", Mode::SR, EXPLICIT),
+        Reply::Acquired,
+        3,
+    ),
+    (
+        Who::First,
+        Act::Acquire("b", Mode::X, TRANSACTION),
+        Reply::MustWait,
+        1,
+    ),
+    (Who::First, Act::Resume, Reply::Waits, 1),
+    // A deadlock, in which the greater number falls.
+    (
+        Who::Second,
+        Act::Acquire("a", Mode::X, TRANSACTION),
+        Reply::MustWait,
+        3,
+    ),
+    (Who::Second, Act::Resume, Reply::Lost(Settled::Victim), 3),
+    (Who::Second, Act::GoBack(1, 0), Reply::Done, 2),
+    (Who::Second, Act::EndStatement, Reply::Done, 1),
+    (
+        Who::Second,
+        Act::Acquire("a", Mode::X, STATEMENT),
+        Reply::MustWait,
+        1,
+    ),
+    (Who::Second, Act::Resume, Reply::Lost(Settled::Victim), 1),
+    (Who::First, Act::GiveUp, Reply::Lost(Settled::Timeout), 1),
+    (
+        Who::Second,
+        Act::Acquire("a", Mode::X, STATEMENT),
+        Reply::MustWait,
+        1,
+    ),
+    (Who::First, Act::EndTransaction, Reply::Done, 0),
+    (Who::Second, Act::Resume, Reply::Acquired, 2),
+    (Who::Second, Act::EndTransaction, Reply::Done, 1),
+];
+
+/// Whether contexts do what they should.
+pub fn calls_are_answered(alloc: Global) -> bool {
+    match Pair::new(alloc) {
+        Some(mut pair) => all_outlive(&mut pair),
+        None => false,
+    }
+}
+
+fn all_outlive(pair: &mut Pair) -> bool {
+    for (who, act, want, count) in LIFE {
+        if !outlives(pair, *who, *act, *want) || !pair.keeps(*who, *count) {
+            return false;
+        }
+    }
+    true
+}
+
+// Whether a call has this answer: at once, or at the second try, where memory was refused to the first, after which the session
+// had what it had.
+fn outlives(pair: &mut Pair, who: Who, act: Act, want: Reply) -> bool {
+    let before = pair.stands(who);
+    let reply = pair.make(who, act);
+    if reply != NO_MEMORY || !act.takes_memory() {
+        return reply == want;
+    }
+    let (_, count, _) = before;
+    pair.stands(who) == before && pair.keeps(who, count) && pair.make(who, act) == want
+}
