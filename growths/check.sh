@@ -7,8 +7,8 @@ growths=$(cd "$(dirname "$0")" && pwd)
 made=$(mktemp -d)
 trap 'rm -rf "$made"' EXIT
 
-# The number of the allocation that is refused. It has to be more than a run makes: 105, those that read the word included.
-refused=140
+# The number of the allocation that is refused. It has to be more than a run makes: some 780, those that read the word included.
+refused=800
 
 cd "$growths/../crates/mdl_growth_trials" || exit 1
 mkdir "$made/cases"
