@@ -3,7 +3,8 @@
 //! Everything here is for tests. `plain` runs a script as slowly and as obviously as can be written: one list of
 //! tickets and one of places, read from end to end, and deadlocks found by listing paths. It shares the reading of
 //! lines and the matrices of modes with the product, and nothing that runs a statement. `scripts` has scripts beside
-//! their answers; `chance` makes as many others as are asked for, the same in each run.
+//! their answers, and `limits` those of many sessions, tables, columns, savepoints and lines; `chance` makes as many
+//! others as are asked for, the same in each run.
 #![tactic(auto)]
 
 #[cfg(test)]
@@ -12,6 +13,8 @@ mod chance;
 mod devices;
 #[cfg(test)]
 mod faults;
+#[cfg(test)]
+mod limits;
 #[cfg(test)]
 mod plain;
 #[cfg(test)]
