@@ -1,0 +1,3 @@
+pub mod ShownAsking
+pub mod ShownCalls
+pub mod ShownContexts
