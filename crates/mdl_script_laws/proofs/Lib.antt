@@ -1,3 +1,4 @@
 pub mod ShownAsking
 pub mod ShownCalls
 pub mod ShownContexts
+pub mod ShownWaits

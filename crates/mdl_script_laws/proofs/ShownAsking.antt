@@ -58,13 +58,13 @@ held-number own t id rising among number = go (ticket_held id own) refl
 -- ---- a ticket that is gained
 
 -- a ticket of a new number is held at a place
-record IsGained (a : Core) (who id place : ℕ) (b : Core) : Type 0 where
-  spares : Spares who none a b
-  fresh : IsFresh a who id
-  ticket : Held
-  there : Contains (own_at b who).held ticket
-  number : ticket.id ≡ id
-  at : ticket.place ≡ place
+pub record IsGained (a : Core) (who id place : ℕ) (b : Core) : Type 0 where
+  pub spares : Spares who none a b
+  pub fresh : IsFresh a who id
+  pub ticket : Held
+  pub there : Contains (own_at b who).held ticket
+  pub number : ticket.id ≡ id
+  pub at : ticket.place ≡ place
 
 gained-by : (a b : Core) (who id place : ℕ) (mode : Mode) → Spares who none a b → own_at b who ≡ gaining id place mode (own_at a who) → IsGained a who id place b
 gained-by a b who id place mode spares own = record {
@@ -90,7 +90,7 @@ gained-late a b c who id place spares gained = record {
 -- ---- a wait that ends
 
 -- it ends with a ticket where the session waited
-won-by : (a b : Core) (who id : ℕ) → SpeaksFor a who → Joins a (End_wait who) (Granted id) b
+pub won-by : (a b : Core) (who id : ℕ) → SpeaksFor a who → Joins a (End_wait who) (Granted id) b
     → (w : Wait) × ((own_at a who).wait ≡ Some w) × IsGained a who id w.place b
 won-by a b who id speaks joins = go (own_at a who).wait refl
   where
@@ -131,7 +131,7 @@ abandoned-end a b who (Granted id) spares speaks joins = λ answer c released.
     released-again a b c who id spares won.2.fresh (spares-call who (λ n. n ≡ id) b c (Release who id) answer spares.speaks refl refl released)
 abandoned-end a b who answer spares speaks joins = spares
 
-leads-abandoning : (a b : Core) (who : ℕ) → Spares who none a b → Leads (λ x c. Spares who none a c) (gains.abandoning who) b
+pub leads-abandoning : (a b : Core) (who : ℕ) → Spares who none a b → Leads (λ x c. Spares who none a c) (gains.abandoning who) b
 leads-abandoning a b who spares = λ answer c settled end d ended.
     let first = spares-call who none b c (Settle_timeout who) answer spares.speaks refl tt settled in
     let second = spares-call who none c d (End_wait who) end first.speaks refl tt ended in
@@ -145,7 +145,7 @@ leads-abandoning a b who spares = λ answer c settled end d ended.
 
 -- ---- a lock that is wished for
 
-quiet-seeking : (who n : ℕ) → EachCall (IsQuiet who none) (seeking n who)
+pub quiet-seeking : (who n : ℕ) → EachCall (IsQuiet who none) (seeking n who)
 quiet-seeking who n = calls_seeking (IsQuiet who none) who (refl, tt, refl) n
 
 module _ (a : Core) (context : ContextView) (place : ℕ) (request : Wish) (fits : Fits a context) (idle : context.wait ≡ None) where
@@ -294,7 +294,7 @@ fits-learnt a context key place fits knows = record {
   wait = fits.wait;
 }
 
-leads-map : {A : Type 0} (P Q : A → Core → Type 0) (program : Program A) (a : Core) → ((x : A) (b : Core) → P x b → Q x b) → Leads P program a → Leads Q program a
+pub leads-map : {A : Type 0} (P Q : A → Core → Type 0) (program : Program A) (a : Core) → ((x : A) (b : Core) → P x b → Q x b) → Leads P program a → Leads Q program a
 leads-map P Q (Give x) a so leads = so x a leads
 leads-map P Q (Ask call next) a so leads = λ answer b joins. leads-map P Q (next answer) b so (leads answer b joins)
 leads-map P Q (Grow refused found) a so leads = leads-map P Q found a so leads
