@@ -1,4 +1,5 @@
 pub mod ShownAsking
 pub mod ShownCalls
 pub mod ShownContexts
+pub mod ShownPoints
 pub mod ShownWaits
