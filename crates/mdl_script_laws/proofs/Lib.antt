@@ -1,5 +1,6 @@
 pub mod ShownAsking
 pub mod ShownCalls
 pub mod ShownContexts
+pub mod ShownPlays
 pub mod ShownPoints
 pub mod ShownWaits

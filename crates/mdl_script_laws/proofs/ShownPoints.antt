@@ -160,8 +160,10 @@ module _ (a b : Core) (before after : ContextView) (fits : Fits a before) (follo
   }
 
   pub old-followed : (mark : Mark) (x : TableShown) (stands : IsStanding a before x) → IsOld mark before.kept stands.ticket.id
-      → IsOld mark after.kept stands.ticket.id
-  old-followed mark x stands old = old-grown mark a before.who before.kept after.kept stands.ticket followed.grown stands.there old
+      → (still : IsStanding b after x) × IsOld mark after.kept still.ticket.id
+  unfolding standing-followed
+  old-followed mark x stands old =
+      (standing-followed x stands, old-grown mark a before.who before.kept after.kept stands.ticket followed.grown stands.there old)
 
 -- it stands still where other tickets were given up
 pub standing-left : (a b : Core) (gone : List Kept) (before after : ContextView) (x : TableShown) (stands : IsStanding a before x) → Fits a before
