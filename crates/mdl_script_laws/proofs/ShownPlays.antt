@@ -396,8 +396,6 @@ module _ (old : TableShown → Type 0) (live : Bool) (locks : List (ℕ × KeyNa
       let number : before.ticket.id ≡ id = before.number ∙ equal from.0.0 id lock.1 in
       let held = held-number (own_at a context.who) before.ticket id (core-rising a context.who point.fits.speaks) before.there number in
       let read = core-reads a b (Read_definition context.who id) context.who id version definition before.ticket refl refl held joins in
-      let after = now.locked from.0.0 from.0.1 lock.0 in
-      let still = held-number (own_at b context.who) after.ticket id (core-rising b context.who now.fits.speaks) after.there (after.number ∙ equal from.0.0 id lock.1) in
       let key = core-remembers a b (Read_definition context.who id) (Reads version definition) context.who before.ticket.place from.0.1 point.fits.speaks (λ e done. cc) joins before.at in
       record {
         ticket = before.ticket;
@@ -452,3 +450,108 @@ module _ (old : TableShown → Type 0) (live : Bool) (locks : List (ℕ × KeyNa
       later c (point-same old live locks seen mark b session.context session.state point c
       (stays-other session.context.who b c (Kill target number) answer point.fits.speaks (λ e. cc) joins))
   leads-told target more a b session answer point later = later b point
+
+-- ---- all that may be asked for
+
+leads-play : (old : TableShown → Type 0) (live : Bool) (locks : List (ℕ × KeyName)) (seen : List TableShown) (asked : Row Reply) (mark : Mark) (a : Core) (session : Session)
+    → IsFair old live locks seen asked → Point old live locks seen mark a session.context session.state → Leads (Comes old) (play asked mark session) a
+leads-play old live locks seen (row.Give reply) mark a session fair point = leads-closing old live locks seen mark a session point (Answers reply) fair
+leads-play old live locks seen (row.Fail number) mark a session fair point =
+    leads-closing old live locks seen mark a session point (Answers (reply.Error number)) (λ x tell. absurd tell)
+leads-play old live locks seen (row.Room rest) mark a session fair point = leads-play old live locks seen rest mark a session fair point
+leads-play old live locks seen (row.Look rest) mark a session fair point =
+    leads-play old live locks seen (rest session.state) mark a session (fair session.state point.unlocked point.opens) point
+leads-play old live locks seen (row.Set change rest) mark a session fair point =
+    leads-play old live locks seen rest mark a (record session { state = change session.state }) fair.3
+    (point-set old live locks seen mark a session.context session.state point change (fair.0 session.state) (fair.1 session.state)
+    (λ x is lives. fair.2 x is lives session.state))
+leads-play old live locks seen (row.Here rest) mark a session fair point =
+    leads-play old live locks seen (rest (mark_of session.context.kept)) mark a session (fair (mark_of session.context.kept)) point
+leads-play old live locks seen (row.Acquire wish rest) mark a session fair point =
+    let more = λ (id : ℕ) (after : Session). play (rest id) mark after in
+    leads-bind (λ outcome b. IsMet wish session.context outcome × Followed a session.context b outcome.1) (Comes old) (acquiring wish session.context)
+    (playing.acquired wish rest mark session more) a
+    (leads-each (IsMet wish session.context) (λ (outcome : Outcome Acquire) b. Followed a session.context b outcome.1) (acquiring wish session.context) a
+    (met_acquiring wish session.context) (leads-acquiring a wish session.context point.fits))
+    (λ outcome b h. leads-acquired old live locks seen mark wish rest more a b session outcome fair
+        (λ id c after now. leads-play old live (with_lock wish.duration id wish.key locks) seen (rest id) mark c after (fair id) now) point h.1 h.0)
+leads-play old live locks seen (row.Give_up which rest) mark a session fair point =
+    let gone = which session.context.kept in
+    leads-bind (λ (outcome : Outcome (Unit {0})) b. GaveUp a gone session.context b outcome.1) (Comes old) (giving_up gone session.context)
+    (λ outcome. play rest mark (with_context session outcome.1)) a (leads-giving_up a gone session.context point.fits)
+    (λ outcome b gave. leads-play old live [] [] rest mark b (with_context session outcome.1) fair.1
+        (point-cleared old live locks seen mark a session.context session.state point b outcome.1 gave.fits fair.0))
+leads-play old live locks seen (row.Release id rest) mark a session fair point =
+    leads-bind (λ (outcome : Outcome (Unit {0})) b. Fits b outcome.1 × (outcome.1.who ≡ session.context.who)) (Comes old) (releasing id session.context)
+    (λ outcome. play rest mark (with_context session outcome.1)) a (leads-releasing a id session.context point.fits)
+    (λ outcome b left. leads-play old live [] [] rest mark b (with_context session outcome.1) fair.1
+        (point-cleared old live locks seen mark a session.context session.state point b outcome.1 left.0 fair.0))
+leads-play old live locks seen (row.Read id rest) mark a session fair point = λ answer b joins.
+    leads-read old live locks seen mark id (λ standing. play (rest standing) mark session) a b session answer point joins
+    (λ standing now. leads-play old live locks (seen_under id standing locks ++ seen) (rest standing) mark b session (fair standing) now)
+leads-play old live locks seen (row.Redefine id change rest) mark a session fair point = λ answer b joins.
+    leads-change old live locks seen mark id change (play rest mark session) a b session answer point fair.0 joins
+    (λ now. leads-play old live [] [] rest mark b session fair.1 now)
+leads-play old live locks seen (row.Kill target rest) mark a session fair point = λ answer b joins.
+    leads-told old live locks seen mark target (play rest mark session) b b session answer
+    (point-same old live locks seen mark a session.context session.state point b
+    (stays-other session.context.who a b (Wait_of target) answer point.fits.speaks (λ e. cc) joins))
+    (λ c now. leads-play old live locks seen rest mark c session fair now)
+
+-- ---- what is left of a statement
+
+leads-resumed : (old : TableShown → Type 0) (a b : Core) (session : Session) (waiting : IsWaiting old a session) (outcome : Outcome Resume)
+    → Resumed a session.context outcome b → Leads (Comes old) (playing.resumed waiting.rest (record session { left = None }) outcome) b
+leads-resumed old a b session waiting (Ok resume.Waiting, context) resumed =
+    let still = resumed.1 waiting.wanted waiting.wait in
+    let now = point-followed old waiting.live waiting.locks waiting.seen waiting.rest.mark a session.context session.state waiting.point b context resumed.0 in
+    record {
+      rest = waiting.rest;
+      left = refl;
+      live = waiting.live;
+      locks = waiting.locks;
+      seen = waiting.seen;
+      key = waiting.key;
+      wanted = still.0;
+      wait = still.1;
+      at = subst (λ w. Knows b w still.0.place waiting.key) (sym resumed.0.who)
+          (subst (λ p. Knows b session.context.who p waiting.key) (sym still.2) (resumed.0.spares.known waiting.wanted.place waiting.key waiting.at));
+      point = now;
+      fair = λ id. subst (λ d. IsFair old waiting.live (with_lock d id waiting.key waiting.locks) waiting.seen (waiting.rest.rest id)) (sym still.3) (waiting.fair id);
+    }
+leads-resumed old a b session waiting (Ok (resume.Acquired id), context) resumed =
+    let now = point-followed old waiting.live waiting.locks waiting.seen waiting.rest.mark a session.context session.state waiting.point b context resumed.0 in
+    let had = resumed.1 waiting.wanted waiting.wait in
+    leads-play old waiting.live (with_lock waiting.wanted.duration id waiting.key waiting.locks) waiting.seen (waiting.rest.rest id) waiting.rest.mark b
+    (record { context = context; state = session.state; left = None }) (waiting.fair id)
+    (point-locked old waiting.live waiting.locks waiting.seen waiting.rest.mark b context session.state now waiting.wanted.duration id waiting.key (λ lasting. record {
+      ticket = had.0;
+      there = subst (λ w. Contains (own_at b w).held had.0) (sym resumed.0.who) had.1;
+      number = had.2;
+      at = subst (λ w. Knows b w had.0.place waiting.key) (sym resumed.0.who)
+          (subst (λ p. Knows b session.context.who p waiting.key) (sym had.3) (resumed.0.spares.known waiting.wanted.place waiting.key waiting.at));
+      firm = λ k among e. (
+          let new = had.4 in
+          let same = resumed.0.fits.alone new.0 k new.1 among (new.2 ∙ sym had.2 ∙ sym e) in
+          lasts-longer k (subst (λ d. (duration_rank d == duration_rank Transaction) ≡ true) (sym lasting ∙ sym new.3 ∙ same) refl));
+    }))
+leads-resumed old a b session waiting (Ok (resume.Lost how), context) resumed =
+    leads-closing old waiting.live waiting.locks waiting.seen waiting.rest.mark b (record { context = context; state = session.state; left = None })
+    (point-followed old waiting.live waiting.locks waiting.seen waiting.rest.mark a session.context session.state waiting.point b context resumed.0)
+    (ending_of_loss how) (λ x tell. absurd (tells_no_loss how x tell))
+leads-resumed old a b session waiting (Err error, context) resumed =
+    leads-closing old waiting.live waiting.locks waiting.seen waiting.rest.mark b (record { context = context; state = session.state; left = None })
+    (point-followed old waiting.live waiting.locks waiting.seen waiting.rest.mark a session.context session.state waiting.point b context resumed.0)
+    (ending_of_error error) (λ x tell. absurd (tells_no_error error x tell))
+
+-- a statement goes on
+pub leads-going : (old : TableShown → Type 0) (a : Core) (session : Session) → Keeps old a session → Leads (Comes old) (playing.going_on session) a
+leads-going old a session (inl rests) = go session.left rests.left
+  where
+    go : (o : Option Left) → o ≡ None → Leads (Comes old) (playing.going_on_with o (record session { left = None })) a
+    go None e = record { left = refl; fits = rests.fits; unlocked = rests.unlocked; kept = rests.kept }
+    go (Some left) e = cc
+leads-going old a session (inr waiting) =
+    subst (λ o. Leads (Comes old) (playing.going_on_with o (record session { left = None })) a) (sym waiting.left)
+    (leads-bind (Resumed a session.context) (Comes old) (resuming session.context) (playing.resumed waiting.rest (record session { left = None })) a
+    (leads-resuming a session.context waiting.point.fits) (λ outcome b resumed. leads-resumed old a b session waiting outcome resumed))
