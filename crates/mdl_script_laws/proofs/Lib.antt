@@ -3,4 +3,5 @@ pub mod ShownCalls
 pub mod ShownContexts
 pub mod ShownPlays
 pub mod ShownPoints
+pub mod ShownRows
 pub mod ShownWaits
