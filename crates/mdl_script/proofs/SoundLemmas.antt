@@ -40,10 +40,10 @@ use Rattle.mdl_script.proofs.HallLemmas.{SpeakForAll, waiting-sessions}
 use Rattle.mdl_script.proofs.ListLemmas.{All-find}
 
 -- all sessions are there, each with its own number, and the space speaks for them
-record IsStaffed (world : World) : Type 0 where
-  all : length world.players ≡ 64
-  named : (who : ℕ) → IsScriptSession who → (player_at who world).session.context.who ≡ who
-  speaks : SpeakForAll world.core
+pub record IsStaffed (world : World) : Type 0 where
+  pub all : length world.players ≡ 64
+  pub named : (who : ℕ) → IsScriptSession who → (player_at who world).session.context.who ≡ who
+  pub speaks : SpeakForAll world.core
 
 -- ---- statements
 
@@ -86,18 +86,18 @@ staffed-played line who program world is keeps names staffed = record {
   by w there (inr other) =
       ap (λ (p : Player). p.session.context.who) (get_or-set_other world.players (who - 1) (w - 1) next (newcomer w) (λ e. other.1 (omega (arith, e, is.0, there.0)))) ∙ staffed.named w there
 
-staffed-started : (line : Line) (world : World) → IsScriptSession line.session → IsStaffed world → IsStaffed (started line world).world
+pub staffed-started : (line : Line) (world : World) → IsScriptSession line.session → IsStaffed world → IsStaffed (started line world).world
 staffed-started line world is staffed =
     staffed-played line.number line.session (λ session. starting line.statement session) world is (λ session. (rows_keep_sound session).1 line.statement)
     (λ session. (rows_keep_number session).1 line.statement) staffed
 
-staffed-going : (who : ℕ) (world : World) → IsScriptSession who → IsStaffed world → IsStaffed (going who world).world
+pub staffed-going : (who : ℕ) (world : World) → IsScriptSession who → IsStaffed world → IsStaffed (going who world).world
 staffed-going who world is staffed =
     staffed-played (player_at who world).line who (λ session. going_on session) world is (λ session. (rows_keep_sound session).2) (λ session. (rows_keep_number session).2) staffed
 
 -- ---- patience that ends
 
-staffed-timed_out : (who : ℕ) (world : World) → IsScriptSession who → IsStaffed world → IsStaffed (timed_out who world)
+pub staffed-timed_out : (who : ℕ) (world : World) → IsScriptSession who → IsStaffed world → IsStaffed (timed_out who world)
 staffed-timed_out who world is staffed =
     let program : Program (Unit {0}) = Ask (Settle_timeout who) (λ _. Give tt) in
     let kept = outcomes-are_runs (Unit {0}) program world.core who (staffed.speaks who is.0 is.1) ((refl, refl), λ _. tt) in
@@ -116,7 +116,7 @@ staffed-asked line world is staffed =
 
 -- ---- settling
 
-first-session : (world : World) (who : ℕ) → first_settled world ≡ Some who → IsScriptSession who
+pub first-session : (world : World) (who : ℕ) → first_settled world ≡ Some who → IsScriptSession who
 first-session world who found = All-find IsScriptSession (has_settled world.core) (waiting_in world) who (waiting-sessions IsScriptSession world (λ w session _. session)) found
 
 -- one session goes on, and what follows leaves them all there too
@@ -163,7 +163,7 @@ speak-first who least most =
     let test = creating (schema_key (codes "test")) in
     (outcomes-are_runs (Unit {0}) test (empty_core 256 64) 1 (speak-empty 1 (omega arith) (omega arith)) (made-creating (schema_key (codes "test")))).1 who (speak-empty who least most)
 
-staffed-first : IsStaffed first_world
+pub staffed-first : IsStaffed first_world
 unfolding sessions
 staffed-first = record {
   all = length-map-range_with_len newcomer 1 64;
