@@ -5,3 +5,4 @@ pub mod ShownPlays
 pub mod ShownPoints
 pub mod ShownRows
 pub mod ShownWaits
+pub mod ShownWorlds

@@ -215,7 +215,7 @@ leads-bind P Q (Ask call more) next a leads later = λ answer b joins. leads-bin
 leads-bind P Q (Grow refused found) next a leads later = leads-bind P Q found next a leads later
 
 -- a call for a session or for nobody joins by its outcome
-joins-outcome : (who : ℕ) (a : Core) (call : Call) → SpeaksFor a who → IsMadeFor who call → Joins a call (outcome call a).0 (outcome call a).1
+pub joins-outcome : (who : ℕ) (a : Core) (call : Call) → SpeaksFor a who → IsMadeFor who call → Joins a call (outcome call a).0 (outcome call a).1
 joins-outcome who a call speaks made = (allowed (caller call) made.1, made.0, inr refl)
   where
     allowed : (maker : Option ℕ) → IfSome maker (λ w. w ≡ who) → IfSome maker (SpeaksFor a)

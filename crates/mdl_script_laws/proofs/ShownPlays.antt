@@ -160,7 +160,7 @@ module _ (old : TableShown → Type 0) (live : Bool) (locks : List (ℕ × KeyNa
     stands = λ x among. standing-followed a b context after point.fits followed x (point.stands x among);
   }
 
-  point-same : (b : Core) → Stays context.who none a b → Point old live locks seen mark b context state
+  pub point-same : (b : Core) → Stays context.who none a b → Point old live locks seen mark b context state
   point-same b stays = point-followed b context (followed-same a b context point.fits stays)
 
   -- tickets went, and nothing had to stay
@@ -453,7 +453,7 @@ module _ (old : TableShown → Type 0) (live : Bool) (locks : List (ℕ × KeyNa
 
 -- ---- all that may be asked for
 
-leads-play : (old : TableShown → Type 0) (live : Bool) (locks : List (ℕ × KeyName)) (seen : List TableShown) (asked : Row Reply) (mark : Mark) (a : Core) (session : Session)
+pub leads-play : (old : TableShown → Type 0) (live : Bool) (locks : List (ℕ × KeyName)) (seen : List TableShown) (asked : Row Reply) (mark : Mark) (a : Core) (session : Session)
     → IsFair old live locks seen asked → Point old live locks seen mark a session.context session.state → Leads (Comes old) (play asked mark session) a
 leads-play old live locks seen (row.Give reply) mark a session fair point = leads-closing old live locks seen mark a session point (Answers reply) fair
 leads-play old live locks seen (row.Fail number) mark a session fair point =
