@@ -5,7 +5,8 @@ use Rattle.std.specs.List.{All}
 use Rattle.std.proofs.Math.Dec.{eqb}
 use Rattle.std.proofs.lemmas.Bool.Decides.{eqb_tells}
 use Rattle.std.proofs.lemmas.List.{get_or-set_other, get_or-set_same}
-use Rattle.std.proofs.lemmas.List.Elements.{All-head, All-tail, Contains-append_cases}
+use Rattle.std.proofs.lemmas.List.FromFn.{get_or-map-range_with_len}
+use Rattle.std.proofs.lemmas.List.Elements.{All-cons, All-head, All-nil, All-tail, Contains-append_cases}
 use Rattle.mdl_key.specs.declared.mode.Mode.{Mode}
 use Rattle.mdl_key.specs.Keys.{KeyName}
 use Rattle.mdl_system.proofs.MemberLemmas.{Contains-none}
@@ -16,7 +17,7 @@ use Rattle.mdl_core.specs.CoreJoins.{Joins, Knows, SpeaksFor, own_at}
 use Rattle.mdl_core.specs.Cores.{Core, key_at, standing_at}
 use Rattle.mdl_core.specs.RunLaws.{IsMadeFor}
 use Rattle.mdl_context.specs.declared.kept.Kept.{Kept}
-use Rattle.mdl_context.specs.Contexts.{mark_of}
+use Rattle.mdl_context.specs.Contexts.{ContextView, mark_of}
 use Rattle.mdl_lines.specs.Sessions.{IsScriptSession}
 use Rattle.mdl_syntax.specs.declared.script.Line.{Line}
 use Rattle.mdl_syntax.specs.declared.statement.Statement.{Statement}
@@ -33,7 +34,7 @@ use Rattle.mdl_stmt.proofs.RowCalls.{rows_call}
 use Rattle.mdl_script.specs.declared.told.News.{News}
 use Rattle.mdl_script.specs.declared.told.News.TheVariants.{Busy, Ends as Has_ended, Waits as Has_waits}
 use Rattle.mdl_script.specs.declared.told.Told.{Told}
-use Rattle.mdl_script.specs.Worlds.{Player, Scene, World, asked, asked_waiting, first_settled, first_world, going, going_first, is_waiting, line_played, lines_played, most_turns, newcomer, played, player_at, script_played, settling, started, timed_out, told_of, ◌and_then◌}
+use Rattle.mdl_script.specs.Worlds.{Player, Scene, World, asked, asked_waiting, first_core, first_settled, first_world, going, going_first, is_waiting, line_played, lines_played, most_turns, newcomer, played, player_at, script_played, sessions, settling, started, timed_out, told_of, ◌and_then◌}
 use Rattle.mdl_script.proofs.SoundLemmas.{IsStaffed, first-session, staffed-first, staffed-going, staffed-started, staffed-timed_out}
 use Rattle.mdl_script_laws.specs.Shown.{AreOfSessions, IsShownTo, LeavesTransaction, TransactionsSeeOneDefinition, has_transaction, leaves_transaction}
 use Rattle.mdl_script_laws.proofs.ShownCalls.{Leads, Stays, joins-outcome, key-held, leads-outcome, none, stays-call, stays-other, stays-outcome}
@@ -380,3 +381,69 @@ module _ (who : ℕ) (there : IsScriptSession who) where
   good-lines (line ∷ lines) world are good =
       good-lines lines (line_played line world).world (All-tail (λ (l : Line). IsScriptSession l.session) line lines are)
       (scene-line Nothing line world (All-head (λ (l : Line). IsScriptSession l.session) line lines are) (λ e. inr (λ x none. none)) good).good
+
+-- ---- the world at first
+
+newcomer-first : (w : ℕ) → IsScriptSession w → player_at w first_world ≡ newcomer w
+unfolding sessions
+newcomer-first w is = get_or-map-range_with_len newcomer 1 64 (w - 1) w (newcomer w) (omega (arith, is.0, is.1)) (omega (arith, is.0))
+
+keeps-first : (w : ℕ) → IsScriptSession w → Keeps Nothing first_world.core (player_at w first_world).session
+keeps-first w is = subst (λ (p : Player). Keeps Nothing first_core p.session) (sym (newcomer-first w is)) (inl (record {
+  left = refl;
+  fits = record {
+    speaks = staffed-first.speaks w is.0 is.1;
+    backed = λ k among. absurd (Contains-none k among);
+    alone = λ k other one two e. absurd (Contains-none k one);
+    known = λ key place e. cc;
+    wait = λ wanted w e f. cc;
+  };
+  unlocked = refl;
+  kept = λ x none opens. absurd none;
+}))
+
+good-first : (who : ℕ) → IsScriptSession who → IsGood who Nothing first_world
+good-first who is = record { staffed = staffed-first; own = keeps-first who is; others = λ w session apart. keeps-first w session }
+
+-- ---- the law
+
+all-left : {X : Type 0} (P : X → Type 0) (xs ys : List X) → All P (xs ++ ys) → All P xs
+all-left P [] ys all = All-nil P
+all-left P (x ∷ xs) ys all = All-cons P x xs (All-head P x (xs ++ ys) all) (all-left P xs ys (All-tail P x (xs ++ ys) all))
+
+all-right : {X : Type 0} (P : X → Type 0) (xs ys : List X) → All P (xs ++ ys) → All P ys
+all-right P [] ys all = all
+all-right P (x ∷ xs) ys all = all-right P xs ys (All-tail P x (xs ++ ys) all)
+
+-- what was shown to a session whose transaction is open stands
+stands-open : (old : TableShown → Type 0) (a : Core) (session : Session) (x : TableShown) → Keeps old a session → old x → session.state.is_open ≡ true
+    → IsStanding a session.context x
+stands-open old a session x (inl rests) is opens = rests.kept x is opens
+stands-open old a session x (inr waiting) is opens = (waiting.point.kept x is (waiting.point.was opens)).0
+
+-- under one key one thing stands
+one-standing : (a : Core) (context : ContextView) (one other : TableShown) → Fits a context → IsStanding a context one → IsStanding a context other → one.key ≡ other.key → one ≡ other
+one-standing a context one other fits here there same =
+    let key : key_at here.ticket.place a ≡ key_at there.ticket.place a =
+    ap (λ (x : TableShown). x.key) here.shown ∙ same ∙ sym (ap (λ (x : TableShown). x.key) there.shown) in
+    let place = fits.speaks.1.tied.keys here.ticket.place there.ticket.place (key-held a context.who here.ticket fits.speaks here.there)
+        (key-held a context.who there.ticket fits.speaks there.there) key in
+    sym here.shown ∙ ap (λ p. shown_at p a) place ∙ there.shown
+
+keeps-fits : (old : TableShown → Type 0) (a : Core) (session : Session) → Keeps old a session → Fits a session.context
+keeps-fits old a session (inl rests) = rests.fits
+keeps-fits old a session (inr waiting) = waiting.point.fits
+
+pub transactions-see_one : TransactionsSeeOneDefinition
+transactions-see_one before line later who one other are is shown leave opens again same =
+    let P : Line → Type 0 = λ l. IsScriptSession l.session in
+    let behind = all-right P before (line ∷ later) are in
+    let start = good-lines who is before first_world (all-left P before (line ∷ later) are) (good-first who is) in
+    let first = scene-line who is Nothing line (script_played before).world (All-head P line later behind) (λ e. inr (λ x none. none)) start in
+    let rest = scene-lines who is (with_table Nothing one) later (line_played line (script_played before).world).world (All-tail P line later behind) leave (first.shown one shown) in
+    let end = (rest.shown other again).own in
+    let world = (lines_played later (line_played line (script_played before).world).world).world in
+    let session = (player_at who world).session in
+    let facts = with_table (with_table Nothing one) other in
+    one-standing world.core session.context one other (keeps-fits facts world.core session end) (stands-open facts world.core session one end (inl (inr refl)) opens)
+    (stands-open facts world.core session other end (inr refl) opens) same
