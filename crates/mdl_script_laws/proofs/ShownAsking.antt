@@ -1,39 +1,34 @@
 -- All that a context asks of the space leaves it what it kept, held.
-use Rattle.std.proofs.Common.{◌≡◌, ◌≢◌, ◌⊎◌, inl, inr, ℕ, Bool, true, false, not, List, [], ◌∷◌, ◌++◌, Option, Some, None, Result, Ok, Err, Contains, filter, is_some, option_map, find, refl, sym, ap, ◌∙◌, subst, arith, eq-eqb}
-use Rattle.std.specs.Prelude.{◌==◌, if◌then◌else◌}
-use Rattle.std.proofs.lemmas.Bool.Decides.{nat_tests}
-use Rattle.std.proofs.lemmas.List.{append-nil}
+use Rattle.std.proofs.Common.{◌≡◌, ◌⊎◌, inl, inr, ℕ, Bool, true, false, List, [], ◌∷◌, ◌++◌, Option, Some, None, Err, Contains, is_some, option_map, find, refl, sym, ap, ◌∙◌, subst, eq-eqb}
+use Rattle.std.specs.Prelude.{if◌then◌else◌}
 use Rattle.mdl_key.specs.declared.mode.Mode.{Mode}
 use Rattle.mdl_key.specs.Keys.{KeyName, key_eq}
 use Rattle.mdl_system.proofs.Deciding.{key-Decides}
 use Rattle.mdl_system.proofs.MemberLemmas.{Contains-none}
-use Rattle.mdl_system.proofs.OrderLemmas.{Contains-cons_cases, Contains-here, Contains-later}
+use Rattle.mdl_system.proofs.OrderLemmas.{Contains-cons_cases}
 use Rattle.mdl_book.proofs.TicketLemmas.{find-passes, find-contains}
 use Rattle.mdl_calls.specs.declared.answers.Held.{Held}
 use Rattle.mdl_calls.specs.Own.{Wait}
-use Rattle.mdl_calls.specs.Words.{Answer, At_place, Granted, Would_wait, Waits, Pending, Is_settled, Lost, Call, Resolve, Try_now, Begin_wait, Search, Poll_wait, Settle_timeout, End_wait, Release, Clone_ticket, Own, IsRising, is_waiting, ticket_held, is_number, gaining, cloning, winning, Program, Give, Ask, Grow, ◌>>=◌, ◌>>◌, EachCall, SearchEnd, Over, Cut_off, Failed, seeking, most_searches}
+use Rattle.mdl_calls.specs.Words.{Answer, At_place, Granted, Would_wait, Waits, Resolve, Try_now, Begin_wait, Settle_timeout, End_wait, Release, Clone_ticket, Own, IsRising, is_waiting, ticket_held, is_number, gaining, cloning, winning, Program, Give, Ask, Grow, EachCall, SearchEnd, Over, Cut_off, Failed, seeking, most_searches}
 use Rattle.mdl_calls.proofs.SeekingLemmas.{calls_seeking}
 use Rattle.mdl_core.specs.CoreJoins.{Joins, Knows, SpeaksFor, own_at}
 use Rattle.mdl_core.specs.Cores.{Core}
 use Rattle.mdl_core.proofs.CallLaws.{core-changes, core-explains, core-resolves, core-rising}
 use Rattle.mdl_core.proofs.CoreServing.{found-first}
 use Rattle.mdl_core.proofs.PairLemmas.{pairs-from_rising, same-number}
-use Rattle.mdl_context.specs.declared.context_error.ContextError.TheVariants.{Waiting, Space}
+use Rattle.mdl_context.specs.declared.context_error.ContextError.TheVariants.{Waiting}
 use Rattle.mdl_context.specs.declared.kept.Kept.{Kept}
 use Rattle.mdl_context.specs.declared.kept.Wanted.{Wanted}
 use Rattle.mdl_context.specs.Wishes.{Wish}
 use Rattle.mdl_context.specs.declared.request.Acquire.{Acquire}
-use Rattle.mdl_context.specs.declared.request.Resume.{Resume}
-use Rattle.mdl_context.specs.declared.request.Resume.TheVariants as resume
 use Rattle.mdl_context.specs.Contexts.{ContextView, held_of, place_known}
 use Rattle.mdl_context.specs.Gains as gains
-use Rattle.mdl_context.specs.Holdings.{earliest, kept_of, wanted_of, search_over}
+use Rattle.mdl_context.specs.Holdings.{earliest, kept_of, wanted_of}
 use Rattle.mdl_context.specs.Requests as requests
 use Rattle.mdl_context.specs.Requests.{Outcome}
-use Rattle.mdl_context.specs.Waits as waits
 use Rattle.mdl_context.proofs.PlaceLemmas.{suffices-at, equal}
-use Rattle.mdl_script_laws.proofs.ShownCalls.{IsMild, IsQuiet, KeepsWait, Leads, Spares, Stays, leads-bind, leads-quiet, none, spares-call, spares-here, spares-then, stays-call, stays-here, stays-then}
-use Rattle.mdl_script_laws.proofs.ShownContexts.{Fits, Followed, Grown, IsFresh, fits-more, fits-same, followed-here, followed-late, followed-same, gained-fresh, gained-there}
+use Rattle.mdl_script_laws.proofs.ShownCalls.{IsQuiet, Leads, Spares, Stays, leads-bind, leads-quiet, none, spares-call, spares-then, stays-call, stays-here}
+use Rattle.mdl_script_laws.proofs.ShownContexts.{Fits, Followed, IsFresh, fits-more, fits-same, followed-here, followed-late, followed-same, gained-fresh, gained-there}
 
 -- ---- numbers of tickets
 
@@ -66,7 +61,8 @@ pub record IsGained (a : Core) (who id place : ℕ) (b : Core) : Type 0 where
   pub number : ticket.id ≡ id
   pub at : ticket.place ≡ place
 
-gained-by : (a b : Core) (who id place : ℕ) (mode : Mode) → Spares who none a b → own_at b who ≡ gaining id place mode (own_at a who) → IsGained a who id place b
+gained-by : (a b : Core) (who id place : ℕ) (mode : Mode) → Spares who none a b → own_at b who ≡ gaining id place mode (own_at a who)
+    → IsGained a who id place b
 gained-by a b who id place mode spares own = record {
   spares = spares;
   fresh = gained-fresh id place mode (own_at a who) (subst IsRising own (core-rising b who spares.speaks));
@@ -103,16 +99,19 @@ won-by a b who id speaks joins = go (own_at a who).wait refl
     go : (o : Option Wait) → (own_at a who).wait ≡ o → (w : Wait) × ((own_at a who).wait ≡ Some w) × IsGained a who id w.place b
     go None e = let f : false ≡ true = sym (ap is_some e) ∙ waits_there in cc
     go (Some w) e =
-        let own : own_at b who ≡ winning id (Some w) (own_at a who) = core-changes a b (End_wait who) (Granted id) who refl joins ∙ ap (λ o. winning id o (own_at a who)) e in
-        (w, e, record {
-          spares = spares;
-          fresh = gained-fresh id w.place w.mode (record { held = (own_at a who).held; wait = None }) (subst IsRising own (core-rising b who spares.speaks));
-          ticket = record { id = id; place = w.place; mode = w.mode };
-          there = subst (λ (o : Own). Contains o.held (record { id = id; place = w.place; mode = w.mode })) (sym own)
-              (gained-there id w.place w.mode (record { held = (own_at a who).held; wait = None }));
-          number = refl;
-          at = refl;
-        })
+        let own : own_at b who ≡ winning id (Some w) (own_at a who) = core-changes a b (End_wait who) (Granted id) who refl joins ∙ ap (λ o. winning id o (own_at a who)) e in (
+          w,
+          e,
+          record {
+            spares = spares;
+            fresh = gained-fresh id w.place w.mode (record { held = (own_at a who).held; wait = None }) (subst IsRising own (core-rising b who spares.speaks));
+            ticket = record { id = id; place = w.place; mode = w.mode };
+            there = subst (λ (o : Own). Contains o.held (record { id = id; place = w.place; mode = w.mode })) (sym own)
+                (gained-there id w.place w.mode (record { held = (own_at a who).held; wait = None }));
+            number = refl;
+            at = refl;
+          },
+        )
 
 -- a ticket of a new number is released again
 released-again : (a b c : Core) (who id : ℕ) → Spares who none a b → IsFresh a who id → Spares who (λ n. n ≡ id) b c → Spares who none a c
@@ -215,7 +214,7 @@ module _ (a : Core) (context : ContextView) (place : ℕ) (request : Wish) (fits
       (gains.wish_sought context.who number) c
       (leads-quiet (seeking most_searches context.who) c c context.who none (stays-here context.who none c step.speaks) (quiet-seeking context.who most_searches))
       (λ end d stays. asked-sought d number end (spares-then context.who none a c d (spares-then context.who none a b c spares step) stays.0)
-          (λ w e. at w (subst (λ (o : Own). o.wait ≡ Some w) own (stays.1 w e))))
+      (λ w e. at w (subst (λ (o : Own). o.wait ≡ Some w) own (stays.1 w e))))
     where
       at : (w : Wait) → Some (record { number = number; place = place; mode = request.mode }) ≡ Some w → w.place ≡ place
       at w e = let f : record { number = number; place = place; mode = request.mode } ≡ w = cc in ap (λ (x : Wait). x.place) (sym f)
@@ -243,7 +242,7 @@ module _ (a : Core) (context : ContextView) (place : ℕ) (request : Wish) (fits
       let step = spares-call context.who none a b (Clone_ticket context.who ticket.id request.mode) (Granted copy) fits.speaks refl tt joins in
       let held = held-number (own_at a context.who) backed.0 ticket.id (core-rising a context.who fits.speaks) backed.1 backed.2 in
       let own = core-changes a b (Clone_ticket context.who ticket.id request.mode) (Granted copy) context.who refl joins
-          ∙ ap (λ o. cloning copy request.mode o (own_at a context.who)) held in
+      ∙ ap (λ o. cloning copy request.mode o (own_at a context.who)) held in
       asked-gained b copy (subst (λ p. IsGained a context.who copy p b) backed.3 (gained-by a b context.who copy (backed.0).place request.mode step own))
   asked-copy ticket b answer backed joins = asked-refused b (spares-call context.who none a b (Clone_ticket context.who ticket.id request.mode) answer fits.speaks refl tt joins)
 
@@ -282,7 +281,8 @@ known-more key other (x ∷ xs) place p e = go (key_eq other x.0) e (known-more 
     go true f rest = inl f
     go false f rest = rest f
 
-fits-learnt : (a : Core) (context : ContextView) (key : KeyName) (place : ℕ) → Fits a context → Knows a context.who place key → Fits a (requests.remembering key place context)
+fits-learnt : (a : Core) (context : ContextView) (key : KeyName) (place : ℕ) → Fits a context → Knows a context.who place key
+    → Fits a (requests.remembering key place context)
 fits-learnt a context key place fits knows = record {
   speaks = fits.speaks;
   backed = fits.backed;
@@ -294,12 +294,14 @@ fits-learnt a context key place fits knows = record {
   wait = fits.wait;
 }
 
-pub leads-map : {A : Type 0} (P Q : A → Core → Type 0) (program : Program A) (a : Core) → ((x : A) (b : Core) → P x b → Q x b) → Leads P program a → Leads Q program a
+pub leads-map : {A : Type 0} (P Q : A → Core → Type 0) (program : Program A) (a : Core) → ((x : A) (b : Core) → P x b → Q x b) → Leads P program a
+    → Leads Q program a
 leads-map P Q (Give x) a so leads = so x a leads
 leads-map P Q (Ask call next) a so leads = λ answer b joins. leads-map P Q (next answer) b so (leads answer b joins)
 leads-map P Q (Grow refused found) a so leads = leads-map P Q found a so leads
 
-asked-place : (a b : Core) (request : Wish) (context : ContextView) (answer : Answer) → Fits a context → context.wait ≡ None → Joins a (Resolve context.who request.key) answer b
+asked-place : (a b : Core) (request : Wish) (context : ContextView) (answer : Answer) → Fits a context → context.wait ≡ None
+    → Joins a (Resolve context.who request.key) answer b
     → Leads (λ (outcome : Outcome Acquire) c. Followed a context c outcome.1) (requests.place_answered request context answer) b
 asked-place a b request context (At_place place) fits idle joins =
     let stays = stays-call context.who none a b (Resolve context.who request.key) (At_place place) fits.speaks (refl, tt, refl) joins in

@@ -1,13 +1,13 @@
 -- What a session holds, and what stands under it, over calls: its own, and those of others.
-use Rattle.std.proofs.Common.{◌≡◌, ◌≢◌, ◌⊎◌, inl, inr, ℕ, Bool, true, false, cond, not, List, [], ◌∷◌, ◌++◌, Option, Some, None, IfSome, Contains, filter, refl, sym, ap, ◌∙◌, subst, arith}
+use Rattle.std.proofs.Common.{◌≡◌, ◌≢◌, ◌⊎◌, inl, inr, ℕ, Bool, true, false, cond, not, List, [], ◌∷◌, Option, Some, None, IfSome, Contains, filter, refl, sym, ap, ◌∙◌, subst, arith}
 use Rattle.std.specs.Prelude.{◌==◌}
 use Rattle.std.proofs.lemmas.Bool.Decides.{nat_tests}
-use Rattle.std.proofs.lemmas.List.Elements.{Contains-append_left, Contains-append_right}
+use Rattle.std.proofs.lemmas.List.Elements.{Contains-append_left}
 use Rattle.mdl_key.specs.declared.mode.Mode.{Mode}
 use Rattle.mdl_key.specs.Keys.{KeyName}
 use Rattle.mdl_calls.specs.declared.answers.Held.{Held}
 use Rattle.mdl_calls.specs.Own.{Wait}
-use Rattle.mdl_calls.specs.Words.{Answer, Granted, Waits, Lost, Done, Changed, Call, caller, Try_now, Begin_wait, End_wait, Release, Clone_ticket, Upgrade_now, Merge, Downgrade, Change_definition, Unpin, Own, own_after, ticket_held, is_number, cloning, winning, redefined_place, Program, Give, Ask, Grow, ◌>>=◌, Each, EachCall, outcome_of}
+use Rattle.mdl_calls.specs.Words.{Answer, Granted, Lost, Done, Call, caller, Try_now, Begin_wait, End_wait, Release, Clone_ticket, Upgrade_now, Merge, Downgrade, Change_definition, Unpin, Own, own_after, ticket_held, is_number, cloning, winning, redefined_place, Program, Give, Ask, Grow, ◌>>=◌, Each, EachCall, outcome_of}
 use Rattle.mdl_core.specs.CoreCalls.{outcome}
 use Rattle.mdl_core.specs.CoreJoins.{Joins, Knows, SpeaksFor, own_at}
 use Rattle.mdl_core.specs.Cores.{Core, has_key, standing_at}
@@ -155,7 +155,8 @@ cloned-wait : (id : ℕ) (mode : Mode) (ticket : Option Held) (own : Own) (w : W
 cloned-wait id mode None own w e = e
 cloned-wait id mode (Some ticket) own w e = e
 
-wait-after : (gone : ℕ → Type 0) (call : Call) (answer : Answer) (own : Own) (w : Wait) → IsMild gone call → begins_wait call ≡ false → (own_after call answer own).wait ≡ Some w → own.wait ≡ Some w
+wait-after : (gone : ℕ → Type 0) (call : Call) (answer : Answer) (own : Own) (w : Wait) → IsMild gone call → begins_wait call ≡ false
+    → (own_after call answer own).wait ≡ Some w → own.wait ≡ Some w
 wait-after gone (Begin_wait who place mode) answer own w mild begins e = cc
 wait-after gone (Try_now who place mode) (Granted id) own w mild begins e = e
 wait-after gone (Release who id) Done own w mild begins e = e

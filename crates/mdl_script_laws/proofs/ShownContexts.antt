@@ -1,42 +1,22 @@
 -- What a session's context keeps is held in the space, and what it holds stays, over all that a context asks for.
-use Rattle.std.proofs.Common.{◌≡◌, ◌≢◌, ◌⊎◌, inl, inr, ℕ, ◌<◌, Bool, true, false, cond, not, List, [], ◌∷◌, ◌++◌, Option, Some, None, Result, Ok, Err, IfSome, MatchOption, Contains, filter, is_some, option_map, refl, sym, ap, ◌∙◌, subst, arith}
-use Rattle.std.specs.Prelude.{◌==◌, find, nat_lt, IsTrue}
+use Rattle.std.proofs.Common.{◌≡◌, ◌≢◌, ◌⊎◌, inl, inr, ℕ, ◌<◌, Bool, true, List, [], ◌∷◌, ◌++◌, Option, Some, None, Contains, filter, refl, sym, ap, ◌∙◌, subst, arith}
+use Rattle.std.specs.Prelude.{nat_lt, IsTrue}
 use Rattle.std.specs.List.{list_all}
 use Rattle.std.proofs.lemmas.Bool.Decides.{nat_tests}
-use Rattle.std.proofs.lemmas.List.Elements.{Contains-append_left, Contains-append_right, Contains-append_cases}
+use Rattle.std.proofs.lemmas.List.Elements.{Contains-append_right, Contains-append_cases}
 use Rattle.mdl_key.specs.declared.mode.Mode.{Mode}
-use Rattle.mdl_key.specs.declared.mode.Duration.{Duration}
-use Rattle.mdl_key.specs.Keys.{KeyName, key_eq}
-use Rattle.mdl_system.proofs.Deciding.{key-Decides}
+use Rattle.mdl_key.specs.Keys.{KeyName}
 use Rattle.mdl_system.proofs.MemberLemmas.{Contains-none}
 use Rattle.mdl_system.proofs.OrderLemmas.{Contains-cons_cases, Contains-here}
 use Rattle.mdl_calls.specs.declared.answers.Held.{Held}
-use Rattle.mdl_calls.specs.declared.space_error.SpaceError.{SpaceError}
 use Rattle.mdl_calls.specs.Own.{Wait}
-use Rattle.mdl_calls.specs.Words.{Answer, At_place, Granted, Would_wait, Waits, Pending, Is_settled, Lost, Call, caller, Resolve, Try_now, Begin_wait, Poll_wait, Settle_timeout, End_wait, Release, Clone_ticket, Own, IsRising, are_rising, own_after, is_waiting, ticket_held, is_number, gaining, cloning, winning, Program, Give, Ask, Grow, ◌>>=◌, ◌>>◌, Each, EachCall, SearchEnd, Over, Cut_off, Failed, seeking, most_searches}
-use Rattle.mdl_calls.proofs.SeekingLemmas.{calls_seeking}
-use Rattle.mdl_core.specs.CoreJoins.{Joins, Knows, SpeaksFor, own_at}
+use Rattle.mdl_calls.specs.Words.{Own, IsRising, are_rising, gaining}
+use Rattle.mdl_core.specs.CoreJoins.{Knows, SpeaksFor, own_at}
 use Rattle.mdl_core.specs.Cores.{Core}
-use Rattle.mdl_core.proofs.CallLaws.{core-changes, core-explains, core-resolves, core-rising}
-use Rattle.mdl_core.proofs.CoreServing.{found-first}
-use Rattle.mdl_core.proofs.PairLemmas.{pairs-from_rising, same-number}
-use Rattle.mdl_context.specs.declared.context_error.ContextError.TheVariants.{Waiting, Space}
 use Rattle.mdl_context.specs.declared.kept.Kept.{Kept}
 use Rattle.mdl_context.specs.declared.kept.Wanted.{Wanted}
-use Rattle.mdl_context.specs.Wishes.{Wish}
-use Rattle.mdl_context.specs.declared.request.Acquire.{Acquire}
-use Rattle.mdl_context.specs.declared.request.Acquire.TheVariants.{Acquired, MustWait}
-use Rattle.mdl_context.specs.declared.request.Resume.{Resume}
-use Rattle.mdl_context.specs.declared.request.Resume.TheVariants as resume
-use Rattle.mdl_context.specs.Contexts.{ContextView, held_of, place_known, has_number, without}
-use Rattle.mdl_context.specs.Gains as gains
-use Rattle.mdl_context.specs.Holdings.{earliest, kept_of, search_over, wanted_of, with_wanted, without_number}
-use Rattle.mdl_context.specs.Releases as releases
-use Rattle.mdl_context.specs.Requests as requests
-use Rattle.mdl_context.specs.Requests.{Outcome}
-use Rattle.mdl_context.specs.Waits as waits
-use Rattle.mdl_context.proofs.PlaceLemmas.{suffices-at, equal}
-use Rattle.mdl_script_laws.proofs.ShownCalls.{filter-among, among-filter, IsMild, IsQuiet, KeepsWait, Leads, Spares, Stays, leads-bind, leads-each, leads-quiet, none, spares-call, spares-here, spares-then, stays-call, stays-here, stays-then}
+use Rattle.mdl_context.specs.Contexts.{ContextView, place_known}
+use Rattle.mdl_script_laws.proofs.ShownCalls.{among-filter, Spares, Stays, none, spares-here, spares-then}
 
 -- ---- tickets with rising numbers
 
@@ -63,7 +43,6 @@ gained-fresh id place mode own rising t among same = let lt = below-last own.hel
 
 pub gained-there : (id place : ℕ) (mode : Mode) (own : Own) → Contains (gaining id place mode own).held (record { id = id; place = place; mode = mode })
 gained-there id place mode own = Contains-append_right own.held (_ ∷ []) _ (Contains-here _ [])
-
 
 -- ---- what a context keeps
 
@@ -148,7 +127,8 @@ pub followed-same : (a b : Core) (context : ContextView) → Fits a context → 
 followed-same a b context fits stays = record { fits = fits-same a b context fits stays; spares = stays.0; who = refl; grown = inl refl }
 
 -- something was done before
-pub followed-late : (a b c : Core) (who : ℕ) (kept : List Kept) (known knew : List (KeyName × ℕ)) (wait still : Option Wanted) (after : ContextView) → Spares who none a b
+pub followed-late : (a b c : Core) (who : ℕ) (kept : List Kept) (known knew : List (KeyName × ℕ)) (wait still : Option Wanted) (after : ContextView)
+    → Spares who none a b
     → Followed b (record { who = who; kept = kept; known = knew; wait = still }) c after
     → Followed a (record { who = who; kept = kept; known = known; wait = wait }) c after
 followed-late a b c who kept known knew wait still after spares followed = record {

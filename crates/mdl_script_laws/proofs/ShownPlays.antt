@@ -1,11 +1,9 @@
 -- Whatever a statement asks for, what was shown in its transaction before stands on, and what it shows in the end stands too.
-use Rattle.std.proofs.Common.{◌≡◌, ◌≢◌, ◌⊎◌, inl, inr, ℕ, Bool, true, false, not, List, [], ◌∷◌, ◌++◌, Option, Some, None, Result, Ok, Err, Contains, filter, map, refl, sym, ap, ◌∙◌, subst, arith}
+use Rattle.std.proofs.Common.{◌≡◌, ◌⊎◌, inl, inr, ℕ, Bool, true, false, List, [], ◌∷◌, ◌++◌, Option, Some, None, Ok, Err, Contains, filter, map, refl, sym, ap, ◌∙◌, subst}
 use Rattle.std.specs.Prelude.{◌==◌}
-use Rattle.std.proofs.lemmas.Bool.Decides.{nat_tests}
 use Rattle.std.proofs.lemmas.List.Elements.{Contains-append_cases}
 use Rattle.mdl_key.specs.declared.mode.Duration.{Duration}
 use Rattle.mdl_key.specs.declared.mode.Duration.TheVariants.{Statement, Transaction, Explicit}
-use Rattle.mdl_key.specs.declared.mode.Mode.{Mode}
 use Rattle.mdl_key.specs.Keys.{KeyName}
 use Rattle.mdl_defs.specs.declared.change.Change.{Change}
 use Rattle.mdl_defs.specs.declared.definition.Definition.{Definition}
@@ -17,9 +15,9 @@ use Rattle.mdl_calls.specs.declared.answers.Settled.{Settled}
 use Rattle.mdl_calls.specs.declared.answers.Settled.TheVariants as settled
 use Rattle.mdl_calls.specs.declared.space_error.SpaceError.{SpaceError}
 use Rattle.mdl_calls.specs.declared.space_error.SpaceError.TheVariants as space
-use Rattle.mdl_calls.specs.Words.{Answer, Has_wait, Reads, Changed, Call, Change_definition, Kill, Read_definition, Wait_of, caller, Own, Program, Give, Ask, Grow, ◌>>=◌, ◌>>◌, Each}
+use Rattle.mdl_calls.specs.Words.{Answer, Has_wait, Reads, Changed, Change_definition, Kill, Read_definition, Wait_of, Own, Program, Give, ◌>>=◌}
 use Rattle.mdl_core.specs.CoreJoins.{Joins, Knows, SpeaksFor, own_at}
-use Rattle.mdl_core.specs.Cores.{Core, key_at, standing_at}
+use Rattle.mdl_core.specs.Cores.{Core, standing_at}
 use Rattle.mdl_core.proofs.CallLaws.{core-changes, core-keeps, core-remembers, core-rising}
 use Rattle.mdl_core.proofs.CoreSound.{calls_keep-sound}
 use Rattle.mdl_core.proofs.ReadLaws.{core-reads}
@@ -32,7 +30,7 @@ use Rattle.mdl_context.specs.declared.request.Acquire.TheVariants as acquire
 use Rattle.mdl_context.specs.declared.request.Mark.{Mark}
 use Rattle.mdl_context.specs.declared.request.Resume.{Resume}
 use Rattle.mdl_context.specs.declared.request.Resume.TheVariants as resume
-use Rattle.mdl_context.specs.Contexts.{ContextView, beyond, beyond_mark, duration_rank, held_for, lasts, mark_of}
+use Rattle.mdl_context.specs.Contexts.{ContextView, beyond, duration_rank, held_for, lasts, mark_of}
 use Rattle.mdl_context.specs.Gains.{refusal_of}
 use Rattle.mdl_context.specs.Releases.{giving_up, releasing}
 use Rattle.mdl_context.specs.Requests.{Outcome, acquiring}
@@ -56,8 +54,8 @@ use Rattle.mdl_stmt.specs.States.{State, has_locked}
 use Rattle.mdl_script_laws.proofs.ShownCalls.{Leads, Stays, among-filter, leads-bind, leads-each, none, stays-call, stays-other}
 use Rattle.mdl_script_laws.proofs.ShownContexts.{Fits, Followed, followed-same}
 use Rattle.mdl_script_laws.proofs.ShownAsking.{held-number, leads-acquiring}
-use Rattle.mdl_script_laws.proofs.ShownWaits.{ComesTo, GaveUp, IsAmong, Resumed, leads-giving_up, leads-releasing, leads-resuming}
-use Rattle.mdl_script_laws.proofs.ShownPoints.{IsFirm, IsLocked, IsOld, IsStanding, drop-within, lasts-longer, locked-followed, old-followed, shown_as, shown_at, standing-followed, standing-left}
+use Rattle.mdl_script_laws.proofs.ShownWaits.{GaveUp, IsAmong, Resumed, leads-giving_up, leads-releasing, leads-resuming}
+use Rattle.mdl_script_laws.proofs.ShownPoints.{IsFirm, IsLocked, IsOld, IsStanding, drop-within, lasts-longer, locked-followed, old-followed, shown_as, standing-followed, standing-left}
 
 -- ---- what a row may ask for
 
@@ -176,7 +174,8 @@ module _ (old : TableShown → Type 0) (live : Bool) (locks : List (ℕ × KeyNa
   }
 
   -- one more lock is had
-  point-locked : (duration : Duration) (id : ℕ) (key : KeyName) → (duration ≡ Transaction → IsLocked a context id key) → Point old live (with_lock duration id key locks) seen mark a context state
+  point-locked : (duration : Duration) (id : ℕ) (key : KeyName) → (duration ≡ Transaction → IsLocked a context id key)
+      → Point old live (with_lock duration id key locks) seen mark a context state
   point-locked duration id key had = record {
     fits = point.fits;
     unlocked = point.unlocked;
@@ -187,7 +186,8 @@ module _ (old : TableShown → Type 0) (live : Bool) (locks : List (ℕ × KeyNa
     stands = point.stands;
   }
     where
-      by : (d : Duration) → (d ≡ Transaction → IsLocked a context id key) → (n : ℕ) (k : KeyName) → Contains (with_lock d id key locks) (n, k) → IsLocked a context n k
+      by : (d : Duration) → (d ≡ Transaction → IsLocked a context id key) → (n : ℕ) (k : KeyName) → Contains (with_lock d id key locks) (n, k)
+          → IsLocked a context n k
       by Statement had n k among = point.locked n k among
       by Explicit had n k among = point.locked n k among
       by Transaction had n k among = elim (Contains-cons_cases (id, key) locks (n, k) among) [
@@ -196,7 +196,8 @@ module _ (old : TableShown → Type 0) (live : Bool) (locks : List (ℕ × KeyNa
       ]
 
   -- more is seen
-  point-seen : (more : List TableShown) → ((x : TableShown) → Contains more x → IsStanding a context x) → Point old live locks (more ++ seen) mark a context state
+  point-seen : (more : List TableShown) → ((x : TableShown) → Contains more x → IsStanding a context x)
+      → Point old live locks (more ++ seen) mark a context state
   point-seen more each = record {
     fits = point.fits;
     unlocked = point.unlocked;
@@ -207,8 +208,10 @@ module _ (old : TableShown → Type 0) (live : Bool) (locks : List (ℕ × KeyNa
     stands = λ x among. elim (Contains-append_cases more seen x among) [ inl new ↦ each x new | inr before ↦ point.stands x before ];
   }
 
-  point-set : (change : State → State) → (IsUnlocked state → IsUnlocked (change state)) → ((state.is_open ≡ true → live ≡ true) → (change state).is_open ≡ true → live ≡ true)
-      → ((x : TableShown) → old x → live ≡ true → state.is_open ≡ true → (change state).is_open ≡ true) → Point old live locks seen mark a context (change state)
+  point-set : (change : State → State) → (IsUnlocked state → IsUnlocked (change state))
+      → ((state.is_open ≡ true → live ≡ true) → (change state).is_open ≡ true → live ≡ true)
+      → ((x : TableShown) → old x → live ≡ true → state.is_open ≡ true → (change state).is_open ≡ true)
+          → Point old live locks seen mark a context (change state)
   point-set change unlocked was opens = record {
     fits = point.fits;
     unlocked = unlocked point.unlocked;
@@ -235,7 +238,8 @@ module _ (old : TableShown → Type 0) (live : Bool) (locks : List (ℕ × KeyNa
   kept_before = session.context.kept
 
   -- what goes leaves what was shown before
-  old-stays : (ending : Ending) (x : TableShown) (stands : IsStanding a session.context x) → IsOld mark kept_before stands.ticket.id → (state_after ending session.state).is_open ≡ true
+  old-stays : (ending : Ending) (x : TableShown) (stands : IsStanding a session.context x) → IsOld mark kept_before stands.ticket.id
+      → (state_after ending session.state).is_open ≡ true
       → IsAmong (gone_at ending true mark kept_before) stands.ticket.id → ⊥
   old-stays (Answers reply) x stands is opens (k, among, e) = not_firm kept_before k stands.ticket.id stands.firm among e
   old-stays (Misses number) x stands is opens (k, among, e) = elim (Contains-append_cases (beyond Statement mark.statement kept_before) (beyond Transaction mark.transaction kept_before) k among) [
@@ -282,7 +286,8 @@ module _ (old : TableShown → Type 0) (live : Bool) (locks : List (ℕ × KeyNa
       tells : (x : TableShown) → TellsAt ending x → (state_after ending session.state).is_open ≡ true → IsStanding b after x
       tells x tell opens = at ending told (there (still_open ending opens)) tell
         where
-          at : (e : Ending) → ((y : TableShown) → TellsAt e y → Contains seen y) → GaveUp a (gone_at e true mark kept_before) session.context b after → TellsAt e x → IsStanding b after x
+          at : (e : Ending) → ((y : TableShown) → TellsAt e y → Contains seen y) → GaveUp a (gone_at e true mark kept_before) session.context b after
+              → TellsAt e x → IsStanding b after x
           at (Answers reply) told gave tell =
               let stands = point.stands x (told x tell) in
               standing-left a b (held_for Statement kept_before) session.context after x stands point.fits gave (λ (k, among, e). not_firm kept_before k stands.ticket.id stands.firm among e)
@@ -290,7 +295,8 @@ module _ (old : TableShown → Type 0) (live : Bool) (locks : List (ℕ × KeyNa
           at Starves told gave tell = absurd tell
           at Falls told gave tell = absurd tell
 
-      by : (e : Ending) → ((x : TableShown) → TellsAt e x → Contains seen x) → Rests old b (record { context = after; state = state_after e session.state; left = None })
+      by : (e : Ending) → ((x : TableShown) → TellsAt e x → Contains seen x)
+          → Rests old b (record { context = after; state = state_after e session.state; left = None })
           → ((x : TableShown) → TellsAt e x → (state_after e session.state).is_open ≡ true → IsStanding b after x)
           → Comes old (ended e (record { context = after; state = state_after e session.state; left = None })) b
       by (Answers reply) told rests tells = (rests, tells)
@@ -321,7 +327,8 @@ tells_no_error _ x tell = tell
 
 -- ---- changes
 
-fits-changed : (a b : Core) (context : ContextView) (id : ℕ) (change : Change) (answer : Answer) → Fits a context → Joins a (Change_definition context.who id change) answer b
+fits-changed : (a b : Core) (context : ContextView) (id : ℕ) (change : Change) (answer : Answer) → Fits a context
+    → Joins a (Change_definition context.who id change) answer b
     → Fits b context
 fits-changed a b context id change answer fits joins =
     let same = core-changes a b (Change_definition context.who id change) answer context.who refl joins in
@@ -348,7 +355,7 @@ met-lock wish a before b after id followed met lasting =
       at = subst (λ p. Knows b after.who p wish.key) (sym (there.3 ∙ met.5.0)) (followed.fits.known wish.key met.0 met.2);
       firm = λ k among e. (
           let long = subst (λ d. (duration_rank d == duration_rank Transaction) ≡ true) (followed.fits.alone ticket k met.3 among (sym there.2 ∙ sym e))
-              (subst (λ d. lasts d ticket ≡ true) lasting met.5.2) in
+          (subst (λ d. lasts d ticket ≡ true) lasting met.5.2) in
           lasts-longer k long);
     }
 
@@ -404,7 +411,8 @@ module _ (old : TableShown → Type 0) (live : Bool) (locks : List (ℕ × KeyNa
         firm = before.firm;
       }
     where
-      read-there : (a b : Core) (who id version : ℕ) (definition : Option Definition) (t : Held) → SpeaksFor a who → Joins a (Read_definition who id) (Reads version definition) b
+      read-there : (a b : Core) (who id version : ℕ) (definition : Option Definition) (t : Held) → SpeaksFor a who
+          → Joins a (Read_definition who id) (Reads version definition) b
           → Contains (own_at a who).held t → Contains (own_at b who).held t
       read-there a b who id version definition t speaks joins among =
           subst (λ (o : Own). Contains o.held t) (sym (core-changes a b (Read_definition who id) (Reads version definition) who refl joins)) among
@@ -474,18 +482,18 @@ leads-play old live locks seen (row.Acquire wish rest) mark a session fair point
     (leads-each (IsMet wish session.context) (λ (outcome : Outcome Acquire) b. Followed a session.context b outcome.1) (acquiring wish session.context) a
     (met_acquiring wish session.context) (leads-acquiring a wish session.context point.fits))
     (λ outcome b h. leads-acquired old live locks seen mark wish rest more a b session outcome fair
-        (λ id c after now. leads-play old live (with_lock wish.duration id wish.key locks) seen (rest id) mark c after (fair id) now) point h.1 h.0)
+    (λ id c after now. leads-play old live (with_lock wish.duration id wish.key locks) seen (rest id) mark c after (fair id) now) point h.1 h.0)
 leads-play old live locks seen (row.Give_up which rest) mark a session fair point =
     let gone = which session.context.kept in
     leads-bind (λ (outcome : Outcome (Unit {0})) b. GaveUp a gone session.context b outcome.1) (Comes old) (giving_up gone session.context)
     (λ outcome. play rest mark (with_context session outcome.1)) a (leads-giving_up a gone session.context point.fits)
     (λ outcome b gave. leads-play old live [] [] rest mark b (with_context session outcome.1) fair.1
-        (point-cleared old live locks seen mark a session.context session.state point b outcome.1 gave.fits fair.0))
+    (point-cleared old live locks seen mark a session.context session.state point b outcome.1 gave.fits fair.0))
 leads-play old live locks seen (row.Release id rest) mark a session fair point =
     leads-bind (λ (outcome : Outcome (Unit {0})) b. Fits b outcome.1 × (outcome.1.who ≡ session.context.who)) (Comes old) (releasing id session.context)
     (λ outcome. play rest mark (with_context session outcome.1)) a (leads-releasing a id session.context point.fits)
     (λ outcome b left. leads-play old live [] [] rest mark b (with_context session outcome.1) fair.1
-        (point-cleared old live locks seen mark a session.context session.state point b outcome.1 left.0 fair.0))
+    (point-cleared old live locks seen mark a session.context session.state point b outcome.1 left.0 fair.0))
 leads-play old live locks seen (row.Read id rest) mark a session fair point = λ answer b joins.
     leads-read old live locks seen mark id (λ standing. play (rest standing) mark session) a b session answer point joins
     (λ standing now. leads-play old live locks (seen_under id standing locks ++ seen) (rest standing) mark b session (fair standing) now)

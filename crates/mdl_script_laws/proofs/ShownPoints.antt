@@ -1,25 +1,23 @@
 -- What is so of a session while a statement of it is played: its locks are held, and what it has read under them stands.
-use Rattle.std.proofs.Common.{◌≡◌, ◌≢◌, ◌⊎◌, inl, inr, ℕ, zero, suc, Bool, true, false, not, List, [], ◌∷◌, ◌++◌, Option, Some, None, Contains, filter, drop, length, refl, sym, ap, ◌∙◌, subst, arith}
+use Rattle.std.proofs.Common.{◌≡◌, ◌⊎◌, inl, inr, ℕ, zero, suc, Bool, true, false, not, List, [], ◌∷◌, ◌++◌, Contains, filter, drop, length, refl, sym, ap, ◌∙◌, subst}
 use Rattle.std.specs.Prelude.{◌==◌}
-use Rattle.std.proofs.lemmas.Bool.Decides.{nat_tests}
 use Rattle.std.proofs.lemmas.List.Elements.{Contains-append_cases}
 use Rattle.mdl_key.specs.declared.mode.Duration.{Duration}
 use Rattle.mdl_key.specs.declared.mode.Duration.TheVariants.{Statement, Transaction, Explicit}
 use Rattle.mdl_key.specs.Keys.{KeyName}
 use Rattle.mdl_defs.specs.declared.standing.Standing.{Standing}
 use Rattle.mdl_system.proofs.MemberLemmas.{Contains-none}
-use Rattle.mdl_system.proofs.OrderLemmas.{Contains-cons_cases, Contains-here, Contains-later}
+use Rattle.mdl_system.proofs.OrderLemmas.{Contains-cons_cases, Contains-later}
 use Rattle.mdl_calls.specs.declared.answers.Held.{Held}
 use Rattle.mdl_core.specs.CoreJoins.{Knows, own_at}
 use Rattle.mdl_core.specs.Cores.{Core, key_at, standing_at}
 use Rattle.mdl_context.specs.declared.kept.Kept.{Kept}
 use Rattle.mdl_context.specs.declared.request.Mark.{Mark}
-use Rattle.mdl_context.specs.Contexts.{ContextView, beyond, beyond_mark, duration_rank, has_number, held_for, lasts, mark_of, without}
+use Rattle.mdl_context.specs.Contexts.{ContextView, beyond, duration_rank, has_number, held_for, lasts, mark_of, without}
 use Rattle.mdl_stmt.specs.declared.reply.TableShown.{TableShown}
 use Rattle.mdl_stmt.specs.Statements.{columns_of}
-use Rattle.mdl_stmt.specs.States.{State, has_locked}
 use Rattle.mdl_script_laws.proofs.ShownCalls.{Spares, among-filter, key-held, none}
-use Rattle.mdl_script_laws.proofs.ShownContexts.{Fits, Followed, Grown, IsFresh}
+use Rattle.mdl_script_laws.proofs.ShownContexts.{Fits, Followed, Grown}
 use Rattle.mdl_script_laws.proofs.ShownWaits.{GaveUp, IsAmong}
 
 -- ---- lists
@@ -52,7 +50,8 @@ filter-more {X} p (x ∷ xs) y = go (p x) refl (filter-more p xs y)
     go false e (inl same) = inl (rw e same)
     go false e (inr more) = inr (rw e more)
 
-drop-filter : {X : Type 0} (m : ℕ) (p : X → Bool) (xs : List X) (y x : X) → Contains (drop m (filter p (xs ++ y ∷ []))) x → Contains (drop m (filter p xs)) x ⊎ (x ≡ y)
+drop-filter : {X : Type 0} (m : ℕ) (p : X → Bool) (xs : List X) (y x : X) → Contains (drop m (filter p (xs ++ y ∷ []))) x
+    → Contains (drop m (filter p xs)) x ⊎ (x ≡ y)
 drop-filter m p xs y x among = elim (filter-more p xs y) [
   | inl same ↦ inl (subst (λ zs. Contains (drop m zs) x) same among)
   | inr more ↦ drop-more m (filter p xs) y x (subst (λ zs. Contains (drop m zs) x) more among)
@@ -84,7 +83,8 @@ lasts-longer k e = go k.duration e
     go Transaction f = refl
     go Explicit f = refl
 
-firm-grown : (a : Core) (who : ℕ) (before after : List Kept) (t : Held) → Grown a who before after → Contains (own_at a who).held t → IsFirm before t.id → IsFirm after t.id
+firm-grown : (a : Core) (who : ℕ) (before after : List Kept) (t : Held) → Grown a who before after → Contains (own_at a who).held t → IsFirm before t.id
+    → IsFirm after t.id
 firm-grown a who before after t (inl same) there firm = subst (λ kept. IsFirm kept t.id) (sym same) firm
 firm-grown a who before after t (inr (new, fresh, more)) there firm = λ k among e.
     elim (Contains-append_cases before (new ∷ []) k (subst (λ kept. Contains kept k) more among)) [
@@ -95,7 +95,8 @@ firm-grown a who before after t (inr (new, fresh, more)) there firm = λ k among
       ])
     ]
 
-old-grown : (mark : Mark) (a : Core) (who : ℕ) (before after : List Kept) (t : Held) → Grown a who before after → Contains (own_at a who).held t → IsOld mark before t.id → IsOld mark after t.id
+old-grown : (mark : Mark) (a : Core) (who : ℕ) (before after : List Kept) (t : Held) → Grown a who before after → Contains (own_at a who).held t
+    → IsOld mark before t.id → IsOld mark after t.id
 old-grown mark a who before after t (inl same) there old = subst (λ kept. IsOld mark kept t.id) (sym same) old
 old-grown mark a who before after t (inr (new, fresh, more)) there old = λ k among e.
     elim (drop-filter mark.transaction (lasts Transaction) before new k (subst (λ kept. Contains (beyond Transaction mark.transaction kept) k) more among)) [

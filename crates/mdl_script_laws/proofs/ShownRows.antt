@@ -1,5 +1,5 @@
 -- Which statements show what they have seen, and leave a transaction as it is.
-use Rattle.std.proofs.Common.{◌≡◌, ℕ, Bool, true, false, not, List, [], ◌∷◌, ◌++◌, Option, Some, None, Contains, is_some, map, refl, sym, ap, ◌∙◌, subst, inl, inr, eq-eqb}
+use Rattle.std.proofs.Common.{◌≡◌, ℕ, Bool, true, false, not, List, [], ◌∷◌, ◌++◌, Option, Some, None, Contains, is_some, map, refl, sym, subst, inl, inr, eq-eqb}
 use Rattle.std.specs.Prelude.{◌==◌, if◌then◌else◌}
 use Rattle.std.proofs.lemmas.List.Elements.{Contains-append_left, Contains-append_right, Contains-append_cases}
 use Rattle.mdl_key.specs.declared.mode.Duration.TheVariants as for
@@ -33,7 +33,8 @@ use Rattle.mdl_script_laws.proofs.ShownPoints.{shown_as}
 -- ---- SELECT
 
 module _ (old : TableShown → Type 0) (live : Bool) where
-  seen-first : (id : ℕ) (table : KeyName) (standing : Standing) (locks : List (ℕ × KeyName)) → Contains (seen_under id standing ((id, table) ∷ locks)) (shown_as table standing)
+  seen-first : (id : ℕ) (table : KeyName) (standing : Standing) (locks : List (ℕ × KeyName))
+      → Contains (seen_under id standing ((id, table) ∷ locks)) (shown_as table standing)
   seen-first id table standing locks =
       Contains-map (λ (lock : ℕ × KeyName). shown_as lock.1 standing) _ (id, table)
       (filter-among (λ (lock : ℕ × KeyName). lock.0 == id) ((id, table) ∷ locks) (id, table) (eq-eqb id id refl) (Contains-here (id, table) locks))
@@ -84,7 +85,8 @@ module _ (old : TableShown → Type 0) (live : Bool) where
   fair-under : (locks : List (ℕ × KeyName)) (seen : List TableShown) (id : ℕ) → IsFair old live locks seen (does.write_under id)
   fair-under locks seen id = λ standing. by standing (does.is_defined standing)
     where
-      by : (standing : Standing) (there : Bool) → IsFair old live locks (seen_under id standing locks ++ seen) ((check there NoSuchTable >> row.Give standing) >>= (λ _. does.wrote))
+      by : (standing : Standing) (there : Bool)
+          → IsFair old live locks (seen_under id standing locks ++ seen) ((check there NoSuchTable >> row.Give standing) >>= (λ _. does.wrote))
       by standing true = fair-wrote locks (seen_under id standing locks ++ seen)
       by standing false = tt
 
@@ -220,10 +222,10 @@ tidy-create columns schema table =
     (λ standing. tidy-check (does.is_defined standing) UnknownDatabase)
     (tidy-then ShowsNone (does.check_new columns table) (does.make_table columns table >> row.Give reply.Ok)
     (λ standing. (
-        let twice = check (not (names_twice columns)) DuplicateColumn in
-        let version = check (does.has_version_left standing) VersionLimit in
-        tidy-then Any (check (not (does.is_defined standing)) TableExists) (twice >> version) (tidy-check (not (does.is_defined standing)) TableExists)
-        (tidy-then Any twice version (tidy-check (not (names_twice columns)) DuplicateColumn) (tidy-check (does.has_version_left standing) VersionLimit))))
+    let twice = check (not (names_twice columns)) DuplicateColumn in
+    let version = check (does.has_version_left standing) VersionLimit in
+    tidy-then Any (check (not (does.is_defined standing)) TableExists) (twice >> version) (tidy-check (not (does.is_defined standing)) TableExists)
+    (tidy-then Any twice version (tidy-check (not (names_twice columns)) DuplicateColumn) (tidy-check (does.has_version_left standing) VersionLimit))))
     (λ x tell. absurd tell))
 
 tidy-stands : (ticket : ℕ) → IsTidy Any (does.stands ticket)
@@ -269,7 +271,7 @@ fair-any old (statement.DropTables tables) none =
     (tidy-then ShowsNone does.ddl (does.drop_after_commit tables) tidy-ddl
     (tidy-bind Any ShowsNone (acquire_all (scopes_of tables)) (λ scopes. does.lock_and_drop tables) (tidy-all (scopes_of tables))
     (λ scopes any. tidy-bind Any ShowsNone (acquire_all (locks_of tables)) (λ tickets. does.drop_under tickets) (tidy-all (locks_of tables))
-        (λ tickets any. tidy-drop tickets))))
+    (λ tickets any. tidy-drop tickets))))
 fair-any old (statement.Savepoint name) none = fair-leaving old true (statement.Savepoint name) refl
 fair-any old (statement.Select tables) none = fair-leaving old true (statement.Select tables) refl
 fair-any old (statement.Write table priority) none = fair-leaving old true (statement.Write table priority) refl

@@ -1,12 +1,11 @@
 -- A context whose wait goes on, or that gives tickets up, keeps what it kept, held; but for what it gives up.
-use Rattle.std.proofs.Common.{◌≡◌, ◌⊎◌, inl, inr, ℕ, Bool, true, false, not, List, [], ◌∷◌, ◌++◌, Option, Some, None, Result, Ok, Err, Contains, option_map, refl, sym, ap, ◌∙◌, subst, arith}
-use Rattle.std.specs.Prelude.{◌==◌}
+use Rattle.std.proofs.Common.{◌≡◌, inl, inr, ℕ, Bool, true, false, not, List, [], ◌∷◌, ◌++◌, Option, Some, None, Ok, Err, Contains, option_map, refl, sym, ap, ◌∙◌, arith}
 use Rattle.std.proofs.lemmas.Bool.Decides.{nat_tests}
 use Rattle.mdl_system.proofs.MemberLemmas.{Contains-none}
 use Rattle.mdl_system.proofs.OrderLemmas.{Contains-cons_cases, Contains-here, Contains-later}
 use Rattle.mdl_calls.specs.declared.answers.Held.{Held}
 use Rattle.mdl_calls.specs.Own.{Wait}
-use Rattle.mdl_calls.specs.Words.{Answer, Granted, Pending, Is_settled, Lost, Poll_wait, End_wait, Release, Program, Give, Ask, ◌>>=◌, ◌>>◌, EachCall, SearchEnd, Over, Cut_off, Failed, seeking, most_searches}
+use Rattle.mdl_calls.specs.Words.{Answer, Granted, Pending, Is_settled, Lost, Poll_wait, End_wait, Release, Program, Give, Ask, EachCall, SearchEnd, Over, Cut_off, Failed, seeking, most_searches}
 use Rattle.mdl_core.specs.CoreJoins.{Joins, own_at}
 use Rattle.mdl_core.specs.Cores.{Core}
 use Rattle.mdl_context.specs.declared.context_error.ContextError.{ContextError}
@@ -21,7 +20,7 @@ use Rattle.mdl_context.specs.Holdings.{search_over, without_number, is_ticket}
 use Rattle.mdl_context.specs.Releases as releases
 use Rattle.mdl_context.specs.Requests.{Outcome}
 use Rattle.mdl_context.specs.Waits as waits
-use Rattle.mdl_script_laws.proofs.ShownCalls.{IsQuiet, Leads, Spares, Stays, leads-bind, leads-quiet, none, spares-then, stays-call, stays-here, stays-then}
+use Rattle.mdl_script_laws.proofs.ShownCalls.{IsQuiet, Leads, Spares, Stays, leads-bind, leads-quiet, none, stays-call, stays-here}
 use Rattle.mdl_script_laws.proofs.ShownContexts.{Fits, Followed, fits-fewer, fits-more, fits-same, followed-here, followed-late, followed-same}
 use Rattle.mdl_script_laws.proofs.ShownAsking.{leads-abandoning, leads-map, quiet-seeking, won-by}
 
@@ -30,7 +29,8 @@ use Rattle.mdl_script_laws.proofs.ShownAsking.{leads-abandoning, leads-map, quie
 -- what comes of a wait: it is the same still; or its ticket is held at its place, and kept for as long as was wished; or it is lost
 abbrev pub ComesTo : ContextView → Outcome Resume → Core → Type 0
 ComesTo before (Ok resume.Waiting, after) b =
-    (wanted : Wanted) → before.wait ≡ Some wanted → (still : Wanted) × (after.wait ≡ Some still) × (still.place ≡ wanted.place) × (still.duration ≡ wanted.duration)
+    (wanted : Wanted) → before.wait ≡ Some wanted
+        → (still : Wanted) × (after.wait ≡ Some still) × (still.place ≡ wanted.place) × (still.duration ≡ wanted.duration)
 ComesTo before (Ok (resume.Acquired id), after) b =
     (wanted : Wanted) → before.wait ≡ Some wanted → (t : Held) × Contains (own_at b before.who).held t × (t.id ≡ id) × (t.place ≡ wanted.place)
     × ((new : Kept) × Contains after.kept new × (new.id ≡ id) × (new.duration ≡ wanted.duration))
@@ -71,14 +71,14 @@ taken-up a b context id (Some wanted) e fits joins =
         grown = inr (new, gained.fresh, refl);
       },
       λ other f. (
-        let same : wanted ≡ other = (let h = sym e ∙ f in cc) in (
-          gained.ticket,
-          gained.there,
-          gained.number,
-          gained.at ∙ place ∙ ap (λ (x : Wanted). x.place) same,
-          (new, last-there context.kept new, refl, ap (λ (x : Wanted). x.duration) same),
-        )
-      ),
+          let same : wanted ≡ other = (let h = sym e ∙ f in cc) in (
+            gained.ticket,
+            gained.there,
+            gained.number,
+            gained.at ∙ place ∙ ap (λ (x : Wanted). x.place) same,
+            (new, last-there context.kept new, refl, ap (λ (x : Wanted). x.duration) same),
+          )
+          ),
     )
   where
     last-there : (xs : List Kept) (x : Kept) → Contains (xs ++ x ∷ []) x
@@ -119,7 +119,8 @@ resumed-late a b context program spares leads =
 ending-so : (a : Core) (context : ContextView) → Fits a context → Leads (Resumed a context) (waits.ending context) a
 ending-so a context fits = λ answer b joins. ended-so a b context answer fits joins
 
-polled-so : (a b : Core) (context : ContextView) (answer : Answer) → Fits a context → Stays context.who none a b → Leads (Resumed a context) (waits.poll_answered context answer) b
+polled-so : (a b : Core) (context : ContextView) (answer : Answer) → Fits a context → Stays context.who none a b
+    → Leads (Resumed a context) (waits.poll_answered context answer) b
 polled-so a b context Pending fits stays = (followed-same a b context fits stays, λ wanted e. (wanted, e, refl, refl))
 polled-so a b context (Is_settled how) fits stays = resumed-late a b context (waits.ending context) stays.0 (ending-so b context (fits-same a b context fits stays))
 polled-so a b context answer fits stays = (followed-same a b context fits stays, tt)
@@ -138,7 +139,8 @@ searched-fits a context fits = record {
   wait = λ wanted w e f. at context.wait refl wanted w e f;
 }
   where
-    at : (o : Option Wanted) → context.wait ≡ o → (wanted : Wanted) (w : Wait) → option_map search_over o ≡ Some wanted → (own_at a context.who).wait ≡ Some w → w.place ≡ wanted.place
+    at : (o : Option Wanted) → context.wait ≡ o → (wanted : Wanted) (w : Wait) → option_map search_over o ≡ Some wanted
+        → (own_at a context.who).wait ≡ Some w → w.place ≡ wanted.place
     at None here wanted w e f = cc
     at (Some x) here wanted w e f = let g : search_over x ≡ wanted = cc in fits.wait x w here f ∙ ap (λ (y : Wanted). y.place) g
 
@@ -148,7 +150,8 @@ searched-comes context (Ok (resume.Acquired id), after) b comes = λ wanted e. c
 searched-comes context (Ok (resume.Lost how), after) b comes = tt
 searched-comes context (Err error, after) b comes = tt
 
-sought-so : (a b : Core) (context : ContextView) (end : SearchEnd) → Fits a context → Stays context.who none a b → Leads (Resumed a context) (waits.wait_sought context end) b
+sought-so : (a b : Core) (context : ContextView) (end : SearchEnd) → Fits a context → Stays context.who none a b
+    → Leads (Resumed a context) (waits.wait_sought context end) b
 sought-so a b context Over fits stays =
     leads-map (Resumed b (waits.searched context)) (Resumed a context) (waits.looking (waits.searched context)) b
     (λ outcome c resumed. (
@@ -192,7 +195,8 @@ has-among (x ∷ xs) id (k, among, e) = elim (Contains-cons_cases x xs k among) 
   | inr same ↦ (let here : x.id ≡ id = ap (λ (y : Kept). y.id) (sym same) ∙ e in grind (arith, nat_tests))
 ]
 
-quiet-releasing : (who : ℕ) (gone : ℕ → Type 0) (tickets : List Kept) → ((k : Kept) → Contains tickets k → gone k.id) → EachCall (IsQuiet who gone) (releases.releasing_all who tickets)
+quiet-releasing : (who : ℕ) (gone : ℕ → Type 0) (tickets : List Kept) → ((k : Kept) → Contains tickets k → gone k.id)
+    → EachCall (IsQuiet who gone) (releases.releasing_all who tickets)
 quiet-releasing who gone [] each = tt
 quiet-releasing who gone (k ∷ ks) each =
     ((refl, each k (Contains-here k ks), refl), λ _. quiet-releasing who gone ks (λ x among. each x (Contains-later k ks x among)))

@@ -1,8 +1,7 @@
 -- Line by line, what a session was shown in its transaction stands on, and so what it is shown again is the same.
-use Rattle.std.proofs.Common.{◌≡◌, ◌≢◌, ◌⊎◌, inl, inr, ℕ, zero, suc, ◌<◌, ◌-◌, Bool, true, false, List, [], ◌∷◌, ◌++◌, length, set, Option, Some, None, is_some, Contains, refl, sym, ap, ◌∙◌, subst, arith}
+use Rattle.std.proofs.Common.{◌≡◌, ◌≢◌, ◌⊎◌, inl, inr, ℕ, zero, suc, ◌<◌, ◌-◌, Bool, true, false, List, [], ◌∷◌, ◌++◌, length, Option, Some, None, is_some, Contains, refl, sym, ap, ◌∙◌, subst, arith}
 use Rattle.std.specs.Prelude.{if◌then◌else◌}
 use Rattle.std.specs.List.{All}
-use Rattle.std.proofs.Math.Dec.{eqb}
 use Rattle.std.proofs.lemmas.Bool.Decides.{eqb_tells}
 use Rattle.std.proofs.lemmas.List.{get_or-set_other, get_or-set_same}
 use Rattle.std.proofs.lemmas.List.FromFn.{get_or-map-range_with_len}
@@ -11,12 +10,11 @@ use Rattle.mdl_key.specs.declared.mode.Mode.{Mode}
 use Rattle.mdl_key.specs.Keys.{KeyName}
 use Rattle.mdl_system.proofs.MemberLemmas.{Contains-none}
 use Rattle.mdl_system.proofs.OrderLemmas.{Contains-cons_cases}
-use Rattle.mdl_calls.specs.Words.{Answer, Call, Settle_timeout, Program, Give, Ask, EachCall, outcome_of}
+use Rattle.mdl_calls.specs.Words.{Settle_timeout, Program, EachCall, outcome_of}
 use Rattle.mdl_core.specs.CoreCalls.{outcome}
-use Rattle.mdl_core.specs.CoreJoins.{Joins, Knows, SpeaksFor, own_at}
-use Rattle.mdl_core.specs.Cores.{Core, key_at, standing_at}
+use Rattle.mdl_core.specs.CoreJoins.{Joins, SpeaksFor}
+use Rattle.mdl_core.specs.Cores.{Core, key_at}
 use Rattle.mdl_core.specs.RunLaws.{IsMadeFor}
-use Rattle.mdl_context.specs.declared.kept.Kept.{Kept}
 use Rattle.mdl_context.specs.Contexts.{ContextView, mark_of}
 use Rattle.mdl_lines.specs.Sessions.{IsScriptSession}
 use Rattle.mdl_syntax.specs.declared.script.Line.{Line}
@@ -28,7 +26,7 @@ use Rattle.mdl_stmt.specs.declared.reply.TableShown.{TableShown}
 use Rattle.mdl_stmt.specs.Endings.{Pause, Ends, Begins_to_wait, Waits_on, Faults}
 use Rattle.mdl_stmt.specs.MemoryLaws.{session_at}
 use Rattle.mdl_stmt.specs.Playing.{going_on, starting}
-use Rattle.mdl_stmt.specs.Sessions.{Left, Session}
+use Rattle.mdl_stmt.specs.Sessions.{Session}
 use Rattle.mdl_stmt.specs.Statements.{row_of}
 use Rattle.mdl_stmt.proofs.RowCalls.{rows_call}
 use Rattle.mdl_script.specs.declared.told.News.{News}
@@ -36,11 +34,11 @@ use Rattle.mdl_script.specs.declared.told.News.TheVariants.{Busy, Ends as Has_en
 use Rattle.mdl_script.specs.declared.told.Told.{Told}
 use Rattle.mdl_script.specs.Worlds.{Player, Scene, World, asked, asked_waiting, first_core, first_settled, first_world, going, going_first, is_waiting, line_played, lines_played, most_turns, newcomer, played, player_at, script_played, sessions, settling, started, timed_out, told_of, ◌and_then◌}
 use Rattle.mdl_script.proofs.SoundLemmas.{IsStaffed, first-session, staffed-first, staffed-going, staffed-started, staffed-timed_out}
-use Rattle.mdl_script_laws.specs.Shown.{AreOfSessions, IsShownTo, LeavesTransaction, TransactionsSeeOneDefinition, has_transaction, leaves_transaction}
+use Rattle.mdl_script_laws.specs.Shown.{AreOfSessions, IsShownTo, LeavesTransaction, TransactionsSeeOneDefinition, leaves_transaction}
 use Rattle.mdl_script_laws.proofs.ShownCalls.{Leads, Stays, joins-outcome, key-held, leads-outcome, none, stays-call, stays-other, stays-outcome}
 use Rattle.mdl_script_laws.proofs.ShownContexts.{Fits, followed-same, fits-same}
 use Rattle.mdl_script_laws.proofs.ShownPoints.{IsStanding, old-now, shown_at, standing-followed}
-use Rattle.mdl_script_laws.proofs.ShownPlays.{Comes, IsFair, IsWaiting, Keeps, Point, Rests, Tells, leads-going, leads-play, point-same}
+use Rattle.mdl_script_laws.proofs.ShownPlays.{Comes, Keeps, Rests, Tells, leads-going, leads-play, point-same}
 use Rattle.mdl_script_laws.proofs.ShownRows.{fair-any, fair-leaving}
 
 -- ---- a statement that starts
@@ -350,7 +348,8 @@ module _ (who : ℕ) (there : IsScriptSession who) where
   scene-silent old world good = record { good = good; shown = λ x shown. absurd (Contains-none (record { line = shown.0; who = who; news = Has_ended (reply.Columns shown.1) }) shown.2) }
 
   scene-first : (old : TableShown → Type 0) (first : Option ℕ) (world : World) (more : World → Scene) → first_settled world ≡ first → IsGood who old world
-      → ((facts : TableShown → Type 0) (after : World) → IsGood who facts after → IsGoodScene who facts (more after)) → IsGoodScene who old (going_first first more world)
+      → ((facts : TableShown → Type 0) (after : World) → IsGood who facts after → IsGoodScene who facts (more after))
+          → IsGoodScene who old (going_first first more world)
   scene-first old None world more found good rest = scene-silent old world good
   scene-first old (Some s) world more found good rest =
       scene-then old (going s world) more (scene-going old s world (first-session world s found) good) (λ facts there. rest facts (going s world).world there)
@@ -373,7 +372,7 @@ module _ (who : ℕ) (there : IsScriptSession who) where
       (scene-line old line world (All-head (λ (l : Line). IsScriptSession l.session) line lines are)
       (λ e. inl (All-head (λ (l : Line). l.session ≡ who → leaves_transaction l.statement ≡ true) line lines leave e)) good)
       (λ facts kept. scene-lines facts lines (line_played line world).world (All-tail (λ (l : Line). IsScriptSession l.session) line lines are)
-          (All-tail (λ (l : Line). l.session ≡ who → leaves_transaction l.statement ≡ true) line lines leave) kept)
+      (All-tail (λ (l : Line). l.session ≡ who → leaves_transaction l.statement ≡ true) line lines leave) kept)
 
   -- before anything was shown, whatever the lines
   good-lines : (lines : List Line) (world : World) → AreOfSessions lines → IsGood who Nothing world → IsGood who Nothing (lines_played lines world).world
@@ -422,12 +421,13 @@ stands-open old a session x (inl rests) is opens = rests.kept x is opens
 stands-open old a session x (inr waiting) is opens = (waiting.point.kept x is (waiting.point.was opens)).0
 
 -- under one key one thing stands
-one-standing : (a : Core) (context : ContextView) (one other : TableShown) → Fits a context → IsStanding a context one → IsStanding a context other → one.key ≡ other.key → one ≡ other
+one-standing : (a : Core) (context : ContextView) (one other : TableShown) → Fits a context → IsStanding a context one → IsStanding a context other
+    → one.key ≡ other.key → one ≡ other
 one-standing a context one other fits here there same =
     let key : key_at here.ticket.place a ≡ key_at there.ticket.place a =
     ap (λ (x : TableShown). x.key) here.shown ∙ same ∙ sym (ap (λ (x : TableShown). x.key) there.shown) in
     let place = fits.speaks.1.tied.keys here.ticket.place there.ticket.place (key-held a context.who here.ticket fits.speaks here.there)
-        (key-held a context.who there.ticket fits.speaks there.there) key in
+    (key-held a context.who there.ticket fits.speaks there.there) key in
     sym here.shown ∙ ap (λ p. shown_at p a) place ∙ there.shown
 
 keeps-fits : (old : TableShown → Type 0) (a : Core) (session : Session) → Keeps old a session → Fits a session.context
