@@ -99,7 +99,8 @@ won-by a b who id speaks joins = go (own_at a who).wait refl
     go : (o : Option Wait) → (own_at a who).wait ≡ o → (w : Wait) × ((own_at a who).wait ≡ Some w) × IsGained a who id w.place b
     go None e = let f : false ≡ true = sym (ap is_some e) ∙ waits_there in cc
     go (Some w) e =
-        let own : own_at b who ≡ winning id (Some w) (own_at a who) = core-changes a b (End_wait who) (Granted id) who refl joins ∙ ap (λ o. winning id o (own_at a who)) e in (
+        let own : own_at b who ≡ winning id (Some w) (own_at a who) = core-changes a b (End_wait who) (Granted id) who refl joins
+        ∙ ap (λ o. winning id o (own_at a who)) e in (
           w,
           e,
           record {
@@ -198,7 +199,8 @@ module _ (a : Core) (context : ContextView) (place : ℕ) (request : Wish) (fits
   asked-sought b number Over spares at = asked-waits b true spares at
   asked-sought b number Cut_off spares at = asked-waits b false spares at
   asked-sought b number (Failed refusal) spares at =
-      leads-bind (λ x c. Spares context.who none a c) (λ got c. Asked (requests.outcome_got place request context got) c) (gains.abandoning context.who) (λ _. Give (Err refusal)) b
+      leads-bind (λ x c. Spares context.who none a c) (λ got c. Asked (requests.outcome_got place request context got) c) (gains.abandoning context.who)
+      (λ _. Give (Err refusal)) b
       (leads-abandoning a b context.who spares) (λ x c left. asked-refused c left)
 
   asked-wish : (b c : Core) (answer : Answer) → Spares context.who none a b → Joins b (Begin_wait context.who place request.mode) answer c
@@ -226,7 +228,8 @@ module _ (a : Core) (context : ContextView) (place : ℕ) (request : Wish) (fits
       → Leads (λ got c. Asked (requests.outcome_got place request context got) c) (gains.try_answered context.who place request.mode answer) b
   asked-try b (Granted id) joins =
       let step = spares-call context.who none a b (Try_now context.who place request.mode) (Granted id) fits.speaks refl tt joins in
-      asked-gained b id (gained-by a b context.who id place request.mode step (core-changes a b (Try_now context.who place request.mode) (Granted id) context.who refl joins))
+      asked-gained b id (gained-by a b context.who id place request.mode step
+      (core-changes a b (Try_now context.who place request.mode) (Granted id) context.who refl joins))
   asked-try b Would_wait joins =
       let step = spares-call context.who none a b (Try_now context.who place request.mode) Would_wait fits.speaks refl tt joins in
       λ answer c begun. asked-wish b c answer step begun
@@ -244,7 +247,8 @@ module _ (a : Core) (context : ContextView) (place : ℕ) (request : Wish) (fits
       let own = core-changes a b (Clone_ticket context.who ticket.id request.mode) (Granted copy) context.who refl joins
       ∙ ap (λ o. cloning copy request.mode o (own_at a context.who)) held in
       asked-gained b copy (subst (λ p. IsGained a context.who copy p b) backed.3 (gained-by a b context.who copy (backed.0).place request.mode step own))
-  asked-copy ticket b answer backed joins = asked-refused b (spares-call context.who none a b (Clone_ticket context.who ticket.id request.mode) answer fits.speaks refl tt joins)
+  asked-copy ticket b answer backed joins = asked-refused b (spares-call context.who none a b
+      (Clone_ticket context.who ticket.id request.mode) answer fits.speaks refl tt joins)
 
   asked-gaining : (ticket : Option Kept) → find (requests.suffices place request) context.kept ≡ ticket
       → Leads (λ got c. Asked (requests.outcome_got place request context got) c) (gains.gaining_from (option_map held_of ticket) context.who place request.mode) a
@@ -309,7 +313,8 @@ asked-place a b request context (At_place place) fits idle joins =
     leads-map (λ (outcome : Outcome Acquire) c. Followed b now c outcome.1) (λ (outcome : Outcome Acquire) c. Followed a context c outcome.1)
     (requests.acquiring_at place request now) b
     (λ outcome c followed. followed-late a b c context.who context.kept context.known now.known context.wait context.wait outcome.1 stays.0 followed)
-    (asked-at b now place request (fits-learnt b context request.key place (fits-same a b context fits stays) (core-resolves a b context.who place request.key joins)) idle)
+    (asked-at b now place request (fits-learnt b context request.key place (fits-same a b context fits stays)
+    (core-resolves a b context.who place request.key joins)) idle)
 asked-place a b request context answer fits idle joins =
     followed-same a b context fits (stays-call context.who none a b (Resolve context.who request.key) answer fits.speaks (refl, tt, refl) joins)
 

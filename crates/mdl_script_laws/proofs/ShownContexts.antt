@@ -39,7 +39,8 @@ abbrev pub IsFresh : Core → ℕ → ℕ → Type 0
 IsFresh a who id = (t : Held) → Contains (own_at a who).held t → t.id ≢ id
 
 pub gained-fresh : (id place : ℕ) (mode : Mode) (own : Own) → IsRising (gaining id place mode own) → (t : Held) → Contains own.held t → t.id ≢ id
-gained-fresh id place mode own rising t among same = let lt = below-last own.held (record { id = id; place = place; mode = mode }) t rising among in omega (arith, lt, same)
+gained-fresh id place mode own rising t among same = let lt = below-last own.held
+    (record { id = id; place = place; mode = mode }) t rising among in omega (arith, lt, same)
 
 pub gained-there : (id place : ℕ) (mode : Mode) (own : Own) → Contains (gaining id place mode own).held (record { id = id; place = place; mode = mode })
 gained-there id place mode own = Contains-append_right own.held (_ ∷ []) _ (Contains-here _ [])

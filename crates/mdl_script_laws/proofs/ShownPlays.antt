@@ -101,7 +101,8 @@ IsFair old live locks seen (row.Kill target rest) = IsFair old live locks seen r
 -- ---- where a statement is
 
 -- while it is played that began at this mark
-pub record Point (old : TableShown → Type 0) (live : Bool) (locks : List (ℕ × KeyName)) (seen : List TableShown) (mark : Mark) (a : Core) (context : ContextView) (state : State) : Type 0 where
+pub record Point (old : TableShown → Type 0) (live : Bool) (locks : List (ℕ × KeyName)) (seen : List TableShown) (mark : Mark) (a : Core)
+    (context : ContextView) (state : State) : Type 0 where
   pub fits : Fits a context
   pub unlocked : IsUnlocked state
   pub was : state.is_open ≡ true → live ≡ true
@@ -145,7 +146,8 @@ Comes old (Faults session) b = Rests old b session
 
 -- ---- from one point to the next
 
-module _ (old : TableShown → Type 0) (live : Bool) (locks : List (ℕ × KeyName)) (seen : List TableShown) (mark : Mark) (a : Core) (context : ContextView) (state : State)
+module _ (old : TableShown → Type 0) (live : Bool) (locks : List (ℕ × KeyName)) (seen : List TableShown) (mark : Mark) (a : Core)
+    (context : ContextView) (state : State)
     (point : Point old live locks seen mark a context state) where
   pub point-followed : (b : Core) (after : ContextView) → Followed a context b after → Point old live locks seen mark b after state
   point-followed b after followed = record {
@@ -211,7 +213,7 @@ module _ (old : TableShown → Type 0) (live : Bool) (locks : List (ℕ × KeyNa
   point-set : (change : State → State) → (IsUnlocked state → IsUnlocked (change state))
       → ((state.is_open ≡ true → live ≡ true) → (change state).is_open ≡ true → live ≡ true)
       → ((x : TableShown) → old x → live ≡ true → state.is_open ≡ true → (change state).is_open ≡ true)
-          → Point old live locks seen mark a context (change state)
+      → Point old live locks seen mark a context (change state)
   point-set change unlocked was opens = record {
     fits = point.fits;
     unlocked = unlocked point.unlocked;
@@ -242,14 +244,16 @@ module _ (old : TableShown → Type 0) (live : Bool) (locks : List (ℕ × KeyNa
       → (state_after ending session.state).is_open ≡ true
       → IsAmong (gone_at ending true mark kept_before) stands.ticket.id → ⊥
   old-stays (Answers reply) x stands is opens (k, among, e) = not_firm kept_before k stands.ticket.id stands.firm among e
-  old-stays (Misses number) x stands is opens (k, among, e) = elim (Contains-append_cases (beyond Statement mark.statement kept_before) (beyond Transaction mark.transaction kept_before) k among) [
-    | inl one ↦ not_firm kept_before k stands.ticket.id stands.firm (drop-within mark.statement (held_for Statement kept_before) k one) e
-    | inr other ↦ is k other e
-  ]
-  old-stays Starves x stands is opens (k, among, e) = elim (Contains-append_cases (beyond Statement mark.statement kept_before) (beyond Transaction mark.transaction kept_before) k among) [
-    | inl one ↦ not_firm kept_before k stands.ticket.id stands.firm (drop-within mark.statement (held_for Statement kept_before) k one) e
-    | inr other ↦ is k other e
-  ]
+  old-stays (Misses number) x stands is opens (k, among, e) = elim (Contains-append_cases (beyond Statement mark.statement kept_before)
+      (beyond Transaction mark.transaction kept_before) k among) [
+        | inl one ↦ not_firm kept_before k stands.ticket.id stands.firm (drop-within mark.statement (held_for Statement kept_before) k one) e
+        | inr other ↦ is k other e
+      ]
+  old-stays Starves x stands is opens (k, among, e) = elim (Contains-append_cases (beyond Statement mark.statement kept_before)
+      (beyond Transaction mark.transaction kept_before) k among) [
+        | inl one ↦ not_firm kept_before k stands.ticket.id stands.firm (drop-within mark.statement (held_for Statement kept_before) k one) e
+        | inr other ↦ is k other e
+      ]
   old-stays Falls x stands is opens among = cc
 
   still_open : (ending : Ending) → (state_after ending session.state).is_open ≡ true → session.state.is_open ≡ true
@@ -280,7 +284,8 @@ module _ (old : TableShown → Type 0) (live : Bool) (locks : List (ℕ × KeyNa
         unlocked = unlocked_still ending point.unlocked;
         kept = λ x is opens. (
             let h = point.kept x is (point.was (still_open ending opens)) in
-            standing-left a b (gone_at ending true mark kept_before) session.context after x h.0 point.fits (there (still_open ending opens)) (old-stays ending x h.0 h.1 opens));
+            standing-left a b (gone_at ending true mark kept_before) session.context after x h.0 point.fits (there (still_open ending opens))
+            (old-stays ending x h.0 h.1 opens));
       }
 
       tells : (x : TableShown) → TellsAt ending x → (state_after ending session.state).is_open ≡ true → IsStanding b after x
@@ -290,7 +295,8 @@ module _ (old : TableShown → Type 0) (live : Bool) (locks : List (ℕ × KeyNa
               → TellsAt e x → IsStanding b after x
           at (Answers reply) told gave tell =
               let stands = point.stands x (told x tell) in
-              standing-left a b (held_for Statement kept_before) session.context after x stands point.fits gave (λ (k, among, e). not_firm kept_before k stands.ticket.id stands.firm among e)
+              standing-left a b (held_for Statement kept_before) session.context after x stands point.fits gave
+              (λ (k, among, e). not_firm kept_before k stands.ticket.id stands.firm among e)
           at (Misses number) told gave tell = absurd tell
           at Starves told gave tell = absurd tell
           at Falls told gave tell = absurd tell
@@ -336,7 +342,8 @@ fits-changed a b context id change answer fits joins =
       speaks = core-keeps calls_keep-sound a b (Change_definition context.who id change) answer context.who fits.speaks joins;
       backed = λ k among. (let h = fits.backed k among in (h.0, subst (λ (o : Own). Contains o.held h.0) (sym same) h.1, h.2, h.3));
       alone = fits.alone;
-      known = λ key place e. core-remembers a b (Change_definition context.who id change) answer context.who place key fits.speaks (λ f done. cc) joins (fits.known key place e);
+      known = λ key place e. core-remembers a b (Change_definition context.who id change) answer context.who place key fits.speaks (λ f done. cc) joins
+          (fits.known key place e);
       wait = λ wanted w e f. fits.wait wanted w e (subst (λ (o : Own). o.wait ≡ Some w) same f);
     }
 
@@ -365,7 +372,8 @@ module _ (old : TableShown → Type 0) (live : Bool) (locks : List (ℕ × KeyNa
 
   leads-acquired : (wish : Wish) (rest : ℕ → Row Reply) (more : ℕ → Session → Program Pause) (a b : Core) (session : Session) (outcome : Outcome Acquire)
       → ((id : ℕ) → IsFair old live (with_lock wish.duration id wish.key locks) seen (rest id))
-      → ((id : ℕ) (c : Core) (after : Session) → Point old live (with_lock wish.duration id wish.key locks) seen mark c after.context after.state → Leads (Comes old) (more id after) c)
+      → ((id : ℕ) (c : Core) (after : Session) → Point old live (with_lock wish.duration id wish.key locks) seen mark c after.context after.state
+      → Leads (Comes old) (more id after) c)
       → At a session.context session.state → Followed a session.context b outcome.1 → IsMet wish session.context outcome
       → Leads (Comes old) (playing.acquired wish rest mark session more outcome) b
   leads-acquired wish rest more a b session (Ok (acquire.Acquired id), context) fair later point followed met =
@@ -397,13 +405,15 @@ module _ (old : TableShown → Type 0) (live : Bool) (locks : List (ℕ × KeyNa
       → Joins a (Read_definition context.who id) (Reads version definition) b → At b context state
       → (x : TableShown) → Contains (seen_under id (record { version = version; definition = definition }) locks) x → IsStanding b context x
   seen-read a b context state id version definition point joins now x among =
-      let from = Contains-map_from (λ (lock : ℕ × KeyName). shown_as lock.1 (record { version = version; definition = definition })) (filter (λ (lock : ℕ × KeyName). lock.0 == id) locks) x among in
+      let from = Contains-map_from (λ (lock : ℕ × KeyName). shown_as lock.1 (record { version = version; definition = definition }))
+      (filter (λ (lock : ℕ × KeyName). lock.0 == id) locks) x among in
       let lock = among-filter (λ (lock : ℕ × KeyName). lock.0 == id) locks from.0 from.1 in
       let before = point.locked from.0.0 from.0.1 lock.0 in
       let number : before.ticket.id ≡ id = before.number ∙ equal from.0.0 id lock.1 in
       let held = held-number (own_at a context.who) before.ticket id (core-rising a context.who point.fits.speaks) before.there number in
       let read = core-reads a b (Read_definition context.who id) context.who id version definition before.ticket refl refl held joins in
-      let key = core-remembers a b (Read_definition context.who id) (Reads version definition) context.who before.ticket.place from.0.1 point.fits.speaks (λ e done. cc) joins before.at in
+      let key = core-remembers a b (Read_definition context.who id) (Reads version definition) context.who before.ticket.place from.0.1
+      point.fits.speaks (λ e done. cc) joins before.at in
       record {
         ticket = before.ticket;
         there = read-there a b context.who id version definition before.ticket point.fits.speaks joins before.there;
@@ -419,7 +429,8 @@ module _ (old : TableShown → Type 0) (live : Bool) (locks : List (ℕ × KeyNa
 
   leads-read : (id : ℕ) (more : Standing → Program Pause) (a b : Core) (session : Session) (answer : Answer) → At a session.context session.state
       → Joins a (Read_definition session.context.who id) answer b
-      → ((standing : Standing) → Point old live locks (seen_under id standing locks ++ seen) mark b session.context session.state → Leads (Comes old) (more standing) b)
+      → ((standing : Standing) → Point old live locks (seen_under id standing locks ++ seen) mark b session.context session.state
+      → Leads (Comes old) (more standing) b)
       → Leads (Comes old) (playing.read_answered mark session more answer) b
   leads-read id more a b session (Reads version definition) point joins later =
       let now = point-same old live locks seen mark a session.context session.state point b
@@ -444,7 +455,8 @@ module _ (old : TableShown → Type 0) (live : Bool) (locks : List (ℕ × KeyNa
       who = session.context.who
 
       now : Point old live [] [] mark b session.context session.state
-      now = point-cleared old live locks seen mark a session.context session.state point b session.context (fits-changed a b session.context id change answer point.fits joins) nothing
+      now = point-cleared old live locks seen mark a session.context session.state point b session.context
+          (fits-changed a b session.context id change answer point.fits joins) nothing
 
       by : (r : Answer) → Leads (Comes old) (playing.change_answered mark session more r) b
       by (Changed version) = later now
@@ -461,7 +473,8 @@ module _ (old : TableShown → Type 0) (live : Bool) (locks : List (ℕ × KeyNa
 
 -- ---- all that may be asked for
 
-pub leads-play : (old : TableShown → Type 0) (live : Bool) (locks : List (ℕ × KeyName)) (seen : List TableShown) (asked : Row Reply) (mark : Mark) (a : Core) (session : Session)
+pub leads-play : (old : TableShown → Type 0) (live : Bool) (locks : List (ℕ × KeyName)) (seen : List TableShown) (asked : Row Reply) (mark : Mark)
+    (a : Core) (session : Session)
     → IsFair old live locks seen asked → Point old live locks seen mark a session.context session.state → Leads (Comes old) (play asked mark session) a
 leads-play old live locks seen (row.Give reply) mark a session fair point = leads-closing old live locks seen mark a session point (Answers reply) fair
 leads-play old live locks seen (row.Fail number) mark a session fair point =
@@ -525,14 +538,16 @@ leads-resumed old a b session waiting (Ok resume.Waiting, context) resumed =
       at = subst (λ w. Knows b w still.0.place waiting.key) (sym resumed.0.who)
           (subst (λ p. Knows b session.context.who p waiting.key) (sym still.2) (resumed.0.spares.known waiting.wanted.place waiting.key waiting.at));
       point = now;
-      fair = λ id. subst (λ d. IsFair old waiting.live (with_lock d id waiting.key waiting.locks) waiting.seen (waiting.rest.rest id)) (sym still.3) (waiting.fair id);
+      fair = λ id. subst (λ d. IsFair old waiting.live (with_lock d id waiting.key waiting.locks) waiting.seen (waiting.rest.rest id)) (sym still.3)
+          (waiting.fair id);
     }
 leads-resumed old a b session waiting (Ok (resume.Acquired id), context) resumed =
     let now = point-followed old waiting.live waiting.locks waiting.seen waiting.rest.mark a session.context session.state waiting.point b context resumed.0 in
     let had = resumed.1 waiting.wanted waiting.wait in
     leads-play old waiting.live (with_lock waiting.wanted.duration id waiting.key waiting.locks) waiting.seen (waiting.rest.rest id) waiting.rest.mark b
     (record { context = context; state = session.state; left = None }) (waiting.fair id)
-    (point-locked old waiting.live waiting.locks waiting.seen waiting.rest.mark b context session.state now waiting.wanted.duration id waiting.key (λ lasting. record {
+    (point-locked old waiting.live waiting.locks waiting.seen waiting.rest.mark b context session.state now waiting.wanted.duration id waiting.key
+    (λ lasting. record {
       ticket = had.0;
       there = subst (λ w. Contains (own_at b w).held had.0) (sym resumed.0.who) had.1;
       number = had.2;

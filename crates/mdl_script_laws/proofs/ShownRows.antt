@@ -58,7 +58,8 @@ module _ (old : TableShown → Type 0) (live : Bool) where
       ]
 
       by : (id : ℕ) (standing : Standing) (there : Bool)
-          → IsFair old live ((id, table) ∷ locks) (seen_under id standing ((id, table) ∷ locks) ++ seen) (does.show_all does.lock_to_read (shown ++ shown_as table standing ∷ []) tables)
+          → IsFair old live ((id, table) ∷ locks) (seen_under id standing ((id, table) ∷ locks) ++ seen)
+          (does.show_all does.lock_to_read (shown ++ shown_as table standing ∷ []) tables)
           → IsFair old live ((id, table) ∷ locks) (seen_under id standing ((id, table) ∷ locks) ++ seen)
           (((check there NoSuchTable >> row.Give standing) >>= (λ now. row.room >> row.Give (shown ++ shown_as table now ∷ [])))
           >>= (λ more. does.show_all does.lock_to_read more tables))
@@ -95,7 +96,8 @@ module _ (old : TableShown → Type 0) (live : Bool) where
       subst (λ b. IsFair old live [] [] (if b then does.write_locked table else does.write_unlocked table priority)) (sym unlocked)
       (λ now still stays. by (not (is_some now.read_lock)))
     where
-      by : (free : Bool) → IsFair old live [] [] (check free ConflictingReadLock >>= (λ _. (row.acquire global_key IX for.Statement >>= (λ _. does.lock_and_write table priority))))
+      by : (free : Bool) → IsFair old live [] [] (check free ConflictingReadLock >>=
+          (λ _. (row.acquire global_key IX for.Statement >>= (λ _. does.lock_and_write table priority))))
       by true = λ global id. fair-under _ [] id
       by false = tt
 
@@ -231,7 +233,8 @@ tidy-create columns schema table =
 tidy-stands : (ticket : ℕ) → IsTidy Any (does.stands ticket)
 tidy-stands ticket = λ standing.
     tidy-bind Any Any (check (does.is_defined standing) NoSuchTable >> row.Give standing) (λ _. nothing)
-    (tidy-bind Any Any (check (does.is_defined standing) NoSuchTable) (λ _. row.Give standing) (tidy-check (does.is_defined standing) NoSuchTable) (λ x any. tt)) (λ x any. tt)
+    (tidy-bind Any Any (check (does.is_defined standing) NoSuchTable) (λ _. row.Give standing) (tidy-check (does.is_defined standing) NoSuchTable)
+    (λ x any. tt)) (λ x any. tt)
 
 tidy-drop : (tickets : List ℕ) → IsTidy ShowsNone (does.drop_under tickets)
 tidy-drop tickets =
@@ -262,7 +265,8 @@ fair-any old statement.Commit none =
     fair-tidy old [] [] (does.row_of statement.Commit) none (tidy-then ShowsNone does.commit (row.Give reply.Ok) tidy-commit (λ x tell. absurd tell))
 fair-any old statement.Rollback none =
     fair-tidy old [] [] (does.row_of statement.Rollback) none (tidy-then ShowsNone does.rollback (row.Give reply.Ok) tidy-rollback (λ x tell. absurd tell))
-fair-any old (statement.RollbackTo name) none = fair-tidy old [] [] (does.row_of (statement.RollbackTo name)) none (λ state. tidy-back name (savepoint_mark name state.savepoints))
+fair-any old (statement.RollbackTo name) none = fair-tidy old [] [] (does.row_of (statement.RollbackTo name)) none
+    (λ state. tidy-back name (savepoint_mark name state.savepoints))
 fair-any old (statement.CreateTable table columns) none =
     fair-tidy old [] [] (does.row_of (statement.CreateTable table columns)) none
     (tidy-then ShowsNone does.ddl (does.create_after_commit table columns) tidy-ddl (λ global schema ticket. tidy-create columns schema ticket))

@@ -30,7 +30,7 @@ use Rattle.mdl_script_laws.proofs.ShownAsking.{leads-abandoning, leads-map, quie
 abbrev pub ComesTo : ContextView → Outcome Resume → Core → Type 0
 ComesTo before (Ok resume.Waiting, after) b =
     (wanted : Wanted) → before.wait ≡ Some wanted
-        → (still : Wanted) × (after.wait ≡ Some still) × (still.place ≡ wanted.place) × (still.duration ≡ wanted.duration)
+    → (still : Wanted) × (after.wait ≡ Some still) × (still.place ≡ wanted.place) × (still.duration ≡ wanted.duration)
 ComesTo before (Ok (resume.Acquired id), after) b =
     (wanted : Wanted) → before.wait ≡ Some wanted → (t : Held) × Contains (own_at b before.who).held t × (t.id ≡ id) × (t.place ≡ wanted.place)
     × ((new : Kept) × Contains after.kept new × (new.id ≡ id) × (new.duration ≡ wanted.duration))
@@ -42,7 +42,8 @@ Resumed a before outcome b = Followed a before b outcome.1 × ComesTo before out
 
 -- the wait is ended
 taken-up : (a b : Core) (context : ContextView) (id : ℕ) (o : Option Wanted) → context.wait ≡ o → Fits a context → Joins a (End_wait context.who) (Granted id) b
-    → Followed a context b (waits.taking_up id (record context { wait = o })) × ComesTo context (Ok (resume.Acquired id), waits.taking_up id (record context { wait = o })) b
+    → Followed a context b (waits.taking_up id (record context { wait = o }))
+    × ComesTo context (Ok (resume.Acquired id), waits.taking_up id (record context { wait = o })) b
 taken-up a b context id None e fits joins =
     let stays = stays-call context.who none a b (End_wait context.who) (Granted id) fits.speaks (refl, tt, refl) joins in (
       record {
@@ -114,7 +115,11 @@ resumed-late : (a b : Core) (context : ContextView) (program : Program (Outcome 
     → Leads (Resumed b context) program b → Leads (Resumed a context) program b
 resumed-late a b context program spares leads =
     leads-map (Resumed b context) (Resumed a context) program b
-    (λ outcome c resumed. (followed-late a b c context.who context.kept context.known context.known context.wait context.wait outcome.1 spares resumed.0, resumed.1)) leads
+    (λ outcome c resumed. (
+      followed-late a b c context.who context.kept context.known context.known context.wait context.wait outcome.1 spares
+          resumed.0,
+      resumed.1,
+    )) leads
 
 ending-so : (a : Core) (context : ContextView) → Fits a context → Leads (Resumed a context) (waits.ending context) a
 ending-so a context fits = λ answer b joins. ended-so a b context answer fits joins
@@ -161,7 +166,8 @@ sought-so a b context Over fits stays =
     (looking-so b (waits.searched context) (searched-fits b context (fits-same a b context fits stays)))
 sought-so a b context Cut_off fits stays = resumed-late a b context (waits.looking context) stays.0 (looking-so b context (fits-same a b context fits stays))
 sought-so a b context (Failed refusal) fits stays =
-    leads-bind (λ x c. Spares context.who none a c) (Resumed a context) (gains.abandoning context.who) (λ _. Give (Err (Space refusal), waits.without_wait context)) b
+    leads-bind (λ x c. Spares context.who none a c) (Resumed a context) (gains.abandoning context.who)
+    (λ _. Give (Err (Space refusal), waits.without_wait context)) b
     (leads-abandoning a b context.who stays.0) (λ x c spares. (lost-so a c context fits spares, tt))
 
 cut_off-so : (a b : Core) (context : ContextView) (answer : Answer) → Fits a context → Stays context.who none a b
@@ -215,7 +221,8 @@ leads-giving_up a gone context fits =
     (leads-quiet (releases.releasing_all context.who gone) a a context.who (IsAmong gone) (stays-here context.who (IsAmong gone) a fits.speaks)
     (quiet-releasing context.who (IsAmong gone) gone (λ k among. (k, among, refl))))
     (λ x b stays. record {
-      fits = fits-fewer a b context (IsAmong gone) (λ ticket. not (has_number gone ticket.id)) (λ k stay there. (let h = has-among gone k.id there in let g = ap not h in cc)) fits stays;
+      fits = fits-fewer a b context (IsAmong gone) (λ ticket. not (has_number gone ticket.id))
+          (λ k stay there. (let h = has-among gone k.id there in let g = ap not h in cc)) fits stays;
       spares = stays.0;
       left = refl;
     })

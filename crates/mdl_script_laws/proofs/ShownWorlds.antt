@@ -50,7 +50,8 @@ MayStart old statement = (leaves_transaction statement ≡ true) ⊎ ((x : Table
 leads-starting : (old : TableShown → Type 0) (statement : Statement) (a : Core) (session : Session) → MayStart old statement → Rests old a session
     → Leads (Comes old) (starting statement session) a
 leads-starting old statement a session (inl leaves) rests =
-    leads-play old session.state.is_open [] [] (row_of statement) (mark_of session.context.kept) a session (fair-leaving old session.state.is_open statement leaves) (record {
+    leads-play old session.state.is_open [] [] (row_of statement) (mark_of session.context.kept) a session
+    (fair-leaving old session.state.is_open statement leaves) (record {
       fits = rests.fits;
       unlocked = rests.unlocked;
       was = λ e. e;
@@ -77,7 +78,8 @@ keeps-stays old a b session stays (inl rests) = inl (record {
   left = rests.left;
   fits = fits-same a b session.context rests.fits stays;
   unlocked = rests.unlocked;
-  kept = λ x is opens. standing-followed a b session.context session.context rests.fits (followed-same a b session.context rests.fits stays) x (rests.kept x is opens);
+  kept = λ x is opens. standing-followed a b session.context session.context rests.fits (followed-same a b session.context rests.fits stays) x
+      (rests.kept x is opens);
 })
 keeps-stays old a b session stays (inr waiting) = inr (record {
   rest = waiting.rest;
@@ -142,7 +144,8 @@ told-alone who line s news x shown =
 
 -- what is told of a statement that came so far
 told-by : (who line s : ℕ) (pause : Pause) (x : TableShown) → IsShownTo who (told_of line s pause) x → (s ≡ who)
-    × ((old : TableShown → Type 0) (b : Core) → Comes old pause b → Rests old b (session_at pause) × ((session_at pause).state.is_open ≡ true → IsStanding b (session_at pause).context x))
+    × ((old : TableShown → Type 0) (b : Core) → Comes old pause b → Rests old b (session_at pause)
+    × ((session_at pause).state.is_open ≡ true → IsStanding b (session_at pause).context x))
 told-by who line s (Ends r session) x shown =
     let told = told-alone who line s (Has_ended r) x shown in
     let is = same_reply (reply.Columns shown.1) r told.1 in
@@ -170,7 +173,8 @@ rests-with old b session x rests stands = record {
 -- ---- a statement is played
 
 -- the world after it
-module _ (who : ℕ) (old : TableShown → Type 0) (line s : ℕ) (program : Session → Program Pause) (world : World) (is : IsScriptSession s) (good : IsGood who old world)
+module _ (who : ℕ) (old : TableShown → Type 0) (line s : ℕ) (program : Session → Program Pause) (world : World)
+    (is : IsScriptSession s) (good : IsGood who old world)
     (made : EachCall (IsMadeFor (player_at s world).session.context.who) (program (player_at s world).session))
     (staffed : IsStaffed (played line s (program (player_at s world).session) world).world) where
   abbrev before : Session
@@ -277,9 +281,11 @@ module _ (who : ℕ) (there : IsScriptSession who) where
   scene-started old line world is may idle good = elim (eqb_tells line.session who) [
     | inl same ↦ good-own who old line.number line.session (λ session. starting line.statement session) world is good made staffed same.1
         (leads-starting old line.statement world.core (player_at line.session world).session (may same.1)
-        (rests-idle old world.core (player_at line.session world).session (subst (λ w. Keeps old world.core (player_at w world).session) (sym same.1) good.own) idle))
+        (rests-idle old world.core (player_at line.session world).session
+        (subst (λ w. Keeps old world.core (player_at w world).session) (sym same.1) good.own) idle))
     | inr apart ↦ good-other who old line.number line.session (λ session. starting line.statement session) world is good made staffed there apart.1
-        (leads-starting Nothing line.statement world.core (player_at line.session world).session (inr (λ x none. none)) (rests-idle Nothing world.core (player_at line.session world).session (good.others line.session is apart.1) idle))
+        (leads-starting Nothing line.statement world.core (player_at line.session world).session (inr (λ x none. none))
+        (rests-idle Nothing world.core (player_at line.session world).session (good.others line.session is apart.1) idle))
   ]
     where
       made : EachCall (IsMadeFor (player_at line.session world).session.context.who) (starting line.statement (player_at line.session world).session)
@@ -301,9 +307,11 @@ module _ (who : ℕ) (there : IsScriptSession who) where
 
       stays : (w : ℕ) → IsScriptSession w → Stays w none world.core (outcome (Settle_timeout s) world.core).1
       stays w session = elim (eqb_tells w s) [
-        | inl same ↦ stays-call w none world.core (outcome (Settle_timeout s) world.core).1 (Settle_timeout s) (outcome (Settle_timeout s) world.core).0 (good.staffed.speaks w session.0 session.1)
+        | inl same ↦ stays-call w none world.core (outcome (Settle_timeout s) world.core).1 (Settle_timeout s) (outcome (Settle_timeout s) world.core).0
+            (good.staffed.speaks w session.0 session.1)
             (ap Some (sym same.1), tt, refl) joins
-        | inr apart ↦ stays-other w world.core (outcome (Settle_timeout s) world.core).1 (Settle_timeout s) (outcome (Settle_timeout s) world.core).0 (good.staffed.speaks w session.0 session.1)
+        | inr apart ↦ stays-other w world.core (outcome (Settle_timeout s) world.core).1 (Settle_timeout s) (outcome (Settle_timeout s) world.core).0
+            (good.staffed.speaks w session.0 session.1)
             (λ e. apart.1 (let f : s ≡ w = cc in sym f)) joins
       ]
 
@@ -338,18 +346,23 @@ module _ (who : ℕ) (there : IsScriptSession who) where
       → ((facts : TableShown → Type 0) → IsGood who facts scene.world → IsGoodScene who facts (next scene.world)) → IsGoodScene who old (scene and_then next)
   scene-then old scene next first later = record {
     good = (later old first.good).good;
-    shown = λ x shown. elim (Contains-append_cases scene.told (next scene.world).told (record { line = shown.0; who = who; news = Has_ended (reply.Columns shown.1) }) shown.2) [
-      | inl early ↦ (later (with_table old x) (first.shown x (shown.0, shown.1, early, shown.3))).good
-      | inr late ↦ (later old first.good).shown x (shown.0, shown.1, late, shown.3)
-    ];
+    shown = λ x shown. elim (Contains-append_cases scene.told (next scene.world).told
+        (record { line = shown.0; who = who; news = Has_ended (reply.Columns shown.1) }) shown.2) [
+          | inl early ↦ (later (with_table old x) (first.shown x (shown.0, shown.1, early, shown.3))).good
+          | inr late ↦ (later old first.good).shown x (shown.0, shown.1, late, shown.3)
+        ];
   }
 
   scene-silent : (old : TableShown → Type 0) (world : World) → IsGood who old world → IsGoodScene who old (record { told = []; world = world })
-  scene-silent old world good = record { good = good; shown = λ x shown. absurd (Contains-none (record { line = shown.0; who = who; news = Has_ended (reply.Columns shown.1) }) shown.2) }
+  scene-silent old world good = record {
+    good = good;
+    shown = λ x shown. absurd
+        (Contains-none (record { line = shown.0; who = who; news = Has_ended (reply.Columns shown.1) }) shown.2);
+  }
 
   scene-first : (old : TableShown → Type 0) (first : Option ℕ) (world : World) (more : World → Scene) → first_settled world ≡ first → IsGood who old world
       → ((facts : TableShown → Type 0) (after : World) → IsGood who facts after → IsGoodScene who facts (more after))
-          → IsGoodScene who old (going_first first more world)
+      → IsGoodScene who old (going_first first more world)
   scene-first old None world more found good rest = scene-silent old world good
   scene-first old (Some s) world more found good rest =
       scene-then old (going s world) more (scene-going old s world (first-session world s found) good) (λ facts there. rest facts (going s world).world there)
@@ -362,7 +375,8 @@ module _ (who : ℕ) (there : IsScriptSession who) where
   scene-line : (old : TableShown → Type 0) (line : Line) (world : World) → IsScriptSession line.session → (line.session ≡ who → MayStart old line.statement)
       → IsGood who old world → IsGoodScene who old (line_played line world)
   scene-line old line world is may good =
-      scene-then old (asked line world) (settling most_turns) (scene-asked old line world is may good) (λ facts kept. scene-settling most_turns facts (asked line world).world kept)
+      scene-then old (asked line world) (settling most_turns) (scene-asked old line world is may good)
+      (λ facts kept. scene-settling most_turns facts (asked line world).world kept)
 
   scene-lines : (old : TableShown → Type 0) (lines : List Line) (world : World) → AreOfSessions lines → LeavesTransaction who lines → IsGood who old world
       → IsGoodScene who old (lines_played lines world)
@@ -440,7 +454,8 @@ transactions-see_one before line later who one other are is shown leave opens ag
     let behind = all-right P before (line ∷ later) are in
     let start = good-lines who is before first_world (all-left P before (line ∷ later) are) (good-first who is) in
     let first = scene-line who is Nothing line (script_played before).world (All-head P line later behind) (λ e. inr (λ x none. none)) start in
-    let rest = scene-lines who is (with_table Nothing one) later (line_played line (script_played before).world).world (All-tail P line later behind) leave (first.shown one shown) in
+    let rest = scene-lines who is (with_table Nothing one) later (line_played line (script_played before).world).world
+    (All-tail P line later behind) leave (first.shown one shown) in
     let end = (rest.shown other again).own in
     let world = (lines_played later (line_played line (script_played before).world).world).world in
     let session = (player_at who world).session in
