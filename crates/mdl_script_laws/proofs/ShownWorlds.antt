@@ -418,6 +418,52 @@ keeps-first w is = subst (λ (p : Player). Keeps Nothing first_core p.session) (
 good-first : (who : ℕ) → IsScriptSession who → IsGood who Nothing first_world
 good-first who is = record { staffed = staffed-first; own = keeps-first who is; others = λ w session apart. keeps-first w session }
 
+-- ---- whom something is told
+
+-- all that is told is told to sessions that there are
+abbrev AreToldToSessions : List Told → Type 0
+AreToldToSessions told = (t : Told) → Contains told t → IsScriptSession t.who
+
+told-one : (t : Told) → IsScriptSession t.who → AreToldToSessions (t ∷ [])
+told-one t is u among = subst (λ (v : Told). IsScriptSession v.who) (sym (only-one t u among)) is
+
+told-of : (line s : ℕ) (pause : Pause) → IsScriptSession s → AreToldToSessions (told_of line s pause)
+told-of line s (Ends r session) is = told-one (record { line = line; who = s; news = Has_ended r }) is
+told-of line s (Begins_to_wait key mode session) is = told-one (record { line = line; who = s; news = Has_waits key mode }) is
+told-of line s (Waits_on session) is = λ t among. absurd (Contains-none t among)
+told-of line s (Faults session) is = λ t among. absurd (Contains-none t among)
+
+told-waiting : (statement : Statement) (line s : ℕ) (world : World) → IsScriptSession s → AreToldToSessions (asked_waiting statement line s world).told
+told-waiting Timeout line s world is = told-one (record { line = line; who = s; news = Has_ended reply.Ok }) is
+told-waiting _ line s world is = told-one (record { line = line; who = s; news = Busy }) is
+
+told-asked : (line : Line) (world : World) → IsScriptSession line.session → AreToldToSessions (asked line world).told
+told-asked line world is =
+    elim (is_waiting world line.session) as
+    (λ waits. AreToldToSessions (if waits then asked_waiting line.statement line.number line.session world else started line world).told) [
+      | true ↦ told-waiting line.statement line.number line.session world is
+      | false ↦ told-of line.number line.session _ is
+    ]
+
+told-then : (scene : Scene) (next : World → Scene) → AreToldToSessions scene.told → AreToldToSessions (next scene.world).told
+    → AreToldToSessions (scene and_then next).told
+told-then scene next first later = λ t among.
+    elim (Contains-append_cases scene.told (next scene.world).told t among) [ inl early ↦ first t early | inr late ↦ later t late ]
+
+told-first : (first : Option ℕ) (world : World) (more : World → Scene) → first_settled world ≡ first → ((after : World) → AreToldToSessions (more after).told)
+    → AreToldToSessions (going_first first more world).told
+told-first None world more found rest = λ t among. absurd (Contains-none t among)
+told-first (Some s) world more found rest =
+    told-then (going s world) more (told-of (player_at s world).line s _ (first-session world s found)) (rest (going s world).world)
+
+told-settling : (n : ℕ) (world : World) → AreToldToSessions (settling n world).told
+unfolding settling
+told-settling zero world = λ t among. absurd (Contains-none t among)
+told-settling (suc n) world = told-first (first_settled world) world (settling n) refl (told-settling n)
+
+told-line : (line : Line) (world : World) → IsScriptSession line.session → AreToldToSessions (line_played line world).told
+told-line line world is = told-then (asked line world) (settling most_turns) (told-asked line world is) (told-settling most_turns (asked line world).world)
+
 -- ---- the law
 
 all-left : {X : Type 0} (P : X → Type 0) (xs ys : List X) → All P (xs ++ ys) → All P xs
@@ -449,9 +495,11 @@ keeps-fits old a session (inl rests) = rests.fits
 keeps-fits old a session (inr waiting) = waiting.point.fits
 
 pub transactions-see_one : TransactionsSeeOneDefinition
-transactions-see_one before line later who one other are is shown leave opens again same =
+transactions-see_one before line later who one other are shown leave opens again same =
     let P : Line → Type 0 = λ l. IsScriptSession l.session in
     let behind = all-right P before (line ∷ later) are in
+    let is = told-line line (script_played before).world (All-head P line later behind)
+    (record { line = shown.0; who = who; news = Has_ended (reply.Columns shown.1) }) shown.2 in
     let start = good-lines who is before first_world (all-left P before (line ∷ later) are) (good-first who is) in
     let first = scene-line who is Nothing line (script_played before).world (All-head P line later behind) (λ e. inr (λ x none. none)) start in
     let rest = scene-lines who is (with_table Nothing one) later (line_played line (script_played before).world).world

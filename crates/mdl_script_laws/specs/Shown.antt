@@ -43,7 +43,7 @@ has_transaction who world = (player_at who world).session.state.is_open
 -- the other sessions did, each time that the table was shown to it meanwhile, it was the same version, with the same columns
 abbrev pub TransactionsSeeOneDefinition : Type 0
 TransactionsSeeOneDefinition =
-    (before : List Line) (line : Line) (later : List Line) (who : ℕ) (one other : TableShown) → AreOfSessions (before ++ line ∷ later) → IsScriptSession who →
+    (before : List Line) (line : Line) (later : List Line) (who : ℕ) (one other : TableShown) → AreOfSessions (before ++ line ∷ later) →
     let first = line_played line (script_played before).world in
     let rest = lines_played later first.world in
     IsShownTo who first.told one → LeavesTransaction who later → has_transaction who rest.world ≡ true → IsShownTo who rest.told other →
