@@ -20,6 +20,9 @@ use Rattle.mdl_system.proofs.OrderLemmas.{Contains-cons_cases, Contains-here, Co
 
 -- ---- lists
 
+pub only-one : {X : Type 0} (x y : X) → Contains (x ∷ []) y → y ≡ x
+only-one x y among = elim (Contains-cons_cases x [] y among) [ inl nowhere ↦ absurd (Contains-none y nowhere) | inr same ↦ same ]
+
 pub filter-among : {X : Type 0} (p : X → Bool) (xs : List X) (x : X) → p x ≡ true → Contains xs x → Contains (filter p xs) x
 filter-among p [] x passes among = absurd (Contains-none x among)
 filter-among {X} p (y ∷ ys) x passes among = go (filter-among p ys x passes) (p y) refl (Contains-cons_cases y ys x among)

@@ -16,7 +16,7 @@ use Rattle.mdl_core.specs.Cores.{Core}
 use Rattle.mdl_context.specs.declared.kept.Kept.{Kept}
 use Rattle.mdl_context.specs.declared.kept.Wanted.{Wanted}
 use Rattle.mdl_context.specs.Contexts.{ContextView, place_known}
-use Rattle.mdl_script_laws.proofs.ShownCalls.{among-filter, Spares, Stays, none, spares-here, spares-then}
+use Rattle.mdl_script_laws.proofs.ShownCalls.{among-filter, Spares, Stays, none, only-one, spares-here, spares-then}
 
 -- ---- tickets with rising numbers
 
@@ -96,10 +96,7 @@ fits-more a b context new t fits spares fresh there number place = record {
 }
   where
     last : (k : Kept) → Contains (context.kept ++ new ∷ []) k → Contains context.kept k ⊎ (k ≡ new)
-    last k among = elim (Contains-append_cases context.kept (new ∷ []) k among) [
-      | inl old ↦ inl old
-      | inr late ↦ (elim (Contains-cons_cases new [] k late) [ inl nowhere ↦ absurd (Contains-none k nowhere) | inr e ↦ inr e ])
-    ]
+    last k among = elim (Contains-append_cases context.kept (new ∷ []) k among) [ inl old ↦ inl old | inr late ↦ inr (only-one new k late) ]
 
     not_old : (k : Kept) → Contains context.kept k → k.id ≡ new.id → ⊥
     not_old k old e = let h = fits.backed k old in fresh h.0 h.1 (h.2 ∙ e)

@@ -1,13 +1,13 @@
 -- What is so of a session while a statement of it is played: its locks are held, and what it has read under them stands.
 use Rattle.std.proofs.Common.{◌≡◌, ◌⊎◌, inl, inr, ℕ, zero, suc, Bool, true, false, not, List, [], ◌∷◌, ◌++◌, Contains, filter, drop, length, refl, sym, ap, ◌∙◌, subst}
 use Rattle.std.specs.Prelude.{◌==◌}
-use Rattle.std.proofs.lemmas.List.Elements.{Contains-append_cases}
+use Rattle.std.proofs.lemmas.List.Elements.{Contains-append_cases, filter-append}
 use Rattle.mdl_key.specs.declared.mode.Duration.{Duration}
 use Rattle.mdl_key.specs.declared.mode.Duration.TheVariants.{Statement, Transaction, Explicit}
 use Rattle.mdl_key.specs.Keys.{KeyName}
 use Rattle.mdl_defs.specs.declared.standing.Standing.{Standing}
 use Rattle.mdl_system.proofs.MemberLemmas.{Contains-none}
-use Rattle.mdl_system.proofs.OrderLemmas.{Contains-cons_cases, Contains-later}
+use Rattle.mdl_system.proofs.OrderLemmas.{Contains-later}
 use Rattle.mdl_calls.specs.declared.answers.Held.{Held}
 use Rattle.mdl_core.specs.CoreJoins.{Knows, own_at}
 use Rattle.mdl_core.specs.Cores.{Core, key_at, standing_at}
@@ -16,7 +16,7 @@ use Rattle.mdl_context.specs.declared.request.Mark.{Mark}
 use Rattle.mdl_context.specs.Contexts.{ContextView, beyond, duration_rank, has_number, held_for, lasts, mark_of, without}
 use Rattle.mdl_stmt.specs.declared.reply.TableShown.{TableShown}
 use Rattle.mdl_stmt.specs.Statements.{columns_of}
-use Rattle.mdl_script_laws.proofs.ShownCalls.{Spares, among-filter, key-held, none}
+use Rattle.mdl_script_laws.proofs.ShownCalls.{Spares, among-filter, key-held, none, only-one}
 use Rattle.mdl_script_laws.proofs.ShownContexts.{Fits, Followed, Grown}
 use Rattle.mdl_script_laws.proofs.ShownWaits.{GaveUp, IsAmong}
 
@@ -27,35 +27,18 @@ drop-within zero xs x among = among
 drop-within (suc m) [] x among = among
 drop-within (suc m) (y ∷ ys) x among = Contains-later y ys x (drop-within m ys x among)
 
-drop-more : {X : Type 0} (m : ℕ) (xs : List X) (y x : X) → Contains (drop m (xs ++ y ∷ [])) x → Contains (drop m xs) x ⊎ (x ≡ y)
-drop-more zero xs y x among = elim (Contains-append_cases xs (y ∷ []) x among) [
-  | inl old ↦ inl old
-  | inr late ↦ (elim (Contains-cons_cases y [] x late) [ inl nowhere ↦ absurd (Contains-none x nowhere) | inr e ↦ inr e ])
-]
-drop-more (suc m) [] y x among = absurd (Contains-none x (drop-within m [] x among))
-drop-more (suc m) (z ∷ zs) y x among = drop-more m zs y x among
-
-filter-more : {X : Type 0} (p : X → Bool) (xs : List X) (y : X) → (filter p (xs ++ y ∷ []) ≡ filter p xs) ⊎ (filter p (xs ++ y ∷ []) ≡ filter p xs ++ y ∷ [])
-filter-more {X} p [] y = go (p y) refl
-  where
-    go : (b : Bool) → p y ≡ b → (filter p (y ∷ []) ≡ []) ⊎ (filter p (y ∷ []) ≡ y ∷ [])
-    go true e = inr (rw e refl)
-    go false e = inl (rw e refl)
-filter-more {X} p (x ∷ xs) y = go (p x) refl (filter-more p xs y)
-  where
-    go : (b : Bool) → p x ≡ b → (filter p (xs ++ y ∷ []) ≡ filter p xs) ⊎ (filter p (xs ++ y ∷ []) ≡ filter p xs ++ y ∷ [])
-        → (filter p (x ∷ xs ++ y ∷ []) ≡ filter p (x ∷ xs)) ⊎ (filter p (x ∷ xs ++ y ∷ []) ≡ filter p (x ∷ xs) ++ y ∷ [])
-    go true e (inl same) = inl (rw e (ap (λ zs. x ∷ zs) same))
-    go true e (inr more) = inr (rw e (ap (λ zs. x ∷ zs) more))
-    go false e (inl same) = inl (rw e same)
-    go false e (inr more) = inr (rw e more)
+drop-among : {X : Type 0} (m : ℕ) (xs ys : List X) (x : X) → Contains (drop m (xs ++ ys)) x → Contains (drop m xs) x ⊎ Contains ys x
+drop-among zero xs ys x among = Contains-append_cases xs ys x among
+drop-among (suc m) [] ys x among = inr (drop-within (suc m) ys x among)
+drop-among (suc m) (z ∷ zs) ys x among = drop-among m zs ys x among
 
 drop-filter : {X : Type 0} (m : ℕ) (p : X → Bool) (xs : List X) (y x : X) → Contains (drop m (filter p (xs ++ y ∷ []))) x
     → Contains (drop m (filter p xs)) x ⊎ (x ≡ y)
-drop-filter m p xs y x among = elim (filter-more p xs y) [
-  | inl same ↦ inl (subst (λ zs. Contains (drop m zs) x) same among)
-  | inr more ↦ drop-more m (filter p xs) y x (subst (λ zs. Contains (drop m zs) x) more among)
-]
+drop-filter m p xs y x among =
+    elim (drop-among m (filter p xs) (filter p (y ∷ [])) x (subst (λ zs. Contains (drop m zs) x) (filter-append p xs (y ∷ [])) among)) [
+      | inl before ↦ inl before
+      | inr last ↦ inr (only-one y x (among-filter p (y ∷ []) x last).0)
+    ]
 
 -- nothing is beyond where the session stands
 drop-all : {X : Type 0} (xs : List X) (x : X) → Contains (drop (length xs) xs) x → ⊥
@@ -89,10 +72,7 @@ firm-grown a who before after t (inl same) there firm = subst (λ kept. IsFirm k
 firm-grown a who before after t (inr (new, fresh, more)) there firm = λ k among e.
     elim (Contains-append_cases before (new ∷ []) k (subst (λ kept. Contains kept k) more among)) [
       | inl old ↦ firm k old e
-      | inr late ↦ (elim (Contains-cons_cases new [] k late) [
-        | inl nowhere ↦ absurd (Contains-none k nowhere)
-        | inr same ↦ absurd (fresh t there (sym e ∙ ap (λ (x : Kept). x.id) same))
-      ])
+      | inr late ↦ absurd (fresh t there (sym e ∙ ap (λ (x : Kept). x.id) (only-one new k late)))
     ]
 
 old-grown : (mark : Mark) (a : Core) (who : ℕ) (before after : List Kept) (t : Held) → Grown a who before after → Contains (own_at a who).held t

@@ -8,8 +8,8 @@ use Rattle.mdl_key.specs.Keys.{KeyName, global_key}
 use Rattle.mdl_defs.specs.declared.change.Change.TheVariants as change
 use Rattle.mdl_defs.specs.Columns.{names_twice}
 use Rattle.mdl_defs.specs.declared.standing.Standing.{Standing}
-use Rattle.mdl_system.proofs.MemberLemmas.{Contains-map, Contains-none}
-use Rattle.mdl_system.proofs.OrderLemmas.{Contains-cons_cases, Contains-here}
+use Rattle.mdl_system.proofs.MemberLemmas.{Contains-map}
+use Rattle.mdl_system.proofs.OrderLemmas.{Contains-here}
 use Rattle.mdl_syntax.specs.declared.statement.Priority.{Priority}
 use Rattle.mdl_syntax.specs.declared.statement.Statement.{Statement}
 use Rattle.mdl_syntax.specs.declared.statement.Statement.TheVariants as statement
@@ -26,7 +26,7 @@ use Rattle.mdl_stmt.specs.Rows as row
 use Rattle.mdl_stmt.specs.States.{Locked, State, has_locked, opened, savepoint_mark, unlocked, written}
 use Rattle.mdl_stmt.specs.Statements as does
 use Rattle.mdl_script_laws.specs.Shown.{leaves_transaction}
-use Rattle.mdl_script_laws.proofs.ShownCalls.{filter-among}
+use Rattle.mdl_script_laws.proofs.ShownCalls.{filter-among, only-one}
 use Rattle.mdl_script_laws.proofs.ShownPlays.{IsFair, IsUnlocked, Tells, seen_under}
 use Rattle.mdl_script_laws.proofs.ShownPoints.{shown_as}
 
@@ -50,11 +50,9 @@ module _ (old : TableShown → Type 0) (live : Bool) where
           → Contains (seen_under id standing ((id, table) ∷ locks) ++ seen) x
       more id standing x among = elim (Contains-append_cases shown (shown_as table standing ∷ []) x among) [
         | inl before ↦ Contains-append_right (seen_under id standing ((id, table) ∷ locks)) seen x (all x before)
-        | inr late ↦ (elim (Contains-cons_cases (shown_as table standing) [] x late) [
-          | inl nowhere ↦ absurd (Contains-none x nowhere)
-          | inr same ↦ Contains-append_left (seen_under id standing ((id, table) ∷ locks)) seen x
-              (subst (λ y. Contains (seen_under id standing ((id, table) ∷ locks)) y) (sym same) (seen-first id table standing locks))
-        ])
+        | inr late ↦ Contains-append_left (seen_under id standing ((id, table) ∷ locks)) seen x
+            (subst (λ y. Contains (seen_under id standing ((id, table) ∷ locks)) y) (sym (only-one (shown_as table standing) x late))
+            (seen-first id table standing locks))
       ]
 
       by : (id : ℕ) (standing : Standing) (there : Bool)

@@ -1,6 +1,7 @@
 -- A context whose wait goes on, or that gives tickets up, keeps what it kept, held; but for what it gives up.
-use Rattle.std.proofs.Common.{◌≡◌, inl, inr, ℕ, Bool, true, false, not, List, [], ◌∷◌, ◌++◌, Option, Some, None, Ok, Err, Contains, option_map, refl, sym, ap, ◌∙◌, arith}
+use Rattle.std.proofs.Common.{◌≡◌, inl, inr, ℕ, Bool, true, false, not, List, [], ◌∷◌, Option, Some, None, Ok, Err, Contains, option_map, refl, sym, ap, ◌∙◌, arith}
 use Rattle.std.proofs.lemmas.Bool.Decides.{nat_tests}
+use Rattle.std.proofs.lemmas.List.Elements.{Contains-append_right}
 use Rattle.mdl_system.proofs.MemberLemmas.{Contains-none}
 use Rattle.mdl_system.proofs.OrderLemmas.{Contains-cons_cases, Contains-here, Contains-later}
 use Rattle.mdl_calls.specs.declared.answers.Held.{Held}
@@ -77,14 +78,10 @@ taken-up a b context id (Some wanted) e fits joins =
             gained.there,
             gained.number,
             gained.at ∙ place ∙ ap (λ (x : Wanted). x.place) same,
-            (new, last-there context.kept new, refl, ap (λ (x : Wanted). x.duration) same),
+            (new, Contains-append_right context.kept (new ∷ []) new (Contains-here new []), refl, ap (λ (x : Wanted). x.duration) same),
           )
           ),
     )
-  where
-    last-there : (xs : List Kept) (x : Kept) → Contains (xs ++ x ∷ []) x
-    last-there [] x = Contains-here x []
-    last-there (y ∷ ys) x = Contains-later y (ys ++ x ∷ []) x (last-there ys x)
 
 -- the context has no wait any more
 lost-so : (a b : Core) (context : ContextView) → Fits a context → Spares context.who none a b → Followed a context b (waits.without_wait context)

@@ -9,7 +9,6 @@ use Rattle.std.proofs.lemmas.List.Elements.{All-cons, All-head, All-nil, All-tai
 use Rattle.mdl_key.specs.declared.mode.Mode.{Mode}
 use Rattle.mdl_key.specs.Keys.{KeyName}
 use Rattle.mdl_system.proofs.MemberLemmas.{Contains-none}
-use Rattle.mdl_system.proofs.OrderLemmas.{Contains-cons_cases}
 use Rattle.mdl_calls.specs.Words.{Settle_timeout, Program, EachCall, outcome_of}
 use Rattle.mdl_core.specs.CoreCalls.{outcome}
 use Rattle.mdl_core.specs.CoreJoins.{Joins, SpeaksFor}
@@ -35,7 +34,7 @@ use Rattle.mdl_script.specs.declared.told.Told.{Told}
 use Rattle.mdl_script.specs.Worlds.{Player, Scene, World, asked, asked_waiting, first_core, first_settled, first_world, going, going_first, is_waiting, line_played, lines_played, most_turns, newcomer, played, player_at, script_played, sessions, settling, started, timed_out, told_of, ◌and_then◌}
 use Rattle.mdl_script.proofs.SoundLemmas.{IsStaffed, first-session, staffed-first, staffed-going, staffed-started, staffed-timed_out}
 use Rattle.mdl_script_laws.specs.Shown.{AreOfSessions, IsShownTo, LeavesTransaction, TransactionsSeeOneDefinition, leaves_transaction}
-use Rattle.mdl_script_laws.proofs.ShownCalls.{Leads, Stays, joins-outcome, key-held, leads-outcome, none, stays-call, stays-other, stays-outcome}
+use Rattle.mdl_script_laws.proofs.ShownCalls.{Leads, Stays, joins-outcome, key-held, leads-outcome, none, only-one, stays-call, stays-other, stays-outcome}
 use Rattle.mdl_script_laws.proofs.ShownContexts.{Fits, followed-same, fits-same}
 use Rattle.mdl_script_laws.proofs.ShownPoints.{IsStanding, old-now, shown_at, standing-followed}
 use Rattle.mdl_script_laws.proofs.ShownPlays.{Comes, Keeps, Rests, Tells, leads-going, leads-play, point-same}
@@ -119,9 +118,6 @@ with_table old x y = old y ⊎ (y ≡ x)
 record IsGoodScene (who : ℕ) (old : TableShown → Type 0) (scene : Scene) : Type 0 where
   good : IsGood who old scene.world
   shown : (x : TableShown) → IsShownTo who scene.told x → IsGood who (with_table old x) scene.world
-
-only-one : {X : Type 0} (x y : X) → Contains (x ∷ []) y → y ≡ x
-only-one x y among = elim (Contains-cons_cases x [] y among) [ inl nowhere ↦ absurd (Contains-none y nowhere) | inr same ↦ same ]
 
 same_reply : (one other : Reply) → Has_ended one ≡ Has_ended other → one ≡ other
 same_reply one other e = cc
