@@ -8,11 +8,15 @@ use Rattle.std.proofs.lemmas.List.FromFn.{get_or-map-range_with_len}
 use Rattle.std.proofs.lemmas.List.Elements.{All-cons, All-head, All-nil, All-tail, Contains-append_cases}
 use Rattle.mdl_key.specs.declared.mode.Mode.{Mode}
 use Rattle.mdl_key.specs.Keys.{KeyName}
+use Rattle.mdl_defs.specs.declared.definition.Definition.{Definition}
+use Rattle.mdl_system.specs.Words.{Versioned}
 use Rattle.mdl_system.proofs.MemberLemmas.{Contains-none}
 use Rattle.mdl_calls.specs.Words.{Settle_timeout, Program, EachCall, outcome_of}
 use Rattle.mdl_core.specs.CoreCalls.{outcome}
 use Rattle.mdl_core.specs.CoreJoins.{Joins, SpeaksFor}
-use Rattle.mdl_core.specs.Cores.{Core, key_at}
+use Rattle.mdl_core.specs.CoreSystems.{defined_in, system_of}
+use Rattle.mdl_core.specs.Cores.{Core, book_at, key_at}
+use Rattle.mdl_core.proofs.CoreGranted.{book_of-at}
 use Rattle.mdl_core.specs.RunLaws.{IsMadeFor}
 use Rattle.mdl_context.specs.Contexts.{ContextView, mark_of}
 use Rattle.mdl_lines.specs.Sessions.{IsScriptSession}
@@ -26,14 +30,14 @@ use Rattle.mdl_stmt.specs.Endings.{Pause, Ends, Begins_to_wait, Waits_on, Faults
 use Rattle.mdl_stmt.specs.MemoryLaws.{session_at}
 use Rattle.mdl_stmt.specs.Playing.{going_on, starting}
 use Rattle.mdl_stmt.specs.Sessions.{Session}
-use Rattle.mdl_stmt.specs.Statements.{row_of}
+use Rattle.mdl_stmt.specs.Statements.{columns_of, row_of}
 use Rattle.mdl_stmt.proofs.RowCalls.{rows_call}
 use Rattle.mdl_script.specs.declared.told.News.{News}
 use Rattle.mdl_script.specs.declared.told.News.TheVariants.{Busy, Ends as Has_ended, Waits as Has_waits}
 use Rattle.mdl_script.specs.declared.told.Told.{Told}
 use Rattle.mdl_script.specs.Worlds.{Player, Scene, World, asked, asked_waiting, first_core, first_settled, first_world, going, going_first, is_waiting, line_played, lines_played, most_turns, newcomer, played, player_at, script_played, sessions, settling, started, timed_out, told_of, ◌and_then◌}
 use Rattle.mdl_script.proofs.SoundLemmas.{IsStaffed, first-session, staffed-first, staffed-going, staffed-started, staffed-timed_out}
-use Rattle.mdl_script_laws.specs.Shown.{AreOfSessions, IsShownTo, LeavesTransaction, TransactionsSeeOneDefinition, leaves_transaction}
+use Rattle.mdl_script_laws.specs.Shown.{AreOfSessions, IsShownTo, LeavesTransaction, StandsAsShown, TransactionsKeepWhatTheySaw, TransactionsSeeOneDefinition, has_transaction, leaves_transaction}
 use Rattle.mdl_script_laws.proofs.ShownCalls.{Leads, Stays, joins-outcome, key-held, leads-outcome, none, only-one, stays-call, stays-other, stays-outcome}
 use Rattle.mdl_script_laws.proofs.ShownContexts.{Fits, followed-same, fits-same}
 use Rattle.mdl_script_laws.proofs.ShownPoints.{IsStanding, old-now, shown_at, standing-followed}
@@ -460,7 +464,7 @@ told-settling (suc n) world = told-first (first_settled world) world (settling n
 told-line : (line : Line) (world : World) → IsScriptSession line.session → AreToldToSessions (line_played line world).told
 told-line line world is = told-then (asked line world) (settling most_turns) (told-asked line world is) (told-settling most_turns (asked line world).world)
 
--- ---- the law
+-- ---- after a line that shows a table
 
 all-left : {X : Type 0} (P : X → Type 0) (xs ys : List X) → All P (xs ++ ys) → All P xs
 all-left P [] ys all = All-nil P
@@ -490,19 +494,68 @@ keeps-fits : (old : TableShown → Type 0) (a : Core) (session : Session) → Ke
 keeps-fits old a session (inl rests) = rests.fits
 keeps-fits old a session (inr waiting) = waiting.point.fits
 
+-- what stands under a ticket is what the system has under its key
+standing-defined : (a : Core) (context : ContextView) (table : TableShown) → Fits a context → IsStanding a context table
+    → let defined = (system_of a).definitions table.key in (defined.version ≡ table.version) × (columns_of defined.definition ≡ table.columns)
+standing-defined a context table fits stands =
+    let place = stands.ticket.place in
+    let key : key_at place a ≡ table.key = ap (λ (x : TableShown). x.key) stands.shown in
+    let there = book_of-at a place fits.speaks.1.tied (key-held a context.who stands.ticket fits.speaks stands.there) in
+    let defined : (system_of a).definitions table.key ≡ defined_in (book_at place a) = ap (system_of a).definitions (sym key) ∙ ap defined_in there in (
+      ap (λ (d : Versioned Definition). d.version) defined ∙ ap (λ (x : TableShown). x.version) stands.shown,
+      ap (λ (d : Versioned Definition). columns_of d.definition) defined ∙ ap (λ (x : TableShown). x.columns) stands.shown,
+    )
+
+-- after a line by which a table was shown to a session, so it is with that table
+good-shown : (before : List Line) (line : Line) (who : ℕ) (table : TableShown) → AreOfSessions before → IsScriptSession line.session
+    → IsShownTo who (line_played line (script_played before).world).told table
+    → IsScriptSession who × IsGood who (with_table Nothing table) (line_played line (script_played before).world).world
+good-shown before line who table are is shown =
+    let start = (script_played before).world in
+    let session = told-line line start is (record { line = shown.0; who = who; news = Has_ended (reply.Columns shown.1) }) shown.2 in (
+      session,
+      (scene-line who session Nothing line start is (λ e. inr (λ x none. none))
+          (good-lines who session before first_world are (good-first who session))).shown table shown,
+    )
+
+module _ (before : List Line) (line : Line) (later : List Line) (who : ℕ) (one : TableShown) (are : AreOfSessions (before ++ line ∷ later))
+    (shown : IsShownTo who (line_played line (script_played before).world).told one) (leave : LeavesTransaction who later) where
+  abbrev early : World
+  early = (line_played line (script_played before).world).world
+
+  abbrev late : World
+  late = (lines_played later early).world
+
+  abbrev of_sessions : AreOfSessions (line ∷ later)
+  of_sessions = all-right (λ (l : Line). IsScriptSession l.session) before (line ∷ later) are
+
+  -- so it is after the later lines
+  later-scene : IsGoodScene who (with_table Nothing one) (lines_played later early)
+  later-scene =
+      let first = good-shown before line who one (all-left (λ (l : Line). IsScriptSession l.session) before (line ∷ later) are)
+      (All-head (λ (l : Line). IsScriptSession l.session) line later of_sessions) shown in
+      scene-lines who first.0 (with_table Nothing one) later early (All-tail (λ (l : Line). IsScriptSession l.session) line later of_sessions) leave first.1
+
+  pub shown-again : (other : TableShown) → has_transaction who late ≡ true → IsShownTo who (lines_played later early).told other → one.key ≡ other.key → one ≡ other
+  shown-again other opens again same =
+      let keeps = (later-scene.shown other again).own in
+      let session = (player_at who late).session in
+      let facts = with_table (with_table Nothing one) other in
+      one-standing late.core session.context one other (keeps-fits facts late.core session keeps)
+      (stands-open facts late.core session one keeps (inl (inr refl)) opens)
+      (stands-open facts late.core session other keeps (inr refl) opens) same
+
+  pub shown-stands : has_transaction who late ≡ true → StandsAsShown late one
+  shown-stands opens =
+      let keeps = later-scene.good.own in
+      let session = (player_at who late).session in
+      let facts = with_table Nothing one in
+      standing-defined late.core session.context one (keeps-fits facts late.core session keeps) (stands-open facts late.core session one keeps (inr refl) opens)
+
+-- ---- the laws
+
 pub transactions-see_one : TransactionsSeeOneDefinition
-transactions-see_one before line later who one other are shown leave opens again same =
-    let P : Line → Type 0 = λ l. IsScriptSession l.session in
-    let behind = all-right P before (line ∷ later) are in
-    let is = told-line line (script_played before).world (All-head P line later behind)
-    (record { line = shown.0; who = who; news = Has_ended (reply.Columns shown.1) }) shown.2 in
-    let start = good-lines who is before first_world (all-left P before (line ∷ later) are) (good-first who is) in
-    let first = scene-line who is Nothing line (script_played before).world (All-head P line later behind) (λ e. inr (λ x none. none)) start in
-    let rest = scene-lines who is (with_table Nothing one) later (line_played line (script_played before).world).world
-    (All-tail P line later behind) leave (first.shown one shown) in
-    let end = (rest.shown other again).own in
-    let world = (lines_played later (line_played line (script_played before).world).world).world in
-    let session = (player_at who world).session in
-    let facts = with_table (with_table Nothing one) other in
-    one-standing world.core session.context one other (keeps-fits facts world.core session end) (stands-open facts world.core session one end (inl (inr refl)) opens)
-    (stands-open facts world.core session other end (inr refl) opens) same
+transactions-see_one before line later who one other are shown leave opens again same = shown-again before line later who one are shown leave other opens again same
+
+pub transactions-keep : TransactionsKeepWhatTheySaw
+transactions-keep before line later who table are shown leave opens = shown-stands before line later who table are shown leave opens

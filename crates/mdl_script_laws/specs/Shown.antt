@@ -2,12 +2,14 @@
 -- of what is told of the lines of a script.
 use Rattle.std.specs.Prelude.{◌≡◌, ℕ, Bool, true, false, List, ◌∷◌, ◌++◌, Contains}
 use Rattle.std.specs.List.{All}
+use Rattle.mdl_core.specs.CoreSystems.{system_of}
 use Rattle.mdl_lines.specs.Sessions.{IsScriptSession}
 use Rattle.mdl_syntax.specs.declared.script.Line.{Line}
 use Rattle.mdl_syntax.specs.declared.statement.Statement.{Statement}
 use Rattle.mdl_syntax.specs.declared.statement.Statement.TheVariants as statement
 use Rattle.mdl_stmt.specs.declared.reply.Reply.TheVariants.{Columns}
 use Rattle.mdl_stmt.specs.declared.reply.TableShown.{TableShown}
+use Rattle.mdl_stmt.specs.Statements.{columns_of}
 use Rattle.mdl_script.specs.declared.told.News.TheVariants.{Ends}
 use Rattle.mdl_script.specs.declared.told.Told.{Told}
 use Rattle.mdl_script.specs.Worlds.{World, line_played, lines_played, player_at, script_played}
@@ -48,3 +50,18 @@ TransactionsSeeOneDefinition =
     let rest = lines_played later first.world in
     IsShownTo who first.told one → LeavesTransaction who later → has_transaction who rest.world ≡ true → IsShownTo who rest.told other →
     one.key ≡ other.key → one ≡ other
+
+-- a table stands in a world as it was shown
+abbrev pub StandsAsShown : World → TableShown → Type 0
+StandsAsShown world table =
+    let defined = (system_of world.core).definitions table.key in
+    (defined.version ≡ table.version) × (columns_of defined.definition ≡ table.columns)
+
+-- So too, a table that was shown to a session stands as it was shown, as long as the session's transaction is open and it is asked for
+-- such statements alone: no other session has changed it
+abbrev pub TransactionsKeepWhatTheySaw : Type 0
+TransactionsKeepWhatTheySaw =
+    (before : List Line) (line : Line) (later : List Line) (who : ℕ) (table : TableShown) → AreOfSessions (before ++ line ∷ later) →
+    let first = line_played line (script_played before).world in
+    let rest = lines_played later first.world in
+    IsShownTo who first.told table → LeavesTransaction who later → has_transaction who rest.world ≡ true → StandsAsShown rest.world table

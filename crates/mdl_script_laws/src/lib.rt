@@ -4,4 +4,4 @@
 
 mod shown;
 
-pub use shown::transactions_see_one_definition;
+pub use shown::{transactions_keep_what_they_saw, transactions_see_one_definition};
