@@ -86,7 +86,7 @@ staffed-played line who program world is keeps names staffed = record {
   by w there (inr other) =
       ap (λ (p : Player). p.session.context.who) (get_or-set_other world.players (who - 1) (w - 1) next (newcomer w) (λ e. other.1 (omega (arith, e, is.0, there.0)))) ∙ staffed.named w there
 
-staffed-started : (line : Line) (world : World) → IsScriptSession line.session → IsStaffed world → IsStaffed (started line world).world
+pub staffed-started : (line : Line) (world : World) → IsScriptSession line.session → IsStaffed world → IsStaffed (started line world).world
 staffed-started line world is staffed =
     staffed-played line.number line.session (λ session. starting line.statement session) world is (λ session. (rows_keep_sound session).1 line.statement)
     (λ session. (rows_keep_number session).1 line.statement) staffed
@@ -97,7 +97,7 @@ staffed-going who world is staffed =
 
 -- ---- patience that ends
 
-staffed-timed_out : (who : ℕ) (world : World) → IsScriptSession who → IsStaffed world → IsStaffed (timed_out who world)
+pub staffed-timed_out : (who : ℕ) (world : World) → IsScriptSession who → IsStaffed world → IsStaffed (timed_out who world)
 staffed-timed_out who world is staffed =
     let program : Program (Unit {0}) = Ask (Settle_timeout who) (λ _. Give tt) in
     let kept = outcomes-are_runs (Unit {0}) program world.core who (staffed.speaks who is.0 is.1) ((refl, refl), λ _. tt) in

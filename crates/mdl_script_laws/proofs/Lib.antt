@@ -8,6 +8,14 @@ pub mod NoDeadlockWorlds
 pub mod OrderlyPlays
 pub mod RefusedWorlds
 pub mod ScriptLemmas
+pub mod ShownAsking
+pub mod ShownCalls
+pub mod ShownContexts
+pub mod ShownPlays
+pub mod ShownPoints
+pub mod ShownRows
+pub mod ShownWaits
+pub mod ShownWorlds
 pub mod TidyLemmas
 pub mod TurnLemmas
 pub mod TurnPlays

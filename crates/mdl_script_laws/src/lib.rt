@@ -4,6 +4,7 @@
 
 mod deadlocks;
 mod refusals;
+mod shown;
 mod turns;
 
 pub use deadlocks::no_deadlock_stands;
@@ -11,6 +12,7 @@ pub use refusals::{
     early_errors_change_nothing, idle_sessions_are_tidy, refused_lines_change_nothing,
     sessions_stay_tidy,
 };
+pub use shown::{transactions_keep_what_they_saw, transactions_see_one_definition};
 pub use turns::{
     more_turns_do_nothing, nobody_is_left_settled, statements_ask_for_few_locks,
     statements_tell_of_few_waits, statements_wait_in_the_space, turns_suffice,

@@ -1,0 +1,335 @@
+-- All that a context asks of the space leaves it what it kept, held.
+use Rattle.std.proofs.Common.{◌≡◌, ◌⊎◌, inl, inr, ℕ, Bool, true, false, List, [], ◌∷◌, ◌++◌, Option, Some, None, Err, Contains, is_some, option_map, find, refl, sym, ap, ◌∙◌, subst, eq-eqb}
+use Rattle.std.specs.Prelude.{if◌then◌else◌}
+use Rattle.mdl_key.specs.declared.mode.Mode.{Mode}
+use Rattle.mdl_key.specs.Keys.{KeyName, key_eq}
+use Rattle.mdl_system.proofs.Deciding.{key-Decides}
+use Rattle.mdl_system.proofs.MemberLemmas.{Contains-none}
+use Rattle.mdl_system.proofs.OrderLemmas.{Contains-cons_cases}
+use Rattle.mdl_book.proofs.TicketLemmas.{find-passes, find-contains}
+use Rattle.mdl_calls.specs.declared.answers.Held.{Held}
+use Rattle.mdl_calls.specs.Own.{Wait}
+use Rattle.mdl_calls.specs.Words.{Answer, At_place, Granted, Would_wait, Waits, Resolve, Try_now, Begin_wait, Settle_timeout, End_wait, Release, Clone_ticket, Own, IsRising, is_waiting, ticket_held, is_number, gaining, cloning, winning, Program, Give, Ask, Grow, EachCall, SearchEnd, Over, Cut_off, Failed, seeking, most_searches}
+use Rattle.mdl_calls.proofs.SeekingLemmas.{calls_seeking}
+use Rattle.mdl_core.specs.CoreJoins.{Joins, Knows, SpeaksFor, own_at}
+use Rattle.mdl_core.specs.Cores.{Core}
+use Rattle.mdl_core.proofs.CallLaws.{core-changes, core-explains, core-resolves, core-rising}
+use Rattle.mdl_core.proofs.CoreServing.{found-first}
+use Rattle.mdl_core.proofs.PairLemmas.{pairs-from_rising, same-number}
+use Rattle.mdl_context.specs.declared.context_error.ContextError.TheVariants.{Waiting}
+use Rattle.mdl_context.specs.declared.kept.Kept.{Kept}
+use Rattle.mdl_context.specs.declared.kept.Wanted.{Wanted}
+use Rattle.mdl_context.specs.Wishes.{Wish}
+use Rattle.mdl_context.specs.declared.request.Acquire.{Acquire}
+use Rattle.mdl_context.specs.Contexts.{ContextView, held_of, place_known}
+use Rattle.mdl_context.specs.Gains as gains
+use Rattle.mdl_context.specs.Holdings.{earliest, kept_of, wanted_of}
+use Rattle.mdl_context.specs.Requests as requests
+use Rattle.mdl_context.specs.Requests.{Outcome}
+use Rattle.mdl_context.proofs.PlaceLemmas.{suffices-at, equal}
+use Rattle.mdl_script_laws.proofs.ShownCalls.{IsQuiet, Leads, Spares, Stays, leads-bind, leads-quiet, none, spares-call, spares-then, stays-call, stays-here}
+use Rattle.mdl_script_laws.proofs.ShownContexts.{Fits, Followed, IsFresh, fits-more, fits-same, followed-here, followed-late, followed-same, gained-fresh, gained-there}
+
+-- ---- numbers of tickets
+
+none-found : {T : Type 0} (p : T → Bool) (xs : List T) (x : T) → find p xs ≡ None → Contains xs x → p x ≡ false
+none-found p [] x found among = absurd (Contains-none x among)
+none-found p (y ∷ ys) x found among =
+    elim (p y) as (λ b. p y ≡ b → (if b then Some y else find p ys) ≡ None → p x ≡ false) [
+      | true ↦ λ passes e. cc
+      | false ↦ λ fails e. elim (Contains-cons_cases y ys x among) [ inl later ↦ none-found p ys x e later | inr same ↦ ap p same ∙ fails ]
+    ] refl found
+
+-- the ticket of a number that is held is the one of this number
+pub held-number : (own : Own) (t : Held) (id : ℕ) → IsRising own → Contains own.held t → t.id ≡ id → ticket_held id own ≡ Some t
+held-number own t id rising among number = go (ticket_held id own) refl
+  where
+    go : (o : Option Held) → ticket_held id own ≡ o → ticket_held id own ≡ Some t
+    go None e = let fails = none-found (is_number id) own.held t e among in let passes = eq-eqb t.id id number in cc
+    go (Some u) e =
+        let h = found-first (is_number id) own.held u e in
+        e ∙ ap Some (same-number own.held (pairs-from_rising own.held rising) u t h.0 among (equal u.id id h.1 ∙ sym number))
+
+-- ---- a ticket that is gained
+
+-- a ticket of a new number is held at a place
+pub record IsGained (a : Core) (who id place : ℕ) (b : Core) : Type 0 where
+  pub spares : Spares who none a b
+  pub fresh : IsFresh a who id
+  pub ticket : Held
+  pub there : Contains (own_at b who).held ticket
+  pub number : ticket.id ≡ id
+  pub at : ticket.place ≡ place
+
+gained-by : (a b : Core) (who id place : ℕ) (mode : Mode) → Spares who none a b → own_at b who ≡ gaining id place mode (own_at a who)
+    → IsGained a who id place b
+gained-by a b who id place mode spares own = record {
+  spares = spares;
+  fresh = gained-fresh id place mode (own_at a who) (subst IsRising own (core-rising b who spares.speaks));
+  ticket = record { id = id; place = place; mode = mode };
+  there = subst (λ (o : Own). Contains o.held (record { id = id; place = place; mode = mode })) (sym own) (gained-there id place mode (own_at a who));
+  number = refl;
+  at = refl;
+}
+
+-- the same before
+gained-late : (a b c : Core) (who id place : ℕ) → Spares who none a b → IsGained b who id place c → IsGained a who id place c
+gained-late a b c who id place spares gained = record {
+  spares = spares-then who none a b c spares gained.spares;
+  fresh = λ t among. gained.fresh t (spares.held t among (λ g. g));
+  ticket = gained.ticket;
+  there = gained.there;
+  number = gained.number;
+  at = gained.at;
+}
+
+-- ---- a wait that ends
+
+-- it ends with a ticket where the session waited
+pub won-by : (a b : Core) (who id : ℕ) → SpeaksFor a who → Joins a (End_wait who) (Granted id) b
+    → (w : Wait) × ((own_at a who).wait ≡ Some w) × IsGained a who id w.place b
+won-by a b who id speaks joins = go (own_at a who).wait refl
+  where
+    spares : Spares who none a b
+    spares = spares-call who none a b (End_wait who) (Granted id) speaks refl tt joins
+
+    waits_there : is_waiting (own_at a who) ≡ true
+    waits_there = core-explains a b (End_wait who) (Granted id) who refl joins
+
+    go : (o : Option Wait) → (own_at a who).wait ≡ o → (w : Wait) × ((own_at a who).wait ≡ Some w) × IsGained a who id w.place b
+    go None e = let f : false ≡ true = sym (ap is_some e) ∙ waits_there in cc
+    go (Some w) e =
+        let own : own_at b who ≡ winning id (Some w) (own_at a who) = core-changes a b (End_wait who) (Granted id) who refl joins
+        ∙ ap (λ o. winning id o (own_at a who)) e in (
+          w,
+          e,
+          record {
+            spares = spares;
+            fresh = gained-fresh id w.place w.mode (record { held = (own_at a who).held; wait = None }) (subst IsRising own (core-rising b who spares.speaks));
+            ticket = record { id = id; place = w.place; mode = w.mode };
+            there = subst (λ (o : Own). Contains o.held (record { id = id; place = w.place; mode = w.mode })) (sym own)
+                (gained-there id w.place w.mode (record { held = (own_at a who).held; wait = None }));
+            number = refl;
+            at = refl;
+          },
+        )
+
+-- a ticket of a new number is released again
+released-again : (a b c : Core) (who id : ℕ) → Spares who none a b → IsFresh a who id → Spares who (λ n. n ≡ id) b c → Spares who none a c
+released-again a b c who id early fresh late = record {
+  speaks = late.speaks;
+  held = λ t among stays. late.held t (early.held t among stays) (fresh t among);
+  known = λ place key knows. late.known place key (early.known place key knows);
+  stands = λ t among stays. late.stands t (early.held t among stays) (fresh t among) ∙ early.stands t among stays;
+}
+
+-- a wait that is abandoned
+abandoned-end : (a b : Core) (who : ℕ) (answer : Answer) → Spares who none a b → SpeaksFor a who → Joins a (End_wait who) answer b
+    → Leads (λ x c. Spares who none a c) (gains.unwanted_end_answered who answer) b
+abandoned-end a b who (Granted id) spares speaks joins = λ answer c released.
+    let won = won-by a b who id speaks joins in
+    released-again a b c who id spares won.2.fresh (spares-call who (λ n. n ≡ id) b c (Release who id) answer spares.speaks refl refl released)
+abandoned-end a b who answer spares speaks joins = spares
+
+pub leads-abandoning : (a b : Core) (who : ℕ) → Spares who none a b → Leads (λ x c. Spares who none a c) (gains.abandoning who) b
+leads-abandoning a b who spares = λ answer c settled end d ended.
+    let first = spares-call who none b c (Settle_timeout who) answer spares.speaks refl tt settled in
+    let second = spares-call who none c d (End_wait who) end first.speaks refl tt ended in
+    leads-after (spares-then who none a b c spares first) (gains.unwanted_end_answered who end) d (abandoned-end c d who end second first.speaks ended)
+  where
+    leads-after : {c : Core} → Spares who none a c → (program : Program (Unit {0})) (d : Core) → Leads (λ x e. Spares who none c e) program d
+        → Leads (λ x e. Spares who none a e) program d
+    leads-after {c} early (Give x) d leads = spares-then who none a c d early leads
+    leads-after {c} early (Ask call next) d leads = λ answer e joins. leads-after early (next answer) e (leads answer e joins)
+    leads-after {c} early (Grow refused found) d leads = leads-after early found d leads
+
+-- ---- a lock that is wished for
+
+pub quiet-seeking : (who n : ℕ) → EachCall (IsQuiet who none) (seeking n who)
+quiet-seeking who n = calls_seeking (IsQuiet who none) who (refl, tt, refl) n
+
+module _ (a : Core) (context : ContextView) (place : ℕ) (request : Wish) (fits : Fits a context) (idle : context.wait ≡ None) where
+  -- the end of asking for it
+  abbrev Asked : Outcome Acquire → Core → Type 0
+  Asked outcome b = Followed a context b outcome.1
+
+  -- a ticket was had
+  asked-gained : (b : Core) (id : ℕ) → IsGained a context.who id place b → Followed a context b (requests.keeping id place request context)
+  asked-gained b id gained = record {
+    fits = subst (λ wait. Fits b (record { who = context.who; kept = context.kept ++ kept_of id place request ∷ []; known = context.known; wait = wait })) (sym idle)
+        (fits-more a b context (kept_of id place request) gained.ticket fits gained.spares gained.fresh gained.there gained.number gained.at);
+    spares = gained.spares;
+    who = refl;
+    grown = inr (kept_of id place request, gained.fresh, refl);
+  }
+
+  -- a wait has begun
+  asked-waits : (b : Core) (searched : Bool) → Spares context.who none a b → ((w : Wait) → (own_at b context.who).wait ≡ Some w → w.place ≡ place)
+      → Followed a context b (requests.awaiting place request searched context)
+  asked-waits b searched spares at = record {
+    fits = record {
+      speaks = spares.speaks;
+      backed = λ k among. (let t = fits.backed k among in (t.0, spares.held t.0 t.1 (λ g. g), t.2, t.3));
+      alone = fits.alone;
+      known = λ key p e. spares.known p key (fits.known key p e);
+      wait = λ wanted w e f. (let g : wanted_of place request searched ≡ wanted = cc in at w f ∙ ap (λ (x : Wanted). x.place) g);
+    };
+    spares = spares;
+    who = refl;
+    grown = inl refl;
+  }
+
+  -- there is none
+  asked-refused : (b : Core) → Spares context.who none a b → Followed a context b context
+  asked-refused b spares = record {
+    fits = record {
+      speaks = spares.speaks;
+      backed = λ k among. (let t = fits.backed k among in (t.0, spares.held t.0 t.1 (λ g. g), t.2, t.3));
+      alone = fits.alone;
+      known = λ key p e. spares.known p key (fits.known key p e);
+      wait = λ wanted w e f. cc;
+    };
+    spares = spares;
+    who = refl;
+    grown = inl refl;
+  }
+
+  asked-sought : (b : Core) (number : ℕ) (end : SearchEnd) → Spares context.who none a b → ((w : Wait) → (own_at b context.who).wait ≡ Some w → w.place ≡ place)
+      → Leads (λ got c. Asked (requests.outcome_got place request context got) c) (gains.wish_sought context.who number end) b
+  asked-sought b number Over spares at = asked-waits b true spares at
+  asked-sought b number Cut_off spares at = asked-waits b false spares at
+  asked-sought b number (Failed refusal) spares at =
+      leads-bind (λ x c. Spares context.who none a c) (λ got c. Asked (requests.outcome_got place request context got) c) (gains.abandoning context.who)
+      (λ _. Give (Err refusal)) b
+      (leads-abandoning a b context.who spares) (λ x c left. asked-refused c left)
+
+  asked-wish : (b c : Core) (answer : Answer) → Spares context.who none a b → Joins b (Begin_wait context.who place request.mode) answer c
+      → Leads (λ got d. Asked (requests.outcome_got place request context got) d) (gains.wish_answered context.who answer) c
+  asked-wish b c (Granted id) spares joins =
+      let step = spares-call context.who none b c (Begin_wait context.who place request.mode) (Granted id) spares.speaks refl tt joins in
+      let own = core-changes b c (Begin_wait context.who place request.mode) (Granted id) context.who refl joins in
+      asked-gained c id (gained-late a b c context.who id place spares (gained-by b c context.who id place request.mode step own))
+  asked-wish b c (Waits number) spares joins =
+      let step = spares-call context.who none b c (Begin_wait context.who place request.mode) (Waits number) spares.speaks refl tt joins in
+      let own = core-changes b c (Begin_wait context.who place request.mode) (Waits number) context.who refl joins in
+      leads-bind (λ x d. Stays context.who none c d) (λ got d. Asked (requests.outcome_got place request context got) d) (seeking most_searches context.who)
+      (gains.wish_sought context.who number) c
+      (leads-quiet (seeking most_searches context.who) c c context.who none (stays-here context.who none c step.speaks) (quiet-seeking context.who most_searches))
+      (λ end d stays. asked-sought d number end (spares-then context.who none a c d (spares-then context.who none a b c spares step) stays.0)
+      (λ w e. at w (subst (λ (o : Own). o.wait ≡ Some w) own (stays.1 w e))))
+    where
+      at : (w : Wait) → Some (record { number = number; place = place; mode = request.mode }) ≡ Some w → w.place ≡ place
+      at w e = let f : record { number = number; place = place; mode = request.mode } ≡ w = cc in ap (λ (x : Wait). x.place) (sym f)
+  asked-wish b c answer spares joins =
+      let step = spares-call context.who none b c (Begin_wait context.who place request.mode) answer spares.speaks refl tt joins in
+      asked-refused c (spares-then context.who none a b c spares step)
+
+  asked-try : (b : Core) (answer : Answer) → Joins a (Try_now context.who place request.mode) answer b
+      → Leads (λ got c. Asked (requests.outcome_got place request context got) c) (gains.try_answered context.who place request.mode answer) b
+  asked-try b (Granted id) joins =
+      let step = spares-call context.who none a b (Try_now context.who place request.mode) (Granted id) fits.speaks refl tt joins in
+      asked-gained b id (gained-by a b context.who id place request.mode step
+      (core-changes a b (Try_now context.who place request.mode) (Granted id) context.who refl joins))
+  asked-try b Would_wait joins =
+      let step = spares-call context.who none a b (Try_now context.who place request.mode) Would_wait fits.speaks refl tt joins in
+      λ answer c begun. asked-wish b c answer step begun
+  asked-try b answer joins = asked-refused b (spares-call context.who none a b (Try_now context.who place request.mode) answer fits.speaks refl tt joins)
+
+  -- a ticket that may be cloned is held at the place
+  abbrev IsBacked : Held → Type 0
+  IsBacked ticket = (t : Held) × Contains (own_at a context.who).held t × (t.id ≡ ticket.id) × (t.place ≡ place)
+
+  asked-copy : (ticket : Held) (b : Core) (answer : Answer) → IsBacked ticket → Joins a (Clone_ticket context.who ticket.id request.mode) answer b
+      → Leads (λ got c. Asked (requests.outcome_got place request context got) c) (gains.copy_answered answer) b
+  asked-copy ticket b (Granted copy) backed joins =
+      let step = spares-call context.who none a b (Clone_ticket context.who ticket.id request.mode) (Granted copy) fits.speaks refl tt joins in
+      let held = held-number (own_at a context.who) backed.0 ticket.id (core-rising a context.who fits.speaks) backed.1 backed.2 in
+      let own = core-changes a b (Clone_ticket context.who ticket.id request.mode) (Granted copy) context.who refl joins
+      ∙ ap (λ o. cloning copy request.mode o (own_at a context.who)) held in
+      asked-gained b copy (subst (λ p. IsGained a context.who copy p b) backed.3 (gained-by a b context.who copy (backed.0).place request.mode step own))
+  asked-copy ticket b answer backed joins = asked-refused b (spares-call context.who none a b
+      (Clone_ticket context.who ticket.id request.mode) answer fits.speaks refl tt joins)
+
+  asked-gaining : (ticket : Option Kept) → find (requests.suffices place request) context.kept ≡ ticket
+      → Leads (λ got c. Asked (requests.outcome_got place request context got) c) (gains.gaining_from (option_map held_of ticket) context.who place request.mode) a
+  asked-gaining None e = λ answer b joins. asked-try b answer joins
+  asked-gaining (Some k) e =
+      let there = fits.backed k (find-contains (requests.suffices place request) context.kept k e) in
+      let at = equal k.place place (suffices-at place request k (find-passes (requests.suffices place request) context.kept k e)) in
+      λ answer b joins. asked-copy (held_of k) b answer (there.0, there.1, there.2, there.3 ∙ at) joins
+
+  asked-reusing : (ticket : Option Held) → Leads Asked (requests.reusing ticket place request context) a
+  asked-reusing (Some ticket) = followed-here a context fits
+  asked-reusing None =
+      leads-bind (λ got c. Asked (requests.outcome_got place request context got) c) Asked
+      (gains.gaining_from (earliest (requests.suffices place request) context.kept) context.who place request.mode)
+      (λ end. Give (requests.outcome_got place request context end)) a
+      (asked-gaining (find (requests.suffices place request) context.kept) refl) (λ end b asked. asked)
+
+  asked-at : Leads Asked (requests.acquiring_at place request context) a
+  asked-at = asked-reusing (earliest (requests.is_reusable place request) context.kept)
+
+-- the place of the key that came to be known last
+known-more : (key other : KeyName) (known : List (KeyName × ℕ)) (place p : ℕ) → place_known other (known ++ (key, place) ∷ []) ≡ Some p
+    → (place_known other known ≡ Some p) ⊎ ((other ≡ key) × (p ≡ place))
+known-more key other [] place p e = go (key_eq other key) refl e
+  where
+    go : (b : Bool) → key_eq other key ≡ b → (if b then Some place else None) ≡ Some p → (None ≡ Some p) ⊎ ((other ≡ key) × (p ≡ place))
+    go true same f = inr ((key-Decides other key).0 same, let g : place ≡ p = cc in sym g)
+    go false same f = cc
+known-more key other (x ∷ xs) place p e = go (key_eq other x.0) e (known-more key other xs place p)
+  where
+    go : (b : Bool) → (if b then Some x.1 else place_known other (xs ++ (key, place) ∷ [])) ≡ Some p
+        → (place_known other (xs ++ (key, place) ∷ []) ≡ Some p → (place_known other xs ≡ Some p) ⊎ ((other ≡ key) × (p ≡ place)))
+        → ((if b then Some x.1 else place_known other xs) ≡ Some p) ⊎ ((other ≡ key) × (p ≡ place))
+    go true f rest = inl f
+    go false f rest = rest f
+
+fits-learnt : (a : Core) (context : ContextView) (key : KeyName) (place : ℕ) → Fits a context → Knows a context.who place key
+    → Fits a (requests.remembering key place context)
+fits-learnt a context key place fits knows = record {
+  speaks = fits.speaks;
+  backed = fits.backed;
+  alone = fits.alone;
+  known = λ other p e. elim (known-more key other context.known place p e) [
+    | inl old ↦ fits.known other p old
+    | inr new ↦ subst (λ k. Knows a context.who p k) (sym new.0) (subst (λ q. Knows a context.who q key) (sym new.1) knows)
+  ];
+  wait = fits.wait;
+}
+
+pub leads-map : {A : Type 0} (P Q : A → Core → Type 0) (program : Program A) (a : Core) → ((x : A) (b : Core) → P x b → Q x b) → Leads P program a
+    → Leads Q program a
+leads-map P Q (Give x) a so leads = so x a leads
+leads-map P Q (Ask call next) a so leads = λ answer b joins. leads-map P Q (next answer) b so (leads answer b joins)
+leads-map P Q (Grow refused found) a so leads = leads-map P Q found a so leads
+
+asked-place : (a b : Core) (request : Wish) (context : ContextView) (answer : Answer) → Fits a context → context.wait ≡ None
+    → Joins a (Resolve context.who request.key) answer b
+    → Leads (λ (outcome : Outcome Acquire) c. Followed a context c outcome.1) (requests.place_answered request context answer) b
+asked-place a b request context (At_place place) fits idle joins =
+    let stays = stays-call context.who none a b (Resolve context.who request.key) (At_place place) fits.speaks (refl, tt, refl) joins in
+    let now = requests.remembering request.key place context in
+    leads-map (λ (outcome : Outcome Acquire) c. Followed b now c outcome.1) (λ (outcome : Outcome Acquire) c. Followed a context c outcome.1)
+    (requests.acquiring_at place request now) b
+    (λ outcome c followed. followed-late a b c context.who context.kept context.known now.known context.wait context.wait outcome.1 stays.0 followed)
+    (asked-at b now place request (fits-learnt b context request.key place (fits-same a b context fits stays)
+    (core-resolves a b context.who place request.key joins)) idle)
+asked-place a b request context answer fits idle joins =
+    followed-same a b context fits (stays-call context.who none a b (Resolve context.who request.key) answer fits.speaks (refl, tt, refl) joins)
+
+asked-finding : (a : Core) (request : Wish) (context : ContextView) (place : Option ℕ) → Fits a context → context.wait ≡ None
+    → Leads (λ (outcome : Outcome Acquire) b. Followed a context b outcome.1) (requests.finding place request context) a
+asked-finding a request context (Some place) fits idle = asked-at a context place request fits idle
+asked-finding a request context None fits idle = λ answer b joins. asked-place a b request context answer fits idle joins
+
+-- a lock is wished for
+pub leads-acquiring : (a : Core) (request : Wish) (context : ContextView) → Fits a context
+    → Leads (λ (outcome : Outcome Acquire) b. Followed a context b outcome.1) (requests.acquiring request context) a
+leads-acquiring a request context fits = go context.wait refl
+  where
+    go : (o : Option Wanted) → context.wait ≡ o
+        → Leads (λ (outcome : Outcome Acquire) b. Followed a context b outcome.1)
+        (if is_some o then Give (Err Waiting, context) else requests.finding (place_known request.key context.known) request context) a
+    go None e = asked-finding a request context (place_known request.key context.known) fits e
+    go (Some wanted) e = followed-here a context fits

@@ -1,0 +1,140 @@
+-- What a session's context keeps is held in the space, and what it holds stays, over all that a context asks for.
+use Rattle.std.proofs.Common.{◌≡◌, ◌≢◌, ◌⊎◌, inl, inr, ℕ, ◌<◌, Bool, true, List, [], ◌∷◌, ◌++◌, Option, Some, None, Contains, filter, refl, sym, ap, ◌∙◌, subst, arith}
+use Rattle.std.specs.Prelude.{nat_lt, IsTrue}
+use Rattle.std.specs.List.{list_all}
+use Rattle.std.proofs.lemmas.Bool.Decides.{nat_tests}
+use Rattle.std.proofs.lemmas.List.Elements.{Contains-append_right, Contains-append_cases}
+use Rattle.mdl_key.specs.declared.mode.Mode.{Mode}
+use Rattle.mdl_key.specs.Keys.{KeyName}
+use Rattle.mdl_system.proofs.MemberLemmas.{Contains-none}
+use Rattle.mdl_system.proofs.OrderLemmas.{Contains-cons_cases, Contains-here}
+use Rattle.mdl_calls.specs.declared.answers.Held.{Held}
+use Rattle.mdl_calls.specs.Own.{Wait}
+use Rattle.mdl_calls.specs.Words.{Own, IsRising, are_rising, gaining}
+use Rattle.mdl_core.specs.CoreJoins.{Knows, SpeaksFor, own_at}
+use Rattle.mdl_core.specs.Cores.{Core}
+use Rattle.mdl_context.specs.declared.kept.Kept.{Kept}
+use Rattle.mdl_context.specs.declared.kept.Wanted.{Wanted}
+use Rattle.mdl_context.specs.Contexts.{ContextView, place_known}
+use Rattle.mdl_script_laws.proofs.ShownCalls.{among-filter, Spares, Stays, none, only-one, spares-here, spares-then}
+
+-- ---- tickets with rising numbers
+
+last_above : (xs : List Held) (x : Held) (n : ℕ) → IsTrue (list_all (λ other. nat_lt n other.id) (xs ++ x ∷ [])) → n < x.id
+last_above [] x n all = grind (arith, nat_tests)
+last_above (y ∷ ys) x n all = grind (arith, nat_tests, last_above ys x n)
+
+below-last : (xs : List Held) (x t : Held) → IsTrue (are_rising (xs ++ x ∷ [])) → Contains xs t → t.id < x.id
+below-last [] x t rising among = absurd (Contains-none t among)
+below-last (y ∷ ys) x t rising among =
+    let first : IsTrue (list_all (λ other. nat_lt y.id other.id) (ys ++ x ∷ [])) = grind (arith, nat_tests) in
+    let rest : IsTrue (are_rising (ys ++ x ∷ [])) = grind (arith, nat_tests) in
+    elim (Contains-cons_cases y ys t among) [
+      | inl later ↦ below-last ys x t rest later
+      | inr same ↦ subst (λ (z : Held). z.id < x.id) (sym same) (last_above ys x y.id first)
+    ]
+
+-- a session holds no ticket of this number
+abbrev pub IsFresh : Core → ℕ → ℕ → Type 0
+IsFresh a who id = (t : Held) → Contains (own_at a who).held t → t.id ≢ id
+
+pub gained-fresh : (id place : ℕ) (mode : Mode) (own : Own) → IsRising (gaining id place mode own) → (t : Held) → Contains own.held t → t.id ≢ id
+gained-fresh id place mode own rising t among same = let lt = below-last own.held
+    (record { id = id; place = place; mode = mode }) t rising among in omega (arith, lt, same)
+
+pub gained-there : (id place : ℕ) (mode : Mode) (own : Own) → Contains (gaining id place mode own).held (record { id = id; place = place; mode = mode })
+gained-there id place mode own = Contains-append_right own.held (_ ∷ []) _ (Contains-here _ [])
+
+-- ---- what a context keeps
+
+-- the space speaks for the context's session, each kept ticket is held at its place, and kept tickets of one number for as long;
+-- the session knows the places of known keys, and waits where the context says
+pub record Fits (a : Core) (context : ContextView) : Type 0 where
+  pub speaks : SpeaksFor a context.who
+  pub backed : (k : Kept) → Contains context.kept k → (t : Held) × Contains (own_at a context.who).held t × (t.id ≡ k.id) × (t.place ≡ k.place)
+  pub alone : (k other : Kept) → Contains context.kept k → Contains context.kept other → k.id ≡ other.id → k.duration ≡ other.duration
+  pub known : (key : KeyName) (place : ℕ) → place_known key context.known ≡ Some place → Knows a context.who place key
+  pub wait : (wanted : Wanted) (w : Wait) → context.wait ≡ Some wanted → (own_at a context.who).wait ≡ Some w → w.place ≡ wanted.place
+
+-- fewer tickets are kept
+pub fits-fewer : (a b : Core) (context : ContextView) (gone : ℕ → Type 0) (p : Kept → Bool) → ((k : Kept) → p k ≡ true → gone k.id → ⊥) → Fits a context
+    → Stays context.who gone a b → Fits b (record context { kept = filter p context.kept })
+fits-fewer a b context gone p stay fits stays = record {
+  speaks = stays.0.speaks;
+  backed = λ k among.
+      let h = among-filter p context.kept k among in
+      let t = fits.backed k h.0 in
+      (t.0, stays.0.held t.0 t.1 (λ g. stay k h.1 (subst gone t.2 g)), t.2, t.3);
+  alone = λ k other one two e. fits.alone k other (among-filter p context.kept k one).0 (among-filter p context.kept other two).0 e;
+  known = λ key place e. stays.0.known place key (fits.known key place e);
+  wait = λ wanted w e f. fits.wait wanted w e (stays.1 w f);
+}
+
+-- the same are
+pub fits-same : (a b : Core) (context : ContextView) → Fits a context → Stays context.who none a b → Fits b context
+fits-same a b context fits stays = record {
+  speaks = stays.0.speaks;
+  backed = λ k among. (let t = fits.backed k among in (t.0, stays.0.held t.0 t.1 (λ g. g), t.2, t.3));
+  alone = fits.alone;
+  known = λ key place e. stays.0.known place key (fits.known key place e);
+  wait = λ wanted w e f. fits.wait wanted w e (stays.1 w f);
+}
+
+-- one more is, of a new number
+pub fits-more : (a b : Core) (context : ContextView) (new : Kept) (t : Held) → Fits a context → Spares context.who none a b → IsFresh a context.who new.id
+    → Contains (own_at b context.who).held t → t.id ≡ new.id → t.place ≡ new.place
+    → Fits b (record { who = context.who; kept = context.kept ++ new ∷ []; known = context.known; wait = None })
+fits-more a b context new t fits spares fresh there number place = record {
+  speaks = spares.speaks;
+  backed = λ k among. elim (last k among) [
+    | inl old ↦ (let h = fits.backed k old in (h.0, spares.held h.0 h.1 (λ g. g), h.2, h.3))
+    | inr e ↦ (t, there, number ∙ ap (λ (x : Kept). x.id) (sym e), place ∙ ap (λ (x : Kept). x.place) (sym e))
+  ];
+  alone = λ k other one two e. apart k other (last k one) (last other two) e;
+  known = λ key p e. spares.known p key (fits.known key p e);
+  wait = λ wanted w e f. cc;
+}
+  where
+    last : (k : Kept) → Contains (context.kept ++ new ∷ []) k → Contains context.kept k ⊎ (k ≡ new)
+    last k among = elim (Contains-append_cases context.kept (new ∷ []) k among) [ inl old ↦ inl old | inr late ↦ inr (only-one new k late) ]
+
+    not_old : (k : Kept) → Contains context.kept k → k.id ≡ new.id → ⊥
+    not_old k old e = let h = fits.backed k old in fresh h.0 h.1 (h.2 ∙ e)
+
+    apart : (k other : Kept) → Contains context.kept k ⊎ (k ≡ new) → Contains context.kept other ⊎ (other ≡ new) → k.id ≡ other.id → k.duration ≡ other.duration
+    apart k other (inl one) (inl two) e = fits.alone k other one two e
+    apart k other (inl one) (inr two) e = absurd (not_old k one (e ∙ ap (λ (x : Kept). x.id) two))
+    apart k other (inr one) (inl two) e = absurd (not_old other two (sym e ∙ ap (λ (x : Kept). x.id) one))
+    apart k other (inr one) (inr two) e = ap (λ (x : Kept). x.duration) (one ∙ sym two)
+
+-- it keeps what it kept, or one ticket of a new number more
+abbrev pub Grown : Core → ℕ → List Kept → List Kept → Type 0
+Grown a who before after = (after ≡ before) ⊎ ((new : Kept) × IsFresh a who new.id × (after ≡ before ++ new ∷ []))
+
+-- a context asked for something: it fits still, its session keeps its tickets, and it keeps what it kept
+pub record Followed (a : Core) (before : ContextView) (b : Core) (after : ContextView) : Type 0 where
+  pub fits : Fits b after
+  pub spares : Spares before.who none a b
+  pub who : after.who ≡ before.who
+  pub grown : Grown a before.who before.kept after.kept
+
+pub followed-here : (a : Core) (context : ContextView) → Fits a context → Followed a context a context
+followed-here a context fits = record { fits = fits; spares = spares-here context.who none a fits.speaks; who = refl; grown = inl refl }
+
+pub followed-same : (a b : Core) (context : ContextView) → Fits a context → Stays context.who none a b → Followed a context b context
+followed-same a b context fits stays = record { fits = fits-same a b context fits stays; spares = stays.0; who = refl; grown = inl refl }
+
+-- something was done before
+pub followed-late : (a b c : Core) (who : ℕ) (kept : List Kept) (known knew : List (KeyName × ℕ)) (wait still : Option Wanted) (after : ContextView)
+    → Spares who none a b
+    → Followed b (record { who = who; kept = kept; known = knew; wait = still }) c after
+    → Followed a (record { who = who; kept = kept; known = known; wait = wait }) c after
+followed-late a b c who kept known knew wait still after spares followed = record {
+  fits = followed.fits;
+  spares = spares-then who none a b c spares followed.spares;
+  who = followed.who;
+  grown = elim followed.grown [
+    | inl same ↦ inl same
+    | inr more ↦ inr (more.0, λ t among. more.1 t (spares.held t among (λ g. g)), more.2)
+  ];
+}

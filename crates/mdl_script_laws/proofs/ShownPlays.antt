@@ -1,0 +1,580 @@
+-- Whatever a statement asks for, what was shown in its transaction before stands on, and what it shows in the end stands too.
+use Rattle.std.proofs.Common.{◌≡◌, ◌⊎◌, inl, inr, ℕ, Bool, true, false, List, [], ◌∷◌, ◌++◌, Option, Some, None, Ok, Err, Contains, filter, map, refl, sym, ap, ◌∙◌, subst}
+use Rattle.std.specs.Prelude.{◌==◌}
+use Rattle.std.proofs.lemmas.List.Elements.{Contains-append_cases}
+use Rattle.mdl_key.specs.declared.mode.Duration.{Duration}
+use Rattle.mdl_key.specs.declared.mode.Duration.TheVariants.{Statement, Transaction, Explicit}
+use Rattle.mdl_key.specs.Keys.{KeyName}
+use Rattle.mdl_defs.specs.declared.change.Change.{Change}
+use Rattle.mdl_defs.specs.declared.definition.Definition.{Definition}
+use Rattle.mdl_defs.specs.declared.standing.Standing.{Standing}
+use Rattle.mdl_system.proofs.MemberLemmas.{Contains-none, Contains-map_from}
+use Rattle.mdl_system.proofs.OrderLemmas.{Contains-cons_cases}
+use Rattle.mdl_calls.specs.declared.answers.Held.{Held}
+use Rattle.mdl_calls.specs.declared.answers.Settled.{Settled}
+use Rattle.mdl_calls.specs.declared.answers.Settled.TheVariants as settled
+use Rattle.mdl_calls.specs.declared.space_error.SpaceError.{SpaceError}
+use Rattle.mdl_calls.specs.declared.space_error.SpaceError.TheVariants as space
+use Rattle.mdl_calls.specs.Words.{Answer, Has_wait, Reads, Changed, Change_definition, Kill, Read_definition, Wait_of, Own, Program, Give, ◌>>=◌}
+use Rattle.mdl_core.specs.CoreJoins.{Joins, Knows, SpeaksFor, own_at}
+use Rattle.mdl_core.specs.Cores.{Core, standing_at}
+use Rattle.mdl_core.proofs.CallLaws.{core-changes, core-keeps, core-remembers, core-rising}
+use Rattle.mdl_core.proofs.CoreSound.{calls_keep-sound}
+use Rattle.mdl_core.proofs.ReadLaws.{core-reads}
+use Rattle.mdl_context.specs.declared.context_error.ContextError.{ContextError}
+use Rattle.mdl_context.specs.declared.context_error.ContextError.TheVariants.{Space}
+use Rattle.mdl_context.specs.declared.kept.Kept.{Kept}
+use Rattle.mdl_context.specs.declared.kept.Wanted.{Wanted}
+use Rattle.mdl_context.specs.declared.request.Acquire.{Acquire}
+use Rattle.mdl_context.specs.declared.request.Acquire.TheVariants as acquire
+use Rattle.mdl_context.specs.declared.request.Mark.{Mark}
+use Rattle.mdl_context.specs.declared.request.Resume.{Resume}
+use Rattle.mdl_context.specs.declared.request.Resume.TheVariants as resume
+use Rattle.mdl_context.specs.Contexts.{ContextView, beyond, duration_rank, held_for, lasts, mark_of}
+use Rattle.mdl_context.specs.Gains.{refusal_of}
+use Rattle.mdl_context.specs.Releases.{giving_up, releasing}
+use Rattle.mdl_context.specs.Requests.{Outcome, acquiring}
+use Rattle.mdl_context.specs.Waits.{resuming}
+use Rattle.mdl_context.specs.WishLaws.{IsMet}
+use Rattle.mdl_context.specs.Wishes.{Wish}
+use Rattle.mdl_context.proofs.PlaceLemmas.{equal}
+use Rattle.mdl_context.proofs.WishLemmas.{met_acquiring}
+use Rattle.mdl_stmt.specs.declared.ending.Ending.{Ending}
+use Rattle.mdl_stmt.specs.declared.ending.Ending.TheVariants.{Answers, Misses, Falls, Starves}
+use Rattle.mdl_stmt.specs.declared.reply.Reply.{Reply}
+use Rattle.mdl_stmt.specs.declared.reply.Reply.TheVariants as reply
+use Rattle.mdl_stmt.specs.declared.reply.TableShown.{TableShown}
+use Rattle.mdl_stmt.specs.Endings.{Pause, Ends, Begins_to_wait, Waits_on, Faults, closing, ended, ending_of_error, ending_of_loss, ending_of_refusal, gone_at, state_after}
+use Rattle.mdl_stmt.specs.Playing as playing
+use Rattle.mdl_stmt.specs.Playing.{play, with_context}
+use Rattle.mdl_stmt.specs.Rows.{Row}
+use Rattle.mdl_stmt.specs.Rows as row
+use Rattle.mdl_stmt.specs.Sessions.{Left, Session}
+use Rattle.mdl_stmt.specs.States.{State, has_locked}
+use Rattle.mdl_script_laws.proofs.ShownCalls.{Leads, Stays, among-filter, leads-bind, leads-each, none, stays-call, stays-other}
+use Rattle.mdl_script_laws.proofs.ShownContexts.{Fits, Followed, followed-same}
+use Rattle.mdl_script_laws.proofs.ShownAsking.{held-number, leads-acquiring}
+use Rattle.mdl_script_laws.proofs.ShownWaits.{GaveUp, IsAmong, Resumed, leads-giving_up, leads-releasing, leads-resuming}
+use Rattle.mdl_script_laws.proofs.ShownPoints.{IsFirm, IsLocked, IsOld, IsStanding, drop-within, lasts-longer, locked-followed, old-followed, shown_as, standing-followed, standing-left}
+
+-- ---- what a row may ask for
+
+-- the locks that are had, with one more that lasts for the transaction
+abbrev pub with_lock : Duration → ℕ → KeyName → List (ℕ × KeyName) → List (ℕ × KeyName)
+with_lock Transaction id key locks = (id, key) ∷ locks
+with_lock _ id key locks = locks
+
+-- what was seen by reading this under a lock
+abbrev pub seen_under : ℕ → Standing → List (ℕ × KeyName) → List TableShown
+seen_under id standing locks = map (λ lock. shown_as lock.1 standing) (filter (λ lock. lock.0 == id) locks)
+
+-- the tables that a reply shows
+abbrev pub Tells : Reply → TableShown → Type 0
+Tells (reply.Columns shown) x = Contains shown x
+Tells _ x = ⊥
+
+-- a session has locked no tables
+abbrev pub IsUnlocked : State → Type 0
+IsUnlocked state = has_locked state.locked ≡ false
+
+-- a row shows what it has seen, and nothing else; and where something is to stay that was shown before, in a transaction that was
+-- open as the statement began, it gives up nothing, changes nothing, and neither ends the transaction nor opens one
+abbrev pub IsFair : (TableShown → Type 0) → Bool → List (ℕ × KeyName) → List TableShown → Row Reply → Type 0
+IsFair old live locks seen (row.Give reply) = (x : TableShown) → Tells reply x → Contains seen x
+IsFair old live locks seen (row.Fail number) = Unit {0}
+IsFair old live locks seen (row.Room rest) = IsFair old live locks seen rest
+IsFair old live locks seen (row.Look rest) =
+    (state : State) → IsUnlocked state → ((x : TableShown) → old x → live ≡ true → state.is_open ≡ true) → IsFair old live locks seen (rest state)
+IsFair old live locks seen (row.Set change rest) =
+    ((state : State) → IsUnlocked state → IsUnlocked (change state))
+    × ((state : State) → (state.is_open ≡ true → live ≡ true) → (change state).is_open ≡ true → live ≡ true)
+    × ((x : TableShown) → old x → live ≡ true → (state : State) → state.is_open ≡ true → (change state).is_open ≡ true)
+    × IsFair old live locks seen rest
+IsFair old live locks seen (row.Here rest) = (mark : Mark) → IsFair old live locks seen (rest mark)
+IsFair old live locks seen (row.Acquire wish rest) = (id : ℕ) → IsFair old live (with_lock wish.duration id wish.key locks) seen (rest id)
+IsFair old live locks seen (row.Give_up which rest) = ((x : TableShown) → old x → live ≡ true → ⊥) × IsFair old live [] [] rest
+IsFair old live locks seen (row.Release id rest) = ((x : TableShown) → old x → live ≡ true → ⊥) × IsFair old live [] [] rest
+IsFair old live locks seen (row.Read id rest) = (standing : Standing) → IsFair old live locks (seen_under id standing locks ++ seen) (rest standing)
+IsFair old live locks seen (row.Redefine id change rest) = ((x : TableShown) → old x → live ≡ true → ⊥) × IsFair old live [] [] rest
+IsFair old live locks seen (row.Kill target rest) = IsFair old live locks seen rest
+
+-- ---- where a statement is
+
+-- while it is played that began at this mark
+pub record Point (old : TableShown → Type 0) (live : Bool) (locks : List (ℕ × KeyName)) (seen : List TableShown) (mark : Mark) (a : Core)
+    (context : ContextView) (state : State) : Type 0 where
+  pub fits : Fits a context
+  pub unlocked : IsUnlocked state
+  pub was : state.is_open ≡ true → live ≡ true
+  pub opens : (x : TableShown) → old x → live ≡ true → state.is_open ≡ true
+  pub kept : (x : TableShown) → old x → live ≡ true → (stands : IsStanding a context x) × IsOld mark context.kept stands.ticket.id
+  pub locked : (id : ℕ) (key : KeyName) → Contains locks (id, key) → IsLocked a context id key
+  pub stands : (x : TableShown) → Contains seen x → IsStanding a context x
+
+-- between statements: what was shown before stands, where the transaction is open
+pub record Rests (old : TableShown → Type 0) (a : Core) (session : Session) : Type 0 where
+  pub left : session.left ≡ None
+  pub fits : Fits a session.context
+  pub unlocked : IsUnlocked session.state
+  pub kept : (x : TableShown) → old x → session.state.is_open ≡ true → IsStanding a session.context x
+
+-- while it waits
+pub record IsWaiting (old : TableShown → Type 0) (a : Core) (session : Session) : Type 0 where
+  pub rest : Left
+  pub left : session.left ≡ Some rest
+  pub live : Bool
+  pub locks : List (ℕ × KeyName)
+  pub seen : List TableShown
+  pub key : KeyName
+  pub wanted : Wanted
+  pub wait : session.context.wait ≡ Some wanted
+  pub at : Knows a session.context.who wanted.place key
+  pub point : Point old live locks seen rest.mark a session.context session.state
+  pub fair : (id : ℕ) → IsFair old live (with_lock wanted.duration id key locks) seen (rest.rest id)
+
+-- a session of which this is so
+abbrev pub Keeps : (TableShown → Type 0) → Core → Session → Type 0
+Keeps old a session = Rests old a session ⊎ IsWaiting old a session
+
+-- however far a statement comes, it is so of its session; and what it shows in an open transaction stands
+abbrev pub Comes : (TableShown → Type 0) → Pause → Core → Type 0
+Comes old (Ends reply session) b =
+    Rests old b session × ((x : TableShown) → Tells reply x → session.state.is_open ≡ true → IsStanding b session.context x)
+Comes old (Begins_to_wait key mode session) b = IsWaiting old b session
+Comes old (Waits_on session) b = IsWaiting old b session
+Comes old (Faults session) b = Rests old b session
+
+-- ---- from one point to the next
+
+module _ (old : TableShown → Type 0) (live : Bool) (locks : List (ℕ × KeyName)) (seen : List TableShown) (mark : Mark) (a : Core)
+    (context : ContextView) (state : State)
+    (point : Point old live locks seen mark a context state) where
+  pub point-followed : (b : Core) (after : ContextView) → Followed a context b after → Point old live locks seen mark b after state
+  point-followed b after followed = record {
+    fits = followed.fits;
+    unlocked = point.unlocked;
+    was = point.was;
+    opens = point.opens;
+    kept = λ x is lives. (let h = point.kept x is lives in old-followed a b context after point.fits followed mark x h.0 h.1);
+    locked = λ id key among. locked-followed a b context after point.fits followed id key (point.locked id key among);
+    stands = λ x among. standing-followed a b context after point.fits followed x (point.stands x among);
+  }
+
+  pub point-same : (b : Core) → Stays context.who none a b → Point old live locks seen mark b context state
+  point-same b stays = point-followed b context (followed-same a b context point.fits stays)
+
+  -- tickets went, and nothing had to stay
+  point-cleared : (b : Core) (after : ContextView) → Fits b after → ((x : TableShown) → old x → live ≡ true → ⊥) → Point old live [] [] mark b after state
+  point-cleared b after fits nothing = record {
+    fits = fits;
+    unlocked = point.unlocked;
+    was = point.was;
+    opens = point.opens;
+    kept = λ x is lives. absurd (nothing x is lives);
+    locked = λ id key among. absurd (Contains-none (id, key) among);
+    stands = λ x among. absurd (Contains-none x among);
+  }
+
+  -- one more lock is had
+  point-locked : (duration : Duration) (id : ℕ) (key : KeyName) → (duration ≡ Transaction → IsLocked a context id key)
+      → Point old live (with_lock duration id key locks) seen mark a context state
+  point-locked duration id key had = record {
+    fits = point.fits;
+    unlocked = point.unlocked;
+    was = point.was;
+    opens = point.opens;
+    kept = point.kept;
+    locked = by duration had;
+    stands = point.stands;
+  }
+    where
+      by : (d : Duration) → (d ≡ Transaction → IsLocked a context id key) → (n : ℕ) (k : KeyName) → Contains (with_lock d id key locks) (n, k)
+          → IsLocked a context n k
+      by Statement had n k among = point.locked n k among
+      by Explicit had n k among = point.locked n k among
+      by Transaction had n k among = elim (Contains-cons_cases (id, key) locks (n, k) among) [
+        | inl before ↦ point.locked n k before
+        | inr same ↦ subst (λ (l : ℕ × KeyName). IsLocked a context l.0 l.1) (sym same) (had refl)
+      ]
+
+  -- more is seen
+  point-seen : (more : List TableShown) → ((x : TableShown) → Contains more x → IsStanding a context x)
+      → Point old live locks (more ++ seen) mark a context state
+  point-seen more each = record {
+    fits = point.fits;
+    unlocked = point.unlocked;
+    was = point.was;
+    opens = point.opens;
+    kept = point.kept;
+    locked = point.locked;
+    stands = λ x among. elim (Contains-append_cases more seen x among) [ inl new ↦ each x new | inr before ↦ point.stands x before ];
+  }
+
+  point-set : (change : State → State) → (IsUnlocked state → IsUnlocked (change state))
+      → ((state.is_open ≡ true → live ≡ true) → (change state).is_open ≡ true → live ≡ true)
+      → ((x : TableShown) → old x → live ≡ true → state.is_open ≡ true → (change state).is_open ≡ true)
+      → Point old live locks seen mark a context (change state)
+  point-set change unlocked was opens = record {
+    fits = point.fits;
+    unlocked = unlocked point.unlocked;
+    was = was point.was;
+    opens = λ x is lives. opens x is lives (point.opens x is lives);
+    kept = point.kept;
+    locked = point.locked;
+    stands = point.stands;
+  }
+
+-- ---- ends
+
+-- what an ending shows
+abbrev TellsAt : Ending → TableShown → Type 0
+TellsAt (Answers reply) x = Tells reply x
+TellsAt _ x = ⊥
+
+not_firm : (kept : List Kept) (k : Kept) (id : ℕ) → IsFirm kept id → Contains (held_for Statement kept) k → k.id ≡ id → ⊥
+not_firm kept k id firm among e = let h = among-filter (lasts Statement) kept k among in let f = firm k h.0 e in let g = sym h.1 ∙ f in cc
+
+module _ (old : TableShown → Type 0) (live : Bool) (locks : List (ℕ × KeyName)) (seen : List TableShown) (mark : Mark) (a : Core) (session : Session)
+    (point : Point old live locks seen mark a session.context session.state) where
+  abbrev kept_before : List Kept
+  kept_before = session.context.kept
+
+  -- what goes leaves what was shown before
+  old-stays : (ending : Ending) (x : TableShown) (stands : IsStanding a session.context x) → IsOld mark kept_before stands.ticket.id
+      → (state_after ending session.state).is_open ≡ true
+      → IsAmong (gone_at ending true mark kept_before) stands.ticket.id → ⊥
+  old-stays (Answers reply) x stands is opens (k, among, e) = not_firm kept_before k stands.ticket.id stands.firm among e
+  old-stays (Misses number) x stands is opens (k, among, e) = elim (Contains-append_cases (beyond Statement mark.statement kept_before)
+      (beyond Transaction mark.transaction kept_before) k among) [
+        | inl one ↦ not_firm kept_before k stands.ticket.id stands.firm (drop-within mark.statement (held_for Statement kept_before) k one) e
+        | inr other ↦ is k other e
+      ]
+  old-stays Starves x stands is opens (k, among, e) = elim (Contains-append_cases (beyond Statement mark.statement kept_before)
+      (beyond Transaction mark.transaction kept_before) k among) [
+        | inl one ↦ not_firm kept_before k stands.ticket.id stands.firm (drop-within mark.statement (held_for Statement kept_before) k one) e
+        | inr other ↦ is k other e
+      ]
+  old-stays Falls x stands is opens among = cc
+
+  still_open : (ending : Ending) → (state_after ending session.state).is_open ≡ true → session.state.is_open ≡ true
+  still_open (Answers reply) e = e
+  still_open (Misses number) e = e
+  still_open Starves e = e
+  still_open Falls e = cc
+
+  unlocked_still : (ending : Ending) → IsUnlocked session.state → IsUnlocked (state_after ending session.state)
+  unlocked_still (Answers reply) e = e
+  unlocked_still (Misses number) e = e
+  unlocked_still Starves e = e
+  unlocked_still Falls e = e
+
+  -- how it ended
+  came-to : (ending : Ending) (b : Core) (after : ContextView) → ((x : TableShown) → TellsAt ending x → Contains seen x)
+      → GaveUp a (gone_at ending session.state.is_open mark kept_before) session.context b after
+      → Comes old (ended ending (record { context = after; state = state_after ending session.state; left = None })) b
+  came-to ending b after told gave = by ending told rests tells
+    where
+      there : session.state.is_open ≡ true → GaveUp a (gone_at ending true mark kept_before) session.context b after
+      there opens = subst (λ o. GaveUp a (gone_at ending o mark kept_before) session.context b after) opens gave
+
+      rests : Rests old b (record { context = after; state = state_after ending session.state; left = None })
+      rests = record {
+        left = refl;
+        fits = gave.fits;
+        unlocked = unlocked_still ending point.unlocked;
+        kept = λ x is opens. (
+            let h = point.kept x is (point.was (still_open ending opens)) in
+            standing-left a b (gone_at ending true mark kept_before) session.context after x h.0 point.fits (there (still_open ending opens))
+            (old-stays ending x h.0 h.1 opens));
+      }
+
+      tells : (x : TableShown) → TellsAt ending x → (state_after ending session.state).is_open ≡ true → IsStanding b after x
+      tells x tell opens = at ending told (there (still_open ending opens)) tell
+        where
+          at : (e : Ending) → ((y : TableShown) → TellsAt e y → Contains seen y) → GaveUp a (gone_at e true mark kept_before) session.context b after
+              → TellsAt e x → IsStanding b after x
+          at (Answers reply) told gave tell =
+              let stands = point.stands x (told x tell) in
+              standing-left a b (held_for Statement kept_before) session.context after x stands point.fits gave
+              (λ (k, among, e). not_firm kept_before k stands.ticket.id stands.firm among e)
+          at (Misses number) told gave tell = absurd tell
+          at Starves told gave tell = absurd tell
+          at Falls told gave tell = absurd tell
+
+      by : (e : Ending) → ((x : TableShown) → TellsAt e x → Contains seen x)
+          → Rests old b (record { context = after; state = state_after e session.state; left = None })
+          → ((x : TableShown) → TellsAt e x → (state_after e session.state).is_open ≡ true → IsStanding b after x)
+          → Comes old (ended e (record { context = after; state = state_after e session.state; left = None })) b
+      by (Answers reply) told rests tells = (rests, tells)
+      by (Misses number) told rests tells = (rests, tells)
+      by Falls told rests tells = (rests, tells)
+      by Starves told rests tells = rests
+
+  pub leads-closing : (ending : Ending) → ((x : TableShown) → TellsAt ending x → Contains seen x) → Leads (Comes old) (closing ending mark session) a
+  leads-closing ending told =
+      let gone = gone_at ending session.state.is_open mark kept_before in
+      leads-bind (λ (outcome : Outcome (Unit {0})) b. GaveUp a gone session.context b outcome.1) (Comes old) (giving_up gone session.context)
+      (λ outcome. Give (ended ending (record { context = outcome.1; state = state_after ending session.state; left = None }))) a
+      (leads-giving_up a gone session.context point.fits) (λ outcome b gave. came-to ending b outcome.1 told gave)
+
+tells_no_loss : (how : Settled) (x : TableShown) → TellsAt (ending_of_loss how) x → ⊥
+tells_no_loss settled.Timeout x tell = tell
+tells_no_loss settled.Killed x tell = tell
+tells_no_loss _ x tell = tell
+
+tells_no_refusal : (refusal : SpaceError) (x : TableShown) → TellsAt (ending_of_refusal refusal) x → ⊥
+tells_no_refusal space.OutOfMemory x tell = tell
+tells_no_refusal space.NoPlace x tell = tell
+tells_no_refusal _ x tell = tell
+
+tells_no_error : (error : ContextError) (x : TableShown) → TellsAt (ending_of_error error) x → ⊥
+tells_no_error (Space refusal) x tell = tells_no_refusal refusal x tell
+tells_no_error _ x tell = tell
+
+-- ---- changes
+
+fits-changed : (a b : Core) (context : ContextView) (id : ℕ) (change : Change) (answer : Answer) → Fits a context
+    → Joins a (Change_definition context.who id change) answer b
+    → Fits b context
+fits-changed a b context id change answer fits joins =
+    let same = core-changes a b (Change_definition context.who id change) answer context.who refl joins in
+    record {
+      speaks = core-keeps calls_keep-sound a b (Change_definition context.who id change) answer context.who fits.speaks joins;
+      backed = λ k among. (let h = fits.backed k among in (h.0, subst (λ (o : Own). Contains o.held h.0) (sym same) h.1, h.2, h.3));
+      alone = fits.alone;
+      known = λ key place e. core-remembers a b (Change_definition context.who id change) answer context.who place key fits.speaks (λ f done. cc) joins
+          (fits.known key place e);
+      wait = λ wanted w e f. fits.wait wanted w e (subst (λ (o : Own). o.wait ≡ Some w) same f);
+    }
+
+-- ---- locks
+
+-- a lock was asked for: it is had
+met-lock : (wish : Wish) (a : Core) (before : ContextView) (b : Core) (after : ContextView) (id : ℕ) → Followed a before b after
+    → IsMet wish before (Ok (acquire.Acquired id), after) → wish.duration ≡ Transaction → IsLocked b after id wish.key
+met-lock wish a before b after id followed met lasting =
+    let ticket = met.1 in
+    let there = followed.fits.backed ticket met.3 in
+    record {
+      ticket = there.0;
+      there = there.1;
+      number = there.2 ∙ met.4;
+      at = subst (λ p. Knows b after.who p wish.key) (sym (there.3 ∙ met.5.0)) (followed.fits.known wish.key met.0 met.2);
+      firm = λ k among e. (
+          let long = subst (λ d. (duration_rank d == duration_rank Transaction) ≡ true) (followed.fits.alone ticket k met.3 among (sym there.2 ∙ sym e))
+          (subst (λ d. lasts d ticket ≡ true) lasting met.5.2) in
+          lasts-longer k long);
+    }
+
+module _ (old : TableShown → Type 0) (live : Bool) (locks : List (ℕ × KeyName)) (seen : List TableShown) (mark : Mark) where
+  abbrev At : Core → ContextView → State → Type 0
+  At a context state = Point old live locks seen mark a context state
+
+  leads-acquired : (wish : Wish) (rest : ℕ → Row Reply) (more : ℕ → Session → Program Pause) (a b : Core) (session : Session) (outcome : Outcome Acquire)
+      → ((id : ℕ) → IsFair old live (with_lock wish.duration id wish.key locks) seen (rest id))
+      → ((id : ℕ) (c : Core) (after : Session) → Point old live (with_lock wish.duration id wish.key locks) seen mark c after.context after.state
+      → Leads (Comes old) (more id after) c)
+      → At a session.context session.state → Followed a session.context b outcome.1 → IsMet wish session.context outcome
+      → Leads (Comes old) (playing.acquired wish rest mark session more outcome) b
+  leads-acquired wish rest more a b session (Ok (acquire.Acquired id), context) fair later point followed met =
+      let now = point-followed old live locks seen mark a session.context session.state point b context followed in
+      later id b (with_context session context) (point-locked old live locks seen mark b context session.state now wish.duration id wish.key
+      (met-lock wish a session.context b context id followed met))
+  leads-acquired wish rest more a b session (Ok (acquire.MustWait number), context) fair later point followed met =
+      let now = point-followed old live locks seen mark a session.context session.state point b context followed in
+      record {
+        rest = record { rest = rest; mark = mark };
+        left = refl;
+        live = live;
+        locks = locks;
+        seen = seen;
+        key = wish.key;
+        wanted = record { place = met.0; mode = wish.mode; duration = wish.duration; searched = met.1 };
+        wait = met.3;
+        at = followed.fits.known wish.key met.0 met.2;
+        point = now;
+        fair = fair;
+      }
+  leads-acquired wish rest more a b session (Err error, context) fair later point followed met =
+      leads-closing old live locks seen mark b (with_context session context)
+      (point-followed old live locks seen mark a session.context session.state point b context followed) (ending_of_error error)
+      (λ x tell. absurd (tells_no_error error x tell))
+
+  -- what stands was asked for
+  seen-read : (a b : Core) (context : ContextView) (state : State) (id version : ℕ) (definition : Option Definition) → At a context state
+      → Joins a (Read_definition context.who id) (Reads version definition) b → At b context state
+      → (x : TableShown) → Contains (seen_under id (record { version = version; definition = definition }) locks) x → IsStanding b context x
+  seen-read a b context state id version definition point joins now x among =
+      let from = Contains-map_from (λ (lock : ℕ × KeyName). shown_as lock.1 (record { version = version; definition = definition }))
+      (filter (λ (lock : ℕ × KeyName). lock.0 == id) locks) x among in
+      let lock = among-filter (λ (lock : ℕ × KeyName). lock.0 == id) locks from.0 from.1 in
+      let before = point.locked from.0.0 from.0.1 lock.0 in
+      let number : before.ticket.id ≡ id = before.number ∙ equal from.0.0 id lock.1 in
+      let held = held-number (own_at a context.who) before.ticket id (core-rising a context.who point.fits.speaks) before.there number in
+      let read = core-reads a b (Read_definition context.who id) context.who id version definition before.ticket refl refl held joins in
+      let key = core-remembers a b (Read_definition context.who id) (Reads version definition) context.who before.ticket.place from.0.1
+      point.fits.speaks (λ e done. cc) joins before.at in
+      record {
+        ticket = before.ticket;
+        there = read-there a b context.who id version definition before.ticket point.fits.speaks joins before.there;
+        shown = ap (λ k. shown_as k (standing_at before.ticket.place b)) key.1 ∙ ap (shown_as from.0.1) read.2 ∙ sym from.2;
+        firm = before.firm;
+      }
+    where
+      read-there : (a b : Core) (who id version : ℕ) (definition : Option Definition) (t : Held) → SpeaksFor a who
+          → Joins a (Read_definition who id) (Reads version definition) b
+          → Contains (own_at a who).held t → Contains (own_at b who).held t
+      read-there a b who id version definition t speaks joins among =
+          subst (λ (o : Own). Contains o.held t) (sym (core-changes a b (Read_definition who id) (Reads version definition) who refl joins)) among
+
+  leads-read : (id : ℕ) (more : Standing → Program Pause) (a b : Core) (session : Session) (answer : Answer) → At a session.context session.state
+      → Joins a (Read_definition session.context.who id) answer b
+      → ((standing : Standing) → Point old live locks (seen_under id standing locks ++ seen) mark b session.context session.state
+      → Leads (Comes old) (more standing) b)
+      → Leads (Comes old) (playing.read_answered mark session more answer) b
+  leads-read id more a b session (Reads version definition) point joins later =
+      let now = point-same old live locks seen mark a session.context session.state point b
+      (stays-call session.context.who none a b (Read_definition session.context.who id) (Reads version definition) point.fits.speaks (refl, tt, refl) joins) in
+      later (record { version = version; definition = definition })
+      (point-seen old live locks seen mark b session.context session.state now (seen_under id (record { version = version; definition = definition }) locks)
+      (seen-read a b session.context session.state id version definition point joins now))
+  leads-read id more a b session answer point joins later =
+      leads-closing old live locks seen mark b session
+      (point-same old live locks seen mark a session.context session.state point b
+      (stays-call session.context.who none a b (Read_definition session.context.who id) answer point.fits.speaks (refl, tt, refl) joins))
+      (ending_of_refusal (refusal_of answer)) (λ x tell. absurd (tells_no_refusal (refusal_of answer) x tell))
+
+  -- a change of it
+  leads-change : (id : ℕ) (change : Change) (more : Program Pause) (a b : Core) (session : Session) (answer : Answer) → At a session.context session.state
+      → ((x : TableShown) → old x → live ≡ true → ⊥) → Joins a (Change_definition session.context.who id change) answer b
+      → (Point old live [] [] mark b session.context session.state → Leads (Comes old) more b)
+      → Leads (Comes old) (playing.change_answered mark session more answer) b
+  leads-change id change more a b session answer point nothing joins later = by answer
+    where
+      who : ℕ
+      who = session.context.who
+
+      now : Point old live [] [] mark b session.context session.state
+      now = point-cleared old live locks seen mark a session.context session.state point b session.context
+          (fits-changed a b session.context id change answer point.fits joins) nothing
+
+      by : (r : Answer) → Leads (Comes old) (playing.change_answered mark session more r) b
+      by (Changed version) = later now
+      by r = leads-closing old live [] [] mark b session now (ending_of_refusal (refusal_of r)) (λ x tell. absurd (tells_no_refusal (refusal_of r) x tell))
+
+  -- a wait that another session has is killed
+  leads-told : (target : ℕ) (more : Program Pause) (a b : Core) (session : Session) (answer : Answer) → At b session.context session.state
+      → ((c : Core) → At c session.context session.state → Leads (Comes old) more c)
+      → Leads (Comes old) (playing.wait_told target answer >>= (λ _. more)) b
+  leads-told target more a b session (Has_wait (Some number)) point later = λ answer c joins.
+      later c (point-same old live locks seen mark b session.context session.state point c
+      (stays-other session.context.who b c (Kill target number) answer point.fits.speaks (λ e. cc) joins))
+  leads-told target more a b session answer point later = later b point
+
+-- ---- all that may be asked for
+
+pub leads-play : (old : TableShown → Type 0) (live : Bool) (locks : List (ℕ × KeyName)) (seen : List TableShown) (asked : Row Reply) (mark : Mark)
+    (a : Core) (session : Session)
+    → IsFair old live locks seen asked → Point old live locks seen mark a session.context session.state → Leads (Comes old) (play asked mark session) a
+leads-play old live locks seen (row.Give reply) mark a session fair point = leads-closing old live locks seen mark a session point (Answers reply) fair
+leads-play old live locks seen (row.Fail number) mark a session fair point =
+    leads-closing old live locks seen mark a session point (Answers (reply.Error number)) (λ x tell. absurd tell)
+leads-play old live locks seen (row.Room rest) mark a session fair point = leads-play old live locks seen rest mark a session fair point
+leads-play old live locks seen (row.Look rest) mark a session fair point =
+    leads-play old live locks seen (rest session.state) mark a session (fair session.state point.unlocked point.opens) point
+leads-play old live locks seen (row.Set change rest) mark a session fair point =
+    leads-play old live locks seen rest mark a (record session { state = change session.state }) fair.3
+    (point-set old live locks seen mark a session.context session.state point change (fair.0 session.state) (fair.1 session.state)
+    (λ x is lives. fair.2 x is lives session.state))
+leads-play old live locks seen (row.Here rest) mark a session fair point =
+    leads-play old live locks seen (rest (mark_of session.context.kept)) mark a session (fair (mark_of session.context.kept)) point
+leads-play old live locks seen (row.Acquire wish rest) mark a session fair point =
+    let more = λ (id : ℕ) (after : Session). play (rest id) mark after in
+    leads-bind (λ outcome b. IsMet wish session.context outcome × Followed a session.context b outcome.1) (Comes old) (acquiring wish session.context)
+    (playing.acquired wish rest mark session more) a
+    (leads-each (IsMet wish session.context) (λ (outcome : Outcome Acquire) b. Followed a session.context b outcome.1) (acquiring wish session.context) a
+    (met_acquiring wish session.context) (leads-acquiring a wish session.context point.fits))
+    (λ outcome b h. leads-acquired old live locks seen mark wish rest more a b session outcome fair
+    (λ id c after now. leads-play old live (with_lock wish.duration id wish.key locks) seen (rest id) mark c after (fair id) now) point h.1 h.0)
+leads-play old live locks seen (row.Give_up which rest) mark a session fair point =
+    let gone = which session.context.kept in
+    leads-bind (λ (outcome : Outcome (Unit {0})) b. GaveUp a gone session.context b outcome.1) (Comes old) (giving_up gone session.context)
+    (λ outcome. play rest mark (with_context session outcome.1)) a (leads-giving_up a gone session.context point.fits)
+    (λ outcome b gave. leads-play old live [] [] rest mark b (with_context session outcome.1) fair.1
+    (point-cleared old live locks seen mark a session.context session.state point b outcome.1 gave.fits fair.0))
+leads-play old live locks seen (row.Release id rest) mark a session fair point =
+    leads-bind (λ (outcome : Outcome (Unit {0})) b. Fits b outcome.1 × (outcome.1.who ≡ session.context.who)) (Comes old) (releasing id session.context)
+    (λ outcome. play rest mark (with_context session outcome.1)) a (leads-releasing a id session.context point.fits)
+    (λ outcome b left. leads-play old live [] [] rest mark b (with_context session outcome.1) fair.1
+    (point-cleared old live locks seen mark a session.context session.state point b outcome.1 left.0 fair.0))
+leads-play old live locks seen (row.Read id rest) mark a session fair point = λ answer b joins.
+    leads-read old live locks seen mark id (λ standing. play (rest standing) mark session) a b session answer point joins
+    (λ standing now. leads-play old live locks (seen_under id standing locks ++ seen) (rest standing) mark b session (fair standing) now)
+leads-play old live locks seen (row.Redefine id change rest) mark a session fair point = λ answer b joins.
+    leads-change old live locks seen mark id change (play rest mark session) a b session answer point fair.0 joins
+    (λ now. leads-play old live [] [] rest mark b session fair.1 now)
+leads-play old live locks seen (row.Kill target rest) mark a session fair point = λ answer b joins.
+    leads-told old live locks seen mark target (play rest mark session) b b session answer
+    (point-same old live locks seen mark a session.context session.state point b
+    (stays-other session.context.who a b (Wait_of target) answer point.fits.speaks (λ e. cc) joins))
+    (λ c now. leads-play old live locks seen rest mark c session fair now)
+
+-- ---- what is left of a statement
+
+leads-resumed : (old : TableShown → Type 0) (a b : Core) (session : Session) (waiting : IsWaiting old a session) (outcome : Outcome Resume)
+    → Resumed a session.context outcome b → Leads (Comes old) (playing.resumed waiting.rest (record session { left = None }) outcome) b
+leads-resumed old a b session waiting (Ok resume.Waiting, context) resumed =
+    let still = resumed.1 waiting.wanted waiting.wait in
+    let now = point-followed old waiting.live waiting.locks waiting.seen waiting.rest.mark a session.context session.state waiting.point b context resumed.0 in
+    record {
+      rest = waiting.rest;
+      left = refl;
+      live = waiting.live;
+      locks = waiting.locks;
+      seen = waiting.seen;
+      key = waiting.key;
+      wanted = still.0;
+      wait = still.1;
+      at = subst (λ w. Knows b w still.0.place waiting.key) (sym resumed.0.who)
+          (subst (λ p. Knows b session.context.who p waiting.key) (sym still.2) (resumed.0.spares.known waiting.wanted.place waiting.key waiting.at));
+      point = now;
+      fair = λ id. subst (λ d. IsFair old waiting.live (with_lock d id waiting.key waiting.locks) waiting.seen (waiting.rest.rest id)) (sym still.3)
+          (waiting.fair id);
+    }
+leads-resumed old a b session waiting (Ok (resume.Acquired id), context) resumed =
+    let now = point-followed old waiting.live waiting.locks waiting.seen waiting.rest.mark a session.context session.state waiting.point b context resumed.0 in
+    let had = resumed.1 waiting.wanted waiting.wait in
+    leads-play old waiting.live (with_lock waiting.wanted.duration id waiting.key waiting.locks) waiting.seen (waiting.rest.rest id) waiting.rest.mark b
+    (record { context = context; state = session.state; left = None }) (waiting.fair id)
+    (point-locked old waiting.live waiting.locks waiting.seen waiting.rest.mark b context session.state now waiting.wanted.duration id waiting.key
+    (λ lasting. record {
+      ticket = had.0;
+      there = subst (λ w. Contains (own_at b w).held had.0) (sym resumed.0.who) had.1;
+      number = had.2;
+      at = subst (λ w. Knows b w had.0.place waiting.key) (sym resumed.0.who)
+          (subst (λ p. Knows b session.context.who p waiting.key) (sym had.3) (resumed.0.spares.known waiting.wanted.place waiting.key waiting.at));
+      firm = λ k among e. (
+          let new = had.4 in
+          let same = resumed.0.fits.alone new.0 k new.1 among (new.2 ∙ sym had.2 ∙ sym e) in
+          lasts-longer k (subst (λ d. (duration_rank d == duration_rank Transaction) ≡ true) (sym lasting ∙ sym new.3 ∙ same) refl));
+    }))
+leads-resumed old a b session waiting (Ok (resume.Lost how), context) resumed =
+    leads-closing old waiting.live waiting.locks waiting.seen waiting.rest.mark b (record { context = context; state = session.state; left = None })
+    (point-followed old waiting.live waiting.locks waiting.seen waiting.rest.mark a session.context session.state waiting.point b context resumed.0)
+    (ending_of_loss how) (λ x tell. absurd (tells_no_loss how x tell))
+leads-resumed old a b session waiting (Err error, context) resumed =
+    leads-closing old waiting.live waiting.locks waiting.seen waiting.rest.mark b (record { context = context; state = session.state; left = None })
+    (point-followed old waiting.live waiting.locks waiting.seen waiting.rest.mark a session.context session.state waiting.point b context resumed.0)
+    (ending_of_error error) (λ x tell. absurd (tells_no_error error x tell))
+
+-- a statement goes on
+pub leads-going : (old : TableShown → Type 0) (a : Core) (session : Session) → Keeps old a session → Leads (Comes old) (playing.going_on session) a
+leads-going old a session (inl rests) = go session.left rests.left
+  where
+    go : (o : Option Left) → o ≡ None → Leads (Comes old) (playing.going_on_with o (record session { left = None })) a
+    go None e = record { left = refl; fits = rests.fits; unlocked = rests.unlocked; kept = rests.kept }
+    go (Some left) e = cc
+leads-going old a session (inr waiting) =
+    subst (λ o. Leads (Comes old) (playing.going_on_with o (record session { left = None })) a) (sym waiting.left)
+    (leads-bind (Resumed a session.context) (Comes old) (resuming session.context) (playing.resumed waiting.rest (record session { left = None })) a
+    (leads-resuming a session.context waiting.point.fits) (λ outcome b resumed. leads-resumed old a b session waiting outcome resumed))

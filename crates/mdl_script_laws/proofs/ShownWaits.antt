@@ -1,0 +1,242 @@
+-- A context whose wait goes on, or that gives tickets up, keeps what it kept, held; but for what it gives up.
+use Rattle.std.proofs.Common.{◌≡◌, inl, inr, ℕ, Bool, true, false, not, List, [], ◌∷◌, Option, Some, None, Ok, Err, Contains, option_map, refl, sym, ap, ◌∙◌, arith}
+use Rattle.std.proofs.lemmas.Bool.Decides.{nat_tests}
+use Rattle.std.proofs.lemmas.List.Elements.{Contains-append_right}
+use Rattle.mdl_system.proofs.MemberLemmas.{Contains-none}
+use Rattle.mdl_system.proofs.OrderLemmas.{Contains-cons_cases, Contains-here, Contains-later}
+use Rattle.mdl_calls.specs.declared.answers.Held.{Held}
+use Rattle.mdl_calls.specs.Own.{Wait}
+use Rattle.mdl_calls.specs.Words.{Answer, Granted, Pending, Is_settled, Lost, Poll_wait, End_wait, Release, Program, Give, Ask, EachCall, SearchEnd, Over, Cut_off, Failed, seeking, most_searches}
+use Rattle.mdl_core.specs.CoreJoins.{Joins, own_at}
+use Rattle.mdl_core.specs.Cores.{Core}
+use Rattle.mdl_context.specs.declared.context_error.ContextError.{ContextError}
+use Rattle.mdl_context.specs.declared.context_error.ContextError.TheVariants.{Space}
+use Rattle.mdl_context.specs.declared.kept.Kept.{Kept}
+use Rattle.mdl_context.specs.declared.kept.Wanted.{Wanted}
+use Rattle.mdl_context.specs.declared.request.Resume.{Resume}
+use Rattle.mdl_context.specs.declared.request.Resume.TheVariants as resume
+use Rattle.mdl_context.specs.Contexts.{ContextView, has_number, without}
+use Rattle.mdl_context.specs.Gains as gains
+use Rattle.mdl_context.specs.Holdings.{search_over, without_number, is_ticket}
+use Rattle.mdl_context.specs.Releases as releases
+use Rattle.mdl_context.specs.Requests.{Outcome}
+use Rattle.mdl_context.specs.Waits as waits
+use Rattle.mdl_script_laws.proofs.ShownCalls.{IsQuiet, Leads, Spares, Stays, leads-bind, leads-quiet, none, stays-call, stays-here}
+use Rattle.mdl_script_laws.proofs.ShownContexts.{Fits, Followed, fits-fewer, fits-more, fits-same, followed-here, followed-late, followed-same}
+use Rattle.mdl_script_laws.proofs.ShownAsking.{leads-abandoning, leads-map, quiet-seeking, won-by}
+
+-- ---- a wait that goes on
+
+-- what comes of a wait: it is the same still; or its ticket is held at its place, and kept for as long as was wished; or it is lost
+abbrev pub ComesTo : ContextView → Outcome Resume → Core → Type 0
+ComesTo before (Ok resume.Waiting, after) b =
+    (wanted : Wanted) → before.wait ≡ Some wanted
+    → (still : Wanted) × (after.wait ≡ Some still) × (still.place ≡ wanted.place) × (still.duration ≡ wanted.duration)
+ComesTo before (Ok (resume.Acquired id), after) b =
+    (wanted : Wanted) → before.wait ≡ Some wanted → (t : Held) × Contains (own_at b before.who).held t × (t.id ≡ id) × (t.place ≡ wanted.place)
+    × ((new : Kept) × Contains after.kept new × (new.id ≡ id) × (new.duration ≡ wanted.duration))
+ComesTo before outcome b = Unit {0}
+
+-- a context asked after its wait
+abbrev pub Resumed : Core → ContextView → Outcome Resume → Core → Type 0
+Resumed a before outcome b = Followed a before b outcome.1 × ComesTo before outcome b
+
+-- the wait is ended
+taken-up : (a b : Core) (context : ContextView) (id : ℕ) (o : Option Wanted) → context.wait ≡ o → Fits a context → Joins a (End_wait context.who) (Granted id) b
+    → Followed a context b (waits.taking_up id (record context { wait = o }))
+    × ComesTo context (Ok (resume.Acquired id), waits.taking_up id (record context { wait = o })) b
+taken-up a b context id None e fits joins =
+    let stays = stays-call context.who none a b (End_wait context.who) (Granted id) fits.speaks (refl, tt, refl) joins in (
+      record {
+        fits = record {
+          speaks = stays.0.speaks;
+          backed = λ k among. (let t = fits.backed k among in (t.0, stays.0.held t.0 t.1 (λ g. g), t.2, t.3));
+          alone = fits.alone;
+          known = λ key p f. stays.0.known p key (fits.known key p f);
+          wait = λ wanted w f g. cc;
+        };
+        spares = stays.0;
+        who = refl;
+        grown = inl refl;
+      },
+      λ wanted f. cc,
+    )
+taken-up a b context id (Some wanted) e fits joins =
+    let won = won-by a b context.who id fits.speaks joins in
+    let place : won.0.place ≡ wanted.place = fits.wait wanted won.0 e won.1 in
+    let new : Kept = record { id = id; place = wanted.place; mode = wanted.mode; duration = wanted.duration } in
+    let gained = won.2 in (
+      record {
+        fits = fits-more a b context new gained.ticket fits gained.spares gained.fresh gained.there gained.number (gained.at ∙ place);
+        spares = gained.spares;
+        who = refl;
+        grown = inr (new, gained.fresh, refl);
+      },
+      λ other f. (
+          let same : wanted ≡ other = (let h = sym e ∙ f in cc) in (
+            gained.ticket,
+            gained.there,
+            gained.number,
+            gained.at ∙ place ∙ ap (λ (x : Wanted). x.place) same,
+            (new, Contains-append_right context.kept (new ∷ []) new (Contains-here new []), refl, ap (λ (x : Wanted). x.duration) same),
+          )
+          ),
+    )
+
+-- the context has no wait any more
+lost-so : (a b : Core) (context : ContextView) → Fits a context → Spares context.who none a b → Followed a context b (waits.without_wait context)
+lost-so a b context fits spares = record {
+  fits = record {
+    speaks = spares.speaks;
+    backed = λ k among. (let t = fits.backed k among in (t.0, spares.held t.0 t.1 (λ g. g), t.2, t.3));
+    alone = fits.alone;
+    known = λ key p f. spares.known p key (fits.known key p f);
+    wait = λ wanted w f g. cc;
+  };
+  spares = spares;
+  who = refl;
+  grown = inl refl;
+}
+
+ended-so : (a b : Core) (context : ContextView) (answer : Answer) → Fits a context → Joins a (End_wait context.who) answer b
+    → Leads (Resumed a context) (waits.end_answered context answer) b
+ended-so a b context (Granted id) fits joins = taken-up a b context id context.wait refl fits joins
+ended-so a b context (Lost how) fits joins =
+    let stays = stays-call context.who none a b (End_wait context.who) (Lost how) fits.speaks (refl, tt, refl) joins in
+    (lost-so a b context fits stays.0, tt)
+ended-so a b context answer fits joins =
+    (followed-same a b context fits (stays-call context.who none a b (End_wait context.who) answer fits.speaks (refl, tt, refl) joins), tt)
+
+-- after calls that change nothing of it
+resumed-late : (a b : Core) (context : ContextView) (program : Program (Outcome Resume)) → Spares context.who none a b
+    → Leads (Resumed b context) program b → Leads (Resumed a context) program b
+resumed-late a b context program spares leads =
+    leads-map (Resumed b context) (Resumed a context) program b
+    (λ outcome c resumed. (
+      followed-late a b c context.who context.kept context.known context.known context.wait context.wait outcome.1 spares
+          resumed.0,
+      resumed.1,
+    )) leads
+
+ending-so : (a : Core) (context : ContextView) → Fits a context → Leads (Resumed a context) (waits.ending context) a
+ending-so a context fits = λ answer b joins. ended-so a b context answer fits joins
+
+polled-so : (a b : Core) (context : ContextView) (answer : Answer) → Fits a context → Stays context.who none a b
+    → Leads (Resumed a context) (waits.poll_answered context answer) b
+polled-so a b context Pending fits stays = (followed-same a b context fits stays, λ wanted e. (wanted, e, refl, refl))
+polled-so a b context (Is_settled how) fits stays = resumed-late a b context (waits.ending context) stays.0 (ending-so b context (fits-same a b context fits stays))
+polled-so a b context answer fits stays = (followed-same a b context fits stays, tt)
+
+looking-so : (a : Core) (context : ContextView) → Fits a context → Leads (Resumed a context) (waits.looking context) a
+looking-so a context fits = λ answer b joins.
+    polled-so a b context answer fits (stays-call context.who none a b (Poll_wait context.who) answer fits.speaks (refl, tt, refl) joins)
+
+-- its searches are over
+searched-fits : (a : Core) (context : ContextView) → Fits a context → Fits a (waits.searched context)
+searched-fits a context fits = record {
+  speaks = fits.speaks;
+  backed = fits.backed;
+  alone = fits.alone;
+  known = fits.known;
+  wait = λ wanted w e f. at context.wait refl wanted w e f;
+}
+  where
+    at : (o : Option Wanted) → context.wait ≡ o → (wanted : Wanted) (w : Wait) → option_map search_over o ≡ Some wanted
+        → (own_at a context.who).wait ≡ Some w → w.place ≡ wanted.place
+    at None here wanted w e f = cc
+    at (Some x) here wanted w e f = let g : search_over x ≡ wanted = cc in fits.wait x w here f ∙ ap (λ (y : Wanted). y.place) g
+
+searched-comes : (context : ContextView) (outcome : Outcome Resume) (b : Core) → ComesTo (waits.searched context) outcome b → ComesTo context outcome b
+searched-comes context (Ok resume.Waiting, after) b comes = λ wanted e. comes (search_over wanted) (ap (option_map search_over) e)
+searched-comes context (Ok (resume.Acquired id), after) b comes = λ wanted e. comes (search_over wanted) (ap (option_map search_over) e)
+searched-comes context (Ok (resume.Lost how), after) b comes = tt
+searched-comes context (Err error, after) b comes = tt
+
+sought-so : (a b : Core) (context : ContextView) (end : SearchEnd) → Fits a context → Stays context.who none a b
+    → Leads (Resumed a context) (waits.wait_sought context end) b
+sought-so a b context Over fits stays =
+    leads-map (Resumed b (waits.searched context)) (Resumed a context) (waits.looking (waits.searched context)) b
+    (λ outcome c resumed. (
+      followed-late a b c context.who context.kept context.known context.known context.wait (option_map search_over context.wait) outcome.1 stays.0 resumed.0,
+      searched-comes context outcome c resumed.1,
+    ))
+    (looking-so b (waits.searched context) (searched-fits b context (fits-same a b context fits stays)))
+sought-so a b context Cut_off fits stays = resumed-late a b context (waits.looking context) stays.0 (looking-so b context (fits-same a b context fits stays))
+sought-so a b context (Failed refusal) fits stays =
+    leads-bind (λ x c. Spares context.who none a c) (Resumed a context) (gains.abandoning context.who)
+    (λ _. Give (Err (Space refusal), waits.without_wait context)) b
+    (leads-abandoning a b context.who stays.0) (λ x c spares. (lost-so a c context fits spares, tt))
+
+cut_off-so : (a b : Core) (context : ContextView) (answer : Answer) → Fits a context → Stays context.who none a b
+    → Leads (Resumed a context) (waits.cut_off_answered context answer) b
+cut_off-so a b context Pending fits stays =
+    leads-bind (λ x c. Stays context.who none a c) (Resumed a context) (seeking most_searches context.who) (waits.wait_sought context) b
+    (leads-quiet (seeking most_searches context.who) a b context.who none stays (quiet-seeking context.who most_searches))
+    (λ end c later. sought-so a c context end fits later)
+cut_off-so a b context (Is_settled how) fits stays = polled-so a b context (Is_settled how) fits stays
+cut_off-so a b context answer fits stays = (followed-same a b context fits stays, tt)
+
+going_on-so : (a : Core) (context : ContextView) (searched : Option Bool) → Fits a context → Leads (Resumed a context) (waits.going_on searched context) a
+going_on-so a context None fits = (followed-here a context fits, tt)
+going_on-so a context (Some true) fits = looking-so a context fits
+going_on-so a context (Some false) fits = λ answer b joins.
+    cut_off-so a b context answer fits (stays-call context.who none a b (Poll_wait context.who) answer fits.speaks (refl, tt, refl) joins)
+
+pub leads-resuming : (a : Core) (context : ContextView) → Fits a context → Leads (Resumed a context) (waits.resuming context) a
+leads-resuming a context fits = going_on-so a context (waits.is_searched context.wait) fits
+
+-- ---- tickets that are given up
+
+-- one of these tickets has the number
+abbrev pub IsAmong : List Kept → ℕ → Type 0
+IsAmong gone id = (k : Kept) × Contains gone k × (k.id ≡ id)
+
+has-among : (gone : List Kept) (id : ℕ) → IsAmong gone id → has_number gone id ≡ true
+has-among [] id (k, among, e) = absurd (Contains-none k among)
+has-among (x ∷ xs) id (k, among, e) = elim (Contains-cons_cases x xs k among) [
+  | inl later ↦ (let rest = has-among xs id (k, later, e) in grind (arith, nat_tests))
+  | inr same ↦ (let here : x.id ≡ id = ap (λ (y : Kept). y.id) (sym same) ∙ e in grind (arith, nat_tests))
+]
+
+quiet-releasing : (who : ℕ) (gone : ℕ → Type 0) (tickets : List Kept) → ((k : Kept) → Contains tickets k → gone k.id)
+    → EachCall (IsQuiet who gone) (releases.releasing_all who tickets)
+quiet-releasing who gone [] each = tt
+quiet-releasing who gone (k ∷ ks) each =
+    ((refl, each k (Contains-here k ks), refl), λ _. quiet-releasing who gone ks (λ x among. each x (Contains-later k ks x among)))
+
+-- a context gave these tickets up
+pub record GaveUp (a : Core) (gone : List Kept) (before : ContextView) (b : Core) (after : ContextView) : Type 0 where
+  pub fits : Fits b after
+  pub spares : Spares before.who (IsAmong gone) a b
+  pub left : after ≡ record before { kept = without gone before.kept }
+
+pub leads-giving_up : (a : Core) (gone : List Kept) (context : ContextView) → Fits a context
+    → Leads (λ (outcome : Outcome (Unit {0})) b. GaveUp a gone context b outcome.1) (releases.giving_up gone context) a
+leads-giving_up a gone context fits =
+    leads-bind (λ x b. Stays context.who (IsAmong gone) a b) (λ (outcome : Outcome (Unit {0})) b. GaveUp a gone context b outcome.1)
+    (releases.releasing_all context.who gone) (λ _. Give (Ok tt, record context { kept = without gone context.kept })) a
+    (leads-quiet (releases.releasing_all context.who gone) a a context.who (IsAmong gone) (stays-here context.who (IsAmong gone) a fits.speaks)
+    (quiet-releasing context.who (IsAmong gone) gone (λ k among. (k, among, refl))))
+    (λ x b stays. record {
+      fits = fits-fewer a b context (IsAmong gone) (λ ticket. not (has_number gone ticket.id))
+          (λ k stay there. (let h = has-among gone k.id there in let g = ap not h in cc)) fits stays;
+      spares = stays.0;
+      left = refl;
+    })
+
+-- one of this number is released, or none is
+pub leads-releasing : (a : Core) (id : ℕ) (context : ContextView) → Fits a context
+    → Leads (λ (outcome : Outcome (Unit {0})) b. Fits b outcome.1 × (outcome.1.who ≡ context.who)) (releases.releasing id context) a
+leads-releasing a id context fits = go (releases.release_fault id context)
+  where
+    other : (k : Kept) → not (is_ticket id k) ≡ true → k.id ≡ id → ⊥
+    other k stay e = let h : is_ticket id k ≡ true = grind (arith, nat_tests) in let g = ap not h in cc
+
+    go : (fault : Option ContextError) → Leads (λ (outcome : Outcome (Unit {0})) b. Fits b outcome.1 × (outcome.1.who ≡ context.who))
+        (releases.unless fault context (Ask (Release context.who id) (λ _. Give (Ok tt, record context { kept = without_number id context.kept })))) a
+    go (Some fault) = (fits, refl)
+    go None = λ answer b joins. (
+      fits-fewer a b context (λ n. n ≡ id) (λ ticket. not (is_ticket id ticket)) other fits
+          (stays-call context.who (λ n. n ≡ id) a b (Release context.who id) answer fits.speaks (refl, refl, refl) joins),
+      refl,
+    )

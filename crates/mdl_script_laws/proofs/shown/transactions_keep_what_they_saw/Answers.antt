@@ -1,0 +1,6 @@
+-- By its lemma.
+use Rattle.mdl_script_laws.proofs.ShownWorlds.{transactions-keep}
+use Rattle.mdl_script_laws.proofs.shown.transactions_keep_what_they_saw.Goals as goal
+
+pub returns : goal.returns
+returns c = transactions-keep
