@@ -13,7 +13,7 @@ use Rattle.mdl_calls.specs.declared.answers.Settled.{Settled}
 use Rattle.mdl_calls.specs.declared.space_error.SpaceError.TheVariants.{OutOfMemory}
 use Rattle.mdl_calls.specs.Tests.LoneSessions.{Lone, LoneSpeaks, LoneJoins, IsSettled, AreAtOne, Knows, HasRead, HasSeen}
 use Rattle.mdl_calls.specs.Own.{Own, Wait}
-use Rattle.mdl_calls.specs.Words.{Call, Read_definition, Read_kept, Change_definition, caller, Answer, Refused, Reads, Changed, cause_of, OfHeld, IsChangeOf, HoldsAt, is_number, ticket_held, read_under, redefined_place}
+use Rattle.mdl_calls.specs.Words.{Call, Read_definition, Read_kept, Change_definition, Key_of, caller, Answer, Refused, Key_is, Reads, Changed, cause_of, OfHeld, IsChangeOf, HoldsAt, is_number, ticket_held, read_under, redefined_place}
 
 -- each of the tickets is of place 1
 pub held-at_one : (held : List Held) (ticket : Held) → AreAtOne held → Contains held ticket → ticket.place ≡ 1
@@ -32,6 +32,10 @@ settled-how a w same settled = let h = go a.settled settled in (h.0, (same, h.1)
     go : (o : Option Settled) → is_some o ≡ true → (how : Settled) × (o ≡ Some how)
     go None e = cc
     go (Some how) e = (how, refl)
+
+-- whoever is told the key of the one place knows it
+pub lone-tells_key : (a b : Lone) (who place : ℕ) (key : KeyName) → LoneJoins a (Key_of who place) (Key_is key) b → Knows b who place key
+lone-tells_key a b who place key j = (j.allowed.0 ∙ sym j.same.0, j.told_truly.0, j.told_truly.1 ∙ sym j.same.1)
 
 -- ---- what stands under the key
 

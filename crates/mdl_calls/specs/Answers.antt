@@ -136,6 +136,10 @@ abbrev pub read : Result Standing SpaceError → Answer
 read (Ok standing) = Reads standing.version standing.definition
 read (Err refusal) = Refused refusal
 
+abbrev pub keyed : Result KeyName SpaceError → Answer
+keyed (Ok key) = Key_is key
+keyed (Err refusal) = Refused refusal
+
 abbrev pub redefined : Result ℕ SpaceError → Answer
 redefined (Ok version) = Changed version
 redefined (Err refusal) = Refused refusal

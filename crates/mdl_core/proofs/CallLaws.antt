@@ -7,7 +7,7 @@ use Rattle.mdl_calls.specs.declared.answers.Settled.{Settled}
 use Rattle.mdl_calls.specs.declared.answers.Settled.TheVariants as settled_as
 use Rattle.mdl_calls.specs.declared.answers.TimedOut.TheVariants.{ByThisCall, Already}
 use Rattle.mdl_calls.specs.declared.space_error.SpaceError.TheVariants.{OutOfMemory}
-use Rattle.mdl_calls.specs.Words.{Answer, Refused, Done, At_place, Is_settled, Timed_out, Has_wait, Has_killed, Victim_is, Holds, is_answer_of, Call, Resolve, Search, Poll_wait, Settle_timeout, End_wait, Wait_of, Kill, Release, Downgrade, Change_definition, List_held, Unpin, caller, takes_memory, IsCause, IsExplained, own_after, wait_number, is_waiting, IsRising, Draws, told, IsToldOf}
+use Rattle.mdl_calls.specs.Words.{Answer, Refused, Done, At_place, Is_settled, Timed_out, Has_wait, Has_killed, Victim_is, Key_is, Holds, is_answer_of, Call, Resolve, Search, Poll_wait, Settle_timeout, End_wait, Wait_of, Kill, Release, Downgrade, Change_definition, Key_of, List_held, Unpin, caller, takes_memory, IsCause, IsExplained, own_after, wait_number, is_waiting, IsRising, Draws, told, IsToldOf}
 use Rattle.mdl_core.specs.declared.pending.Pending.{Pending}
 use Rattle.mdl_core.specs.Changes.{Change, Settle, seat_after, changing, losing}
 use Rattle.mdl_core.specs.CoreCalls.{outcome, Makes, wait_at, is_open_wait}
@@ -256,6 +256,10 @@ core-lists a b who tickets joins = (called a b (List_held who) (Holds tickets) w
 -- whoever resolves a key knows its place
 pub core-resolves : (a b : Core) (who place : ℕ) (key : KeyName) → Joins a (Resolve who key) (At_place place) b → Knows b who place key
 core-resolves a b who place key joins = (called a b (Resolve who key) (At_place place) who refl joins).so
+
+-- whoever is told the key of a place knows it
+pub core-tells_key : (a b : Core) (who place : ℕ) (key : KeyName) → Joins a (Key_of who place) (Key_is key) b → Knows b who place key
+core-tells_key a b who place key joins = (called a b (Key_of who place) (Key_is key) who refl joins).so
 
 -- a place keeps its key, for all who know it
 pub core-remembers : (a b : Core) (call : Call) (answer : Answer) (w place : ℕ) (key : KeyName) → SpeaksFor a w

@@ -1,5 +1,5 @@
 -- What is answered by the places of keys, and by the room that their locks have.
-use Rattle.std.proofs.Common.{◌≡◌, ◌≢◌, ◌↔◌, ℕ, zero, suc, ◌+◌, ◌-◌, ◌<◌, ◌≤◌, Bool, true, false, inl, inr, length, Some, None, option_map, nat_le, refl, sym, ap, subst, ◌∙◌, arith}
+use Rattle.std.proofs.Common.{◌≡◌, ◌≢◌, ◌↔◌, ℕ, zero, suc, ◌+◌, ◌-◌, ◌<◌, ◌≤◌, Bool, true, false, not, inl, inr, length, Some, None, option_map, nat_le, refl, sym, ap, subst, ◌∙◌, arith}
 use Rattle.std.specs.Prelude.{Contains, AllPairs, MatchOption, slice_index_or}
 use Rattle.std.proofs.lemmas.Bool.Decides.{nat_tests}
 use Rattle.std.proofs.lemmas.List.{length-map, get_or_default}
@@ -12,15 +12,15 @@ use Rattle.mdl_book.specs.declared.ticket.Ticket.{Ticket}
 use Rattle.mdl_book.specs.Books.{empty_book}
 use Rattle.mdl_book.specs.Tickets.{ticket_id}
 use Rattle.mdl_calls.specs.declared.space_error.SpaceError.TheVariants.{NoPlace, Full}
-use Rattle.mdl_calls.specs.Words.{Answer, Refused, At_place, Granted, Waits}
-use Rattle.mdl_core.specs.CoreCalls.{is_full, placing, resolving, granted_unless_full, queued_unless_full}
+use Rattle.mdl_calls.specs.Words.{Answer, Refused, At_place, Granted, Waits, Key_is}
+use Rattle.mdl_core.specs.CoreCalls.{is_full, placing, resolving, naming, granted_unless_full, queued_unless_full}
 use Rattle.mdl_core.specs.CoreJoins.{numbers_at}
 use Rattle.mdl_core.specs.Cores.{Core, book_at, seat_at, key_at, has_key, index_of}
 use Rattle.mdl_core.specs.CoreSystems.{granted_in, book_of, waiter_in, system_of}
 use Rattle.mdl_core.specs.Determined.{Right, Only, Needs, key_of, AtPlace, ToResolve, HasRoom, ToGrant, ToWait, places_of}
 use Rattle.mdl_core.specs.Ties.{IsTied}
 use Rattle.mdl_system.specs.Words.{in_book, of_lock, Holding}
-use Rattle.mdl_core.proofs.CallCases.{test_cases, option_cases}
+use Rattle.mdl_core.proofs.CallCases.{test_cases, option_cases, not_false, not_true}
 use Rattle.mdl_core.proofs.CoreGranted.{book_of-at, granted-place, granted-from_place}
 use Rattle.mdl_core.proofs.CoreReads.{within, of_within, found}
 use Rattle.mdl_core.proofs.CoreWaiting.{not_there}
@@ -62,6 +62,12 @@ module _ (core : Core) where
   pub at-nowhere : (place : ℕ) (Then : KeyName → Right) → has_key place core ≡ false → IsAnswer (AtPlace (places_of core) place Then) (Refused NoPlace)
   at-nowhere place Then absent y =
       subst (λ o. MatchOption o (y ≡ Refused NoPlace) (λ key. Then key y) ↔ (y ≡ Refused NoPlace)) (sym (key_of-nowhere place absent)) (only (Refused NoPlace) y)
+
+  pub names : (place : ℕ) → IsAnswer (AtPlace (places_of core) place (λ key. Only (Key_is key))) (naming place core).0
+  names place =
+      test_cases (λ (r : Answer × Core). IsAnswer (AtPlace (places_of core) place (λ key. Only (Key_is key))) r.0) (not (has_key place core)) _ _
+      (λ absent. at-nowhere place _ (not_true _ absent))
+      (λ there. at-place place _ _ (not_false _ there) (only _))
 
   -- ---- the place of a key
 

@@ -15,7 +15,7 @@ use Rattle.mdl_calls.specs.declared.answers.Settled.TheVariants as settled_as
 use Rattle.mdl_calls.specs.declared.answers.TimedOut.TheVariants.{ByThisCall, Already}
 use Rattle.mdl_calls.specs.declared.space_error.SpaceError.{SpaceError}
 use Rattle.mdl_calls.specs.declared.space_error.SpaceError.TheVariants.{NoPlace, NotHeld, NotExclusive, AlreadyWaiting, BadMode, VersionFull, NoWait, Unsettled, CounterFull, Full, Def, WrongKind}
-use Rattle.mdl_calls.specs.Words.{Answer, Refused, Done, At_place, Granted, Would_wait, Waits, No_cycle, Victim_is, Pending, Is_settled, Timed_out, Lost, Has_wait, Has_killed, Holds, Reads, Changed, finds_no_memory, Call, Resolve, Try_now, Begin_wait, Search, Poll_wait, Settle_timeout, End_wait, Wait_of, Kill, Release, Clone_ticket, Read_definition, Change_definition, List_held, caller, Numbers, Draws}
+use Rattle.mdl_calls.specs.Words.{Answer, Refused, Done, At_place, Granted, Would_wait, Waits, No_cycle, Victim_is, Pending, Is_settled, Timed_out, Lost, Has_wait, Has_killed, Holds, Reads, Changed, Key_is, finds_no_memory, Call, Resolve, Try_now, Begin_wait, Search, Poll_wait, Settle_timeout, End_wait, Wait_of, Kill, Release, Clone_ticket, Read_definition, Change_definition, Key_of, List_held, caller, Numbers, Draws}
 use Rattle.mdl_core.specs.CoreJoins.{Joins, numbers_at}
 use Rattle.mdl_core.specs.Cores.{Core, has_session}
 use Rattle.mdl_core.specs.CoreSystems.{state_of, system_of}
@@ -197,6 +197,7 @@ Determines system places numbers (Clone_ticket who id mode) = OfTicket system wh
 Determines system places numbers (Read_definition who id) = OfTicket system who id (λ ticket. ToRead (system.definitions ticket.key))
 Determines system places numbers (Change_definition who id change) =
     OfTicket system who id (λ ticket. Needs (ticket.mode ≡ X) NotExclusive (ToChange ticket.key change (system.definitions ticket.key)))
+Determines system places numbers (Key_of who place) = AtPlace places place (λ key. Only (Key_is key))
 Determines system places numbers (List_held who) = ToList system places who
 Determines system places numbers _ = λ answer. ⊥
 

@@ -10,7 +10,7 @@ use Rattle.mdl_calls.specs.declared.answers.Settled.TheVariants as settled_as
 use Rattle.mdl_core.specs.declared.pending.Pending.{Pending}
 use Rattle.mdl_calls.specs.declared.space_error.SpaceError.{SpaceError}
 use Rattle.mdl_calls.specs.declared.space_error.SpaceError.TheVariants.{NoPlace, VersionFull, CounterFull, Full}
-use Rattle.mdl_calls.specs.Words.{Answer, Refused, Has_wait, Has_killed, Reads, Changed, Call, Resolve, Try_now, Begin_wait, Wait_of, Kill, Clone_ticket, Read_definition, Change_definition, wait_number}
+use Rattle.mdl_calls.specs.Words.{Answer, Refused, Has_wait, Has_killed, Reads, Changed, Call, Resolve, Try_now, Begin_wait, Wait_of, Kill, Clone_ticket, Read_definition, Change_definition, Key_of, wait_number}
 use Rattle.mdl_core.specs.CoreCalls.{held_ticket}
 use Rattle.mdl_core.specs.CoreJoins.{Joins, own_at}
 use Rattle.mdl_core.specs.Cores.{Core, book_at, seat_at, key_at, standing_at, has_key, has_session}
@@ -138,6 +138,7 @@ abbrev pub LacksPlace : Core → Call → Type 0
 LacksPlace core (Resolve who key) = (core.places ≤ length core.books) × IsNowhere core key
 LacksPlace core (Try_now who place mode) = has_key place core ≡ false
 LacksPlace core (Begin_wait who place mode) = has_key place core ≡ false
+LacksPlace core (Key_of who place) = has_key place core ≡ false
 LacksPlace core _ = ⊥
 
 -- why the lock is full

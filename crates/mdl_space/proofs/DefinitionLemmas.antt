@@ -1,5 +1,5 @@
 -- What a book makes of a change of what stands under its key, as the space makes it.
-use Rattle.std.proofs.Common.{◌≡◌, ◌⊎◌, inl, inr, ℕ, ◌-◌, true, Option, Some, None, Result, Ok, Err, IfOk, OnErr, IsErr, IsErrAnd, refl, sym, ap, subst, ◌∙◌, set as set_at}
+use Rattle.std.proofs.Common.{◌≡◌, inl, inr, ℕ, ◌-◌, true, Option, Some, None, Result, Ok, Err, IfOk, OnErr, IsErr, IsErrAnd, refl, sym, ap, subst, ◌∙◌, set as set_at}
 use Rattle.std.proofs.lemmas.List.{set-get_or}
 use Rattle.mdl_key.specs.Keys.{global_key}
 use Rattle.mdl_key.specs.Refusals.{Refuses, RefusesJust}
@@ -11,7 +11,7 @@ use Rattle.mdl_defs.specs.Standings.{standing_fault}
 use Rattle.mdl_book.specs.declared.book_view.BookView.{BookView}
 use Rattle.mdl_book.specs.Books.{empty_book, redefining}
 use Rattle.mdl_calls.specs.declared.space_error.SpaceError.{SpaceError}
-use Rattle.mdl_calls.specs.Words.{Answer, Refused, Changed, change_takes_memory, cause_of, redefined}
+use Rattle.mdl_calls.specs.Words.{Refused, Changed, change_takes_memory, cause_of, redefined}
 use Rattle.mdl_calls.proofs.StandingLemmas.{answered, drop-memory}
 use Rattle.mdl_core.specs.Words.{Core, Makes, book_at, key_at, standing_at, booking, redefined_unless, redefining_fault}
 

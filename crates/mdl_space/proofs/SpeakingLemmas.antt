@@ -1,6 +1,6 @@
 -- What the space tells of a session for which it speaks: its tickets and its wait stand in the books of their places.
 use Rattle.std.proofs.Common.{◌≡◌, ◌≢◌, ℕ, zero, suc, ◌<◌, Bool, true, false, cond, inl, inr, List, [], ◌∷◌, length, get_or, Option, Some, refl, sym, ◌∙◌, ap, subst, arith}
-use Rattle.std.specs.Prelude.{find, is_some, Contains, IsTrue}
+use Rattle.std.specs.Prelude.{find, is_some, Contains}
 use Rattle.std.proofs.lemmas.List.Elements.{Contains-get_or, Contains-append_right, All-contains}
 use Rattle.std.proofs.lemmas.Bool.Decides.{nat_tests}
 use Rattle.mdl_key.specs.declared.mode.Mode.{Mode}
@@ -13,7 +13,7 @@ use Rattle.mdl_calls.specs.declared.answers.Held.{Held}
 use Rattle.mdl_calls.specs.declared.answers.Settled.{Settled}
 use Rattle.mdl_calls.specs.declared.answers.Settled.TheVariants as settled_as
 use Rattle.mdl_core.specs.declared.pending.Pending.{Pending}
-use Rattle.mdl_calls.specs.Own.{are_rising, is_number}
+use Rattle.mdl_calls.specs.Own.{is_number}
 use Rattle.mdl_core.specs.Words.{SeatView, ticket_of_wait, Core, book_at, seat_at, key_at, has_key, system_of, SpeaksFor, IsTied, Has, Awaits, in_book_of, holding_of}
 use Rattle.mdl_system.specs.Words.{of_lock, covers}
 use Rattle.mdl_system.proofs.BookLemmas.{compatible-Decides}

@@ -5,8 +5,8 @@ ghost use Rattle.mdl_book.specs.Books.{lock_kind};
 ghost use Rattle.mdl_book.specs.Granting.{is_compatible};
 ghost use Rattle.mdl_book.specs.Tickets.{ticket_of};
 ghost use Rattle.mdl_system.specs.Strength.{covers};
-ghost use Rattle.mdl_core.specs.Words.{empty_core, book_at, has_key, has_session, seat_at, new_fault, first_cause, request_causes, clone_causes, listing, resolving, trying, beginning, searching, polling, timing_out, ending, looking_after, killing, releasing, granted_unless_full, cloning, Makes, SpeaksFor, leaving, freeing, serving};
-ghost use Rattle.mdl_calls.specs.Words.{are_rising, Has_wait, Has_killed, placed, attempted, begun, searched, polled, timed_out, ended, done, cloned, listed};
+ghost use Rattle.mdl_core.specs.Words.{empty_core, book_at, has_key, has_session, seat_at, new_fault, first_cause, request_causes, clone_causes, listing, naming, resolving, trying, beginning, searching, polling, timing_out, ending, looking_after, killing, releasing, granted_unless_full, cloning, Makes, SpeaksFor, leaving, freeing, serving};
+ghost use Rattle.mdl_calls.specs.Words.{are_rising, Has_wait, Has_killed, keyed, placed, attempted, begun, searched, polled, timed_out, ended, done, cloned, listed};
 
 use crate::granting::{give, is_free, queue};
 use crate::seat::Seat;
@@ -112,6 +112,20 @@ impl CoreSpace {
         }
         self.books.push(Book::new(self.alloc, key)).unwrap();
         Ok(place)
+    }
+
+    /// The key of a place.
+    pub(crate) fn key_at(&self, place: Place) -> Result<Key, SpaceError>
+        ensures { Makes true (naming place) self.now (keyed result) self.now }
+    {
+        let place = usize::from(place);
+        if place == 0 || place > self.books.len() {
+            return Err(SpaceError::NoPlace);
+        }
+        match self.books[place - 1].key().clone() {
+            Ok(key) => Ok(key),
+            Err(_) => Err(SpaceError::OutOfMemory),
+        }
     }
 
     /// Grants a lock, if it can be had now.

@@ -75,6 +75,14 @@ pub(crate) fn resolve<S: LockSpace>(space: &mut S, who: u16, key: &Key) -> Resul
     space.resolve(who, key)
 }
 
+/// The key of a place, for a session.
+pub(crate) fn key_of<S: LockSpace>(space: &mut S, who: u16, place: Place) -> Result<Key, SpaceError>
+    requires { S.speaks_for space.old who }
+    ensures { (w : ℕ) → S.speaks_for space.old w → S.speaks_for space.new w }
+{
+    space.key_of(who, place)
+}
+
 /// Makes a call for a session.
 pub(crate) fn call<S: LockSpace>(space: &mut S, alloc: Global, who: u16, act: Act) -> Reply
     requires { S.speaks_for space.old who }

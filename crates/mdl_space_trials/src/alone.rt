@@ -3,12 +3,12 @@ ghost use Rattle.std.specs.Prelude.{◌≡◌};
 ghost use Rattle.mdl_calls.specs.Runs.{Runs};
 ghost use Rattle.mdl_space_trials.specs.Visits.{visiting, visited};
 
-use crate::acts::{Act, Reply, call};
+use crate::acts::{Act, Reply, call, key_of};
 use crate::lone_session::LoneSession;
 use crate::wishes::{Shown, Wish};
 use mdl_defs::DefError;
 use mdl_key::{Key, KeyError, Mode};
-use mdl_space::{Attempt, LockSpace, Settled, SpaceError};
+use mdl_space::{Attempt, LockSpace, Place, Settled, SpaceError};
 use std::alloc::Global;
 use std::marker::Model;
 
@@ -73,6 +73,11 @@ impl Alone {
         None
     }
 
+    // The key of a place.
+    fn key_of(&mut self, place: Place) -> Result<Key, SpaceError> {
+        key_of(&mut self.space, WHO, place)
+    }
+
     // How many tickets are held.
     fn held_count(&self) -> Result<usize, SpaceError> {
         Ok(self.space.held(WHO)?.len())
@@ -132,6 +137,31 @@ fn first_wrong_of_visits(alloc: Global) -> Option<usize> {
 #[test]
 fn a_visit_is_a_run_in_any_space(rt: HostRuntime) {
     assert_eq!(rt; first_wrong_of_visits(rt.alloc()), None);
+}
+
+// Whether a place has this key.
+fn names(alone: &mut Alone, place: Place, key: &Key) -> bool {
+    match alone.key_of(place) {
+        Ok(told) => told == *key,
+        Err(_) => false,
+    }
+}
+
+// Whether the one place has the key of this table, and no other place has one.
+fn names_its_key(alloc: Global, alone: &mut Alone, name: &str) -> bool {
+    match Key::table(alloc, "test", name) {
+        Ok(key) => { names(alone, 1, &key) && alone.key_of(2).err() == Some(SpaceError::NoPlace) }
+        Err(_) => false,
+    }
+}
+
+#[test]
+fn the_key_of_the_one_place_is_told(rt: HostRuntime) {
+    let is_told = match Alone::new(rt.alloc(), "t") {
+        Ok(mut alone) => names_its_key(rt.alloc(), &mut alone, "t"),
+        Err(_) => false,
+    };
+    assert!(rt; is_told);
 }
 
 const NO_WAIT: Reply = Reply::Refused(SpaceError::NoWait);

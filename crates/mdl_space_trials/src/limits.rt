@@ -59,6 +59,42 @@ fn keys_keep_their_places(rt: HostRuntime) {
     assert!(rt; are_kept);
 }
 
+// Whether a place has this key.
+fn has_key(room: &mut Room, place: Place, key: &Key) -> bool {
+    match room.key_of(place) {
+        Ok(told) => told == *key,
+        Err(_) => false,
+    }
+}
+
+// Whether a place has none.
+fn has_none(room: &mut Room, place: Place) -> bool {
+    room.key_of(place).err() == Some(SpaceError::NoPlace)
+}
+
+// Whether a table and the global lock have the places 1 and 3, and there are no more than three.
+fn tells_keys(alloc: Global, room: &mut Room) -> bool {
+    match Key::table(alloc, "test", "t") {
+        Ok(table) => {
+            has_key(room, 1, &table)
+                && has_key(room, 3, &Key::global(alloc))
+                && !has_key(room, 2, &table)
+                && has_none(room, 0)
+                && has_none(room, 4)
+        }
+        Err(_) => false,
+    }
+}
+
+#[test]
+fn the_key_of_a_place_is_told(rt: HostRuntime) {
+    let are_told = match Room::of_three(rt.alloc()) {
+        Some(mut room) => tells_keys(rt.alloc(), &mut room),
+        None => false,
+    };
+    assert!(rt; are_told);
+}
+
 const HELD: &[Held] = &[Held {
     id: 1,
     place: 2,

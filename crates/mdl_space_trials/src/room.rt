@@ -2,7 +2,7 @@
 ghost use Rattle.mdl_core.specs.CoreJoins.{SpeaksFor};
 ghost use Rattle.mdl_space_trials.specs.Serving.{SpeaksForAll};
 
-use crate::acts::{Act, Reply, call, resolve};
+use crate::acts::{Act, Reply, call, key_of, resolve};
 use mdl_key::Key;
 use mdl_space::{CoreSpace, Held, LockSpace, NewError, Place, SpaceError};
 use std::alloc::Global;
@@ -78,6 +78,14 @@ impl Room {
             return Err(SpaceError::NoPlace);
         }
         resolve(&mut self.space, 1, key)
+    }
+
+    /// The key of a place, for the first session.
+    pub(crate) fn key_of(&mut self, place: Place) -> Result<Key, SpaceError> {
+        if self.sessions == 0 {
+            return Err(SpaceError::NoPlace);
+        }
+        key_of(&mut self.space, 1, place)
     }
 
     /// What a session holds.

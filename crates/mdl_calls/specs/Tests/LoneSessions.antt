@@ -11,7 +11,7 @@ use Rattle.mdl_defs.specs.Standings.{nothing_yet, standing_after, MayStand}
 use Rattle.mdl_calls.specs.declared.answers.Held.{Held}
 use Rattle.mdl_calls.specs.declared.answers.Settled.{Settled}
 use Rattle.mdl_calls.specs.declared.answers.Settled.TheVariants.{Killed, Victim}
-use Rattle.mdl_calls.specs.Words.{Call, Resolve, Search, End_wait, Wait_of, Kill, Read_definition, Change_definition, Upgrade_now, Merge, Downgrade, Tables_of, Key_of, Read_kept, Unpin, caller, Answer, At_place, Victim_is, Has_wait, Has_killed, Reads, Changed, Holds, is_answer_of, Own, Numbers, own_after, wait_number, is_waiting, ticket_held, IsRising, Draws, IsExplained, told, IsToldOf, HoldsAt, IsChangeOf, redefined_place}
+use Rattle.mdl_calls.specs.Words.{Call, Resolve, Search, End_wait, Wait_of, Kill, Read_definition, Change_definition, Upgrade_now, Merge, Downgrade, Tables_of, Key_of, Read_kept, Unpin, caller, Answer, At_place, Key_is, Victim_is, Has_wait, Has_killed, Reads, Changed, Holds, is_answer_of, Own, Numbers, own_after, wait_number, is_waiting, ticket_held, IsRising, Draws, IsExplained, told, IsToldOf, HoldsAt, IsChangeOf, redefined_place}
 
 -- what is known of such a space: its session and its key, what the session has, how its wait is settled, the last numbers
 -- that its tickets and waits were given, and what stands under the key
@@ -91,7 +91,6 @@ has_call (Upgrade_now _ _ _) = false
 has_call (Merge _ _ _) = false
 has_call (Downgrade _ _ _) = false
 has_call (Tables_of _ _) = false
-has_call (Key_of _ _) = false
 has_call (Read_kept _ _) = false
 has_call (Unpin _ _) = false
 has_call _ = true
@@ -105,6 +104,7 @@ IsRedefined a id change answer b =
 -- what an answer of these calls says beside what it does
 abbrev pub IsTold : Lone → Call → Answer → Lone → Type 0
 IsTold a (Resolve who key) (At_place place) b = (place ≡ 1) × (key ≡ a.key)
+IsTold a (Key_of who place) (Key_is key) b = (place ≡ 1) × (key ≡ a.key)
 IsTold a (Search who) (Victim_is victim) b = (victim ≡ a.who) × (b.settled ≡ Some Victim)
 IsTold a (Wait_of target) (Has_wait number) b = target ≡ a.who → number ≡ wait_number a.own
 IsTold a (Kill target number) (Has_killed true) b =

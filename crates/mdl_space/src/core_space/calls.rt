@@ -1,7 +1,7 @@
 //! The space of one thread as a lock space: each call has just one outcome, but that memory may run out.
 ghost use Rattle.mdl_core.specs.CoreJoins.{SpeaksFor, own_at, numbers_at, Knows, IsSettledAs, HasRead, HasSeen, Pins, Joins};
 ghost use Rattle.std.proofs.Common.{refl};
-ghost use Rattle.mdl_core.proofs.CallLaws.{core-allowed, core-keeps, core-changes, core-others, core-draws, core-others_draw, core-rising, core-fits, core-explains, core-lists, core-resolves, core-remembers};
+ghost use Rattle.mdl_core.proofs.CallLaws.{core-allowed, core-keeps, core-changes, core-others, core-draws, core-others_draw, core-rising, core-fits, core-explains, core-lists, core-resolves, core-tells_key, core-remembers};
 ghost use Rattle.mdl_core.proofs.CallLaws.{core-waits_settled, core-settled_once, core-tells, core-stays, core-agrees, core-victims, core-counts, core-kills, core-kills_or_settled};
 ghost use Rattle.mdl_core.proofs.KnownPlaces.{core-one_key, core-one_place, core-held_places, core-wait_place};
 ghost use Rattle.mdl_core.proofs.CoreSound.{calls_keep-sound};
@@ -92,6 +92,10 @@ impl LockSpace for CoreSpace {
         self.redefine_held(who, id, change)
     }
 
+    fn key_of(&mut self, _who: u16, place: Place) -> Result<Key, SpaceError> {
+        self.key_at(place)
+    }
+
     fn held(&self, who: u16) -> Result<Vec<Held>, SpaceError> {
         self.list_held(who)
     }
@@ -166,7 +170,7 @@ impl LockSpace for CoreSpace {
 
     ghost upgrades = { λ a b who id mode ticket its covered j. has_not j.1 };
 
-    ghost tells_key = { λ a b who place key j. has_not j.1 };
+    ghost tells_key = { core-tells_key };
 
     ghost tells_tables = { λ a b who schema places j. has_not j.1 };
 

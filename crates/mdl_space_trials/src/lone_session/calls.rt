@@ -1,7 +1,7 @@
 //! The calls of a space of one session and one key.
 ghost use Rattle.std.proofs.Common.{rules, refl, sym, ◌∙◌};
 ghost use Rattle.mdl_calls.specs.Tests.LoneSessions.{LoneSpeaks, Knows, IsSettled, HasRead, HasSeen, Pins, LoneJoins};
-ghost use Rattle.mdl_calls.proofs.LoneLemmas.{held-at_one, wait-at_one, settled-how, lone-reads, lone-redefines, lone-redefines_so, lone-stands, lone-reads_fit, lone-sees, lone-seen_stays, lone-seen_below, has_not};
+ghost use Rattle.mdl_calls.proofs.LoneLemmas.{lone-tells_key, held-at_one, wait-at_one, settled-how, lone-reads, lone-redefines, lone-redefines_so, lone-stands, lone-reads_fit, lone-sees, lone-seen_stays, lone-seen_below, has_not};
 
 use super::{LoneSession, Waiting};
 use mdl_defs::{Change, Standing};
@@ -102,7 +102,7 @@ impl LockSpace for LoneSession {
 
     ghost upgrades = { λ a b who id mode ticket its covers j. has_not j.has };
 
-    ghost tells_key = { λ a b who place key j. has_not j.has };
+    ghost tells_key = { lone-tells_key };
 
     ghost tells_tables = { λ a b who schema places j. has_not j.has };
 
@@ -287,6 +287,16 @@ impl LockSpace for LoneSession {
                 self.redefine(change)
             }
             _ => Err(SpaceError::NotHeld),
+        }
+    }
+
+    fn key_of(&mut self, _who: u16, place: Place) -> Result<Key, SpaceError> {
+        if place != 1 {
+            return Err(SpaceError::NoPlace);
+        }
+        match self.key.clone() {
+            Ok(key) => Ok(key),
+            Err(_) => Err(SpaceError::OutOfMemory),
         }
     }
 

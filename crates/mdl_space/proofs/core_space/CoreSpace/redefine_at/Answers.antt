@@ -1,5 +1,5 @@
 -- A refused change leaves the book, and so the space.
-use Rattle.std.proofs.Common.{◌≡◌, ap, sym, subst, Err}
+use Rattle.std.proofs.Common.{◌≡◌, ap, subst, Err}
 use Rattle.mdl_calls.specs.Words.{change_takes_memory, redefined}
 use Rattle.mdl_core.specs.Words.{Core, Makes, book_at, booking, redefining_fault, redefined_unless}
 use Rattle.mdl_space.proofs.DefinitionLemmas.{redefined-made, answered-so, booked-view}
