@@ -1,6 +1,7 @@
 pub mod ShownAsking
 pub mod ShownCalls
 pub mod ShownContexts
+pub mod ShownLaws
 pub mod ShownPlays
 pub mod ShownPoints
 pub mod ShownRows
