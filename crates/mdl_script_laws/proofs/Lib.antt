@@ -11,6 +11,7 @@ pub mod ScriptLemmas
 pub mod ShownAsking
 pub mod ShownCalls
 pub mod ShownContexts
+pub mod ShownLaws
 pub mod ShownPlays
 pub mod ShownPoints
 pub mod ShownRows

@@ -1,5 +1,5 @@
 -- By its lemma.
-use Rattle.mdl_script_laws.proofs.ShownWorlds.{transactions-keep}
+use Rattle.mdl_script_laws.proofs.ShownLaws.{transactions-keep}
 use Rattle.mdl_script_laws.proofs.shown.transactions_keep_what_they_saw.Goals as goal
 
 pub returns : goal.returns

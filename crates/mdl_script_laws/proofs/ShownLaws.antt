@@ -1,0 +1,173 @@
+-- What a session was shown of a table is what it is shown again, and what stands, while its transaction is open.
+use Rattle.std.proofs.Common.{◌≡◌, inl, inr, ℕ, zero, suc, true, false, List, [], ◌∷◌, ◌++◌, Option, Some, None, Contains, refl, sym, ap, ◌∙◌, subst}
+use Rattle.std.specs.Prelude.{if◌then◌else◌}
+use Rattle.std.specs.List.{All}
+use Rattle.std.proofs.lemmas.List.Elements.{All-cons, All-head, All-nil, All-tail, Contains-append_cases}
+use Rattle.mdl_defs.specs.declared.definition.Definition.{Definition}
+use Rattle.mdl_system.specs.Words.{Versioned}
+use Rattle.mdl_system.proofs.MemberLemmas.{Contains-none}
+use Rattle.mdl_core.specs.CoreSystems.{defined_in, system_of}
+use Rattle.mdl_core.specs.Cores.{Core, book_at, key_at}
+use Rattle.mdl_core.proofs.CoreGranted.{book_of-at}
+use Rattle.mdl_context.specs.Contexts.{ContextView}
+use Rattle.mdl_lines.specs.Sessions.{IsScriptSession}
+use Rattle.mdl_syntax.specs.declared.script.Line.{Line}
+use Rattle.mdl_syntax.specs.declared.statement.Statement.{Statement}
+use Rattle.mdl_syntax.specs.declared.statement.Statement.TheVariants.{Timeout}
+use Rattle.mdl_stmt.specs.declared.reply.Reply.TheVariants as reply
+use Rattle.mdl_stmt.specs.declared.reply.TableShown.{TableShown}
+use Rattle.mdl_stmt.specs.Endings.{Pause, Ends, Begins_to_wait, Waits_on, Faults}
+use Rattle.mdl_stmt.specs.Sessions.{Session}
+use Rattle.mdl_stmt.specs.Statements.{columns_of}
+use Rattle.mdl_script.specs.declared.told.News.TheVariants.{Busy, Ends as Has_ended, Waits as Has_waits}
+use Rattle.mdl_script.specs.declared.told.Told.{Told}
+use Rattle.mdl_script.specs.Worlds.{Scene, World, asked, asked_waiting, first_settled, first_world, going, going_first, is_waiting, line_played, lines_played, most_turns, player_at, script_played, settling, started, told_of, ◌and_then◌}
+use Rattle.mdl_script.proofs.SoundLemmas.{first-session}
+use Rattle.mdl_script_laws.specs.Shown.{AreOfSessions, IsShownTo, LeavesTransaction, StandsAsShown, TransactionsKeepWhatTheySaw, TransactionsSeeOneDefinition, has_transaction}
+use Rattle.mdl_script_laws.proofs.ShownCalls.{key-held, only-one}
+use Rattle.mdl_script_laws.proofs.ShownContexts.{Fits}
+use Rattle.mdl_script_laws.proofs.ShownPoints.{IsStanding, shown_at}
+use Rattle.mdl_script_laws.proofs.ShownPlays.{Keeps}
+use Rattle.mdl_script_laws.proofs.ShownWorlds.{IsGood, IsGoodScene, Nothing, good-first, good-lines, scene-line, scene-lines, with_table}
+
+-- ---- whom something is told
+
+-- all that is told is told to sessions that there are
+abbrev AreToldToSessions : List Told → Type 0
+AreToldToSessions told = (t : Told) → Contains told t → IsScriptSession t.who
+
+told-one : (t : Told) → IsScriptSession t.who → AreToldToSessions (t ∷ [])
+told-one t is u among = subst (λ (v : Told). IsScriptSession v.who) (sym (only-one t u among)) is
+
+told-of : (line s : ℕ) (pause : Pause) → IsScriptSession s → AreToldToSessions (told_of line s pause)
+told-of line s (Ends r session) is = told-one (record { line = line; who = s; news = Has_ended r }) is
+told-of line s (Begins_to_wait key mode session) is = told-one (record { line = line; who = s; news = Has_waits key mode }) is
+told-of line s (Waits_on session) is = λ t among. absurd (Contains-none t among)
+told-of line s (Faults session) is = λ t among. absurd (Contains-none t among)
+
+told-waiting : (statement : Statement) (line s : ℕ) (world : World) → IsScriptSession s → AreToldToSessions (asked_waiting statement line s world).told
+told-waiting Timeout line s world is = told-one (record { line = line; who = s; news = Has_ended reply.Ok }) is
+told-waiting _ line s world is = told-one (record { line = line; who = s; news = Busy }) is
+
+told-asked : (line : Line) (world : World) → IsScriptSession line.session → AreToldToSessions (asked line world).told
+told-asked line world is =
+    elim (is_waiting world line.session) as
+    (λ waits. AreToldToSessions (if waits then asked_waiting line.statement line.number line.session world else started line world).told) [
+      | true ↦ told-waiting line.statement line.number line.session world is
+      | false ↦ told-of line.number line.session _ is
+    ]
+
+told-then : (scene : Scene) (next : World → Scene) → AreToldToSessions scene.told → AreToldToSessions (next scene.world).told
+    → AreToldToSessions (scene and_then next).told
+told-then scene next first later = λ t among.
+    elim (Contains-append_cases scene.told (next scene.world).told t among) [ inl early ↦ first t early | inr late ↦ later t late ]
+
+told-first : (first : Option ℕ) (world : World) (more : World → Scene) → first_settled world ≡ first → ((after : World) → AreToldToSessions (more after).told)
+    → AreToldToSessions (going_first first more world).told
+told-first None world more found rest = λ t among. absurd (Contains-none t among)
+told-first (Some s) world more found rest =
+    told-then (going s world) more (told-of (player_at s world).line s _ (first-session world s found)) (rest (going s world).world)
+
+told-settling : (n : ℕ) (world : World) → AreToldToSessions (settling n world).told
+unfolding settling
+told-settling zero world = λ t among. absurd (Contains-none t among)
+told-settling (suc n) world = told-first (first_settled world) world (settling n) refl (told-settling n)
+
+told-line : (line : Line) (world : World) → IsScriptSession line.session → AreToldToSessions (line_played line world).told
+told-line line world is = told-then (asked line world) (settling most_turns) (told-asked line world is) (told-settling most_turns (asked line world).world)
+
+-- ---- after a line that shows a table
+
+all-left : {X : Type 0} (P : X → Type 0) (xs ys : List X) → All P (xs ++ ys) → All P xs
+all-left P [] ys all = All-nil P
+all-left P (x ∷ xs) ys all = All-cons P x xs (All-head P x (xs ++ ys) all) (all-left P xs ys (All-tail P x (xs ++ ys) all))
+
+all-right : {X : Type 0} (P : X → Type 0) (xs ys : List X) → All P (xs ++ ys) → All P ys
+all-right P [] ys all = all
+all-right P (x ∷ xs) ys all = all-right P xs ys (All-tail P x (xs ++ ys) all)
+
+-- what was shown to a session whose transaction is open stands
+stands-open : (old : TableShown → Type 0) (a : Core) (session : Session) (x : TableShown) → Keeps old a session → old x → session.state.is_open ≡ true
+    → IsStanding a session.context x
+stands-open old a session x (inl rests) is opens = rests.kept x is opens
+stands-open old a session x (inr waiting) is opens = (waiting.point.kept x is (waiting.point.was opens)).0
+
+-- under one key one thing stands
+one-standing : (a : Core) (context : ContextView) (one other : TableShown) → Fits a context → IsStanding a context one → IsStanding a context other
+    → one.key ≡ other.key → one ≡ other
+one-standing a context one other fits here there same =
+    let key : key_at here.ticket.place a ≡ key_at there.ticket.place a =
+    ap (λ (x : TableShown). x.key) here.shown ∙ same ∙ sym (ap (λ (x : TableShown). x.key) there.shown) in
+    let place = fits.speaks.1.tied.keys here.ticket.place there.ticket.place (key-held a context.who here.ticket fits.speaks here.there)
+    (key-held a context.who there.ticket fits.speaks there.there) key in
+    sym here.shown ∙ ap (λ p. shown_at p a) place ∙ there.shown
+
+keeps-fits : (old : TableShown → Type 0) (a : Core) (session : Session) → Keeps old a session → Fits a session.context
+keeps-fits old a session (inl rests) = rests.fits
+keeps-fits old a session (inr waiting) = waiting.point.fits
+
+-- what stands under a ticket is what the system has under its key
+standing-defined : (a : Core) (context : ContextView) (table : TableShown) → Fits a context → IsStanding a context table
+    → let defined = (system_of a).definitions table.key in (defined.version ≡ table.version) × (columns_of defined.definition ≡ table.columns)
+standing-defined a context table fits stands =
+    let place = stands.ticket.place in
+    let key : key_at place a ≡ table.key = ap (λ (x : TableShown). x.key) stands.shown in
+    let there = book_of-at a place fits.speaks.1.tied (key-held a context.who stands.ticket fits.speaks stands.there) in
+    let defined : (system_of a).definitions table.key ≡ defined_in (book_at place a) = ap (system_of a).definitions (sym key) ∙ ap defined_in there in (
+      ap (λ (d : Versioned Definition). d.version) defined ∙ ap (λ (x : TableShown). x.version) stands.shown,
+      ap (λ (d : Versioned Definition). columns_of d.definition) defined ∙ ap (λ (x : TableShown). x.columns) stands.shown,
+    )
+
+-- after a line by which a table was shown to a session, so it is with that table
+good-shown : (before : List Line) (line : Line) (who : ℕ) (table : TableShown) → AreOfSessions before → IsScriptSession line.session
+    → IsShownTo who (line_played line (script_played before).world).told table
+    → IsScriptSession who × IsGood who (with_table Nothing table) (line_played line (script_played before).world).world
+good-shown before line who table are is shown =
+    let start = (script_played before).world in
+    let session = told-line line start is (record { line = shown.0; who = who; news = Has_ended (reply.Columns shown.1) }) shown.2 in (
+      session,
+      (scene-line who session Nothing line start is (λ e. inr (λ x none. none))
+          (good-lines who session before first_world are (good-first who session))).shown table shown,
+    )
+
+module _ (before : List Line) (line : Line) (later : List Line) (who : ℕ) (one : TableShown) (are : AreOfSessions (before ++ line ∷ later))
+    (shown : IsShownTo who (line_played line (script_played before).world).told one) (leave : LeavesTransaction who later) where
+  abbrev early : World
+  early = (line_played line (script_played before).world).world
+
+  abbrev late : World
+  late = (lines_played later early).world
+
+  abbrev of_sessions : AreOfSessions (line ∷ later)
+  of_sessions = all-right (λ (l : Line). IsScriptSession l.session) before (line ∷ later) are
+
+  -- so it is after the later lines
+  later-scene : IsGoodScene who (with_table Nothing one) (lines_played later early)
+  later-scene =
+      let first = good-shown before line who one (all-left (λ (l : Line). IsScriptSession l.session) before (line ∷ later) are)
+      (All-head (λ (l : Line). IsScriptSession l.session) line later of_sessions) shown in
+      scene-lines who first.0 (with_table Nothing one) later early (All-tail (λ (l : Line). IsScriptSession l.session) line later of_sessions) leave first.1
+
+  pub shown-again : (other : TableShown) → has_transaction who late ≡ true → IsShownTo who (lines_played later early).told other → one.key ≡ other.key → one ≡ other
+  shown-again other opens again same =
+      let keeps = (later-scene.shown other again).own in
+      let session = (player_at who late).session in
+      let facts = with_table (with_table Nothing one) other in
+      one-standing late.core session.context one other (keeps-fits facts late.core session keeps)
+      (stands-open facts late.core session one keeps (inl (inr refl)) opens)
+      (stands-open facts late.core session other keeps (inr refl) opens) same
+
+  pub shown-stands : has_transaction who late ≡ true → StandsAsShown late one
+  shown-stands opens =
+      let keeps = later-scene.good.own in
+      let session = (player_at who late).session in
+      let facts = with_table Nothing one in
+      standing-defined late.core session.context one (keeps-fits facts late.core session keeps) (stands-open facts late.core session one keeps (inr refl) opens)
+
+-- ---- the laws
+
+pub transactions-see_one : TransactionsSeeOneDefinition
+transactions-see_one before line later who one other are shown leave opens again same = shown-again before line later who one are shown leave other opens again same
+
+pub transactions-keep : TransactionsKeepWhatTheySaw
+transactions-keep before line later who table are shown leave opens = shown-stands before line later who table are shown leave opens
