@@ -3,7 +3,8 @@
 //! Everything here is for tests. `plain` runs a script as slowly and as obviously as can be written: one list of
 //! tickets and one of places, read from end to end, and deadlocks found by listing paths. It shares the reading of
 //! lines and the matrices of modes with the product, and nothing that runs a statement. `scripts` has scripts beside
-//! their answers; `chance` makes as many others as are asked for, the same in each run.
+//! their answers; `chance` makes as many others as are asked for, the same in each run. `faults` replays a script over
+//! `devices` that move a few bytes at a call and fail once.
 #![tactic(auto)]
 
 #[cfg(test)]
