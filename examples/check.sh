@@ -1,8 +1,8 @@
 #!/bin/sh
-# Runs each example by mdlsim, and compares what it answers with the answers that lie beside it.
+# Runs each example by mdlsim, and compares what it answers with the answers that lie beside it; and so those of two pages of docs/.
 # A script NAME.lock is one of an object lock, NAME.scoped.lock one of a scoped lock, and NAME.replay one of statements.
 # mdlsim is built here once, without its proof, which `rt ci` gives.
-# Usage: sh examples/check.sh            all examples
+# Usage: sh examples/check.sh            all examples, those of the pages too
 #        sh examples/check.sh SCRIPT     one of them
 examples=$(cd "$(dirname "$0")" && pwd)
 made=$(mktemp -d)
@@ -23,6 +23,9 @@ lay() {
 
 if [ $# -eq 0 ]; then
     set -- "$examples"/*.lock "$examples"/*.replay
+    for page in LANGUAGE MYSQL; do
+        awk -v FOLDER="$made/cases" -f "$examples/pages.awk" "$examples/../docs/$page.md" || exit 1
+    done
 fi
 for script in "$@"; do
     lay "$script" || exit 1
