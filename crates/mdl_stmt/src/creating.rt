@@ -1,5 +1,7 @@
 //! CREATE TABLE.
 ghost use Rattle.std.specs.Prelude.{◌≡◌, None, IfOk};
+ghost use Rattle.mdl_key.specs.Keys.{name_fault};
+ghost use Rattle.mdl_key.specs.Refusals.{Refuses};
 ghost use Rattle.mdl_context.specs.Contexts.{Attends, LeavesOthers};
 ghost use Rattle.mdl_stmt.specs.Gets.{IsPlayed, IsStep, IdleUnlessPlayed};
 ghost use Rattle.mdl_stmt.specs.Statements.{create_after_commit, lock_schema_and_create, lock_and_create, create_under, check_schema, check_new, make_table, schema_of};
@@ -213,7 +215,8 @@ impl<S: LockSpace> Player<S> {
 
 /// The key of a table's schema. It is refused only for want of memory: a table's schema has a name.
 pub(crate) fn schema_of(alloc: Global, table: &Key) -> Result<Key, KeyError>
-    ensures { IfOk result (λ key. key ≡ schema_of table.now) }
+    ensures made { IfOk result (λ key. key ≡ schema_of table.now) }
+    ensures refused { Refuses (name_fault table.now.schema) KeyError.OutOfMemory result }
 {
     Key::schema(alloc, table.schema_name())
 }
