@@ -6,6 +6,7 @@ use Rattle.mdl_key.specs.declared.mode.Mode.TheVariants.{IX}
 use Rattle.mdl_key.specs.Keys.{KeyName, global_key, key_eq}
 use Rattle.mdl_defs.specs.declared.change.Change.TheVariants as change
 use Rattle.mdl_defs.specs.Columns.{names_twice}
+use Rattle.mdl_defs.specs.declared.definition.Definition.TheVariants.{Schema}
 use Rattle.mdl_defs.specs.declared.standing.Standing.{Standing}
 use Rattle.mdl_syntax.specs.declared.statement.Priority.{Priority}
 use Rattle.mdl_syntax.specs.declared.statement.Statement.{Statement}
@@ -13,7 +14,7 @@ use Rattle.mdl_syntax.specs.declared.statement.Statement.TheVariants as statemen
 use Rattle.mdl_context.specs.declared.request.Mark.{Mark}
 use Rattle.mdl_context.specs.Wishes.{Wish}
 use Rattle.mdl_stmt.specs.declared.error_number.ErrorNumber.{ErrorNumber}
-use Rattle.mdl_stmt.specs.declared.error_number.ErrorNumber.TheVariants.{UnknownDatabase, TableExists, DuplicateColumn, TableLockedForRead, NoSuchTable, ActiveLocks, ConflictingReadLock, VersionLimit}
+use Rattle.mdl_stmt.specs.declared.error_number.ErrorNumber.TheVariants.{SchemaExists, UnknownDatabase, TableExists, DuplicateColumn, TableLockedForRead, NoSuchTable, ActiveLocks, ConflictingReadLock, VersionLimit}
 use Rattle.mdl_stmt.specs.declared.reply.Reply.{Reply}
 use Rattle.mdl_stmt.specs.declared.reply.Reply.TheVariants as reply
 use Rattle.mdl_stmt.specs.declared.reply.TableShown.{TableShown}
@@ -257,7 +258,7 @@ checks_write : (locked : Bool) (table : KeyName) (priority : Priority)
 checks_write true table priority = checks_locked table
 checks_write false table priority = checks_unlocked table priority
 
--- ---- CREATE TABLE, DROP TABLE
+-- ---- CREATE TABLE, CREATE SCHEMA, DROP TABLE
 
 checks_ddl : ChecksFirst Any Any rows.ddl
 checks_ddl =
@@ -288,6 +289,18 @@ late_create_under columns schema table =
 
 late_create : (table : KeyName) (columns : List (List ℕ)) → FailsLate IsLate (rows.create_after_commit table columns)
 late_create table columns = λ global schema ticket. late_create_under columns schema ticket
+
+late_new_schema : (schema : ℕ) → FailsLate Any (rows.check_new_schema schema)
+late_new_schema schema = λ standing.
+    late_bind Any Any (check (not (rows.is_defined standing)) SchemaExists) (λ _. check (rows.has_version_left standing) VersionLimit)
+    (late_check (not (rows.is_defined standing)) SchemaExists refl) (λ _ _. late_check (rows.has_version_left standing) VersionLimit refl)
+
+late_create_schema_under : (schema : ℕ) → FailsLate IsLate (rows.create_schema_under schema)
+late_create_schema_under schema =
+    late_bind Any IsLate (rows.check_new_schema schema) (λ _. redefine schema (change.Create Schema) >> Give reply.Ok) (late_new_schema schema) (λ _ _. tt)
+
+late_create_schema : (name : List ℕ) → FailsLate IsLate (rows.create_schema_after_commit name)
+late_create_schema name = λ global schema. late_create_schema_under schema
 
 late_can_change : (ticket : ℕ) → FailsLate Any (rows.can_change ticket)
 late_can_change ticket = λ standing. late_check (rows.has_version_left standing) VersionLimit refl
@@ -329,6 +342,7 @@ statements_check (statement.RollbackTo name) = λ state. checks_back name (savep
 statements_check (statement.Select tables) = λ state. checks_select (has_locked state.locked) tables
 statements_check (statement.Write table priority) = λ state. checks_write (has_locked state.locked) table priority
 statements_check (statement.CreateTable table columns) = checks_ddl_first (rows.create_after_commit table columns) (late_create table columns)
+statements_check (statement.CreateSchema name) = checks_ddl_first (rows.create_schema_after_commit name) (late_create_schema name)
 statements_check (statement.DropTables tables) = checks_ddl_first (rows.drop_after_commit tables) (late_drop tables)
 statements_check (statement.KillQuery target) = tt
 statements_check statement.Timeout = tt

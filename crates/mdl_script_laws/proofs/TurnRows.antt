@@ -14,7 +14,7 @@ use Rattle.mdl_syntax.specs.declared.statement.Statement.{Statement}
 use Rattle.mdl_syntax.specs.declared.statement.Statement.TheVariants as statement
 use Rattle.mdl_syntax.specs.Laws.{IsWithinLimits}
 use Rattle.mdl_stmt.specs.declared.error_number.ErrorNumber.{ErrorNumber}
-use Rattle.mdl_stmt.specs.declared.error_number.ErrorNumber.TheVariants.{NoSuchTable, ConflictingReadLock, ActiveLocks, UnknownDatabase, TableExists, DuplicateColumn, VersionLimit, TableLockedForRead}
+use Rattle.mdl_stmt.specs.declared.error_number.ErrorNumber.TheVariants.{NoSuchTable, ConflictingReadLock, ActiveLocks, SchemaExists, UnknownDatabase, TableExists, DuplicateColumn, VersionLimit, TableLockedForRead}
 use Rattle.mdl_stmt.specs.declared.reply.Reply.{Reply}
 use Rattle.mdl_stmt.specs.declared.reply.Reply.TheVariants as reply
 use Rattle.mdl_stmt.specs.declared.reply.TableShown.{TableShown}
@@ -199,7 +199,7 @@ few-write table priority state =
     few-either 3 (has_locked state.locked) (stm.write_locked table) (stm.write_unlocked table priority) (few-write_locked table)
     (few-write_unlocked table priority)
 
--- ---- CREATE TABLE, DROP TABLE
+-- ---- CREATE TABLE, CREATE SCHEMA, DROP TABLE
 
 few-ddl_first : (n : ℕ) (rest : Row Reply) → AsksForAtMost n rest → AsksForAtMost (suc n) (stm.ddl_first rest)
 few-ddl_first n rest is =
@@ -222,6 +222,16 @@ few-create_under columns schema table =
 
 few-create : (table : KeyName) (columns : List (List ℕ)) → AsksForAtMost 3 (stm.create_after_commit table columns)
 few-create table columns = (2, refl, λ global. (1, refl, λ schema. (0, refl, λ ticket. few-create_under columns schema ticket)))
+
+few-check_new_schema : (schema : ℕ) → AsksForAtMost 0 (stm.check_new_schema schema)
+few-check_new_schema schema standing =
+    few-check 0 (not (stm.is_defined standing)) SchemaExists _ (few-checked (stm.has_version_left standing) VersionLimit)
+
+few-create_schema_under : (schema : ℕ) → AsksForAtMost 0 (stm.create_schema_under schema)
+few-create_schema_under schema = few-then 0 0 0 (stm.check_new_schema schema) _ (omega arith) (few-check_new_schema schema) (λ _. tt)
+
+few-create_schema : (name : List ℕ) → AsksForAtMost 2 (stm.create_schema_after_commit name)
+few-create_schema name = (1, refl, λ global. (0, refl, λ schema. few-create_schema_under schema))
 
 few-drop_under : (tickets : List ℕ) → AsksForAtMost 0 (stm.drop_under tickets)
 few-drop_under tickets =
@@ -285,6 +295,7 @@ few-asked (statement.RollbackTo name) = few-rollback_to name
 few-asked (statement.Select tables) = few-select tables
 few-asked (statement.Write table priority) = few-write table priority
 few-asked (statement.CreateTable table columns) = few-ddl_first 3 (stm.create_after_commit table columns) (few-create table columns)
+few-asked (statement.CreateSchema name) = few-ddl_first 2 (stm.create_schema_after_commit name) (few-create_schema name)
 few-asked (statement.DropTables tables) =
     let n = length tables in
     few-more (suc (1 + n + n)) (2 + 2 * n) (stm.row_of (statement.DropTables tables)) (omega arith)

@@ -120,7 +120,8 @@ impl Drawn {
             7..=14 => self.some("SELECT", 3)?,
             15..=20 => self.write()?,
             21..=25 => self.some("DROP TABLE", 3)?,
-            26..=28 => self.create()?,
+            26..=27 => self.create()?,
+            28 => self.create_schema()?,
             29 => self.kill()?,
             _ => self.text.push_str("TIMEOUT")?,
         }
@@ -165,14 +166,24 @@ impl Drawn {
         write!(self.text, "{word} {name}")
     }
 
-    // A new table, at times of a schema that isn't there, or with a column named twice.
+    // A new table, at times of a schema that may not be there, or with a column named twice.
     fn create(&mut self) -> Result<(), AllocError> {
         let name = table_name(self.draw_below(self.tables));
         match self.chance.draw(16) {
-            0 => write!(self.text, "CREATE TABLE s.{name} x"),
-            1 => write!(self.text, "CREATE TABLE {name} x y x"),
+            0..=2 => write!(self.text, "CREATE TABLE s.{name} x"),
+            3 => write!(self.text, "CREATE TABLE {name} x y x"),
             _ => write!(self.text, "CREATE TABLE {name} x y"),
         }
+    }
+
+    // A new schema, or at times one that is there from the start.
+    fn create_schema(&mut self) -> Result<(), AllocError> {
+        let name = match self.chance.draw(4) {
+            0 => "test",
+            1 => "r",
+            _ => "s",
+        };
+        write!(self.text, "CREATE SCHEMA {name}")
     }
 
     // A kill of some session.

@@ -93,6 +93,8 @@ enum Step {
     Write,
     // Makes a table of these columns, if it can be made.
     Create(Key, Columns),
+    // Makes a schema, if it can be made.
+    CreateSchema(Key),
     // Fails where a table has had all its versions.
     CheckVersion(Key),
     // Drops a table.

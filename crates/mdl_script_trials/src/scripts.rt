@@ -65,6 +65,20 @@ const ROWS: &str = "\
 1 CREATE TABLE t x / 1 BEGIN / 1 SELECT t / 2 CREATE TABLE t x / 1 COMMIT => 1 1 OK / 2 1 OK / 3 1 OK test.t@1(x) / \
     4 2 WAIT TABLE test.t X / 5 1 OK / 4 2 ERR 1050
 1 CREATE TABLE a x / 1 DROP TABLE a b / 1 SELECT a => 1 1 OK / 2 1 ERR 1146 / 3 1 OK test.a@1(x)
+1 CREATE SCHEMA s / 1 CREATE SCHEMA s / 2 CREATE SCHEMA test / 1 CREATE TABLE s.t x / 1 SELECT s.t => 1 1 OK / 2 1 ERR \
+    1007 / 3 2 ERR 1007 / 4 1 OK / 5 1 OK s.t@1(x)
+1 CREATE TABLE s.t x / 1 CREATE SCHEMA s / 1 CREATE TABLE s.t x y / 2 CREATE TABLE s.t x / 2 SELECT s.t t => 1 1 ERR \
+    1049 / 2 1 OK / 3 1 OK / 4 2 ERR 1050 / 5 2 ERR 1146
+1 BEGIN / 1 INSERT t / 1 SAVEPOINT p / 1 CREATE SCHEMA s / 1 ROLLBACK TO p / 2 CREATE TABLE t x => 1 1 OK / 2 1 ERR \
+    1146 / 3 1 OK / 4 1 OK / 5 1 ERR 1305 / 6 2 OK
+1 BEGIN / 1 SELECT a / 2 CREATE TABLE a x / 3 CREATE SCHEMA test / 4 CREATE TABLE b x / 1 COMMIT => 1 1 OK / 2 1 ERR \
+    1146 / 3 2 WAIT TABLE test.a X / 4 3 WAIT SCHEMA test X / 5 4 WAIT SCHEMA test IX / 6 1 OK / 3 2 OK / 4 3 ERR \
+    1007 / 5 4 OK
+1 BEGIN / 1 SELECT s.a / 2 DROP TABLE s.a / 3 CREATE SCHEMA s / 1 KILL QUERY 3 / 4 CREATE SCHEMA s / 4 TIMEOUT / 1 \
+    COMMIT / 4 CREATE SCHEMA s => 1 1 OK / 2 1 ERR 1146 / 3 2 WAIT TABLE s.a X / 4 3 WAIT SCHEMA s X / 5 1 OK / 4 3 \
+    ERR 1317 / 6 4 WAIT SCHEMA s X / 7 4 OK / 6 4 ERR 1205 / 8 1 OK / 3 2 ERR 1146 / 9 4 OK
+1 CREATE SCHEMA S => line 1: BadName
+1 CREATE SCHEMA s t => line 1: BadWord
 1 SELECT a b c d e f g h T => line 1: BadWord
 1 SELECT a b c d e f g T => line 1: BadName
 1 SELECT a b c d e f g h i => line 1: BadWord

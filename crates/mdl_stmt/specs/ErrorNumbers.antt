@@ -2,10 +2,11 @@
 -- project's own, and so is that a table which is missing is one number for all statements.
 use Rattle.std.specs.Prelude.{ℕ}
 use Rattle.mdl_stmt.specs.declared.error_number.ErrorNumber.{ErrorNumber}
-use Rattle.mdl_stmt.specs.declared.error_number.ErrorNumber.TheVariants.{UnknownDatabase, TableExists, DuplicateColumn, TableLockedForRead, TableNotLocked, NoSuchTable, ActiveLocks, LockWaitTimeout, Deadlock, ConflictingReadLock, NoSuchSavepoint, Interrupted, VersionLimit, NoPlace, Full}
+use Rattle.mdl_stmt.specs.declared.error_number.ErrorNumber.TheVariants.{SchemaExists, UnknownDatabase, TableExists, DuplicateColumn, TableLockedForRead, TableNotLocked, NoSuchTable, ActiveLocks, LockWaitTimeout, Deadlock, ConflictingReadLock, NoSuchSavepoint, Interrupted, VersionLimit, NoPlace, Full}
 
 -- an error's number
 abbrev pub number_of : ErrorNumber → ℕ
+number_of SchemaExists = 1007
 number_of UnknownDatabase = 1049
 number_of TableExists = 1050
 number_of DuplicateColumn = 1060

@@ -1,7 +1,7 @@
 -- What each statement does, after MySQL 5.7: the Reference Manual, "Metadata Locking", "START TRANSACTION, COMMIT, and ROLLBACK
 -- Statements", "SAVEPOINT, ROLLBACK TO SAVEPOINT, and RELEASE SAVEPOINT Statements" and "LOCK TABLES and UNLOCK TABLES Statements".
 -- Checks stand in the order in which they are made. This project's own choice is that CREATE TABLE has its lock before it looks at
--- schema, table and columns, that DROP TABLE drops none where one is missing, that changes of definitions take no COMMIT lock of their
+-- schema, table and columns, and CREATE SCHEMA before it looks at the schema, that DROP TABLE drops none where one is missing, that changes of definitions take no COMMIT lock of their
 -- own and are refused under locked tables, that a savepoint outside a transaction is nothing, that going back releases what was gained
 -- since, whatever was written, and leaves the transaction one that wrote, and that KILL QUERY is always done.
 use Rattle.std.specs.Prelude.{ℕ, Bool, not, nat_lt, List, [], ◌∷◌, ◌++◌, map, find, is_some, Option, Some, None, if◌then◌else◌}
@@ -13,7 +13,7 @@ use Rattle.mdl_key.specs.declared.namespace.Namespace.TheVariants as of
 use Rattle.mdl_key.specs.Keys.{KeyName, global_key, commit_key, schema_key, key_eq}
 use Rattle.mdl_defs.specs.declared.change.Change.TheVariants as change
 use Rattle.mdl_defs.specs.declared.definition.Definition.{Definition}
-use Rattle.mdl_defs.specs.declared.definition.Definition.TheVariants.{Table}
+use Rattle.mdl_defs.specs.declared.definition.Definition.TheVariants.{Schema, Table}
 use Rattle.mdl_defs.specs.declared.standing.Standing.{Standing}
 use Rattle.mdl_defs.specs.Columns.{names_twice}
 use Rattle.mdl_syntax.specs.declared.statement.Priority.{Priority}
@@ -23,7 +23,7 @@ use Rattle.mdl_syntax.specs.declared.statement.Statement.TheVariants as statemen
 use Rattle.mdl_context.specs.declared.request.Mark.{Mark}
 use Rattle.mdl_context.specs.Contexts.{beyond_mark, of_transaction}
 use Rattle.mdl_context.specs.Wishes.{Wish}
-use Rattle.mdl_stmt.specs.declared.error_number.ErrorNumber.TheVariants.{UnknownDatabase, TableExists, DuplicateColumn, TableLockedForRead, TableNotLocked, NoSuchTable, ActiveLocks, ConflictingReadLock, NoSuchSavepoint, VersionLimit}
+use Rattle.mdl_stmt.specs.declared.error_number.ErrorNumber.TheVariants.{SchemaExists, UnknownDatabase, TableExists, DuplicateColumn, TableLockedForRead, TableNotLocked, NoSuchTable, ActiveLocks, ConflictingReadLock, NoSuchSavepoint, VersionLimit}
 use Rattle.mdl_stmt.specs.declared.reply.Reply.{Reply}
 use Rattle.mdl_stmt.specs.declared.reply.Reply.TheVariants as reply
 use Rattle.mdl_stmt.specs.declared.reply.TableShown.{TableShown}
@@ -233,7 +233,7 @@ write table priority = do
   state ← look
   if has_locked state.locked then write_locked table else write_unlocked table priority
 
--- ---- CREATE TABLE, DROP TABLE
+-- ---- CREATE TABLE
 
 -- how DDL begins. After it no transaction is open, so what it locks goes as it ends
 abbrev pub ddl : Act
@@ -301,6 +301,37 @@ create_after_commit table columns = do
   global ← Acquire (ddl_lock global_key) Give
   lock_schema_and_create table columns
 
+-- ---- CREATE SCHEMA
+
+-- there is no such schema, and it can be changed once more
+abbrev pub check_new_schema : ℕ → Act
+check_new_schema schema = do
+  standing ← read schema
+  check (not (is_defined standing)) SchemaExists
+  check (has_version_left standing) VersionLimit
+
+-- a schema is created under its lock
+abbrev pub create_schema_under : ℕ → Row Reply
+create_schema_under schema = do
+  check_new_schema schema
+  redefine schema (change.Create Schema)
+  Give reply.Ok
+
+-- a schema is locked against all that would be done in it, under the lock of all writes, and created
+abbrev pub lock_and_create_schema : List ℕ → Row Reply
+lock_and_create_schema name = do
+  room
+  schema ← acquire (schema_key name) X for.Transaction
+  create_schema_under schema
+
+-- CREATE SCHEMA, once no transaction is open
+abbrev pub create_schema_after_commit : List ℕ → Row Reply
+create_schema_after_commit name = do
+  global ← Acquire (ddl_lock global_key) Give
+  lock_and_create_schema name
+
+-- ---- DROP TABLE
+
 -- a table can be changed once more
 abbrev pub can_change : ℕ → Act
 can_change ticket = do
@@ -347,6 +378,7 @@ ddl_first rest = ddl >> rest
 abbrev pub after_commit : Statement → Row Reply
 after_commit statement.Begin = begin_after_commit
 after_commit (statement.CreateTable table columns) = create_after_commit table columns
+after_commit (statement.CreateSchema name) = create_schema_after_commit name
 after_commit (statement.DropTables tables) = drop_after_commit tables
 after_commit _ = Give reply.Ok
 
@@ -360,6 +392,7 @@ row_of (statement.RollbackTo name) = rollback_to name
 row_of (statement.Select tables) = select tables
 row_of (statement.Write table priority) = write table priority
 row_of (statement.CreateTable table columns) = ddl_first (create_after_commit table columns)
+row_of (statement.CreateSchema name) = ddl_first (create_schema_after_commit name)
 row_of (statement.DropTables tables) = ddl_first (drop_after_commit tables)
 row_of (statement.KillQuery target) = kill target >> Give reply.Ok
 row_of statement.Timeout = Give reply.Ok

@@ -5,6 +5,8 @@ ghost use Rattle.mdl_stmt.specs.ErrorNumbers.{number_of};
 /// Why a statement failed: the errors of MySQL 5.7, and from 9001 on those of this project.
 #[derive(Clone, Copy, Debug, PartialEq, Eq)]
 pub enum ErrorNumber {
+    /// 1007: the schema exists.
+    SchemaExists,
     /// 1049: the schema doesn't exist.
     UnknownDatabase,
     /// 1050: the table exists.
@@ -29,7 +31,7 @@ pub enum ErrorNumber {
     NoSuchSavepoint,
     /// 1317: the wait was killed.
     Interrupted,
-    /// 9003: the table had all the versions that it can have.
+    /// 9003: the table or the schema had all the versions that it can have.
     VersionLimit,
     /// 9004: there is no place for one more key.
     NoPlace,
@@ -43,6 +45,7 @@ impl ErrorNumber {
         ensures { result ≡ number_of self }
     {
         match self {
+            ErrorNumber::SchemaExists => 1007,
             ErrorNumber::UnknownDatabase => 1049,
             ErrorNumber::TableExists => 1050,
             ErrorNumber::DuplicateColumn => 1060,

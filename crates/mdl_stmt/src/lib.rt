@@ -2,6 +2,7 @@
 #![tactic(auto)]
 
 mod creating;
+mod creating_schemas;
 mod dropping;
 mod ending;
 mod error_number;

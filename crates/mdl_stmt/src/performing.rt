@@ -31,6 +31,7 @@ impl<S: LockSpace> Player<S> {
             Statement::Begin => self.commit_first(space, statement),
             Statement::Commit => self.commit_first(space, statement),
             Statement::CreateTable { .. } => self.define(space, statement),
+            Statement::CreateSchema(_) => self.define(space, statement),
             Statement::DropTables(_) => self.define(space, statement),
             Statement::Rollback => {
                 self.rollback(space);
@@ -100,6 +101,8 @@ impl<S: LockSpace> Player<S> {
             Stage::CreateTable(columns, schema) => {
                 self.create_under(space, columns, schema, ticket)
             }
+            Stage::SchemaGlobal(name) => self.lock_and_create_schema(space, name),
+            Stage::NewSchema => self.create_schema_under(space, ticket),
             Stage::DropScopes(tables, locks) => {
                 self.lock_scopes(space, tables, locks.with(ticket))
             }

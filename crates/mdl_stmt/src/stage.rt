@@ -7,7 +7,7 @@ use crate::TablesShown;
 use mdl_defs::Columns;
 use mdl_key::Key;
 use mdl_space::TicketId;
-use mdl_syntax::{Priority, Statement, Tables};
+use mdl_syntax::{Name, Priority, Statement, Tables};
 use std::alloc::{AllocError, Global};
 use std::marker::Model;
 
@@ -84,6 +84,10 @@ pub enum Stage<'s> {
     CreateSchema(&'s Key, &'s Columns),
     /// Its own lock, under that of its schema.
     CreateTable(&'s Columns, TicketId),
+    /// The lock of all writes, for a schema to be created.
+    SchemaGlobal(&'s Name),
+    /// The schema's own lock.
+    NewSchema,
     /// The lock of all writes or that of a schema, for tables to be dropped.
     DropScopes(&'s Tables, LockList),
     /// The lock of a table that is to be dropped.

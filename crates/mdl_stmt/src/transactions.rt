@@ -124,6 +124,7 @@ impl<S: LockSpace> Player<S> {
                 Played::Ends(Ending::Answers(Reply::Ok))
             }
             Statement::CreateTable { table, columns } => self.create(space, table, columns),
+            Statement::CreateSchema(name) => self.create_schema(space, name),
             Statement::DropTables(tables) => self.drop_tables(space, tables),
             _ => Played::Ends(Ending::Answers(Reply::Ok)),
         }

@@ -1,11 +1,13 @@
 -- What reading words may come to, beside what they say.
 use Rattle.std.specs.Prelude.{◌≡◌, ℕ, List, [], ◌∷◌, codes, Result, Ok, Err, IsOk}
 use Rattle.mdl_lines.specs.declared.fault.LineError.{LineError}
+use Rattle.mdl_lines.specs.declared.fault.LineError.TheVariants.{BadWord}
 use Rattle.mdl_syntax.specs.declared.no_statement.NoStatement.{NoStatement}
 use Rattle.mdl_syntax.specs.declared.no_statement.NoStatement.TheVariants.{Refused, Memory}
 use Rattle.mdl_syntax.specs.declared.statement.Priority.TheVariants.{Normal, Low}
 use Rattle.mdl_syntax.specs.declared.statement.Statement.{Statement}
-use Rattle.mdl_syntax.specs.Forms.{form, read_by, writes}
+use Rattle.mdl_syntax.specs.declared.statement.Statement.TheVariants.{CreateTable, CreateSchema}
+use Rattle.mdl_syntax.specs.Forms.{form, makes, one_name, read_by, table_and_columns, writes}
 use Rattle.mdl_syntax.specs.KeyWords.{behind}
 
 -- words that say this are read so: what is refused is told as refused, whether or not there is memory
@@ -17,3 +19,9 @@ ReadsAs said (Err Memory) = IsOk said
 -- what the words behind INSERT, UPDATE or DELETE say
 abbrev pub write_of : List (List ℕ) → Result Statement LineError
 write_of words = read_by (form (codes "LOW_PRIORITY") (writes Low)) (behind (codes "LOW_PRIORITY" ∷ []) words) (writes Normal words)
+
+-- what the words behind CREATE say
+abbrev pub create_of : List (List ℕ) → Result Statement LineError
+create_of words =
+    read_by (form (codes "TABLE") (makes (λ named. CreateTable named.0 named.1) table_and_columns)) (behind (codes "TABLE" ∷ []) words)
+    (read_by (form (codes "SCHEMA") (makes CreateSchema one_name)) (behind (codes "SCHEMA" ∷ []) words) (Err BadWord))

@@ -4,7 +4,7 @@ ghost use Rattle.mdl_key.specs.Keys.{table_key};
 ghost use Rattle.mdl_lines.specs.Lines.{words_of};
 ghost use Rattle.mdl_syntax.specs.declared.statement.Statement.TheVariants.{Savepoint, RollbackTo, CreateTable, KillQuery};
 ghost use Rattle.mdl_syntax.specs.Forms as forms;
-ghost use Rattle.mdl_syntax.specs.Reading.{ReadsAs, write_of};
+ghost use Rattle.mdl_syntax.specs.Reading.{ReadsAs, create_of, write_of};
 
 use crate::key_words::behind;
 use crate::no_statement::NoStatement;
@@ -44,10 +44,7 @@ pub(crate) fn statement_of(alloc: Global, words: &[u8]) -> Result<Statement, NoS
         "SAVEPOINT" => Ok(Statement::Savepoint(one_name(alloc, rest)?)),
         "SELECT" => Ok(Statement::Select(some_tables(alloc, rest)?)),
         "INSERT" | "UPDATE" | "DELETE" => write(alloc, rest),
-        "CREATE" => match behind("TABLE", rest) {
-            Some(rest) => create_table(alloc, rest),
-            None => bad_word(),
-        },
+        "CREATE" => create(alloc, rest),
         "DROP" => match behind("TABLE", rest) {
             Some(rest) => Ok(Statement::DropTables(some_tables(alloc, rest)?)),
             None => bad_word(),
@@ -156,6 +153,19 @@ fn keys_of(alloc: Global, names: &[TableName]) -> Result<Tables, AllocError>
         tables.push(key_of(alloc, name)?)?;
     }
     Ok(tables)
+}
+
+// A new table or schema.
+fn create(alloc: Global, words: &[u8]) -> Result<Statement, NoStatement>
+    ensures { ReadsAs (create_of (words_of words.now)) result }
+{
+    if let Some(rest) = behind("TABLE", words) {
+        return create_table(alloc, rest);
+    }
+    match behind("SCHEMA", words) {
+        Some(rest) => Ok(Statement::CreateSchema(one_name(alloc, rest)?)),
+        None => bad_word(),
+    }
 }
 
 // A new table, and its columns.

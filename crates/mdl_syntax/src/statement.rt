@@ -32,6 +32,8 @@ pub enum Statement {
         /// Its columns, in order.
         columns: Columns,
     },
+    /// `CREATE SCHEMA` and its name.
+    CreateSchema(Name),
     /// `DROP TABLE` of 1 to 8 tables.
     DropTables(Tables),
     /// `KILL QUERY` of a session, from 1 to 64.

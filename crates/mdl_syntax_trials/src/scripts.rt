@@ -15,6 +15,8 @@ const ROWS: &str = "\
 1 DELETE LOW_PRIORITY low_priority / 1 DELETE low_priority => 1 1 write late TABLE test.low_priority / \
     2 1 write TABLE test.low_priority
 1 CREATE TABLE t x / 1 CREATE TABLE s.t x y x => 1 1 create TABLE test.t x / 2 1 create TABLE s.t x y x
+1 CREATE SCHEMA s / 1 CREATE SCHEMA az09_ / 1 CREATE SCHEMA test => 1 1 create schema s / 2 1 create schema az09_ / 3 1 \
+    create schema test
 1 DROP TABLE t / 1 DROP TABLE b s.a a => 1 1 drop TABLE test.t / 2 1 drop TABLE test.b TABLE s.a TABLE test.a
 1 KILL QUERY 64 / 9 KILL QUERY 1 / 9 TIMEOUT => 1 1 kill 64 / 2 9 kill 1 / 3 9 time out
 1 SELECT a b c d e f g h => 1 1 read TABLE test.a TABLE test.b TABLE test.c TABLE test.d TABLE test.e TABLE test.f \
@@ -97,7 +99,12 @@ BEGIN => line 1: BadSession
 1 TIMEOUT 1 => line 1: BadWord
 1 RENAME TABLE a TO b => line 1: BadWord
 1 ALTER TABLE t ADD c COPY => line 1: BadWord
-1 CREATE SCHEMA s => line 1: BadWord
+1 CREATE SCHEMA => line 1: BadWord
+1 CREATE SCHEMA s t => line 1: BadWord
+1 CREATE SCHEMA S => line 1: BadName
+1 CREATE SCHEMA s.t => line 1: BadName
+1 CREATE SCHEMA S t => line 1: BadName
+1 CREATE SCHEMAS s => line 1: BadWord
 1 DROP SCHEMA s => line 1: BadWord
 1 LOCK TABLES t READ => line 1: BadWord
 1 UNLOCK TABLES => line 1: BadWord

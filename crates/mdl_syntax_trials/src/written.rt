@@ -49,6 +49,10 @@ fn statement_text(alloc: Global, statement: &Statement) -> Result<String, Fail> 
         Statement::Select(tables) => named(alloc, "read", tables),
         Statement::Write { table, priority } => write_text(alloc, table, *priority),
         Statement::CreateTable { table, columns } => create_text(alloc, table, columns),
+        Statement::CreateSchema(name) => {
+            let name = name.as_str();
+            Ok(format!(in alloc; "create schema {name}")?)
+        }
         Statement::DropTables(tables) => named(alloc, "drop", tables),
         Statement::KillQuery(session) => Ok(format!(in alloc; "kill {session}")?),
         Statement::Timeout => Ok(String::from_str(alloc, "time out")?),

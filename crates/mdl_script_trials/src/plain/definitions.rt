@@ -103,6 +103,18 @@ impl Plain {
         Ok(Taken::Done)
     }
 
+    // Makes a schema, if it isn't there.
+    pub(super) fn create_schema(&mut self, schema: &Key) -> Taken {
+        if self.is_there(schema) {
+            return Taken::Failed(1007);
+        }
+        if self.is_used_up(schema) {
+            return Taken::Failed(9003);
+        }
+        self.change(schema, Some(Definition::Schema));
+        Taken::Done
+    }
+
     // Drops a table.
     pub(super) fn drop_table(&mut self, table: &Key) -> Taken {
         self.change(table, None);

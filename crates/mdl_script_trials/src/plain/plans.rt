@@ -2,7 +2,7 @@
 use super::{Plain, Step, made};
 use mdl_defs::Columns;
 use mdl_key::{Duration, Key, Mode};
-use mdl_syntax::{Priority, Statement, Tables};
+use mdl_syntax::{Name, Priority, Statement, Tables};
 use std::alloc::{AllocError, Global};
 
 // A list of steps that grows.
@@ -43,6 +43,7 @@ impl Plan {
             Statement::Select(tables) => self.select(tables),
             Statement::Write { table, priority } => self.write(table, *priority),
             Statement::CreateTable { table, columns } => self.create(table, columns),
+            Statement::CreateSchema(name) => self.create_schema(name),
             Statement::DropTables(tables) => self.drop_tables(tables),
             Statement::KillQuery(_) | Statement::Timeout => Ok(()),
         }
@@ -138,6 +139,16 @@ impl Plan {
         keys.push(table.clone()?)?;
         self.begin_change(&keys)?;
         self.push(Step::Create(table.clone()?, columns.clone()?))?;
+        self.push(Step::End)
+    }
+
+    // A new schema, which nobody else is in.
+    fn create_schema(&mut self, name: &Name) -> Result<(), AllocError> {
+        let schema = made(Key::schema(self.alloc, name.as_str()))?;
+        self.commit()?;
+        self.ask_global()?;
+        self.ask(schema.clone()?, Mode::X, Duration::Transaction)?;
+        self.push(Step::CreateSchema(schema))?;
         self.push(Step::End)
     }
 

@@ -12,6 +12,7 @@ impl Plain {
             Step::Look(table) => Ok(self.look(&table)),
             Step::Read(table) => self.read(who, &table),
             Step::Create(table, columns) => self.create(&table, &columns),
+            Step::CreateSchema(schema) => Ok(self.create_schema(&schema)),
             Step::CheckVersion(table) => Ok(self.check_version(&table)),
             Step::Drop(table) => Ok(self.drop_table(&table)),
             Step::Save(name) => self.save(who, name),

@@ -1,0 +1,109 @@
+//! CREATE SCHEMA.
+ghost use Rattle.std.specs.Prelude.{◌≡◌, None};
+ghost use Rattle.mdl_context.specs.Contexts.{Attends, LeavesOthers};
+ghost use Rattle.mdl_stmt.specs.Gets.{IsPlayed, IsStep, IdleUnlessPlayed};
+ghost use Rattle.mdl_stmt.specs.Statements.{create_schema_after_commit, lock_and_create_schema, create_schema_under, check_new_schema};
+
+use crate::creating::MOST_VERSIONS;
+use crate::ending::{Ending, Got, Played};
+use crate::player::Player;
+use crate::reading::failing;
+use crate::stage::Stage;
+use crate::{ErrorNumber, Reply};
+use mdl_context::Request;
+use mdl_defs::{Change, Definition};
+use mdl_key::{Duration, Key, Mode};
+use mdl_space::{LockSpace, TicketId};
+use mdl_syntax::Name;
+
+impl<S: LockSpace> Player<S> {
+    /// Creates a schema, once no transaction is open.
+    pub(crate) fn create_schema<'s>(&mut self, space: &mut S, name: &'s Name) -> Played<'s>
+        requires attends { Attends S.speaks_for S.own S.knows space.old self.old.context }
+        requires idle { self.old.context.wait ≡ None }
+        ensures run { IsPlayed S.joins (create_schema_after_commit name.now) space.old self.old result space.new self.new }
+        ensures attends { Attends S.speaks_for S.own S.knows space.new self.new.context }
+        ensures others { LeavesOthers S.speaks_for S.own S.knows self.old.context.who space.old space.new }
+        ensures who { self.new.context.who ≡ self.old.context.who }
+        ensures idle { IdleUnlessPlayed result self.new }
+    {
+        let writes = Key::global(self.alloc);
+        let request = Request {
+            key: &writes,
+            mode: Mode::IX,
+            duration: Duration::Statement,
+        };
+        match self.get(space, request) {
+            Got::Had(_) => self.lock_and_create_schema(space, name),
+            Got::Waits(key) => Played::Waits(key, Mode::IX, Stage::SchemaGlobal(name)),
+            Got::Ends(ending) => Played::Ends(ending),
+        }
+    }
+
+    /// Locks a schema under the lock of all writes, and creates it.
+    pub(crate) fn lock_and_create_schema<'s>(&mut self, space: &mut S, name: &'s Name) -> Played<'s>
+        requires attends { Attends S.speaks_for S.own S.knows space.old self.old.context }
+        requires idle { self.old.context.wait ≡ None }
+        ensures run { IsPlayed S.joins (lock_and_create_schema name.now) space.old self.old result space.new self.new }
+        ensures attends { Attends S.speaks_for S.own S.knows space.new self.new.context }
+        ensures others { LeavesOthers S.speaks_for S.own S.knows self.old.context.who space.old space.new }
+        ensures who { self.new.context.who ≡ self.old.context.who }
+        ensures idle { IdleUnlessPlayed result self.new }
+    {
+        let Ok(schema) = Key::schema(self.alloc, name.as_str()) else {
+            return Played::Ends(Ending::Starves);
+        };
+        let request = Request {
+            key: &schema,
+            mode: Mode::X,
+            duration: Duration::Transaction,
+        };
+        match self.get(space, request) {
+            Got::Had(ticket) => self.create_schema_under(space, ticket),
+            Got::Waits(key) => Played::Waits(key, Mode::X, Stage::NewSchema),
+            Got::Ends(ending) => Played::Ends(ending),
+        }
+    }
+
+    /// Creates a schema under its lock.
+    pub(crate) fn create_schema_under<'s>(&mut self, space: &mut S, ticket: TicketId) -> Played<'s>
+        requires attends { Attends S.speaks_for S.own S.knows space.old self.old.context }
+        requires idle { self.old.context.wait ≡ None }
+        ensures run { IsPlayed S.joins (create_schema_under ticket) space.old self.old result space.new self.new }
+        ensures attends { Attends S.speaks_for S.own S.knows space.new self.new.context }
+        ensures others { LeavesOthers S.speaks_for S.own S.knows self.old.context.who space.old space.new }
+        ensures who { self.new.context.who ≡ self.old.context.who }
+        ensures idle { IdleUnlessPlayed result self.new }
+    {
+        if let Err(ending) = self.check_new_schema(space, ticket) {
+            return Played::Ends(ending);
+        }
+        match self.redefine(space, ticket, &Change::Create(Definition::Schema)) {
+            Ok(()) => Played::Ends(Ending::Answers(Reply::Ok)),
+            Err(ending) => Played::Ends(ending),
+        }
+    }
+
+    /// Looks whether a schema can be created.
+    fn check_new_schema(&mut self, space: &mut S, ticket: TicketId) -> Result<(), Ending>
+        requires attends { Attends S.speaks_for S.own S.knows space.old self.old.context }
+        requires idle { self.old.context.wait ≡ None }
+        ensures run { IsStep S.joins (check_new_schema ticket) space.old self.old result space.new self.new }
+        ensures attends { Attends S.speaks_for S.own S.knows space.new self.new.context }
+        ensures others { LeavesOthers S.speaks_for S.own S.knows self.old.context.who space.old space.new }
+        ensures who { self.new.context.who ≡ self.old.context.who }
+        ensures idle { self.new.context.wait ≡ None }
+    {
+        let standing = match self.read(space, ticket) {
+            Ok(standing) => standing,
+            Err(ending) => return Err(ending),
+        };
+        if standing.definition.is_some() {
+            return Err(failing(ErrorNumber::SchemaExists));
+        }
+        if standing.version >= MOST_VERSIONS {
+            return Err(failing(ErrorNumber::VersionLimit));
+        }
+        Ok(())
+    }
+}
