@@ -6,6 +6,7 @@ use Rattle.mdl_key.specs.declared.mode.Duration.TheVariants as for
 use Rattle.mdl_key.specs.declared.mode.Mode.TheVariants.{IX}
 use Rattle.mdl_key.specs.Keys.{KeyName, global_key}
 use Rattle.mdl_defs.specs.declared.change.Change.TheVariants as change
+use Rattle.mdl_defs.specs.declared.definition.Definition.TheVariants.{Schema}
 use Rattle.mdl_defs.specs.Columns.{names_twice}
 use Rattle.mdl_defs.specs.declared.standing.Standing.{Standing}
 use Rattle.mdl_system.proofs.MemberLemmas.{Contains-map}
@@ -16,7 +17,7 @@ use Rattle.mdl_syntax.specs.declared.statement.Statement.TheVariants as statemen
 use Rattle.mdl_context.specs.declared.request.Mark.{Mark}
 use Rattle.mdl_context.specs.Wishes.{Wish}
 use Rattle.mdl_stmt.specs.declared.error_number.ErrorNumber.{ErrorNumber}
-use Rattle.mdl_stmt.specs.declared.error_number.ErrorNumber.TheVariants.{UnknownDatabase, TableExists, DuplicateColumn, NoSuchTable, ActiveLocks, ConflictingReadLock, VersionLimit}
+use Rattle.mdl_stmt.specs.declared.error_number.ErrorNumber.TheVariants.{SchemaExists, UnknownDatabase, TableExists, DuplicateColumn, NoSuchTable, ActiveLocks, ConflictingReadLock, VersionLimit}
 use Rattle.mdl_stmt.specs.declared.reply.Reply.{Reply}
 use Rattle.mdl_stmt.specs.declared.reply.Reply.TheVariants as reply
 use Rattle.mdl_stmt.specs.declared.reply.TableShown.{TableShown}
@@ -228,6 +229,15 @@ tidy-create columns schema table =
     (tidy-then Any twice version (tidy-check (not (names_twice columns)) DuplicateColumn) (tidy-check (does.has_version_left standing) VersionLimit))))
     (λ x tell. absurd tell))
 
+tidy-create_schema : (schema : ℕ) → IsTidy ShowsNone (does.create_schema_under schema)
+tidy-create_schema schema =
+    tidy-then ShowsNone (does.check_new_schema schema) (row.redefine schema (change.Create Schema) >> row.Give reply.Ok)
+    (λ standing. (
+    let version = check (does.has_version_left standing) VersionLimit in
+    tidy-then Any (check (not (does.is_defined standing)) SchemaExists) version (tidy-check (not (does.is_defined standing)) SchemaExists)
+    (tidy-check (does.has_version_left standing) VersionLimit)))
+    (λ x tell. absurd tell)
+
 tidy-stands : (ticket : ℕ) → IsTidy Any (does.stands ticket)
 tidy-stands ticket = λ standing.
     tidy-bind Any Any (check (does.is_defined standing) NoSuchTable >> row.Give standing) (λ _. nothing)
@@ -268,6 +278,9 @@ fair-any old (statement.RollbackTo name) none = fair-tidy old [] [] (does.row_of
 fair-any old (statement.CreateTable table columns) none =
     fair-tidy old [] [] (does.row_of (statement.CreateTable table columns)) none
     (tidy-then ShowsNone does.ddl (does.create_after_commit table columns) tidy-ddl (λ global schema ticket. tidy-create columns schema ticket))
+fair-any old (statement.CreateSchema name) none =
+    fair-tidy old [] [] (does.row_of (statement.CreateSchema name)) none
+    (tidy-then ShowsNone does.ddl (does.create_schema_after_commit name) tidy-ddl (λ global ticket. tidy-create_schema ticket))
 fair-any old (statement.DropTables tables) none =
     fair-tidy old [] [] (does.row_of (statement.DropTables tables)) none
     (tidy-then ShowsNone does.ddl (does.drop_after_commit tables) tidy-ddl
