@@ -1,5 +1,5 @@
 -- What comes of a change in a space of one session and one key.
-use Rattle.std.proofs.Common.{◌≡◌, ℕ, true, cond, [], ◌∷◌, find, eq-eqb, Option, Some, None, Result, Ok, Err, IfOk, OnErr, IfSome, MatchOption, option_map, refl, sym, ap, subst, ◌∙◌, arith}
+use Rattle.std.proofs.Common.{◌≡◌, ℕ, true, Option, Some, None, Result, Ok, Err, IfOk, OnErr, IfSome, MatchOption, option_map, refl, sym, ap, subst, ◌∙◌, arith}
 use Rattle.mdl_key.specs.Refusals.{Refuses}
 use Rattle.mdl_key.specs.declared.mode.Mode.TheVariants.{X}
 use Rattle.mdl_key.specs.declared.namespace.Namespace.{Namespace}
@@ -13,13 +13,9 @@ use Rattle.mdl_calls.specs.declared.answers.Held.{Held}
 use Rattle.mdl_calls.specs.declared.answers.Settled.{Settled}
 use Rattle.mdl_calls.specs.declared.space_error.SpaceError.{SpaceError}
 use Rattle.mdl_calls.specs.declared.space_error.SpaceError.TheVariants.{OutOfMemory}
-use Rattle.mdl_calls.specs.Words.{Answer, Change_definition, change_takes_memory, redefined, is_number, ticket_held, OfHeld, IsChangeOf, IsToldOf}
+use Rattle.mdl_calls.specs.Words.{Answer, Change_definition, change_takes_memory, redefined, ticket_held, OfHeld, IsChangeOf, IsToldOf}
 use Rattle.mdl_calls.specs.Tests.LoneSessions.{Lone, LoneSpeaks, LoneJoins, Knows, Stays, having}
 use Rattle.mdl_calls.proofs.StandingLemmas.{redefined-cause}
-
--- the one ticket is found by its number
-pub found-one : (id : ℕ) (ticket : Held) → ticket.id ≡ id → find (is_number id) (ticket ∷ []) ≡ Some ticket
-found-one id ticket same = ap (λ b. cond b (Some ticket) None) (eq-eqb ticket.id id same)
 
 -- what is done has no fault
 unrefused : {T E : Type 0} (o : Option E) (memory : E) (value : T) → Refuses o memory (Ok value) → o ≡ None

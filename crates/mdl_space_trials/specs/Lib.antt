@@ -1,2 +1,3 @@
+pub mod LoneTickets
 pub mod Serving
 pub mod Visits

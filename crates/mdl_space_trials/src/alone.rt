@@ -166,6 +166,8 @@ fn the_key_of_the_one_place_is_told(rt: HostRuntime) {
 
 const NO_WAIT: Reply = Reply::Refused(SpaceError::NoWait);
 
+const NOT_HELD: Reply = Reply::Refused(SpaceError::NotHeld);
+
 const A_KILLED_WAIT: &[(Act, Reply)] = &[
     (Act::TimeOut(3), NO_WAIT),
     (Act::EndWait(3), NO_WAIT),
@@ -194,20 +196,21 @@ const A_KILLED_WAIT: &[(Act, Reply)] = &[
     (Act::BeginWait(3, 1, Mode::X), Reply::Granted(3)),
 ];
 
-const A_HELD_TICKET: &[(Act, Reply)] = &[
-    (
-        Act::Clone(3, 3, Mode::S),
-        Reply::Refused(SpaceError::OutOfMemory),
-    ),
+const A_CLONED_TICKET: &[(Act, Reply)] = &[(Act::Clone(3, 3, Mode::SW), Reply::Granted(4))];
+
+const TWO_TICKETS: &[(Act, Reply)] = &[
+    (Act::Release(3, 4), Reply::Done),
     (Act::Release(3, 3), Reply::Done),
 ];
 
-// Whether a killed wait, one that ends for want of patience and one that is granted go as they should, and a ticket is held
-// as long as it is.
+// Whether a killed wait, one that ends for want of patience and one that is granted go as they should, and a ticket and its
+// clone are held as long as they are.
 fn goes_as_told(alone: &mut Alone) -> bool {
     alone.first_wrong(A_KILLED_WAIT).is_none()
         && alone.held_count() == Ok(1)
-        && alone.first_wrong(A_HELD_TICKET).is_none()
+        && alone.first_wrong(A_CLONED_TICKET).is_none()
+        && alone.held_count() == Ok(2)
+        && alone.first_wrong(TWO_TICKETS).is_none()
         && alone.held_count() == Ok(0)
 }
 
@@ -259,15 +262,61 @@ const A_SCHEMA_OF_OTHERS: &[(Act, Reply)] = &[
     (Act::Release(3, 2), Reply::Done),
 ];
 
+// The clone reads what its ticket read, and holds it after that one is given up.
+const A_CLONE: &[(Act, Reply)] = &[
+    (Act::Clone(3, 1, Mode::S), NOT_HELD),
+    (Act::TryNow(3, 1, Mode::X), Reply::WouldWait),
+    (Act::Clone(3, 1, Mode::S), NOT_HELD),
+    (Act::TryNow(3, 1, Mode::X), Reply::Granted(1)),
+    (Act::Read(3, 1), Reply::Reads(1, Shown::Schema)),
+    // A schema's lock has no such mode.
+    (
+        Act::Clone(3, 1, Mode::SR),
+        Reply::Refused(SpaceError::BadMode),
+    ),
+    (Act::Clone(3, 2, Mode::S), NOT_HELD),
+    (Act::Clone(3, 1, Mode::S), Reply::Granted(2)),
+    (Act::Clone(3, 1, Mode::S), Reply::Refused(SpaceError::Full)),
+    (
+        Act::Clone(3, 2, Mode::X),
+        Reply::Refused(SpaceError::BadMode),
+    ),
+    (Act::Read(3, 2), Reply::Reads(1, Shown::Schema)),
+    // What is changed under the one is read under the other.
+    (Act::Redefine(3, 1, Wish::Drop), Reply::Changed(2)),
+    (Act::Read(3, 2), Reply::Reads(2, Shown::Nothing)),
+    (
+        Act::Redefine(3, 2, Wish::CreateSchema),
+        Reply::Refused(SpaceError::NotExclusive),
+    ),
+    (Act::Release(3, 1), Reply::Done),
+    (Act::Release(3, 1), NOT_HELD),
+    // Others still change nothing.
+    (Act::TryNow(3, 1, Mode::S), Reply::WouldWait),
+    (Act::TryNow(3, 1, Mode::S), Reply::WouldWait),
+    (Act::Read(3, 2), Reply::Reads(2, Shown::Nothing)),
+    // A clone of the clone.
+    (Act::Clone(3, 2, Mode::S), Reply::Granted(3)),
+    (Act::Release(3, 3), Reply::Done),
+    (Act::Read(3, 2), Reply::Reads(2, Shown::Nothing)),
+    (Act::Release(3, 2), Reply::Done),
+    (Act::Release(3, 2), NOT_HELD),
+];
+
 // The place of the first call that answers something else than it should.
-fn first_wrong_of_schema(alloc: Global) -> Option<usize> {
+fn first_wrong_of_schema(alloc: Global, rows: &[(Act, Reply)]) -> Option<usize> {
     match Alone::of_schema(alloc, "s") {
-        Ok(mut alone) => alone.first_wrong(A_SCHEMA_OF_OTHERS),
-        Err(_) => Some(A_SCHEMA_OF_OTHERS.len()),
+        Ok(mut alone) => alone.first_wrong(rows),
+        Err(_) => Some(rows.len()),
     }
 }
 
 #[test]
 fn others_change_what_stands_while_nothing_is_held(rt: HostRuntime) {
-    assert_eq!(rt; first_wrong_of_schema(rt.alloc()), None);
+    assert_eq!(rt; first_wrong_of_schema(rt.alloc(), A_SCHEMA_OF_OTHERS), None);
+}
+
+#[test]
+fn a_ticket_is_cloned(rt: HostRuntime) {
+    assert_eq!(rt; first_wrong_of_schema(rt.alloc(), A_CLONE), None);
 }

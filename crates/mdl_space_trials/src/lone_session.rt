@@ -1,13 +1,16 @@
-//! A lock space for tests: one session, one key and one ticket at most, while another session comes and goes, and changes what
-//! stands under the key.
-ghost use Rattle.std.specs.Prelude.{◌≡◌, ◌≢◌, ◌≤◌, ◌+◌, [], true, false, MatchResult, IfOk, OnErr, Err};
+//! A lock space for tests: one session, one key, and one ticket and its clone at most, while another session comes and goes, and
+//! changes what stands under the key.
+ghost use Rattle.std.specs.Prelude.{◌&&◌, ◌≡◌, ◌≢◌, ◌≤◌, ◌+◌, [], true, false, MatchResult, IfOk, OnErr, Err};
+ghost use Rattle.mdl_key.specs.Words.{kind_of, is_mode_of};
+ghost use Rattle.mdl_system.specs.Strength.{covers};
 ghost use Rattle.mdl_defs.specs.Standings.{MayStand, standing_after};
-ghost use Rattle.mdl_calls.specs.Words.{Begin_wait, IsClear, IsCause, IsChangeOf, ticket_drawn, is_waiting, redefined, change_takes_memory};
+ghost use Rattle.mdl_calls.specs.Words.{Begin_wait, IsClear, IsCause, IsChangeOf, ticket_drawn, is_waiting, ticket_held, redefined, change_takes_memory};
 ghost use Rattle.mdl_calls.specs.Tests.LoneSessions.{Knows, alone, numbering, having};
 
 use mdl_defs::{Change, Definition, Standing};
 use mdl_key::{Key, Mode};
 use mdl_space::{Held, Place, Settled, SpaceError, TicketId};
+use mdl_system::covers;
 use std::alloc::Global;
 use std::marker::Model;
 
@@ -27,7 +30,8 @@ pub struct LoneSession {
     alloc: Global,
     who: u16,
     key: Key,
-    ticket: Option<Held>,
+    // A ticket, and the one that was gained after it.
+    tickets: Option<(Held, Option<Held>)>,
     wait: Option<Waiting>,
     last_ticket: u64,
     last_wait: u64,
@@ -37,8 +41,9 @@ pub struct LoneSession {
 
 impl Model for LoneSession {
     ghost use Rattle.std.specs.Prelude.{◌≡◌, Option, Some, None};
-    ghost use Rattle.std.specs.Option.{option_to_list, option_map, IfSome};
+    ghost use Rattle.std.specs.Option.{option_map, IfSome};
     ghost use Rattle.mdl_calls.specs.Tests.LoneSessions.{Lone, last_of};
+    ghost use Rattle.mdl_space_trials.specs.LoneTickets.{listed, AreDrawn};
 
     ghost Value = { Lone };
 
@@ -46,7 +51,7 @@ impl Model for LoneSession {
       who = s.who;
       key = s.key;
       own = record {
-        held = option_to_list s.ticket;
+        held = listed s.tickets;
         wait = option_map (λ w. record { number = w.number; place = w.place; mode = w.mode }) s.wait;
       };
       settled = last_of (option_map (λ w. w.settled) s.wait);
@@ -54,7 +59,7 @@ impl Model for LoneSession {
       standing = s.standing;
     } };
 
-    ghost invariant = { λ s. IfSome s.wait (λ w. (s.ticket ≡ None) × (w.id ≡ s.last_ticket)) };
+    ghost invariant = { λ s. AreDrawn s.last_ticket s.tickets × IfSome s.wait (λ w. (s.tickets ≡ None) × (w.id ≡ s.last_ticket)) };
 }
 
 impl LoneSession {
@@ -66,7 +71,7 @@ impl LoneSession {
             alloc,
             who,
             key,
-            ticket: None,
+            tickets: None,
             wait: None,
             last_ticket: 0,
             last_wait: 0,
@@ -84,7 +89,7 @@ impl LoneSession {
         ensures fits { MayStand self.old.key.namespace self.old.standing → MayStand self.old.key.namespace self.new.standing }
     {
         self.crowded = !self.crowded;
-        if self.crowded && self.ticket.is_none() {
+        if self.crowded && self.tickets.is_none() {
             self.meddle();
         }
         self.crowded
@@ -147,6 +152,24 @@ impl LoneSession {
             return Err(SpaceError::BadMode);
         }
         Ok(())
+    }
+
+    // The held ticket of a number.
+    fn ticket(&self, id: TicketId) -> Option<Held>
+        ensures { result ≡ ticket_held id self.now.own }
+    {
+        match self.tickets {
+            Some((ticket, _)) if ticket.id == id => Some(ticket),
+            Some((_, Some(copy))) if copy.id == id => Some(copy),
+            _ => None,
+        }
+    }
+
+    // Whether a ticket can serve for a second one in the mode.
+    fn may_clone(&self, ticket: Held, mode: Mode) -> bool
+        ensures { result ≡ (covers ticket.mode mode && is_mode_of (kind_of self.now.key.namespace) mode) }
+    {
+        covers(ticket.mode, mode) && self.key.kind().has_mode(mode)
     }
 }
 

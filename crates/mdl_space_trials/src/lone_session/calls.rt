@@ -132,17 +132,17 @@ impl LockSpace for LoneSession {
 
     fn try_now(&mut self, _who: u16, place: Place, mode: Mode) -> Result<Attempt, SpaceError> {
         self.check_request(place, mode)?;
-        if self.meet() || self.ticket.is_some() {
+        if self.meet() || self.tickets.is_some() {
             return Ok(Attempt::WouldWait);
         }
         let id = self.draw_ticket()?;
-        self.ticket = Some(Held { id, place, mode });
+        self.tickets = Some((Held { id, place, mode }, None));
         Ok(Attempt::Granted(id))
     }
 
     fn begin_wait(&mut self, _who: u16, place: Place, mode: Mode) -> Result<Begun, SpaceError> {
         self.check_request(place, mode)?;
-        if self.ticket.is_some() {
+        if self.tickets.is_some() {
             return Err(SpaceError::Full);
         }
         if self.last_wait == u64::MAX {
@@ -160,7 +160,7 @@ impl LockSpace for LoneSession {
             });
             return Ok(Begun::Waiting(self.last_wait));
         }
-        self.ticket = Some(Held { id, place, mode });
+        self.tickets = Some((Held { id, place, mode }, None));
         Ok(Begun::Granted(id))
     }
 
@@ -213,11 +213,12 @@ impl LockSpace for LoneSession {
         self.wait = None;
         Ok(match how {
             Settled::Granted => {
-                self.ticket = Some(Held {
+                let ticket = Held {
                     id: wait.id,
                     place: wait.place,
                     mode: wait.mode,
-                });
+                };
+                self.tickets = Some((ticket, None));
                 Ended::Granted(wait.id)
             }
             Settled::Victim => Ended::Victim,
@@ -245,31 +246,45 @@ impl LockSpace for LoneSession {
     }
 
     fn release(&mut self, _who: u16, id: TicketId) -> Result<(), SpaceError> {
-        match self.ticket {
-            Some(ticket) if ticket.id == id => {
-                self.ticket = None;
-                Ok(())
-            }
-            _ => Err(SpaceError::NotHeld),
-        }
+        self.tickets = match self.tickets {
+            Some((ticket, copy)) if ticket.id == id => match copy {
+                Some(copy) => Some((copy, None)),
+                None => None,
+            },
+            Some((ticket, Some(copy))) if copy.id == id => Some((ticket, None)),
+            _ => return Err(SpaceError::NotHeld),
+        };
+        Ok(())
     }
 
     fn clone_ticket(
         &mut self,
         _who: u16,
-        _id: TicketId,
-        _mode: Mode,
+        id: TicketId,
+        mode: Mode,
     ) -> Result<TicketId, SpaceError> {
-        Err(SpaceError::OutOfMemory)
+        let Some(ticket) = self.ticket(id) else {
+            return Err(SpaceError::NotHeld);
+        };
+        if !self.may_clone(ticket, mode) {
+            return Err(SpaceError::BadMode);
+        }
+        if let Some((_, Some(_))) = self.tickets {
+            return Err(SpaceError::Full);
+        }
+        let id = self.draw_ticket()?;
+        let place = ticket.place;
+        self.tickets = Some((ticket, Some(Held { id, place, mode })));
+        Ok(id)
     }
 
     fn read_definition(&mut self, _who: u16, id: TicketId) -> Result<Standing, SpaceError> {
-        match self.ticket {
-            Some(ticket) if ticket.id == id => match self.standing.clone() {
-                Ok(standing) => Ok(standing),
-                Err(_) => Err(SpaceError::OutOfMemory),
-            },
-            _ => Err(SpaceError::NotHeld),
+        if self.ticket(id).is_none() {
+            return Err(SpaceError::NotHeld);
+        }
+        match self.standing.clone() {
+            Ok(standing) => Ok(standing),
+            Err(_) => Err(SpaceError::OutOfMemory),
         }
     }
 
@@ -279,15 +294,13 @@ impl LockSpace for LoneSession {
         id: TicketId,
         change: &Change,
     ) -> Result<u64, SpaceError> {
-        match self.ticket {
-            Some(ticket) if ticket.id == id => {
-                if ticket.mode != Mode::X {
-                    return Err(SpaceError::NotExclusive);
-                }
-                self.redefine(change)
-            }
-            _ => Err(SpaceError::NotHeld),
+        let Some(ticket) = self.ticket(id) else {
+            return Err(SpaceError::NotHeld);
+        };
+        if ticket.mode != Mode::X {
+            return Err(SpaceError::NotExclusive);
         }
+        self.redefine(change)
     }
 
     fn key_of(&mut self, _who: u16, place: Place) -> Result<Key, SpaceError> {
@@ -302,9 +315,14 @@ impl LockSpace for LoneSession {
 
     fn held(&self, _who: u16) -> Result<Vec<Held>, SpaceError> {
         let mut tickets = Vec::new(self.alloc);
-        if let Some(ticket) = self.ticket {
+        if let Some((ticket, copy)) = self.tickets {
             if tickets.push(ticket).is_err() {
                 return Err(SpaceError::OutOfMemory);
+            }
+            if let Some(copy) = copy {
+                if tickets.push(copy).is_err() {
+                    return Err(SpaceError::OutOfMemory);
+                }
             }
         }
         Ok(tickets)
