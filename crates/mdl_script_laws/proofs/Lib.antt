@@ -6,6 +6,7 @@ pub mod NoDeadlockPrograms
 pub mod NoDeadlockRows
 pub mod NoDeadlockWorlds
 pub mod OrderlyPlays
+pub mod OutcomeLemmas
 pub mod RefusedWorlds
 pub mod ScriptLemmas
 pub mod ShownAsking
