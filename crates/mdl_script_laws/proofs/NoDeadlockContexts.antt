@@ -26,7 +26,8 @@ use Rattle.mdl_context.specs.Wishes.{Wish}
 use Rattle.mdl_context.proofs.MemoryLemmas.{frugal_giving_up, frugal_releasing}
 use Rattle.mdl_context.proofs.OwnCallLemmas.{own_giving_up, own_releasing, own_resuming}
 use Rattle.mdl_script_laws.proofs.NoDeadlockCalls.{IsCalm, IsQuiet, calm-call, calm-joined, made-joins, still-managed}
-use Rattle.mdl_script_laws.proofs.NoDeadlockPrograms.{LeavesCalm, calm-bind, calm-frugal, calm-own, outcome-bind, seeks}
+use Rattle.mdl_script_laws.proofs.NoDeadlockPrograms.{LeavesCalm, calm-bind, calm-frugal, calm-own, seeks}
+use Rattle.mdl_script_laws.proofs.OutcomeLemmas.{outcome-then}
 
 -- ---- a lock at a place
 
@@ -37,7 +38,7 @@ calm-waits who place number mode a b joins calm =
     let h = seeks who b (still-managed who a b (Begin_wait who place mode) (Waits number) calm.managed joins) in
     let end : SearchEnd × Core = outcome_of outcome (seeking most_searches who) b in
     let same : outcome_of outcome (gains.waiting_on who number) b ≡ outcome_of outcome (gains.wish_sought who number Over) end.1 =
-    outcome-bind (seeking most_searches who) (gains.wish_sought who number) b
+    outcome-then outcome (seeking most_searches who) (gains.wish_sought who number) b
     ∙ ap (λ said. outcome_of outcome (gains.wish_sought who number said) end.1) h.over in
     subst (IsCalm who) (sym (ap (λ whole. whole.1) same))
     (record { managed = h.managed; free = waiting-leaves a b end.1 who place number mode joins h.run calm.free })

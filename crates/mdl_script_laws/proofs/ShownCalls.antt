@@ -16,6 +16,7 @@ use Rattle.mdl_core.proofs.CallLaws.{core-changes, core-keeps, core-others, core
 use Rattle.mdl_core.proofs.CoreSound.{calls_keep-sound}
 use Rattle.mdl_core.proofs.ReadLaws.{core-stands}
 use Rattle.mdl_system.proofs.MemberLemmas.{Contains-none}
+use Rattle.mdl_script_laws.proofs.OutcomeLemmas.{joins-outcome}
 use Rattle.mdl_system.proofs.OrderLemmas.{Contains-cons_cases, Contains-here, Contains-later}
 
 -- ---- lists
@@ -217,14 +218,6 @@ pub leads-bind : {A B : Type 0} (P : A → Core → Type 0) (Q : B → Core → 
 leads-bind P Q (Give x) next a leads later = later x a leads
 leads-bind P Q (Ask call more) next a leads later = λ answer b joins. leads-bind P Q (more answer) next b (leads answer b joins) later
 leads-bind P Q (Grow refused found) next a leads later = leads-bind P Q found next a leads later
-
--- a call for a session or for nobody joins by its outcome
-pub joins-outcome : (who : ℕ) (a : Core) (call : Call) → SpeaksFor a who → IsMadeFor who call → Joins a call (outcome call a).0 (outcome call a).1
-joins-outcome who a call speaks made = (allowed (caller call) made.1, made.0, inr refl)
-  where
-    allowed : (maker : Option ℕ) → IfSome maker (λ w. w ≡ who) → IfSome maker (SpeaksFor a)
-    allowed None same = tt
-    allowed (Some w) same = subst (SpeaksFor a) (sym same) speaks
 
 pub leads-outcome : {A : Type 0} (Q : A → Core → Type 0) (program : Program A) (a : Core) (who : ℕ) → SpeaksFor a who → EachCall (IsMadeFor who) program
     → Leads Q program a → Q (outcome_of outcome program a).0 (outcome_of outcome program a).1

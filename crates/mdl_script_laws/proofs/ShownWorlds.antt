@@ -33,7 +33,8 @@ use Rattle.mdl_script.specs.declared.told.Told.{Told}
 use Rattle.mdl_script.specs.Worlds.{Player, Scene, World, asked, asked_waiting, first_core, first_settled, first_world, going, going_first, is_waiting, line_played, lines_played, most_turns, newcomer, played, player_at, sessions, settling, started, timed_out, told_of, ◌and_then◌}
 use Rattle.mdl_script.proofs.SoundLemmas.{IsStaffed, first-session, staffed-first, staffed-going, staffed-started, staffed-timed_out}
 use Rattle.mdl_script_laws.specs.Shown.{AreOfSessions, IsShownTo, LeavesTransaction, leaves_transaction}
-use Rattle.mdl_script_laws.proofs.ShownCalls.{Leads, Stays, joins-outcome, leads-outcome, none, only-one, stays-call, stays-other, stays-outcome}
+use Rattle.mdl_script_laws.proofs.OutcomeLemmas.{joins-outcome}
+use Rattle.mdl_script_laws.proofs.ShownCalls.{Leads, Stays, leads-outcome, none, only-one, stays-call, stays-other, stays-outcome}
 use Rattle.mdl_script_laws.proofs.ShownContexts.{followed-same, fits-same}
 use Rattle.mdl_script_laws.proofs.ShownPoints.{IsStanding, old-now, standing-followed}
 use Rattle.mdl_script_laws.proofs.ShownPlays.{Comes, Keeps, Rests, Tells, leads-going, leads-play, point-same}

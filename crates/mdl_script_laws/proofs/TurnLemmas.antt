@@ -33,7 +33,8 @@ use Rattle.mdl_script.proofs.ListLemmas.{All-find}
 use Rattle.mdl_script.proofs.SettleLemmas.{settling-none, settling-over, settling-some}
 use Rattle.mdl_script.proofs.SoundLemmas.{IsStaffed, first-session, staffed-asked, staffed-first, staffed-going}
 use Rattle.mdl_script_laws.specs.Turns.{AsksForAtMost, MoreTurnsDoNothing, NobodyIsLeftSettled, TurnsSuffice, locks_of, most_locks}
-use Rattle.mdl_script_laws.proofs.TurnPlays.{IsLeftWithin, PausesWithin, each-outcome, left-within, within-going, within-play}
+use Rattle.mdl_script_laws.proofs.OutcomeLemmas.{each-outcome}
+use Rattle.mdl_script_laws.proofs.TurnPlays.{IsLeftWithin, PausesWithin, left-within, within-going, within-play}
 use Rattle.mdl_script_laws.proofs.TurnRows.{few-locks}
 
 -- what a session may still ask for: the locks, and the line of its last statement

@@ -4,7 +4,7 @@ use Rattle.std.proofs.Common.{◌≡◌, ℕ, suc, ◌-◌, ◌≤◌, Bool, tru
 use Rattle.std.specs.Prelude.{is_some, if◌then◌else◌}
 use Rattle.mdl_defs.specs.declared.standing.Standing.{Standing}
 use Rattle.mdl_calls.specs.declared.answers.Settled.{Settled}
-use Rattle.mdl_calls.specs.Words.{Answer, Reads, Changed, Granted, Lost, Is_settled, Call, Program, Give, Ask, Grow, ◌>>=◌, Each, outcome_of}
+use Rattle.mdl_calls.specs.Words.{Answer, Reads, Changed, Granted, Lost, Is_settled, Program, Give, Each, outcome_of}
 use Rattle.mdl_calls.proofs.FaithfulLemmas.{each_then}
 use Rattle.mdl_core.specs.declared.pending.Pending.{Pending}
 use Rattle.mdl_core.specs.CoreCalls.{ending, has_settled, outcome, polling, polling_of}
@@ -35,6 +35,7 @@ use Rattle.mdl_stmt.specs.Rows as row
 use Rattle.mdl_stmt.specs.Sessions.{Left, Session}
 use Rattle.mdl_stmt.specs.States.{State}
 use Rattle.mdl_script_laws.specs.Turns.{AsksForAtMost}
+use Rattle.mdl_script_laws.proofs.OutcomeLemmas.{each-outcome, outcome-then}
 use Rattle.mdl_script_laws.proofs.TurnRows.{few-more}
 
 -- what is left of a statement is within a bound: the lock that it waits for, and those that it still asks for
@@ -203,24 +204,13 @@ over-resuming context core settled =
 
 -- ---- outcomes
 
--- what all replies are, that of the outcome is
-pub each-outcome : {S A : Type 0} (P : A → Type 0) (step : Call → S → Answer × S) (program : Program A) (s : S) → Each P program → P (outcome_of step program s).0
-each-outcome P step (Give x) s each = each
-each-outcome P step (Ask call next) s each = each-outcome P step (next (step call s).0) (step call s).1 (each (step call s).0)
-each-outcome P step (Grow refused found) s each = each-outcome P step found s each.1
-
--- the same behind what came first
-each-after : {S A B : Type 0} (P : B → Type 0) (step : Call → S → Answer × S) (first : Program A) (next : A → Program B) (s : S)
-    → Each P (next (outcome_of step first s).0) → P (outcome_of step (first >>= next) s).0
-each-after P step (Give x) next s each = each-outcome P step (next x) s each
-each-after P step (Ask call more) next s each = each-after P step (more (step call s).0) next (step call s).1 each
-each-after P step (Grow refused found) next s each = each-after P step found next s each
-
 -- a session goes on whose wait is settled: if it waits again, then with one lock less to ask for
 pub within-going : (n : ℕ) (session : Session) (left : Left) (core : Core) → session.left ≡ Some left → ((id : ℕ) → AsksForAtMost n (left.rest id))
     → has_settled core session.context.who ≡ true → PausesWithin n (outcome_of outcome (going_on session) core).0
 within-going n session left core same is settled =
     let bare : Session = record session { left = None } in
+    let end : Outcome Resume × Core = outcome_of outcome (resuming session.context) core in
     subst (λ (its : Option Left). PausesWithin n (outcome_of outcome (playing.going_on_with its bare) core).0) (sym same)
-    (each-after {A = Outcome Resume} {B = Pause} (PausesWithin n) outcome (resuming session.context) (playing.resumed left bare) core
-    (within-resumed n left bare (outcome_of outcome (resuming session.context) core).0 is (over-resuming session.context core settled)))
+    (subst (λ (end : Pause × Core). PausesWithin n end.0) (sym (outcome-then outcome (resuming session.context) (playing.resumed left bare) core))
+    (each-outcome (PausesWithin n) outcome (playing.resumed left bare end.0) end.1
+    (within-resumed n left bare end.0 is (over-resuming session.context core settled))))

@@ -41,18 +41,13 @@ use Rattle.mdl_script.specs.Worlds.{Player, Scene, World, asked, asked_waiting, 
 use Rattle.mdl_script.proofs.SettleLemmas.{settling-none, settling-over, settling-some, read-sessions}
 use Rattle.mdl_script.proofs.SoundLemmas.{IsStaffed, first-session, made-creating, speak-empty, staffed-asked, staffed-first, staffed-going}
 use Rattle.mdl_script_laws.specs.Turns.{StatementsWaitInTheSpace}
+use Rattle.mdl_script_laws.proofs.OutcomeLemmas.{joins-outcome, outcome-then}
 use Rattle.mdl_script_laws.proofs.TurnLemmas.{found-waits, newcomer-at, turns-suffice}
 use Rattle.mdl_script_laws.proofs.TurnPlays.{polls-settled, settled-wait}
 use Rattle.mdl_script_laws.proofs.TurnTies.{IsTied, PausesTied, tied-closing, tied-play}
-use Rattle.mdl_script_laws.proofs.TurnTracks.{Tracks, call-waits, joins-outcome, others-outcome, tracks-outcome, wait_after}
+use Rattle.mdl_script_laws.proofs.TurnTracks.{Tracks, call-waits, others-outcome, tracks-outcome, wait_after}
 
 -- ---- one program after another
-
-outcome-then : {S A B : Type 0} (step : Call → S → Answer × S) (first : Program A) (next : A → Program B) (s : S)
-    → outcome_of step (first >>= next) s ≡ outcome_of step (next (outcome_of step first s).0) (outcome_of step first s).1
-outcome-then step (Give x) next s = refl
-outcome-then step (Ask call more) next s = outcome-then step (more (step call s).0) next (step call s).1
-outcome-then step (Grow refused found) next s = outcome-then step found next s
 
 calls-first : {A B : Type 0} (P : Call → Type 0) (first : Program A) (next : A → Program B) → EachCall P (first >>= next) → EachCall P first
 calls-first P (Give x) next each = tt
