@@ -14,7 +14,6 @@ use Rattle.mdl_lines.specs.Sessions.{IsScriptSession}
 use Rattle.mdl_stmt.specs.Endings.{Pause}
 use Rattle.mdl_stmt.specs.Playing.{going_on, starting}
 use Rattle.mdl_stmt.specs.Sessions.{Session}
-use Rattle.mdl_script.specs.declared.told.Told.{Told}
 use Rattle.mdl_script.specs.Worlds.{World, create_at, create_under, creating, first_world, played, player_at}
 use Rattle.mdl_script.proofs.HallLemmas.{SpeakForAll}
 use Rattle.mdl_script.proofs.SettleLemmas.{read-sessions}
@@ -23,7 +22,7 @@ use Rattle.mdl_script_laws.specs.NoDeadlocks.{NoDeadlockStands}
 use Rattle.mdl_script_laws.proofs.NoDeadlockCalls.{IsCalm, IsQuiet}
 use Rattle.mdl_script_laws.proofs.NoDeadlockPrograms.{calm-quiet}
 use Rattle.mdl_script_laws.proofs.NoDeadlockRows.{IsCalmFor, rows_calm}
-use Rattle.mdl_script_laws.proofs.ScriptLemmas.{Keeps, kept-lines}
+use Rattle.mdl_script_laws.proofs.ScriptLemmas.{Anything, Keeps, kept-lines}
 
 -- a space has no more sessions than searches are made at once, and there is no deadlock in it
 abbrev IsCalmSpace : Core → Type 0
@@ -52,10 +51,6 @@ calm-calls : (who : ℕ) (program : Program (Unit {0})) (core : Core) → IsScri
     → IsCalmSpace core → IsCalmSpace (outcome_of outcome program core).1
 calm-calls who program core is speaks made quiet calm =
     calm-from (outcome_of outcome program core).1 who (calm-quiet who program made quiet core (calm-by core who is speaks calm))
-
--- whatever is told
-abbrev Anything : Told → Type 0
-Anything told = Unit {0}
 
 keeps-calm : Keeps (λ world. IsCalmSpace world.core) Anything
 keeps-calm = record {

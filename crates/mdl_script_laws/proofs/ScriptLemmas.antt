@@ -84,6 +84,10 @@ pub record Keeps (I : World → Type 0) (T : Told → Type 0) : Type 0 where
   pub goes : (who : ℕ) (world : World) → first_settled world ≡ Some who → IsStaffed world → I world → I (going who world).world × All T (going who world).told
   pub ends : (who : ℕ) (world : World) → IsScriptSession who → IsStaffed world → I world → I (timed_out who world)
 
+-- whatever is told
+abbrev pub Anything : Told → Type 0
+Anything told = Unit {0}
+
 -- it is so, and the world is staffed
 pub record IsKept (I : World → Type 0) (world : World) : Type 0 where
   pub staffed : IsStaffed world
