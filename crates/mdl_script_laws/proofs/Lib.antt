@@ -1,5 +1,6 @@
 pub mod EarlyPlays
 pub mod EarlyRows
+pub mod ListLemmas
 pub mod NoDeadlockCalls
 pub mod NoDeadlockContexts
 pub mod NoDeadlockPrograms

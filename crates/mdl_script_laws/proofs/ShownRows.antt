@@ -27,7 +27,7 @@ use Rattle.mdl_stmt.specs.Rows as row
 use Rattle.mdl_stmt.specs.States.{Locked, State, has_locked, opened, savepoint_mark, unlocked, written}
 use Rattle.mdl_stmt.specs.Statements as does
 use Rattle.mdl_script_laws.specs.Shown.{leaves_transaction}
-use Rattle.mdl_script_laws.proofs.ShownCalls.{filter-among, only-one}
+use Rattle.mdl_script_laws.proofs.ListLemmas.{filter-among, only-one}
 use Rattle.mdl_script_laws.proofs.ShownPlays.{IsFair, IsUnlocked, Tells, seen_under}
 use Rattle.mdl_script_laws.proofs.ShownPoints.{shown_as}
 

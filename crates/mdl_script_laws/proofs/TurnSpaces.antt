@@ -1,10 +1,12 @@
 -- After each line a session's statement waits exactly where the session has a wait in the space.
-use Rattle.std.proofs.Common.{◌≡◌, ◌≢◌, ◌⊎◌, inl, inr, ℕ, zero, suc, ◌<◌, ◌≤◌, ◌+◌, ◌-◌, Bool, true, false, cond, ◌∷◌, filter, take, Option, Some, None, Ok, Err, refl, subst, ap, ◌∙◌, sym, arith}
+use Rattle.std.proofs.Common.{◌≡◌, ◌≢◌, ◌⊎◌, inl, inr, ℕ, ◌-◌, Bool, true, false, take, Option, Some, None, Ok, Err, refl, subst, ap, ◌∙◌, sym, arith}
 use Rattle.std.specs.Prelude.{codes, if◌then◌else◌, is_some, not}
-use Rattle.std.specs.List.{find, range_with_len}
+use Rattle.std.specs.List.{Contains, range_with_len}
 use Rattle.std.proofs.Math.Dec.{eqb}
 use Rattle.std.proofs.lemmas.Bool.Decides.{eqb_tells}
 use Rattle.std.proofs.lemmas.List.{get_or-replicate}
+use Rattle.std.proofs.lemmas.List.Elements.{All-contains, Contains-from_at}
+use Rattle.std.proofs.lemmas.List.FromFn.{get_or-range_with_len, length-range_with_len}
 use Rattle.mdl_book.proofs.TicketLemmas.{find-passes}
 use Rattle.mdl_key.specs.Keys.{KeyName, schema_key}
 use Rattle.mdl_calls.specs.declared.answers.Settled.{Settled}
@@ -38,9 +40,10 @@ use Rattle.mdl_script.specs.Worlds.{Player, World, create_at, create_under, crea
 use Rattle.mdl_script.proofs.SettleLemmas.{read-sessions}
 use Rattle.mdl_script.proofs.SoundLemmas.{IsStaffed, first-session, made-creating, speak-empty, staffed-first}
 use Rattle.mdl_script_laws.specs.Turns.{StatementsWaitInTheSpace}
+use Rattle.mdl_script_laws.proofs.ListLemmas.{filter-among}
 use Rattle.mdl_script_laws.proofs.OutcomeLemmas.{joins-outcome, outcome-then}
 use Rattle.mdl_script_laws.proofs.ScriptLemmas.{Anything, IsKept, Keeps, kept-lines, new-session, plays-each}
-use Rattle.mdl_script_laws.proofs.TurnLemmas.{found-waits, turns-suffice}
+use Rattle.mdl_script_laws.proofs.TurnLemmas.{found-waits, nobody-left}
 use Rattle.mdl_script_laws.proofs.TurnPlays.{polls-settled, settled-wait}
 use Rattle.mdl_script_laws.proofs.TurnTies.{IsTied, PausesTied, tied-closing, tied-play}
 use Rattle.mdl_script_laws.proofs.TurnTracks.{Tracks, call-waits, others-outcome, tracks-outcome, wait_after}
@@ -312,26 +315,6 @@ seen-first who is =
 
 -- ---- scripts
 
--- it isn't the first one, which fails too
-unfound-here : (p : ℕ → Bool) (a k : ℕ) → p a ≡ false → (a ≢ k → p k ≡ false) → ((eqb a k ≡ true) × (a ≡ k)) ⊎ ((eqb a k ≡ false) × (a ≢ k)) → p k ≡ false
-unfound-here p a k fails rest (inl same) = ap p (sym same.1) ∙ fails
-unfound-here p a k fails rest (inr other) = rest other.1
-
--- what isn't found among those that pass a test
-unfound : (p q : ℕ → Bool) (a n k : ℕ) → find p (filter q (range_with_len a n)) ≡ None → a ≤ k → k < a + n → q k ≡ true → p k ≡ false
-unfound p q a zero k none least most passes = absurd (omega (arith, least, most))
-unfound p q a (suc n) k none least most passes =
-    let rest = filter q (range_with_len (a + 1) n) in
-    let later : find p rest ≡ None → a ≢ k → p k ≡ false = λ without other. unfound p q (a + 1) n k without (omega (arith, least, other))
-    (omega (arith, most)) passes in
-    elim (q a) as (λ b. q a ≡ b → find p (cond b (a ∷ rest) rest) ≡ None → p k ≡ false) [
-      | true ↦ λ here. elim (p a) as (λ c. p a ≡ c → cond c (Some a) (find p rest) ≡ None → p k ≡ false) [
-        | true ↦ λ its found. cc
-        | false ↦ λ fails without. unfound-here p a k fails (later without) (eqb_tells a k)
-      ] refl
-      | false ↦ λ fails without. later without (λ same. cc)
-    ] refl none
-
 is_some-own : (seat : SeatView) → is_some (own_of seat).wait ≡ is_some seat.wait
 is_some-own seat = elim seat.wait as (λ wait. is_some (own_of (record seat { wait = wait })).wait ≡ is_some wait) [ None ↦ refl | Some wait ↦ refl ]
 
@@ -346,9 +329,12 @@ open-same here seat waits is tied unsettled =
     subst (λ h. waits ≡ is_open (if h then seat.wait else None)) (sym is)
     (open-wait seat.wait waits (tied ∙ is_some-own seat) (subst (λ h. waits ≡ true → is_closed (if h then seat.wait else None) ≡ false) is unsettled))
 
-settled-none : (world : World) (who : ℕ) → IsScriptSession who → is_waiting world who ≡ true → first_settled world ≡ None → has_settled world.core who ≡ false
+-- who waits is among those who do
+waits-among : (world : World) (who : ℕ) → IsScriptSession who → is_waiting world who ≡ true → Contains (waiting_in world) who
 unfolding sessions
-settled-none world who is waits none = unfound (has_settled world.core) (is_waiting world) 1 64 who none is.0 (omega (arith, is.1)) waits
+waits-among world who is waits =
+    filter-among (is_waiting world) (range_with_len 1 64) who waits (Contains-from_at (range_with_len 1 64) who
+    (who - 1, omega (arith, is.0, is.1, length-range_with_len 1 64), λ d. get_or-range_with_len 1 64 (who - 1) d (omega (arith, is.0, is.1)) ∙ omega (arith, is.0)))
 
 -- a statement waits exactly where the session has a wait that isn't settled
 pub waits-in-space : StatementsWaitInTheSpace
@@ -367,4 +353,5 @@ waits-in-space text lines read n who is = open-same (has_session who world.core)
   tied = (kept.so who is).left
 
   unsettled : is_waiting world who ≡ true → has_settled world.core who ≡ false
-  unsettled waits = settled-none world who is waits (turns-suffice text lines read n)
+  unsettled waits =
+      All-contains (λ w. has_settled world.core w ≡ false) (waiting_in world) who (nobody-left text lines read n) (waits-among world who is waits)
