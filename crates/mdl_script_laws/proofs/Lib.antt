@@ -9,6 +9,7 @@ pub mod NoDeadlockWorlds
 pub mod OrderlyPlays
 pub mod OutcomeLemmas
 pub mod RefusedWorlds
+pub mod RowPauses
 pub mod ScriptLemmas
 pub mod ShownAsking
 pub mod ShownCalls

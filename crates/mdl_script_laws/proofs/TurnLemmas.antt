@@ -97,7 +97,7 @@ pauses-started line world =
     let session = (player_at line.session world).session in
     let most = locks_of line.statement in
     each-outcome (PausesWithin most) outcome (starting line.statement session) world.core
-    (within-play most most (row_of line.statement) (mark_of session.context.kept) session (omega arith) (few-locks line.statement).0)
+    (within-play most (row_of line.statement) (mark_of session.context.kept) session (few-locks line.statement).0)
 
 pub bounded-started : (line : Line) (world : World) (dues : List Due) → IsRead line → IsBounded dues world
     → IsBounded (set dues (line.session - 1) (record { line = line.number; locks = locks_of line.statement })) (started line world).world
