@@ -87,12 +87,7 @@ checks_bind P Q R T (Room rest) next checks early late = checks_bind P Q R T res
 checks_bind P Q R T (Look rest) next checks early late = λ state. checks_bind P Q R T (rest state) next (checks state) early late
 checks_bind P Q R T (Here rest) next checks early late = λ mark. checks_bind P Q R T (rest mark) next (checks mark) early late
 checks_bind P Q R T (Read id rest) next checks early late = λ standing. checks_bind P Q R T (rest standing) next (checks standing) early late
-checks_bind P Q R T (Set change rest) next checks early late = late_bind Q T rest next checks late
-checks_bind P Q R T (Acquire wish rest) next checks early late = λ id. late_bind Q T (rest id) next (checks id) late
-checks_bind P Q R T (Give_up which rest) next checks early late = late_bind Q T rest next checks late
-checks_bind P Q R T (Release id rest) next checks early late = late_bind Q T rest next checks late
-checks_bind P Q R T (Redefine id change rest) next checks early late = late_bind Q T rest next checks late
-checks_bind P Q R T (Kill target rest) next checks early late = late_bind Q T rest next checks late
+checks_bind P Q R T first next checks early late = late_bind Q T first next checks late
 
 -- what never fails so fails so first, if ever
 late_first : {A : Type 0} (P : A → Type 0) (row : Row A) → FailsLate P row → ChecksFirst P P row
@@ -102,12 +97,7 @@ late_first P (Room rest) so = late_first P rest so
 late_first P (Look rest) so = λ state. late_first P (rest state) (so state)
 late_first P (Here rest) so = λ mark. late_first P (rest mark) (so mark)
 late_first P (Read id rest) so = λ standing. late_first P (rest standing) (so standing)
-late_first P (Set change rest) so = so
-late_first P (Acquire wish rest) so = so
-late_first P (Give_up which rest) so = so
-late_first P (Release id rest) so = so
-late_first P (Redefine id change rest) so = so
-late_first P (Kill target rest) so = so
+late_first P row so = so
 
 -- ---- small rows
 

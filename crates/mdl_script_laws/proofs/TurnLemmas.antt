@@ -114,6 +114,12 @@ found-waits world who found =
     let P : ℕ → Type 0 = λ w. is_waiting world w ≡ true in
     All-find P (has_settled world.core) (waiting_in world) who (waiting-sessions P world (λ w session waits. waits)) found
 
+pub found-settled : (world : World) (who : ℕ) → IsStaffed world → first_settled world ≡ Some who
+    → has_settled world.core (player_at who world).session.context.who ≡ true
+found-settled world who staffed found =
+    subst (λ w. has_settled world.core w ≡ true) (sym (staffed.named who (first-session world who found)))
+    (find-passes (has_settled world.core) (waiting_in world) who found)
+
 -- so it has something left
 something-left : (most : ℕ) (left : Option Left) → is_some left ≡ true → IsLeftWithin most left
     → (its : Left) × (fewer : ℕ) × (left ≡ Some its) × (most ≡ suc fewer) × ((id : ℕ) → AsksForAtMost fewer (its.rest id))
@@ -151,11 +157,8 @@ turn-going world dues who found bounded = record {
   fewer : ℕ
   fewer = its.1
 
-  settled : has_settled world.core player.session.context.who ≡ true
-  settled = subst (λ w. has_settled world.core w ≡ true) (sym (bounded.staffed.named who is)) (find-passes (has_settled world.core) (waiting_in world) who found)
-
   pauses : PausesWithin fewer (outcome_of outcome (going_on player.session) world.core).0
-  pauses = within-going fewer player.session its.0 world.core its.2 its.4 settled
+  pauses = within-going fewer player.session its.0 world.core its.2 its.4 (found-settled world who bounded.staffed found)
 
   among : who - 1 < length dues
   among = let all = bounded.all in omega (arith, is.0, is.1, all)

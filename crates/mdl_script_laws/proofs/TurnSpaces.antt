@@ -7,7 +7,6 @@ use Rattle.std.proofs.lemmas.Bool.Decides.{eqb_tells}
 use Rattle.std.proofs.lemmas.List.{get_or-replicate}
 use Rattle.std.proofs.lemmas.List.Elements.{All-contains, Contains-from_at}
 use Rattle.std.proofs.lemmas.List.FromFn.{get_or-range_with_len, length-range_with_len}
-use Rattle.mdl_book.proofs.TicketLemmas.{find-passes}
 use Rattle.mdl_key.specs.Keys.{KeyName, schema_key}
 use Rattle.mdl_calls.specs.declared.answers.Settled.{Settled}
 use Rattle.mdl_calls.specs.declared.answers.Settled.TheVariants as settled_as
@@ -43,7 +42,7 @@ use Rattle.mdl_script_laws.specs.Turns.{StatementsWaitInTheSpace}
 use Rattle.mdl_script_laws.proofs.ListLemmas.{filter-among}
 use Rattle.mdl_script_laws.proofs.OutcomeLemmas.{joins-outcome, outcome-then}
 use Rattle.mdl_script_laws.proofs.ScriptLemmas.{Anything, IsKept, Keeps, kept-lines, new-session, plays-each}
-use Rattle.mdl_script_laws.proofs.TurnLemmas.{found-waits, nobody-left}
+use Rattle.mdl_script_laws.proofs.TurnLemmas.{found-settled, found-waits, nobody-left}
 use Rattle.mdl_script_laws.proofs.TurnPlays.{polls-settled, settled-wait}
 use Rattle.mdl_script_laws.proofs.TurnTies.{IsTied, PausesTied, tied-closing, tied-play}
 use Rattle.mdl_script_laws.proofs.TurnTracks.{Tracks, call-waits, others-outcome, tracks-outcome, wait_after}
@@ -235,10 +234,9 @@ seen-going who world found staffed seen =
           let its = left-some player.session.left waits in
           let here = seen who is in
           let speaks : SpeaksFor world.core player.session.context.who = subst (λ k. SpeaksFor world.core k) (sym named) (staffed.speaks who is.0 is.1) in
-          let settled : has_settled world.core player.session.context.who ≡ true =
-          subst (λ k. has_settled world.core k ≡ true) (sym named) (find-passes (has_settled world.core) (waiting_in world) who found) in
           subst (λ k. ComesTied k (going_on player.session) world.core) named
-          (tied-going_on player.session its.0 world.core its.1 speaks (here.wait (sym here.left ∙ waits)) settled)
+          (tied-going_on player.session its.0 world.core its.1 speaks (here.wait (sym here.left ∙ waits))
+          (found-settled world who staffed found))
 
 -- ---- lines
 
