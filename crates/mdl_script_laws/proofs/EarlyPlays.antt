@@ -92,7 +92,7 @@ late_closing ending mark session so =
 -- ---- what never fails so
 
 follows_late : (asked : Row Reply) → FailsLate IsLate asked → Follows (FailsLate IsLate) IsLateEnding asked
-follows_late (row.Give reply) so = so
+follows_late (row.Set change rest) so = so.1
 follows_late _ so = so
 
 rules_late : (mark : Mark) → Rules IsLatePause mark IsLateEnding (FailsLate IsLate)

@@ -10,6 +10,7 @@ pub mod OrderlyPlays
 pub mod OutcomeLemmas
 pub mod RefusedWorlds
 pub mod RowPauses
+pub mod RowRules
 pub mod ScriptLemmas
 pub mod ShownAsking
 pub mod ShownCalls
