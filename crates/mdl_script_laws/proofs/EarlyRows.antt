@@ -50,10 +50,6 @@ IsLate _ = Unit {0}
 
 -- ---- one row after another
 
-late_bind : {A B : Type 0} (P : A → Type 0) (Q : B → Type 0) (first : Row A) (next : A → Row B) → FailsLate P first → ((x : A) → P x → FailsLate Q (next x))
-    → FailsLate Q (first >>= next)
-late_bind P Q first next so later = keeps-bind IsOther P Q first next so later
-
 checks_bind : {A B : Type 0} (P Q : A → Type 0) (R T : B → Type 0) (first : Row A) (next : A → Row B) → ChecksFirst P Q first
     → ((x : A) → P x → ChecksFirst R T (next x)) → ((x : A) → Q x → FailsLate T (next x)) → ChecksFirst R T (first >>= next)
 checks_bind P Q R T (Give x) next checks early late = early x checks
@@ -62,7 +58,7 @@ checks_bind P Q R T (Room rest) next checks early late = checks_bind P Q R T res
 checks_bind P Q R T (Look rest) next checks early late = λ state. checks_bind P Q R T (rest state) next (checks state) early late
 checks_bind P Q R T (Here rest) next checks early late = λ mark. checks_bind P Q R T (rest mark) next (checks mark) early late
 checks_bind P Q R T (Read id rest) next checks early late = λ standing. checks_bind P Q R T (rest standing) next (checks standing) early late
-checks_bind P Q R T first next checks early late = late_bind Q T first next checks late
+checks_bind P Q R T first next checks early late = keeps-bind IsOther Q T first next checks late
 
 -- what never fails so fails so first, if ever
 late_first : {A : Type 0} (P : A → Type 0) (row : Row A) → FailsLate P row → ChecksFirst P P row
@@ -74,8 +70,6 @@ late_first P (Here rest) so = λ mark. late_first P (rest mark) (so mark)
 late_first P (Read id rest) so = λ standing. late_first P (rest standing) (so standing)
 late_first P row so = so
 
--- ---- small rows
-
 -- a check changes nothing
 checks_check : (test : Bool) (number : ErrorNumber) → ChecksFirst Any Never (check test number)
 checks_check true number = tt
@@ -85,7 +79,7 @@ checks_check false number = tt
 
 late_save : (name : List ℕ) → FailsLate IsLate (rows.save name)
 late_save name = λ state.
-    late_bind Any IsLate (if state.is_open then rows.save_here name else nothing) (λ _. Give reply.Ok)
+    keeps-bind IsOther Any IsLate (if state.is_open then rows.save_here name else nothing) (λ _. Give reply.Ok)
     (keeps-either IsOther Any state.is_open (rows.save_here name) nothing (λ _. ((λ s u. u), tt)) tt) (λ _ _. tt)
 
 checks_back : (name : List ℕ) (mark : Option Mark) → ChecksFirst IsLate IsLate (rows.go_back name mark)
@@ -110,7 +104,7 @@ with_table shown table standing = shown ++ record { key = table; version = stand
 
 late_show : (shown : List TableShown) (table : KeyName) (ticket : ℕ) → FailsLate Any (rows.show shown table ticket)
 late_show shown table ticket =
-    late_bind Any Any (rows.exists ticket) (λ standing. room >> Give (with_table shown table standing))
+    keeps-bind IsOther Any Any (rows.exists ticket) (λ standing. room >> Give (with_table shown table standing))
     (late_exists ticket) (λ standing _. tt)
 
 checks_show : (shown : List TableShown) (table : KeyName) (ticket : ℕ) → ChecksFirst Any Never (rows.show shown table ticket)
@@ -122,7 +116,7 @@ checks_show shown table ticket =
 late_shows : (shown : List TableShown) (tables : List KeyName) → FailsLate IsLate (rows.show_all rows.lock_to_read shown tables)
 late_shows shown [] = tt
 late_shows shown (table ∷ tables) = λ ticket.
-    late_bind Any IsLate (rows.show shown table ticket) (λ more. rows.show_all rows.lock_to_read more tables) (late_show shown table ticket)
+    keeps-bind IsOther Any IsLate (rows.show shown table ticket) (λ more. rows.show_all rows.lock_to_read more tables) (late_show shown table ticket)
     (λ more _. late_shows more tables)
 
 checks_among : (found : Option Locked) → ChecksFirst Any Never (rows.among_locked found)
@@ -155,11 +149,11 @@ checks_select false tables = late_first IsLate (rows.show_all rows.lock_to_read 
 
 late_wrote : FailsLate IsLate rows.wrote
 late_wrote = λ state.
-    late_bind Any IsLate (if state.is_open then set written else rows.commit_writes) (λ _. Give reply.Ok)
+    keeps-bind IsOther Any IsLate (if state.is_open then set written else rows.commit_writes) (λ _. Give reply.Ok)
     (keeps-either IsOther Any state.is_open (set written) rows.commit_writes ((λ s u. u), tt) (λ _. ((λ s u. u), tt))) (λ _ _. tt)
 
 late_write : (table : KeyName) (priority : Priority) → FailsLate IsLate (rows.lock_and_write table priority)
-late_write table priority = λ ticket. late_bind Any IsLate (rows.exists ticket) (λ _. rows.wrote) (late_exists ticket) (λ _ _. late_wrote)
+late_write table priority = λ ticket. keeps-bind IsOther Any IsLate (rows.exists ticket) (λ _. rows.wrote) (late_exists ticket) (λ _ _. late_wrote)
 
 checks_no_read_lock : ChecksFirst Any Never rows.no_read_lock
 checks_no_read_lock = λ state. checks_check (not (is_some state.read_lock)) ConflictingReadLock
@@ -208,14 +202,14 @@ checks_ddl_first rest so = checks_bind Any Any IsLate IsLate rows.ddl (λ _. res
 -- ---- all statements
 
 late_commit_first : (rest : Row Reply) → FailsLate IsLate rest → FailsLate IsLate (rows.commit_first rest)
-late_commit_first rest so = late_bind Any IsLate rows.commit (λ _. rest) late_commit (λ _ _. so)
+late_commit_first rest so = keeps-bind IsOther Any IsLate rows.commit (λ _. rest) late_commit (λ _ _. so)
 
 -- each fails by an early error only before it changes anything
 pub statements_check : (asked : Statement) → ChecksFirst IsLate IsLate (row_of asked)
 statements_check statement.Begin = late_first IsLate (rows.commit_first rows.begin_after_commit) (late_commit_first rows.begin_after_commit (keeps-begin IsOther (λ number other. other) IsLate tt))
 statements_check statement.Commit = late_first IsLate (rows.commit_first (Give reply.Ok)) (late_commit_first (Give reply.Ok) tt)
 statements_check statement.Rollback =
-    late_first IsLate (rows.rollback >> Give reply.Ok) (late_bind Any IsLate rows.rollback (λ _. Give reply.Ok)
+    late_first IsLate (rows.rollback >> Give reply.Ok) (keeps-bind IsOther Any IsLate rows.rollback (λ _. Give reply.Ok)
     (keeps-rollback IsOther (λ number other. other)) (λ _ _. tt))
 statements_check (statement.Savepoint name) = late_first IsLate (rows.save name) (late_save name)
 statements_check (statement.RollbackTo name) = λ state. checks_back name (savepoint_mark name state.savepoints)

@@ -21,8 +21,8 @@ use Rattle.mdl_stmt.specs.Rows as row
 use Rattle.mdl_stmt.specs.States.{has_locked, savepoint_mark, written}
 use Rattle.mdl_stmt.specs.Statements as does
 use Rattle.mdl_script_laws.specs.Shown.{leaves_transaction}
-use Rattle.mdl_script_laws.proofs.RowRules.{Any, KeepsTo, keeps-begin, keeps-check, keeps-commit, keeps-create, keeps-create_schema, keeps-drop, keeps-rollback, keeps-then}
 use Rattle.mdl_script_laws.proofs.ListLemmas.{filter-among, only-one}
+use Rattle.mdl_script_laws.proofs.RowRules.{Any, KeepsTo, keeps-begin, keeps-check, keeps-commit, keeps-create, keeps-create_schema, keeps-drop, keeps-rollback, keeps-then}
 use Rattle.mdl_script_laws.proofs.ShownPlays.{IsFair, Tells, seen_under}
 use Rattle.mdl_script_laws.proofs.ShownPoints.{shown_as}
 
@@ -115,17 +115,13 @@ module _ (old : TableShown → Type 0) (live : Bool) where
 
 -- ---- all other statements
 
--- what a row gives in the end is so, and it locks no tables for the session
-abbrev IsTidy : {A : Type 0} → (A → Type 0) → Row A → Type 0
-IsTidy P row = KeepsTo Any P row
-
 -- a reply that shows no table
 abbrev ShowsNone : Reply → Type 0
 ShowsNone reply = (x : TableShown) → Tells reply x → ⊥
 
 -- where nothing has to stay, a row that shows no table may ask for anything
 fair-tidy : (old : TableShown → Type 0) (locks : List (ℕ × KeyName)) (seen : List TableShown) (asked : Row Reply) → ((x : TableShown) → old x → ⊥)
-    → IsTidy ShowsNone asked → IsFair old true locks seen asked
+    → KeepsTo Any ShowsNone asked → IsFair old true locks seen asked
 fair-tidy old locks seen (row.Give reply) empty tidy = λ x tell. absurd (tidy x tell)
 fair-tidy old locks seen (row.Fail number) empty tidy = tt
 fair-tidy old locks seen (row.Room rest) empty tidy = fair-tidy old locks seen rest empty tidy
@@ -140,20 +136,16 @@ fair-tidy old locks seen (row.Read id rest) empty tidy = λ standing. fair-tidy 
 fair-tidy old locks seen (row.Redefine id change rest) empty tidy = ((λ x is lives. empty x is), fair-tidy old [] [] rest empty tidy)
 fair-tidy old locks seen (row.Kill target rest) empty tidy = fair-tidy old locks seen rest empty tidy
 
--- something is done, and then this follows
-tidy-then : {B : Type 0} (Q : B → Type 0) (first : Act) (next : Row B) → IsTidy Any first → IsTidy Q next → IsTidy Q (first >> next)
-tidy-then Q first next tidy later = keeps-then Any Q first next tidy later
-
-tidy-commit : IsTidy Any does.commit
+tidy-commit : KeepsTo Any Any does.commit
 tidy-commit = keeps-commit Any (λ _ _. tt)
 
-tidy-ddl : IsTidy Any does.ddl
+tidy-ddl : KeepsTo Any Any does.ddl
 tidy-ddl =
-    tidy-then Any does.no_read_lock (does.no_locked_tables >> does.commit)
+    keeps-then Any Any does.no_read_lock (does.no_locked_tables >> does.commit)
     (λ state. keeps-check Any (not (is_some state.read_lock)) ConflictingReadLock tt)
-    (tidy-then Any does.no_locked_tables does.commit (λ state. keeps-check Any (not (has_locked state.locked)) ActiveLocks tt) tidy-commit)
+    (keeps-then Any Any does.no_locked_tables does.commit (λ state. keeps-check Any (not (has_locked state.locked)) ActiveLocks tt) tidy-commit)
 
-tidy-back : (name : List ℕ) (mark : Option Mark) → IsTidy ShowsNone (does.go_back name mark)
+tidy-back : (name : List ℕ) (mark : Option Mark) → KeepsTo Any ShowsNone (does.go_back name mark)
 tidy-back name None = tt
 tidy-back name (Some mark) = ((λ s u. u), λ x tell. absurd tell)
 
@@ -161,25 +153,25 @@ tidy-back name (Some mark) = ((λ s u. u), λ x tell. absurd tell)
 pub fair-any : (old : TableShown → Type 0) (s : Statement) → ((x : TableShown) → old x → ⊥) → IsFair old true [] [] (does.row_of s)
 fair-any old statement.Begin none =
     fair-tidy old [] [] (does.row_of statement.Begin) none
-    (tidy-then ShowsNone does.commit does.begin_after_commit tidy-commit (keeps-begin Any (λ _ _. tt) ShowsNone (λ x tell. absurd tell)))
+    (keeps-then Any ShowsNone does.commit does.begin_after_commit tidy-commit (keeps-begin Any (λ _ _. tt) ShowsNone (λ x tell. absurd tell)))
 fair-any old statement.Commit none =
-    fair-tidy old [] [] (does.row_of statement.Commit) none (tidy-then ShowsNone does.commit (row.Give reply.Ok) tidy-commit (λ x tell. absurd tell))
+    fair-tidy old [] [] (does.row_of statement.Commit) none (keeps-then Any ShowsNone does.commit (row.Give reply.Ok) tidy-commit (λ x tell. absurd tell))
 fair-any old statement.Rollback none =
-    fair-tidy old [] [] (does.row_of statement.Rollback) none (tidy-then ShowsNone does.rollback (row.Give reply.Ok)
+    fair-tidy old [] [] (does.row_of statement.Rollback) none (keeps-then Any ShowsNone does.rollback (row.Give reply.Ok)
     (keeps-rollback Any (λ _ _. tt)) (λ x tell. absurd tell))
 fair-any old (statement.RollbackTo name) none = fair-tidy old [] [] (does.row_of (statement.RollbackTo name)) none
     (λ state. tidy-back name (savepoint_mark name state.savepoints))
 fair-any old (statement.CreateTable table columns) none =
     fair-tidy old [] [] (does.row_of (statement.CreateTable table columns)) none
-    (tidy-then ShowsNone does.ddl (does.create_after_commit table columns) tidy-ddl
+    (keeps-then Any ShowsNone does.ddl (does.create_after_commit table columns) tidy-ddl
     (keeps-create Any (λ _ _. tt) ShowsNone (λ x tell. absurd tell) table columns))
 fair-any old (statement.CreateSchema name) none =
     fair-tidy old [] [] (does.row_of (statement.CreateSchema name)) none
-    (tidy-then ShowsNone does.ddl (does.create_schema_after_commit name) tidy-ddl
+    (keeps-then Any ShowsNone does.ddl (does.create_schema_after_commit name) tidy-ddl
     (keeps-create_schema Any (λ _ _. tt) ShowsNone (λ x tell. absurd tell) name))
 fair-any old (statement.DropTables tables) none =
     fair-tidy old [] [] (does.row_of (statement.DropTables tables)) none
-    (tidy-then ShowsNone does.ddl (does.drop_after_commit tables) tidy-ddl (keeps-drop Any (λ _ _. tt) ShowsNone (λ x tell. absurd tell) tables))
+    (keeps-then Any ShowsNone does.ddl (does.drop_after_commit tables) tidy-ddl (keeps-drop Any (λ _ _. tt) ShowsNone (λ x tell. absurd tell) tables))
 fair-any old (statement.Savepoint name) none = fair-leaving old true (statement.Savepoint name) refl
 fair-any old (statement.Select tables) none = fair-leaving old true (statement.Select tables) refl
 fair-any old (statement.Write table priority) none = fair-leaving old true (statement.Write table priority) refl
