@@ -206,7 +206,9 @@ late_commit_first rest so = keeps-bind IsOther Any IsLate rows.commit (λ _. res
 
 -- each fails by an early error only before it changes anything
 pub statements_check : (asked : Statement) → ChecksFirst IsLate IsLate (row_of asked)
-statements_check statement.Begin = late_first IsLate (rows.commit_first rows.begin_after_commit) (late_commit_first rows.begin_after_commit (keeps-begin IsOther (λ number other. other) IsLate tt))
+statements_check statement.Begin =
+    late_first IsLate (rows.commit_first rows.begin_after_commit) (late_commit_first rows.begin_after_commit
+    (keeps-begin IsOther (λ number other. other) IsLate tt))
 statements_check statement.Commit = late_first IsLate (rows.commit_first (Give reply.Ok)) (late_commit_first (Give reply.Ok) tt)
 statements_check statement.Rollback =
     late_first IsLate (rows.rollback >> Give reply.Ok) (keeps-bind IsOther Any IsLate rows.rollback (λ _. Give reply.Ok)

@@ -15,7 +15,8 @@ outcome-then step (Ask call more) next s = outcome-then step (more (step call s)
 outcome-then step (Grow refused found) next s = outcome-then step found next s
 
 -- what all replies are, that of the outcome is
-pub each-outcome : {S A : Type 0} (P : A → Type 0) (step : Call → S → Answer × S) (program : Program A) (s : S) → Each P program → P (outcome_of step program s).0
+pub each-outcome : {S A : Type 0} (P : A → Type 0) (step : Call → S → Answer × S) (program : Program A) (s : S) → Each P program
+    → P (outcome_of step program s).0
 each-outcome P step (Give x) s each = each
 each-outcome P step (Ask call next) s each = each-outcome P step (next (step call s).0) (step call s).1 (each (step call s).0)
 each-outcome P step (Grow refused found) s each = each-outcome P step found s each.1
