@@ -1,8 +1,8 @@
 -- A statement that ends by an early error has changed nothing, and none that has waited ends so.
-use Rattle.std.proofs.Common.{◌≡◌, ℕ, true, false, Option, Some, None, Ok, Err, List, [], inl, inr, refl, sym, ap, subst, ◌∙◌}
+use Rattle.std.proofs.Common.{◌≡◌, ℕ, true, false, Option, Some, None, List, [], inl, inr, refl, sym, ap, subst, ◌∙◌}
 use Rattle.std.proofs.lemmas.Bool.{false≢true}
 use Rattle.mdl_defs.specs.declared.standing.Standing.{Standing}
-use Rattle.mdl_calls.specs.Words.{Answer, Reads, Changed, Program, Give, ◌>>=◌, Each, Read_definition, Runs}
+use Rattle.mdl_calls.specs.Words.{Answer, Reads, Program, Give, ◌>>=◌, Each, Read_definition, Runs}
 use Rattle.mdl_calls.specs.declared.answers.Held.{Held}
 use Rattle.mdl_calls.specs.declared.answers.Settled.{Settled}
 use Rattle.mdl_calls.specs.declared.answers.Settled.TheVariants as settled
@@ -15,17 +15,13 @@ use Rattle.mdl_core.specs.Cores.{Core}
 use Rattle.mdl_context.specs.declared.context_error.ContextError.{ContextError}
 use Rattle.mdl_context.specs.declared.context_error.ContextError.TheVariants.{Space}
 use Rattle.mdl_context.specs.declared.kept.Kept.{Kept}
-use Rattle.mdl_context.specs.declared.request.Acquire.{Acquire}
-use Rattle.mdl_context.specs.declared.request.Acquire.TheVariants as acquire
 use Rattle.mdl_context.specs.declared.request.Mark.{Mark}
 use Rattle.mdl_context.specs.declared.request.Resume.{Resume}
-use Rattle.mdl_context.specs.declared.request.Resume.TheVariants as resume
 use Rattle.mdl_context.specs.Contexts.{ContextView, mark_of, without}
 use Rattle.mdl_context.specs.Gains.{refusal_of}
-use Rattle.mdl_context.specs.Releases.{giving_up, releasing}
-use Rattle.mdl_context.specs.Requests.{Outcome, acquiring}
-use Rattle.mdl_context.specs.Waits.{giving_up_wait, resuming}
-use Rattle.mdl_context.specs.Wishes.{Wish}
+use Rattle.mdl_context.specs.Releases.{giving_up}
+use Rattle.mdl_context.specs.Requests.{Outcome}
+use Rattle.mdl_context.specs.Waits.{resuming}
 use Rattle.mdl_context.proofs.BeyondLemmas.{without-none}
 use Rattle.mdl_stmt.specs.declared.ending.Ending.{Ending}
 use Rattle.mdl_stmt.specs.declared.ending.Ending.TheVariants.{Answers, Misses, Falls, Starves}
@@ -41,6 +37,7 @@ use Rattle.mdl_stmt.specs.Statements.{row_of}
 use Rattle.mdl_syntax.specs.declared.statement.Statement.{Statement}
 use Rattle.mdl_script_laws.specs.RefusalsFirst.{IsTidy, EarlyErrorsChangeNothing, is_early}
 use Rattle.mdl_script_laws.proofs.EarlyRows.{ChecksFirst, FailsLate, IsLate, statements_check}
+use Rattle.mdl_script_laws.proofs.RowPauses.{Follows, Rules, so-play, so-resumed}
 use Rattle.mdl_script_laws.proofs.TidyLemmas.{none-gone}
 
 -- what is left of a statement never fails by an early error
@@ -92,80 +89,29 @@ late_closing ending mark session so =
     (λ outcome. Give (ended ending (record { context = outcome.1; state = state_after ending session.state; left = None })))
     (λ outcome. late_ended ending (record { context = outcome.1; state = state_after ending session.state; left = None }) so)
 
--- ---- locks
-
-late_untold : (mark : Mark) (session : Session) (outcome : Outcome Resume) → AllLate (playing.untold mark session outcome)
-late_untold mark session (Ok (resume.Acquired id), context) =
-    each_then {A = Outcome (Unit {0})} {B = Pause} IsLatePause (releasing id context) (λ outcome. closing Starves mark (with_context session outcome.1))
-    (λ outcome. late_closing Starves mark (with_context session outcome.1) tt)
-late_untold mark session (Ok resume.Waiting, context) = late_closing Starves mark (with_context session context) tt
-late_untold mark session (Ok (resume.Lost how), context) = late_closing Starves mark (with_context session context) tt
-late_untold mark session (Err error, context) = late_closing Starves mark (with_context session context) tt
-
-late_waiting : (wish : Wish) (left : Left) (session : Session) → IsLateLeft (Some left) → AllLate (playing.beginning_to_wait wish left session)
-late_waiting wish left session so = (
-  each_then {A = Outcome Resume} {B = Pause} IsLatePause (giving_up_wait session.context) (playing.untold left.mark session) (late_untold left.mark session),
-  so,
-)
-
-late_acquired : (wish : Wish) (rest : ℕ → Row Reply) (mark : Mark) (session : Session) (more : ℕ → Session → Program Pause)
-    → ((id : ℕ) → FailsLate IsLate (rest id))
-    → ((id : ℕ) (after : Session) → AllLate (more id after)) → (outcome : Outcome Acquire) → AllLate (playing.acquired wish rest mark session more outcome)
-late_acquired wish rest mark session more so made (Ok (acquire.Acquired id), context) = made id (with_context session context)
-late_acquired wish rest mark session more so made (Ok (acquire.MustWait number), context) =
-    late_waiting wish (record { rest = rest; mark = mark }) (with_context session context) so
-late_acquired wish rest mark session more so made (Err error, context) =
-    late_closing (ending_of_error error) mark (with_context session context) (late_error error)
-
--- ---- what stands
-
-late_read : (mark : Mark) (session : Session) (more : Standing → Program Pause) → ((standing : Standing) → AllLate (more standing))
-    → (answer : Answer) → AllLate (playing.read_answered mark session more answer)
-late_read mark session more made (Reads version definition) = made (record { version = version; definition = definition })
-late_read mark session more made answer = late_closing (ending_of_refusal (refusal_of answer)) mark session (late_refusal (refusal_of answer))
-
-late_change : (mark : Mark) (session : Session) (more : Program Pause) → AllLate more → (answer : Answer)
-    → AllLate (playing.change_answered mark session more answer)
-late_change mark session more made (Changed version) = made
-late_change mark session more made answer = late_closing (ending_of_refusal (refusal_of answer)) mark session (late_refusal (refusal_of answer))
-
 -- ---- what never fails so
 
-late_play : (asked : Row Reply) (mark : Mark) (session : Session) → FailsLate IsLate asked → AllLate (play asked mark session)
-late_play (row.Give reply) mark session so = late_closing (Answers reply) mark session so
-late_play (row.Fail number) mark session so = late_closing (Answers (reply.Error number)) mark session so
-late_play (row.Room rest) mark session so = (late_closing Starves mark session tt, late_play rest mark session so)
-late_play (row.Look rest) mark session so = late_play (rest session.state) mark session (so session.state)
-late_play (row.Set change rest) mark session so = late_play rest mark (record session { state = change session.state }) so
-late_play (row.Here rest) mark session so = late_play (rest (mark_of session.context.kept)) mark session (so (mark_of session.context.kept))
-late_play (row.Acquire wish rest) mark session so =
-    let more = λ (id : ℕ) (after : Session). play (rest id) mark after in
-    each_then {A = Outcome Acquire} {B = Pause} IsLatePause (acquiring wish session.context) (playing.acquired wish rest mark session more)
-    (late_acquired wish rest mark session more so (λ id after. late_play (rest id) mark after (so id)))
-late_play (row.Give_up which rest) mark session so =
-    each_then {A = Outcome (Unit {0})} {B = Pause} IsLatePause (giving_up (which session.context.kept) session.context)
-    (λ outcome. play rest mark (with_context session outcome.1)) (λ outcome. late_play rest mark (with_context session outcome.1) so)
-late_play (row.Release id rest) mark session so =
-    each_then {A = Outcome (Unit {0})} {B = Pause} IsLatePause (releasing id session.context) (λ outcome. play rest mark (with_context session outcome.1))
-    (λ outcome. late_play rest mark (with_context session outcome.1) so)
-late_play (row.Read id rest) mark session so =
-    let more = λ (standing : Standing). play (rest standing) mark session in
-    late_read mark session more (λ standing. late_play (rest standing) mark session (so standing))
-late_play (row.Redefine id change rest) mark session so = late_change mark session (play rest mark session) (late_play rest mark session so)
-late_play (row.Kill target rest) mark session so =
-    each_then {A = Unit {0}} {B = Pause} IsLatePause (playing.killing target) (λ _. play rest mark session) (λ _. late_play rest mark session so)
+follows_late : (asked : Row Reply) → FailsLate IsLate asked → Follows (FailsLate IsLate) IsLateEnding asked
+follows_late (row.Set change rest) so = so.1
+follows_late _ so = so
 
-late_resumed : (left : Left) (session : Session) → IsLateLeft (Some left) → (outcome : Outcome Resume) → AllLate (playing.resumed left session outcome)
-late_resumed left session so (Ok resume.Waiting, context) = so
-late_resumed left session so (Ok (resume.Acquired id), context) = late_play (left.rest id) left.mark (with_context session context) (so id)
-late_resumed left session so (Ok (resume.Lost how), context) = late_closing (ending_of_loss how) left.mark (with_context session context) (late_loss how)
-late_resumed left session so (Err error, context) = late_closing (ending_of_error error) left.mark (with_context session context) (late_error error)
+rules_late : (mark : Mark) → Rules IsLatePause mark IsLateEnding (FailsLate IsLate)
+rules_late mark = record {
+  endings = record { starves = tt; refused = late_refusal; erred = late_error; lost = late_loss };
+  closes = λ ending session so. late_closing ending mark session so;
+  follows = follows_late;
+  waits = λ wish rest session so. so;
+}
+
+late_play : (asked : Row Reply) (mark : Mark) (session : Session) → FailsLate IsLate asked → AllLate (play asked mark session)
+late_play asked mark session so = so-play IsLatePause mark IsLateEnding (FailsLate IsLate) (rules_late mark) asked session so
 
 -- a statement that has waited never ends so
 pub late_going_on : (left : Option Left) (session : Session) → IsLateLeft left → AllLate (playing.going_on_with left session)
 late_going_on None session so = tt
 late_going_on (Some left) session so =
-    each_then {A = Outcome Resume} {B = Pause} IsLatePause (resuming session.context) (playing.resumed left session) (late_resumed left session so)
+    each_then {A = Outcome Resume} {B = Pause} IsLatePause (resuming session.context) (playing.resumed left session)
+    (so-resumed IsLatePause IsLateEnding (FailsLate IsLate) left session (rules_late left.mark) (λ context. so) so)
 
 -- ---- what fails so before it changes anything
 
@@ -247,18 +193,8 @@ untouched_play (row.Read id rest) mark session a b pause tidy checks (answer, mi
     let more = λ (standing : Standing). play (rest standing) mark session in
     subst (λ c. IsUntouched session c pause b) (reads_same a mid session.context.who id answer joins)
     (untouched_read mark session mid b pause more (λ standing there. untouched_play (rest standing) mark session mid b pause tidy (checks standing) there) answer run)
-untouched_play (row.Set change rest) mark session a b pause tidy checks run =
-    run_late session (play (row.Set change rest) mark session) a b a pause (late_play (row.Set change rest) mark session checks) run
-untouched_play (row.Acquire wish rest) mark session a b pause tidy checks run =
-    run_late session (play (row.Acquire wish rest) mark session) a b a pause (late_play (row.Acquire wish rest) mark session checks) run
-untouched_play (row.Give_up which rest) mark session a b pause tidy checks run =
-    run_late session (play (row.Give_up which rest) mark session) a b a pause (late_play (row.Give_up which rest) mark session checks) run
-untouched_play (row.Release id rest) mark session a b pause tidy checks run =
-    run_late session (play (row.Release id rest) mark session) a b a pause (late_play (row.Release id rest) mark session checks) run
-untouched_play (row.Redefine id change rest) mark session a b pause tidy checks run =
-    run_late session (play (row.Redefine id change rest) mark session) a b a pause (late_play (row.Redefine id change rest) mark session checks) run
-untouched_play (row.Kill target rest) mark session a b pause tidy checks run =
-    run_late session (play (row.Kill target rest) mark session) a b a pause (late_play (row.Kill target rest) mark session checks) run
+untouched_play asked mark session a b pause tidy checks run =
+    run_late session (play asked mark session) a b a pause (late_play asked mark session checks) run
 
 pub statements_untouched : (asked : Statement) (session : Session) (a b : Core) (pause : Pause) → IsTidy session
     → Runs Joins a (playing.starting asked session) pause b

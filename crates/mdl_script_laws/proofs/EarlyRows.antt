@@ -1,44 +1,33 @@
 -- When rows fail by an early error: before they change anything, or never.
-use Rattle.std.proofs.Common.{◌≡◌, ℕ, Bool, true, false, List, [], ◌∷◌, Option, Some, None, refl}
-use Rattle.std.specs.Prelude.{if◌then◌else◌, find, is_some, map, not, ◌++◌}
+use Rattle.std.proofs.Common.{◌≡◌, ℕ, Bool, true, false, List, [], ◌∷◌, Option, Some, None}
+use Rattle.std.specs.Prelude.{if◌then◌else◌, find, is_some, not, ◌++◌}
 use Rattle.mdl_key.specs.declared.mode.Duration.TheVariants as for
 use Rattle.mdl_key.specs.declared.mode.Mode.TheVariants.{IX}
 use Rattle.mdl_key.specs.Keys.{KeyName, global_key, key_eq}
-use Rattle.mdl_defs.specs.declared.change.Change.TheVariants as change
-use Rattle.mdl_defs.specs.Columns.{names_twice}
-use Rattle.mdl_defs.specs.declared.definition.Definition.TheVariants.{Schema}
 use Rattle.mdl_defs.specs.declared.standing.Standing.{Standing}
 use Rattle.mdl_syntax.specs.declared.statement.Priority.{Priority}
 use Rattle.mdl_syntax.specs.declared.statement.Statement.{Statement}
 use Rattle.mdl_syntax.specs.declared.statement.Statement.TheVariants as statement
 use Rattle.mdl_context.specs.declared.request.Mark.{Mark}
-use Rattle.mdl_context.specs.Wishes.{Wish}
 use Rattle.mdl_stmt.specs.declared.error_number.ErrorNumber.{ErrorNumber}
-use Rattle.mdl_stmt.specs.declared.error_number.ErrorNumber.TheVariants.{SchemaExists, UnknownDatabase, TableExists, DuplicateColumn, TableLockedForRead, NoSuchTable, ActiveLocks, ConflictingReadLock, VersionLimit}
+use Rattle.mdl_stmt.specs.declared.error_number.ErrorNumber.TheVariants.{TableLockedForRead, NoSuchTable, ActiveLocks, ConflictingReadLock}
 use Rattle.mdl_stmt.specs.declared.reply.Reply.{Reply}
 use Rattle.mdl_stmt.specs.declared.reply.Reply.TheVariants as reply
 use Rattle.mdl_stmt.specs.declared.reply.TableShown.{TableShown}
-use Rattle.mdl_stmt.specs.Rows.{Row, Act, Give, Fail, Room, Look, Set, Here, Acquire, Give_up, Release, Read, Redefine, Kill, ◌>>=◌, ◌>>◌, acquire, acquire_all, check, for_each, nothing, redefine, release, room, set}
-use Rattle.mdl_stmt.specs.KeyOrder.{in_key_order}
-use Rattle.mdl_stmt.specs.States.{Locked, State, has_locked, opened, savepoint_mark, unlocked, written}
+use Rattle.mdl_stmt.specs.Rows.{Row, Act, Give, Fail, Room, Look, Here, Read, ◌>>=◌, ◌>>◌, acquire, check, nothing, room, set}
+use Rattle.mdl_stmt.specs.States.{Locked, State, has_locked, savepoint_mark, written}
 use Rattle.mdl_stmt.specs.Statements as rows
 use Rattle.mdl_stmt.specs.Statements.{row_of}
 use Rattle.mdl_script_laws.specs.RefusalsFirst.{is_early}
+use Rattle.mdl_script_laws.proofs.RowRules.{Any, KeepsTo, keeps-begin, keeps-bind, keeps-commit, keeps-create, keeps-create_schema, keeps-drop, keeps-either, keeps-exists, keeps-rollback}
+
+-- a failure by another error
+abbrev pub IsOther : ErrorNumber → Type 0
+IsOther number = is_early number ≡ false
 
 -- its failures are others, and what it gives is so
 abbrev pub FailsLate : {A : Type 0} → (A → Type 0) → Row A → Type 0
-FailsLate P (Give x) = P x
-FailsLate P (Fail number) = is_early number ≡ false
-FailsLate P (Room rest) = FailsLate P rest
-FailsLate P (Look rest) = (state : State) → FailsLate P (rest state)
-FailsLate P (Set change rest) = FailsLate P rest
-FailsLate P (Here rest) = (mark : Mark) → FailsLate P (rest mark)
-FailsLate P (Acquire wish rest) = (id : ℕ) → FailsLate P (rest id)
-FailsLate P (Give_up which rest) = FailsLate P rest
-FailsLate P (Release id rest) = FailsLate P rest
-FailsLate P (Read id rest) = (standing : Standing) → FailsLate P (rest standing)
-FailsLate P (Redefine id change rest) = FailsLate P rest
-FailsLate P (Kill target rest) = FailsLate P rest
+FailsLate P row = KeepsTo IsOther P row
 
 -- it fails by an early error only before it changes anything; what it gives before that is so, and what it gives later is so
 abbrev pub ChecksFirst : {A : Type 0} → (A → Type 0) → (A → Type 0) → Row A → Type 0
@@ -50,10 +39,7 @@ ChecksFirst P Q (Here rest) = (mark : Mark) → ChecksFirst P Q (rest mark)
 ChecksFirst P Q (Read id rest) = (standing : Standing) → ChecksFirst P Q (rest standing)
 ChecksFirst P Q row = FailsLate Q row
 
--- anything may be given, or nothing
-abbrev pub Any : {A : Type 0} → A → Type 0
-Any x = Unit {0}
-
+-- nothing may be given
 abbrev pub Never : {A : Type 0} → A → Type 0
 Never x = ⊥
 
@@ -64,21 +50,6 @@ IsLate _ = Unit {0}
 
 -- ---- one row after another
 
-late_bind : {A B : Type 0} (P : A → Type 0) (Q : B → Type 0) (first : Row A) (next : A → Row B) → FailsLate P first → ((x : A) → P x → FailsLate Q (next x))
-    → FailsLate Q (first >>= next)
-late_bind P Q (Give x) next so later = later x so
-late_bind P Q (Fail number) next so later = so
-late_bind P Q (Room rest) next so later = late_bind P Q rest next so later
-late_bind P Q (Look rest) next so later = λ state. late_bind P Q (rest state) next (so state) later
-late_bind P Q (Set change rest) next so later = late_bind P Q rest next so later
-late_bind P Q (Here rest) next so later = λ mark. late_bind P Q (rest mark) next (so mark) later
-late_bind P Q (Acquire wish rest) next so later = λ id. late_bind P Q (rest id) next (so id) later
-late_bind P Q (Give_up which rest) next so later = late_bind P Q rest next so later
-late_bind P Q (Release id rest) next so later = late_bind P Q rest next so later
-late_bind P Q (Read id rest) next so later = λ standing. late_bind P Q (rest standing) next (so standing) later
-late_bind P Q (Redefine id change rest) next so later = late_bind P Q rest next so later
-late_bind P Q (Kill target rest) next so later = late_bind P Q rest next so later
-
 checks_bind : {A B : Type 0} (P Q : A → Type 0) (R T : B → Type 0) (first : Row A) (next : A → Row B) → ChecksFirst P Q first
     → ((x : A) → P x → ChecksFirst R T (next x)) → ((x : A) → Q x → FailsLate T (next x)) → ChecksFirst R T (first >>= next)
 checks_bind P Q R T (Give x) next checks early late = early x checks
@@ -87,12 +58,7 @@ checks_bind P Q R T (Room rest) next checks early late = checks_bind P Q R T res
 checks_bind P Q R T (Look rest) next checks early late = λ state. checks_bind P Q R T (rest state) next (checks state) early late
 checks_bind P Q R T (Here rest) next checks early late = λ mark. checks_bind P Q R T (rest mark) next (checks mark) early late
 checks_bind P Q R T (Read id rest) next checks early late = λ standing. checks_bind P Q R T (rest standing) next (checks standing) early late
-checks_bind P Q R T (Set change rest) next checks early late = late_bind Q T rest next checks late
-checks_bind P Q R T (Acquire wish rest) next checks early late = λ id. late_bind Q T (rest id) next (checks id) late
-checks_bind P Q R T (Give_up which rest) next checks early late = late_bind Q T rest next checks late
-checks_bind P Q R T (Release id rest) next checks early late = late_bind Q T rest next checks late
-checks_bind P Q R T (Redefine id change rest) next checks early late = late_bind Q T rest next checks late
-checks_bind P Q R T (Kill target rest) next checks early late = late_bind Q T rest next checks late
+checks_bind P Q R T first next checks early late = keeps-bind IsOther Q T first next checks late
 
 -- what never fails so fails so first, if ever
 late_first : {A : Type 0} (P : A → Type 0) (row : Row A) → FailsLate P row → ChecksFirst P P row
@@ -102,69 +68,28 @@ late_first P (Room rest) so = late_first P rest so
 late_first P (Look rest) so = λ state. late_first P (rest state) (so state)
 late_first P (Here rest) so = λ mark. late_first P (rest mark) (so mark)
 late_first P (Read id rest) so = λ standing. late_first P (rest standing) (so standing)
-late_first P (Set change rest) so = so
-late_first P (Acquire wish rest) so = so
-late_first P (Give_up which rest) so = so
-late_first P (Release id rest) so = so
-late_first P (Redefine id change rest) so = so
-late_first P (Kill target rest) so = so
-
--- ---- small rows
-
-late_either : {A : Type 0} (P : A → Type 0) (test : Bool) (one other : Row A) → FailsLate P one → FailsLate P other → FailsLate P (if test then one else other)
-late_either P true one other first second = first
-late_either P false one other first second = second
-
-late_check : (test : Bool) (number : ErrorNumber) → is_early number ≡ false → FailsLate Any (check test number)
-late_check true number so = tt
-late_check false number so = so
+late_first P row so = so
 
 -- a check changes nothing
 checks_check : (test : Bool) (number : ErrorNumber) → ChecksFirst Any Never (check test number)
 checks_check true number = tt
 checks_check false number = tt
 
-late_each : (act : ℕ → Act) → ((id : ℕ) → FailsLate Any (act id)) → (ids : List ℕ) → FailsLate Any (for_each act ids)
-late_each act so [] = tt
-late_each act so (id ∷ ids) = late_bind Any Any (act id) (λ _. for_each act ids) (so id) (λ _ _. late_each act so ids)
-
-late_locks : (wishes : List Wish) → FailsLate Any (acquire_all wishes)
-late_locks [] = tt
-late_locks (wish ∷ wishes) = λ id. late_bind Any Any (acquire_all wishes) (λ tickets. Give (id ∷ tickets)) (late_locks wishes) (λ _ _. tt)
-
 -- ---- transactions
-
-late_commit : FailsLate Any rows.commit
-late_commit = λ state.
-    late_either Any state.is_open (if state.has_written then rows.commit_writes else rows.end_transaction) nothing
-    (late_either Any state.has_written rows.commit_writes rows.end_transaction (λ _. tt) tt) tt
-
-late_rollback : FailsLate Any rows.rollback
-late_rollback = λ state. late_either Any state.is_open rows.end_transaction nothing tt tt
-
-late_unlock : FailsLate Any rows.unlock_tables
-late_unlock = λ state.
-    let tickets = map (λ (table : Locked). table.ticket) state.locked ++ state.scopes in
-    late_bind Any Any (for_each release tickets) (λ _. set unlocked) (late_each release (λ _. tt) tickets) (λ _ _. tt)
-
-late_begin : FailsLate IsLate rows.begin_after_commit
-late_begin = late_bind Any IsLate rows.unlock_tables (λ _. set opened >> Give reply.Ok) late_unlock (λ _ _. tt)
 
 late_save : (name : List ℕ) → FailsLate IsLate (rows.save name)
 late_save name = λ state.
-    late_bind Any IsLate (if state.is_open then rows.save_here name else nothing) (λ _. Give reply.Ok)
-    (late_either Any state.is_open (rows.save_here name) nothing (λ _. tt) tt) (λ _ _. tt)
+    keeps-bind IsOther Any IsLate (if state.is_open then rows.save_here name else nothing) (λ _. Give reply.Ok)
+    (keeps-either IsOther Any state.is_open (rows.save_here name) nothing (λ _. ((λ s u. u), tt)) tt) (λ _ _. tt)
 
 checks_back : (name : List ℕ) (mark : Option Mark) → ChecksFirst IsLate IsLate (rows.go_back name mark)
 checks_back name None = tt
-checks_back name (Some mark) = tt
+checks_back name (Some mark) = ((λ s u. u), tt)
 
 -- ---- what stands
 
 late_exists : (ticket : ℕ) → FailsLate Any (rows.exists ticket)
-late_exists ticket = λ standing.
-    late_bind Any Any (check (rows.is_defined standing) NoSuchTable) (λ _. Give standing)
-    (late_check (rows.is_defined standing) NoSuchTable refl) (λ _ _. tt)
+late_exists ticket = keeps-exists IsOther (λ number other. other) ticket
 
 checks_exists : (ticket : ℕ) → ChecksFirst Any Never (rows.exists ticket)
 checks_exists ticket = λ standing.
@@ -179,7 +104,7 @@ with_table shown table standing = shown ++ record { key = table; version = stand
 
 late_show : (shown : List TableShown) (table : KeyName) (ticket : ℕ) → FailsLate Any (rows.show shown table ticket)
 late_show shown table ticket =
-    late_bind Any Any (rows.exists ticket) (λ standing. room >> Give (with_table shown table standing))
+    keeps-bind IsOther Any Any (rows.exists ticket) (λ standing. room >> Give (with_table shown table standing))
     (late_exists ticket) (λ standing _. tt)
 
 checks_show : (shown : List TableShown) (table : KeyName) (ticket : ℕ) → ChecksFirst Any Never (rows.show shown table ticket)
@@ -191,7 +116,7 @@ checks_show shown table ticket =
 late_shows : (shown : List TableShown) (tables : List KeyName) → FailsLate IsLate (rows.show_all rows.lock_to_read shown tables)
 late_shows shown [] = tt
 late_shows shown (table ∷ tables) = λ ticket.
-    late_bind Any IsLate (rows.show shown table ticket) (λ more. rows.show_all rows.lock_to_read more tables) (late_show shown table ticket)
+    keeps-bind IsOther Any IsLate (rows.show shown table ticket) (λ more. rows.show_all rows.lock_to_read more tables) (late_show shown table ticket)
     (λ more _. late_shows more tables)
 
 checks_among : (found : Option Locked) → ChecksFirst Any Never (rows.among_locked found)
@@ -224,11 +149,11 @@ checks_select false tables = late_first IsLate (rows.show_all rows.lock_to_read 
 
 late_wrote : FailsLate IsLate rows.wrote
 late_wrote = λ state.
-    late_bind Any IsLate (if state.is_open then set written else rows.commit_writes) (λ _. Give reply.Ok)
-    (late_either Any state.is_open (set written) rows.commit_writes tt (λ _. tt)) (λ _ _. tt)
+    keeps-bind IsOther Any IsLate (if state.is_open then set written else rows.commit_writes) (λ _. Give reply.Ok)
+    (keeps-either IsOther Any state.is_open (set written) rows.commit_writes ((λ s u. u), tt) (λ _. ((λ s u. u), tt))) (λ _ _. tt)
 
 late_write : (table : KeyName) (priority : Priority) → FailsLate IsLate (rows.lock_and_write table priority)
-late_write table priority = λ ticket. late_bind Any IsLate (rows.exists ticket) (λ _. rows.wrote) (late_exists ticket) (λ _ _. late_wrote)
+late_write table priority = λ ticket. keeps-bind IsOther Any IsLate (rows.exists ticket) (λ _. rows.wrote) (late_exists ticket) (λ _ _. late_wrote)
 
 checks_no_read_lock : ChecksFirst Any Never rows.no_read_lock
 checks_no_read_lock = λ state. checks_check (not (is_some state.read_lock)) ConflictingReadLock
@@ -260,6 +185,9 @@ checks_write false table priority = checks_unlocked table priority
 
 -- ---- CREATE TABLE, CREATE SCHEMA, DROP TABLE
 
+late_commit : FailsLate Any rows.commit
+late_commit = keeps-commit IsOther (λ number other. other)
+
 checks_ddl : ChecksFirst Any Any rows.ddl
 checks_ddl =
     checks_bind Any Never Any Any rows.no_read_lock (λ _. rows.no_locked_tables >> rows.commit) checks_no_read_lock
@@ -271,78 +199,29 @@ checks_ddl =
 checks_ddl_first : (rest : Row Reply) → FailsLate IsLate rest → ChecksFirst IsLate IsLate (rows.ddl_first rest)
 checks_ddl_first rest so = checks_bind Any Any IsLate IsLate rows.ddl (λ _. rest) checks_ddl (λ _ _. late_first IsLate rest so) (λ _ _. so)
 
-late_schema : (schema : ℕ) → FailsLate Any (rows.check_schema schema)
-late_schema schema = λ over. late_check (rows.is_defined over) UnknownDatabase refl
-
-late_new : (columns : List (List ℕ)) (table : ℕ) → FailsLate Any (rows.check_new columns table)
-late_new columns table = λ standing.
-    late_bind Any Any (check (not (rows.is_defined standing)) TableExists)
-    (λ _. check (not (names_twice columns)) DuplicateColumn >> check (rows.has_version_left standing) VersionLimit)
-    (late_check (not (rows.is_defined standing)) TableExists refl)
-    (λ _ _. late_bind Any Any (check (not (names_twice columns)) DuplicateColumn) (λ _. check (rows.has_version_left standing) VersionLimit)
-    (late_check (not (names_twice columns)) DuplicateColumn refl) (λ _ _. late_check (rows.has_version_left standing) VersionLimit refl))
-
-late_create_under : (columns : List (List ℕ)) (schema table : ℕ) → FailsLate IsLate (rows.create_under columns schema table)
-late_create_under columns schema table =
-    late_bind Any IsLate (rows.check_schema schema) (λ _. rows.check_new columns table >> (rows.make_table columns table >> Give reply.Ok)) (late_schema schema)
-    (λ _ _. late_bind Any IsLate (rows.check_new columns table) (λ _. rows.make_table columns table >> Give reply.Ok) (late_new columns table) (λ _ _. tt))
-
-late_create : (table : KeyName) (columns : List (List ℕ)) → FailsLate IsLate (rows.create_after_commit table columns)
-late_create table columns = λ global schema ticket. late_create_under columns schema ticket
-
-late_new_schema : (schema : ℕ) → FailsLate Any (rows.check_new_schema schema)
-late_new_schema schema = λ standing.
-    late_bind Any Any (check (not (rows.is_defined standing)) SchemaExists) (λ _. check (rows.has_version_left standing) VersionLimit)
-    (late_check (not (rows.is_defined standing)) SchemaExists refl) (λ _ _. late_check (rows.has_version_left standing) VersionLimit refl)
-
-late_create_schema_under : (schema : ℕ) → FailsLate IsLate (rows.create_schema_under schema)
-late_create_schema_under schema =
-    late_bind Any IsLate (rows.check_new_schema schema) (λ _. redefine schema (change.Create Schema) >> Give reply.Ok) (late_new_schema schema) (λ _ _. tt)
-
-late_create_schema : (name : List ℕ) → FailsLate IsLate (rows.create_schema_after_commit name)
-late_create_schema name = λ global schema. late_create_schema_under schema
-
-late_can_change : (ticket : ℕ) → FailsLate Any (rows.can_change ticket)
-late_can_change ticket = λ standing. late_check (rows.has_version_left standing) VersionLimit refl
-
-late_stands : (ticket : ℕ) → FailsLate Any (rows.stands ticket)
-late_stands ticket = late_bind Any Any (rows.exists ticket) (λ _. nothing) (late_exists ticket) (λ _ _. tt)
-
-late_drop_under : (tickets : List ℕ) → FailsLate IsLate (rows.drop_under tickets)
-late_drop_under tickets =
-    let dropping = for_each (λ ticket. redefine ticket change.Drop) tickets in
-    late_bind Any IsLate (for_each rows.stands tickets) (λ _. for_each rows.can_change tickets >> (dropping >> Give reply.Ok))
-    (late_each rows.stands late_stands tickets)
-    (λ _ _. late_bind Any IsLate (for_each rows.can_change tickets) (λ _. dropping >> Give reply.Ok) (late_each rows.can_change late_can_change tickets)
-    (λ _ _. late_bind Any IsLate dropping (λ _. Give reply.Ok) (late_each (λ ticket. redefine ticket change.Drop) (λ _. tt) tickets) (λ _ _. tt)))
-
-late_lock_and_drop : (tables : List KeyName) → FailsLate IsLate (rows.lock_and_drop tables)
-late_lock_and_drop tables =
-    let wishes = map rows.ddl_lock (in_key_order tables) in
-    late_bind Any IsLate (acquire_all wishes) rows.drop_under (late_locks wishes) (λ tickets _. late_drop_under tickets)
-
-late_drop : (tables : List KeyName) → FailsLate IsLate (rows.drop_after_commit tables)
-late_drop tables =
-    let wishes = map rows.ddl_lock (global_key ∷ in_key_order (map rows.schema_of tables)) in
-    late_bind Any IsLate (acquire_all wishes) (λ _. rows.lock_and_drop tables) (late_locks wishes) (λ _ _. late_lock_and_drop tables)
-
 -- ---- all statements
 
 late_commit_first : (rest : Row Reply) → FailsLate IsLate rest → FailsLate IsLate (rows.commit_first rest)
-late_commit_first rest so = late_bind Any IsLate rows.commit (λ _. rest) late_commit (λ _ _. so)
+late_commit_first rest so = keeps-bind IsOther Any IsLate rows.commit (λ _. rest) late_commit (λ _ _. so)
 
 -- each fails by an early error only before it changes anything
 pub statements_check : (asked : Statement) → ChecksFirst IsLate IsLate (row_of asked)
-statements_check statement.Begin = late_first IsLate (rows.commit_first rows.begin_after_commit) (late_commit_first rows.begin_after_commit late_begin)
+statements_check statement.Begin =
+    late_first IsLate (rows.commit_first rows.begin_after_commit) (late_commit_first rows.begin_after_commit
+    (keeps-begin IsOther (λ number other. other) IsLate tt))
 statements_check statement.Commit = late_first IsLate (rows.commit_first (Give reply.Ok)) (late_commit_first (Give reply.Ok) tt)
 statements_check statement.Rollback =
-    late_first IsLate (rows.rollback >> Give reply.Ok) (late_bind Any IsLate rows.rollback (λ _. Give reply.Ok) late_rollback (λ _ _. tt))
+    late_first IsLate (rows.rollback >> Give reply.Ok) (keeps-bind IsOther Any IsLate rows.rollback (λ _. Give reply.Ok)
+    (keeps-rollback IsOther (λ number other. other)) (λ _ _. tt))
 statements_check (statement.Savepoint name) = late_first IsLate (rows.save name) (late_save name)
 statements_check (statement.RollbackTo name) = λ state. checks_back name (savepoint_mark name state.savepoints)
 statements_check (statement.Select tables) = λ state. checks_select (has_locked state.locked) tables
 statements_check (statement.Write table priority) = λ state. checks_write (has_locked state.locked) table priority
-statements_check (statement.CreateTable table columns) = checks_ddl_first (rows.create_after_commit table columns) (late_create table columns)
-statements_check (statement.CreateSchema name) = checks_ddl_first (rows.create_schema_after_commit name) (late_create_schema name)
-statements_check (statement.DropTables tables) = checks_ddl_first (rows.drop_after_commit tables) (late_drop tables)
+statements_check (statement.CreateTable table columns) = checks_ddl_first (rows.create_after_commit table columns)
+    (keeps-create IsOther (λ number other. other) IsLate tt table columns)
+statements_check (statement.CreateSchema name) = checks_ddl_first (rows.create_schema_after_commit name)
+    (keeps-create_schema IsOther (λ number other. other) IsLate tt name)
+statements_check (statement.DropTables tables) = checks_ddl_first (rows.drop_after_commit tables)
+    (keeps-drop IsOther (λ number other. other) IsLate tt tables)
 statements_check (statement.KillQuery target) = tt
 statements_check statement.Timeout = tt

@@ -1,12 +1,16 @@
 pub mod EarlyPlays
 pub mod EarlyRows
+pub mod ListLemmas
 pub mod NoDeadlockCalls
 pub mod NoDeadlockContexts
 pub mod NoDeadlockPrograms
 pub mod NoDeadlockRows
 pub mod NoDeadlockWorlds
 pub mod OrderlyPlays
+pub mod OutcomeLemmas
 pub mod RefusedWorlds
+pub mod RowPauses
+pub mod RowRules
 pub mod ScriptLemmas
 pub mod ShownAsking
 pub mod ShownCalls

@@ -1,8 +1,8 @@
 -- A space without a deadlock: what calls leave it so.
-use Rattle.std.proofs.Common.{◌≡◌, ℕ, zero, suc, ◌-◌, ◌≤◌, Bool, true, false, length, Option, Some, None, IfSome, inr, refl, sym, ap, subst, ◌∙◌}
+use Rattle.std.proofs.Common.{◌≡◌, ℕ, zero, suc, ◌-◌, ◌≤◌, Bool, true, false, length, Option, Some, None, refl, sym, ap, subst, ◌∙◌}
 use Rattle.std.proofs.lemmas.Bool.{false≢true}
 use Rattle.std.proofs.lemmas.List.{length-set}
-use Rattle.mdl_calls.specs.Words.{Answer, Call, Begin_wait, caller, takes_memory}
+use Rattle.mdl_calls.specs.Words.{Answer, Call, Begin_wait, takes_memory}
 use Rattle.mdl_core.specs.Changes.{Change, Admit, Settle, is_of_book, admitting_if, admitting_up_to, booked_if, changing, next_ready, seat_after, book_after}
 use Rattle.mdl_core.specs.CoreCalls.{outcome}
 use Rattle.mdl_core.specs.CoreJoins.{Joins, SpeaksFor}
@@ -17,6 +17,7 @@ use Rattle.mdl_core.proofs.CallLaws.{core-keeps, joins-comes}
 use Rattle.mdl_core.proofs.CoreSound.{calls_keep-sound}
 use Rattle.mdl_core.proofs.Ways.{Way, Stay, Open, Settle_wait, Make, makes_room, served_if, space_by}
 use Rattle.mdl_system.specs.Deadlocks.{DeadlocksGoThrough, HasNoDeadlock}
+use Rattle.mdl_script_laws.proofs.OutcomeLemmas.{joins-outcome}
 
 -- ---- there are as many sessions after a call as before it
 
@@ -84,20 +85,13 @@ calm-joined who a b call answer quiet joins calm = record {
       false≢true (sym (quiet h.0) ∙ h.2));
 }
 
--- a call that is made for the session or for nobody joins by its outcome
-pub made-joins : (who : ℕ) (call : Call) (a : Core) → SpeaksFor a who → IsMadeFor who call → Joins a call (outcome call a).0 (outcome call a).1
-made-joins who call a speaks made = (allowed (caller call) made.1, made.0, inr refl) where
-  allowed : (maker : Option ℕ) → IfSome maker (λ w. w ≡ who) → IfSome maker (SpeaksFor a)
-  allowed None same = tt
-  allowed (Some w) same = subst (SpeaksFor a) (sym same) speaks
-
 -- a call that begins no wait, whatever its answer
 abbrev pub IsQuiet : Call → Type 0
 IsQuiet call = (answer : Answer) (session : ℕ) → begins_wait call answer session ≡ false
 
 pub calm-call : (who : ℕ) (call : Call) (a : Core) → IsMadeFor who call → IsQuiet call → IsCalm who a → IsCalm who (outcome call a).1
 calm-call who call a made quiet calm =
-    calm-joined who a (outcome call a).1 call (outcome call a).0 (quiet (outcome call a).0) (made-joins who call a calm.managed.speaks made) calm
+    calm-joined who a (outcome call a).1 call (outcome call a).0 (quiet (outcome call a).0) (joins-outcome who a call calm.managed.speaks made) calm
 
 -- no wait begins without memory
 pub frugal-quiet : (call : Call) → takes_memory call ≡ false → IsQuiet call

@@ -25,8 +25,9 @@ use Rattle.mdl_context.specs.Waits as waits
 use Rattle.mdl_context.specs.Wishes.{Wish}
 use Rattle.mdl_context.proofs.MemoryLemmas.{frugal_giving_up, frugal_releasing}
 use Rattle.mdl_context.proofs.OwnCallLemmas.{own_giving_up, own_releasing, own_resuming}
-use Rattle.mdl_script_laws.proofs.NoDeadlockCalls.{IsCalm, IsQuiet, calm-call, calm-joined, made-joins, still-managed}
-use Rattle.mdl_script_laws.proofs.NoDeadlockPrograms.{LeavesCalm, calm-bind, calm-frugal, calm-own, outcome-bind, seeks}
+use Rattle.mdl_script_laws.proofs.NoDeadlockCalls.{IsCalm, IsQuiet, calm-call, calm-joined, still-managed}
+use Rattle.mdl_script_laws.proofs.NoDeadlockPrograms.{LeavesCalm, calm-bind, calm-frugal, calm-own, seeks}
+use Rattle.mdl_script_laws.proofs.OutcomeLemmas.{joins-outcome, outcome-then}
 
 -- ---- a lock at a place
 
@@ -37,7 +38,7 @@ calm-waits who place number mode a b joins calm =
     let h = seeks who b (still-managed who a b (Begin_wait who place mode) (Waits number) calm.managed joins) in
     let end : SearchEnd × Core = outcome_of outcome (seeking most_searches who) b in
     let same : outcome_of outcome (gains.waiting_on who number) b ≡ outcome_of outcome (gains.wish_sought who number Over) end.1 =
-    outcome-bind (seeking most_searches who) (gains.wish_sought who number) b
+    outcome-then outcome (seeking most_searches who) (gains.wish_sought who number) b
     ∙ ap (λ said. outcome_of outcome (gains.wish_sought who number said) end.1) h.over in
     subst (IsCalm who) (sym (ap (λ whole. whole.1) same))
     (record { managed = h.managed; free = waiting-leaves a b end.1 who place number mode joins h.run calm.free })
@@ -51,7 +52,7 @@ calm-begun who place mode a b answer joins calm = calm-joined who a b (Begin_wai
 calm-waiting : (who place : ℕ) (mode : Mode) → LeavesCalm who (gains.waiting_at who place mode)
 calm-waiting who place mode a calm =
     let call = Begin_wait who place mode in
-    calm-begun who place mode a (outcome call a).1 (outcome call a).0 (made-joins who call a calm.managed.speaks (refl, refl)) calm
+    calm-begun who place mode a (outcome call a).1 (outcome call a).0 (joins-outcome who a call calm.managed.speaks (refl, refl)) calm
 
 calm-tried : (who place : ℕ) (mode : Mode) (answer : Answer) → LeavesCalm who (gains.try_answered who place mode answer)
 calm-tried who place mode (Granted id) = λ a calm. calm

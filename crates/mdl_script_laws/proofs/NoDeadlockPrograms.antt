@@ -1,7 +1,7 @@
 -- Programs that leave a space without a deadlock.
 use Rattle.std.proofs.Common.{◌≡◌, ◌⊎◌, ℕ, zero, suc, Option, Some, None, inl, inr, refl, sym, subst}
 use Rattle.std.specs.Prelude.{◌==◌}
-use Rattle.mdl_calls.specs.Words.{Program, Give, Ask, Grow, ◌>>=◌, Each, EachCall, IsFrugal, Runs, SearchEnd, Over, Cut_off, after_search, outcome_of, seeking, most_searches}
+use Rattle.mdl_calls.specs.Words.{Program, Give, Ask, Grow, ◌>>=◌, EachCall, IsFrugal, Runs, SearchEnd, Over, Cut_off, after_search, outcome_of, seeking, most_searches}
 use Rattle.mdl_calls.proofs.FaithfulLemmas.{either}
 use Rattle.mdl_calls.proofs.RunLemmas.{runs_keeps}
 use Rattle.mdl_calls.proofs.SeekingLemmas.{calls_seeking}
@@ -16,6 +16,7 @@ use Rattle.mdl_context.specs.MemoryLaws.{IsOwnCall}
 use Rattle.mdl_context.specs.Requests.{Outcome}
 use Rattle.mdl_context.proofs.OwnCallLemmas.{own_made}
 use Rattle.mdl_context.proofs.WhoLemmas.{StaysOf}
+use Rattle.mdl_script_laws.proofs.OutcomeLemmas.{each-outcome, outcome-then}
 use Rattle.mdl_script_laws.proofs.NoDeadlockCalls.{IsCalm, IsManaged, IsQuiet, calm-call, frugal-quiet, still-managed}
 
 -- by a session's program, a space without a deadlock comes to be one without a deadlock
@@ -24,24 +25,11 @@ LeavesCalm who program = (a : Core) → IsCalm who a → IsCalm who (outcome_of 
 
 -- ---- one program after another
 
--- the outcome of both is that of the second after the first
-pub outcome-bind : {A B : Type 0} (first : Program A) (next : A → Program B) (a : Core)
-    → outcome_of outcome (first >>= next) a ≡ outcome_of outcome (next (outcome_of outcome first a).0) (outcome_of outcome first a).1
-outcome-bind (Give x) next a = refl
-outcome-bind (Ask call more) next a = outcome-bind (more (outcome call a).0) next (outcome call a).1
-outcome-bind (Grow refused found) next a = outcome-bind found next a
-
--- what all replies are, that of the outcome is
-each-outcome : {A : Type 0} (P : A → Type 0) (program : Program A) (a : Core) → Each P program → P (outcome_of outcome program a).0
-each-outcome P (Give x) a each = each
-each-outcome P (Ask call more) a each = each-outcome P (more (outcome call a).0) (outcome call a).1 (each (outcome call a).0)
-each-outcome P (Grow refused found) a each = each-outcome P found a each.1
-
 pub calm-bind : {A B : Type 0} (who : ℕ) (first : Program A) (next : A → Program B) → LeavesCalm who first → ((x : A) → LeavesCalm who (next x))
     → LeavesCalm who (first >>= next)
 calm-bind {A} {B} who first next leaves later a calm =
     let end : A × Core = outcome_of outcome first a in
-    subst (λ (whole : B × Core). IsCalm who whole.1) (sym (outcome-bind first next a)) (later end.0 end.1 (leaves a calm))
+    subst (λ (whole : B × Core). IsCalm who whole.1) (sym (outcome-then outcome first next a)) (later end.0 end.1 (leaves a calm))
 
 -- what a context does, and then what it leads to
 pub calm-then : {A B : Type 0} (who : ℕ) (first : Program (Outcome A)) (next : Outcome A → Program B)
@@ -49,8 +37,8 @@ pub calm-then : {A B : Type 0} (who : ℕ) (first : Program (Outcome A)) (next :
     → ((x : Outcome A) → LeavesCalm x.1.who (next x)) → LeavesCalm who (first >>= next)
 calm-then {A} {B} who first next leaves stays later a calm =
     let end : Outcome A × Core = outcome_of outcome first a in
-    let same : end.0.1.who ≡ who = each-outcome {A = Outcome A} (λ x. x.1.who ≡ who) first a stays in
-    subst (λ (whole : B × Core). IsCalm who whole.1) (sym (outcome-bind first next a))
+    let same : end.0.1.who ≡ who = each-outcome {A = Outcome A} (λ x. x.1.who ≡ who) outcome first a stays in
+    subst (λ (whole : B × Core). IsCalm who whole.1) (sym (outcome-then outcome first next a))
     (subst (λ w. IsCalm w end.1 → IsCalm w (outcome_of outcome (next end.0) end.1).1) same (later end.0 end.1) (leaves a calm))
 
 -- ---- programs by which no wait begins

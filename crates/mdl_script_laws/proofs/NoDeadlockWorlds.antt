@@ -14,15 +14,15 @@ use Rattle.mdl_lines.specs.Sessions.{IsScriptSession}
 use Rattle.mdl_stmt.specs.Endings.{Pause}
 use Rattle.mdl_stmt.specs.Playing.{going_on, starting}
 use Rattle.mdl_stmt.specs.Sessions.{Session}
-use Rattle.mdl_script.specs.declared.told.Told.{Told}
 use Rattle.mdl_script.specs.Worlds.{World, create_at, create_under, creating, first_world, played, player_at}
 use Rattle.mdl_script.proofs.HallLemmas.{SpeakForAll}
 use Rattle.mdl_script.proofs.SettleLemmas.{read-sessions}
+use Rattle.mdl_script.proofs.SoundLemmas.{IsStaffed, first-session, made-creating, speak-empty, staffed-first}
 use Rattle.mdl_script_laws.specs.NoDeadlocks.{NoDeadlockStands}
 use Rattle.mdl_script_laws.proofs.NoDeadlockCalls.{IsCalm, IsQuiet}
 use Rattle.mdl_script_laws.proofs.NoDeadlockPrograms.{calm-quiet}
 use Rattle.mdl_script_laws.proofs.NoDeadlockRows.{IsCalmFor, rows_calm}
-use Rattle.mdl_script_laws.proofs.ScriptLemmas.{IsStaffed, Keeps, kept-lines, made-creating, speak-empty, staffed-first}
+use Rattle.mdl_script_laws.proofs.ScriptLemmas.{Anything, Keeps, kept-lines}
 
 -- a space has no more sessions than searches are made at once, and there is no deadlock in it
 abbrev IsCalmSpace : Core → Type 0
@@ -52,16 +52,12 @@ calm-calls : (who : ℕ) (program : Program (Unit {0})) (core : Core) → IsScri
 calm-calls who program core is speaks made quiet calm =
     calm-from (outcome_of outcome program core).1 who (calm-quiet who program made quiet core (calm-by core who is speaks calm))
 
--- whatever is told
-abbrev Anything : Told → Type 0
-Anything told = Unit {0}
-
 keeps-calm : Keeps (λ world. IsCalmSpace world.core) Anything
 keeps-calm = record {
   starts = λ line world is free staffed calm.
       calm-played line.number line.session (λ session. starting line.statement session) world is staffed (λ session. (rows_calm session).1 line.statement) calm;
-  goes = λ who world is staffed calm. (
-    calm-played (player_at who world).line who (λ session. going_on session) world is staffed (λ session. (rows_calm session).2) calm,
+  goes = λ who world found staffed calm. (
+    calm-played (player_at who world).line who (λ session. going_on session) world (first-session world who found) staffed (λ session. (rows_calm session).2) calm,
     λ k d inside. tt,
   );
   ends = λ who world is staffed calm.
@@ -85,7 +81,7 @@ free-empty from cycle (next ∷ rest, same, distinct, waits) = let among = waits
 
 calm-first : IsCalmSpace first_world.core
 calm-first =
-    calm-calls 1 (creating (schema_key (codes "test"))) (empty_core 256 64) (omega arith, omega arith) speak-empty made-creating
+    calm-calls 1 (creating (schema_key (codes "test"))) (empty_core 256 64) (omega arith, omega arith) speak-empty (made-creating (schema_key (codes "test")))
     (λ answer session. refl, quiet-at) (omega (arith, length-replicate 64 empty_seat), free-empty)
 
 -- ---- scripts

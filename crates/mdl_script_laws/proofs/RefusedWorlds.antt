@@ -1,34 +1,34 @@
 -- Line by line, early refusals are answers of lines that changed nothing.
-use Rattle.std.proofs.Common.{◌≡◌, ℕ, zero, suc, Bool, true, false, List, [], ◌∷◌, drop, take, None, ◌⊎◌, inl, inr, refl, sym, ap, ◌∙◌, subst}
-use Rattle.std.specs.Prelude.{is_some, if◌then◌else◌, IsTrue}
+use Rattle.std.proofs.Common.{◌≡◌, ◌≢◌, ℕ, zero, suc, false, List, [], ◌∷◌, drop, take, Some, None, ◌⊎◌, inl, inr, refl, sym, ap, ◌∙◌, subst}
+use Rattle.std.specs.Prelude.{is_some, IsTrue}
 use Rattle.std.specs.List.{All}
 use Rattle.std.proofs.lemmas.Bool.{false≢true}
 use Rattle.std.proofs.lemmas.List.Elements.{All-append, All-cons, All-head, All-nil, All-tail}
 use Rattle.mdl_calls.specs.Words.{Each, Program, Runs, outcome_of}
-use Rattle.mdl_calls.proofs.FaithfulLemmas.{each_reply}
 use Rattle.mdl_core.specs.CoreCalls.{outcome}
-use Rattle.mdl_core.specs.CoreJoins.{Joins}
+use Rattle.mdl_core.specs.CoreJoins.{Joins, SpeaksFor}
 use Rattle.mdl_core.specs.Cores.{Core}
 use Rattle.mdl_lines.specs.Sessions.{IsScriptSession}
 use Rattle.mdl_syntax.specs.declared.script.Line.{Line}
-use Rattle.mdl_syntax.specs.declared.statement.Statement.{Statement}
-use Rattle.mdl_syntax.specs.declared.statement.Statement.TheVariants.{Timeout}
 use Rattle.mdl_stmt.specs.declared.reply.Reply.TheVariants as reply
 use Rattle.mdl_stmt.specs.Endings.{Pause, Ends, Begins_to_wait, Waits_on, Faults}
-use Rattle.mdl_stmt.specs.MemoryLaws.{KeepsSpaceSound, session_at}
+use Rattle.mdl_stmt.specs.MemoryLaws.{session_at}
 use Rattle.mdl_stmt.specs.Playing.{going_on, going_on_with, starting}
 use Rattle.mdl_stmt.specs.Sessions.{Session}
-use Rattle.mdl_stmt.proofs.RowCalls.{rows_keep_number}
 use Rattle.mdl_stmt.proofs.RowOutcomes.{rows_keep_sound}
+use Rattle.mdl_script.specs.declared.told.News.{News}
+use Rattle.mdl_script.specs.declared.told.News.TheVariants.{Busy, Ends as Has_ended}
 use Rattle.mdl_script.specs.declared.told.Told.{Told}
-use Rattle.mdl_script.specs.Worlds.{Player, Scene, World, asked, asked_waiting, first_world, going, is_waiting, line_played, lines_played, most_turns, player_at, script_played, settling, started, told_of}
+use Rattle.mdl_script.specs.Worlds.{Player, World, asked, first_settled, first_world, going, is_waiting, line_played, lines_played, most_turns, player_at, script_played, settling, started, timed_out, told_of}
 use Rattle.mdl_script.proofs.SettleLemmas.{read-sessions}
+use Rattle.mdl_script.proofs.SoundLemmas.{IsStaffed, first-session, staffed-first}
 use Rattle.mdl_script_laws.specs.IdleSessions.{IdleSessionsAreTidy}
 use Rattle.mdl_script_laws.specs.RefusalsFirst.{IsOrderly, IsTidy, IsUnderway}
 use Rattle.mdl_script_laws.specs.RefusedLines.{IsSameWorld, RefusedLinesChangeNothing, is_early_refusal}
 use Rattle.mdl_script_laws.proofs.EarlyPlays.{IsLateLeft, IsLatePause, IsUntouched, late_going_on, statements_untouched}
 use Rattle.mdl_script_laws.proofs.OrderlyPlays.{stay_tidy}
-use Rattle.mdl_script_laws.proofs.ScriptLemmas.{IsKept, IsStaffed, Keeps, kept-asked, kept-line, kept-lines, kept-settling, new-session, plays-each, plays-run, staffed-first}
+use Rattle.mdl_script_laws.proofs.OutcomeLemmas.{each-outcome}
+use Rattle.mdl_script_laws.proofs.ScriptLemmas.{IsKept, Keeps, asked-by, kept-asked, kept-line, kept-lines, kept-settling, new-session, plays-each, telling}
 
 -- a session is tidy, or in the midst of a statement that is no longer refused early
 abbrev IsReady : Session → Type 0
@@ -78,34 +78,28 @@ told-late line who (Begins_to_wait key mode session) late = All-cons IsNoRefusal
 told-late line who (Waits_on session) late = All-nil IsNoRefusal
 told-late line who (Faults session) late = All-nil IsNoRefusal
 
-ready-going : (who : ℕ) (world : World) → IsScriptSession who → IsStaffed world → AreReady world
+ready-going : (who : ℕ) (world : World) → first_settled world ≡ Some who → IsStaffed world → AreReady world
     → AreReady (going who world).world × All IsNoRefusal (going who world).told
-ready-going who world is staffed ready =
-    (plays-each line who going_on world is staffed keeps names (λ w. IsReady) (ready-at end.0 orderly late) ready, told-late line who end.0 late)
+ready-going who world found staffed ready = (
+  plays-each player.line who (going_on player.session) world is staffed (λ w p. IsReady p.session)
+      (ready-at end (each-outcome IsOrderly outcome (going_on player.session) world.core orderly.0) late) (λ w there _. ready w there),
+  told-late player.line who end late,
+)
   where
-    session : Session
-    session = (player_at who world).session
+    player : Player
+    player = player_at who world
 
-    line : ℕ
-    line = (player_at who world).line
+    is : IsScriptSession who
+    is = first-session world who found
 
-    end : Pause × Core
-    end = outcome_of outcome (going_on session) world.core
+    end : Pause
+    end = (outcome_of outcome (going_on player.session) world.core).0
 
-    keeps : (s : Session) → KeepsSpaceSound s (going_on s)
-    keeps s = (rows_keep_sound s).2
+    orderly : Each IsOrderly (going_on player.session) × Each IsLatePause (going_on player.session)
+    orderly = goes-late player.session (ready who is)
 
-    names : (s : Session) → Each (λ pause. (session_at pause).context.who ≡ s.context.who) (going_on s)
-    names s = (rows_keep_number s).2
-
-    run : Runs Joins world.core (going_on session) end.0 end.1
-    run = (plays-run line who going_on world is staffed keeps names).0
-
-    orderly : IsOrderly end.0
-    orderly = each_reply Joins IsOrderly (going_on session) world.core end.1 end.0 (goes-late session (ready who is)).0 run
-
-    late : IsLatePause end.0
-    late = each_reply Joins IsLatePause (going_on session) world.core end.1 end.0 (goes-late session (ready who is)).1 run
+    late : IsLatePause end
+    late = each-outcome IsLatePause outcome (going_on player.session) world.core orderly.1
 
 -- ---- statements that start
 
@@ -129,37 +123,34 @@ told-untouched line world after session a b (Faults s) untouched same = All-nil 
 ready-started : (line : Line) (world : World) → IsScriptSession line.session → is_waiting world line.session ≡ false → IsStaffed world → AreReady world
     → AreReady (started line world).world × All (IsOfThisLine line world (started line world).world) (started line world).told
 ready-started line world is rests staffed ready = (
-  each (λ w. IsReady) (ready-untouched session world.core end.1 end.0 orderly untouched) ready,
+  each (λ w p. IsReady p.session) (ready-untouched session world.core end.1 end.0 orderly untouched) (λ w there _. ready w there),
   told-untouched line world (started line world).world session world.core end.1 end.0 untouched
-      (λ same there. record { space = there; sessions = each (λ w s. s ≡ (player_at w world).session) same (λ w _. refl) }),
+      (λ same there. record { space = there; sessions = each (λ w p. p.session ≡ (player_at w world).session) same (λ w _ _. refl) }),
 ) where
   session : Session
   session = (player_at line.session world).session
 
-  program : Session → Program Pause
-  program s = starting line.statement s
+  program : Program Pause
+  program = starting line.statement session
 
   end : Pause × Core
-  end = outcome_of outcome (program session) world.core
+  end = outcome_of outcome program world.core
 
-  keeps : (s : Session) → KeepsSpaceSound s (program s)
-  keeps s = (rows_keep_sound s).1 line.statement
-
-  names : (s : Session) → Each (λ pause. (session_at pause).context.who ≡ s.context.who) (program s)
-  names s = (rows_keep_number s).1 line.statement
-
-  each : (P : ℕ → Session → Type 0) → P line.session (session_at end.0) → ((w : ℕ) → IsScriptSession w → P w (player_at w world).session)
-      → (w : ℕ) → IsScriptSession w → P w (player_at w (started line world).world).session
-  each = plays-each line.number line.session program world is staffed keeps names
+  each : (P : ℕ → Player → Type 0) → P line.session (record { session = session_at end.0; line = line.number })
+      → ((w : ℕ) → IsScriptSession w → w ≢ line.session → P w (player_at w world))
+      → (w : ℕ) → IsScriptSession w → P w (player_at w (started line world).world)
+  each = plays-each line.number line.session program world is staffed
 
   tidy : IsTidy session
   tidy = ready-rests session rests (ready line.session is)
 
-  run : Runs Joins world.core (program session) end.0 end.1
-  run = (plays-run line.number line.session program world is staffed keeps names).0
+  run : Runs Joins world.core program end.0 end.1
+  run =
+      let speaks = subst (SpeaksFor world.core) (sym (staffed.named line.session is)) (staffed.speaks line.session is.0 is.1) in
+      ((rows_keep_sound session).1 line.statement world.core speaks).0
 
   orderly : IsOrderly end.0
-  orderly = each_reply Joins IsOrderly (program session) world.core end.1 end.0 ((stay_tidy session).0 line.statement tidy) run
+  orderly = each-outcome IsOrderly outcome program world.core ((stay_tidy session).0 line.statement tidy)
 
   untouched : IsUntouched session world.core end.0 end.1
   untouched = statements_untouched line.statement session world.core end.1 end.0 tidy run
@@ -173,23 +164,14 @@ keeps-ready = record {
   ends = λ who world is staffed ready. ready;
 }
 
--- a session that waits is told no early refusal
-told-waiting : (statement : Statement) (line : Line) (world after : World)
-    → All (IsOfThisLine line world after) (asked_waiting statement line.number line.session world).told
-told-waiting Timeout line world after =
-    All-cons (IsOfThisLine line world after) _ [] (λ early. absurd (false≢true early)) (All-nil (IsOfThisLine line world after))
-told-waiting _ line world after =
-    All-cons (IsOfThisLine line world after) _ [] (λ early. absurd (false≢true early)) (All-nil (IsOfThisLine line world after))
-
 told-asked : (line : Line) (world : World) → IsScriptSession line.session → IsKept AreReady world
     → All (IsOfThisLine line world (asked line world).world) (asked line world).told
-told-asked line world is kept = by (is_waiting world line.session) refl where
-  scene : Bool → Scene
-  scene waits = if waits then asked_waiting line.statement line.number line.session world else started line world
-
-  by : (waits : Bool) → is_waiting world line.session ≡ waits → All (IsOfThisLine line world (scene waits).world) (scene waits).told
-  by true e = told-waiting line.statement line world (scene true).world
-  by false e = (ready-started line world is e kept.staffed kept.so).1
+told-asked line world is kept =
+    asked-by (λ scene. All (IsOfThisLine line world scene.world) scene.told) line world
+    (none (timed_out line.session world) (Has_ended reply.Ok) refl) (none world Busy refl) (λ e. (ready-started line world is e kept.staffed kept.so).1) where
+      -- a session that waits is told no early refusal
+      none : (after : World) (news : News) → is_early_refusal news ≡ false → All (IsOfThisLine line world after) (telling line.number line.session news after).told
+      none after news is = All-cons (IsOfThisLine line world after) _ [] (λ early. absurd (false≢true (sym is ∙ early))) (All-nil (IsOfThisLine line world after))
 
 -- early refusals are told of lines, and each of these leaves the world as it was
 abbrev IsOfLineFrom : List Line → World → Told → Type 0

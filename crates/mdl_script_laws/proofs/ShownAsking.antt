@@ -28,7 +28,7 @@ use Rattle.mdl_context.specs.Requests as requests
 use Rattle.mdl_context.specs.Requests.{Outcome}
 use Rattle.mdl_context.proofs.PlaceLemmas.{suffices-at, equal}
 use Rattle.mdl_script_laws.proofs.ShownCalls.{IsQuiet, Leads, Spares, Stays, leads-bind, leads-quiet, none, spares-call, spares-then, stays-call, stays-here}
-use Rattle.mdl_script_laws.proofs.ShownContexts.{Fits, Followed, IsFresh, fits-more, fits-same, followed-here, followed-late, followed-same, gained-fresh, gained-there}
+use Rattle.mdl_script_laws.proofs.ShownContexts.{Fits, Followed, IsFresh, fits-more, fits-same, followed-here, followed-late, followed-same, followed-waiting, gained-fresh, gained-there}
 
 -- ---- numbers of tickets
 
@@ -166,33 +166,13 @@ module _ (a : Core) (context : ContextView) (place : ℕ) (request : Wish) (fits
   -- a wait has begun
   asked-waits : (b : Core) (searched : Bool) → Spares context.who none a b → ((w : Wait) → (own_at b context.who).wait ≡ Some w → w.place ≡ place)
       → Followed a context b (requests.awaiting place request searched context)
-  asked-waits b searched spares at = record {
-    fits = record {
-      speaks = spares.speaks;
-      backed = λ k among. (let t = fits.backed k among in (t.0, spares.held t.0 t.1 (λ g. g), t.2, t.3));
-      alone = fits.alone;
-      known = λ key p e. spares.known p key (fits.known key p e);
-      wait = λ wanted w e f. (let g : wanted_of place request searched ≡ wanted = cc in at w f ∙ ap (λ (x : Wanted). x.place) g);
-    };
-    spares = spares;
-    who = refl;
-    grown = inl refl;
-  }
+  asked-waits b searched spares at =
+      followed-waiting a b context (Some (wanted_of place request searched)) fits spares
+      (λ wanted w e f. (let g : wanted_of place request searched ≡ wanted = cc in at w f ∙ ap (λ (x : Wanted). x.place) g))
 
   -- there is none
   asked-refused : (b : Core) → Spares context.who none a b → Followed a context b context
-  asked-refused b spares = record {
-    fits = record {
-      speaks = spares.speaks;
-      backed = λ k among. (let t = fits.backed k among in (t.0, spares.held t.0 t.1 (λ g. g), t.2, t.3));
-      alone = fits.alone;
-      known = λ key p e. spares.known p key (fits.known key p e);
-      wait = λ wanted w e f. cc;
-    };
-    spares = spares;
-    who = refl;
-    grown = inl refl;
-  }
+  asked-refused b spares = followed-waiting a b context context.wait fits spares (λ wanted w e f. cc)
 
   asked-sought : (b : Core) (number : ℕ) (end : SearchEnd) → Spares context.who none a b → ((w : Wait) → (own_at b context.who).wait ≡ Some w → w.place ≡ place)
       → Leads (λ got c. Asked (requests.outcome_got place request context got) c) (gains.wish_sought context.who number end) b

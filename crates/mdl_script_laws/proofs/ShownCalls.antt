@@ -1,5 +1,5 @@
 -- What a session holds, and what stands under it, over calls: its own, and those of others.
-use Rattle.std.proofs.Common.{◌≡◌, ◌≢◌, ◌⊎◌, inl, inr, ℕ, Bool, true, false, cond, not, List, [], ◌∷◌, Option, Some, None, IfSome, Contains, filter, refl, sym, ap, ◌∙◌, subst, arith}
+use Rattle.std.proofs.Common.{◌≡◌, ◌≢◌, inl, ℕ, Bool, true, false, not, Option, Some, None, IfSome, Contains, refl, sym, ap, ◌∙◌, subst, arith}
 use Rattle.std.specs.Prelude.{◌==◌}
 use Rattle.std.proofs.lemmas.Bool.Decides.{nat_tests}
 use Rattle.std.proofs.lemmas.List.Elements.{Contains-append_left}
@@ -15,35 +15,8 @@ use Rattle.mdl_core.specs.RunLaws.{IsMadeFor}
 use Rattle.mdl_core.proofs.CallLaws.{core-changes, core-keeps, core-others, core-remembers}
 use Rattle.mdl_core.proofs.CoreSound.{calls_keep-sound}
 use Rattle.mdl_core.proofs.ReadLaws.{core-stands}
-use Rattle.mdl_system.proofs.MemberLemmas.{Contains-none}
-use Rattle.mdl_system.proofs.OrderLemmas.{Contains-cons_cases, Contains-here, Contains-later}
-
--- ---- lists
-
-pub only-one : {X : Type 0} (x y : X) → Contains (x ∷ []) y → y ≡ x
-only-one x y among = elim (Contains-cons_cases x [] y among) [ inl nowhere ↦ absurd (Contains-none y nowhere) | inr same ↦ same ]
-
-pub filter-among : {X : Type 0} (p : X → Bool) (xs : List X) (x : X) → p x ≡ true → Contains xs x → Contains (filter p xs) x
-filter-among p [] x passes among = absurd (Contains-none x among)
-filter-among {X} p (y ∷ ys) x passes among = go (filter-among p ys x passes) (p y) refl (Contains-cons_cases y ys x among)
-  where
-    go : (Contains ys x → Contains (filter p ys) x) → (b : Bool) → p y ≡ b → Contains ys x ⊎ (x ≡ y) → Contains (cond b (y ∷ filter p ys) (filter p ys)) x
-    go rest true e (inl later) = Contains-later y (filter p ys) x (rest later)
-    go rest false e (inl later) = rest later
-    go rest true e (inr same) = subst (λ z. Contains (y ∷ filter p ys) z) (sym same) (Contains-here y (filter p ys))
-    go rest false e (inr same) = let z : true ≡ false = sym passes ∙ ap p same ∙ e in cc
-
-pub among-filter : {X : Type 0} (p : X → Bool) (xs : List X) (x : X) → Contains (filter p xs) x → Contains xs x × (p x ≡ true)
-among-filter p [] x among = absurd (Contains-none x among)
-among-filter {X} p (y ∷ ys) x among = go (λ there. let h = among-filter p ys x there in (Contains-later y ys x h.0, h.1)) (p y) refl among
-  where
-    go : (Contains (filter p ys) x → Contains (y ∷ ys) x × (p x ≡ true)) → (b : Bool) → p y ≡ b → Contains (cond b (y ∷ filter p ys) (filter p ys)) x
-        → Contains (y ∷ ys) x × (p x ≡ true)
-    go later false e there = later there
-    go later true e there = elim (Contains-cons_cases y (filter p ys) x there) [
-      | inl behind ↦ later behind
-      | inr same ↦ (subst (λ z. Contains (y ∷ ys) z) (sym same) (Contains-here y ys), ap p same ∙ e)
-    ]
+use Rattle.mdl_script_laws.proofs.ListLemmas.{filter-among}
+use Rattle.mdl_script_laws.proofs.OutcomeLemmas.{joins-outcome}
 
 -- ---- what a session holds
 
@@ -217,14 +190,6 @@ pub leads-bind : {A B : Type 0} (P : A → Core → Type 0) (Q : B → Core → 
 leads-bind P Q (Give x) next a leads later = later x a leads
 leads-bind P Q (Ask call more) next a leads later = λ answer b joins. leads-bind P Q (more answer) next b (leads answer b joins) later
 leads-bind P Q (Grow refused found) next a leads later = leads-bind P Q found next a leads later
-
--- a call for a session or for nobody joins by its outcome
-pub joins-outcome : (who : ℕ) (a : Core) (call : Call) → SpeaksFor a who → IsMadeFor who call → Joins a call (outcome call a).0 (outcome call a).1
-joins-outcome who a call speaks made = (allowed (caller call) made.1, made.0, inr refl)
-  where
-    allowed : (maker : Option ℕ) → IfSome maker (λ w. w ≡ who) → IfSome maker (SpeaksFor a)
-    allowed None same = tt
-    allowed (Some w) same = subst (SpeaksFor a) (sym same) speaks
 
 pub leads-outcome : {A : Type 0} (Q : A → Core → Type 0) (program : Program A) (a : Core) (who : ℕ) → SpeaksFor a who → EachCall (IsMadeFor who) program
     → Leads Q program a → Q (outcome_of outcome program a).0 (outcome_of outcome program a).1

@@ -16,7 +16,8 @@ use Rattle.mdl_core.specs.Cores.{Core}
 use Rattle.mdl_context.specs.declared.kept.Kept.{Kept}
 use Rattle.mdl_context.specs.declared.kept.Wanted.{Wanted}
 use Rattle.mdl_context.specs.Contexts.{ContextView, place_known}
-use Rattle.mdl_script_laws.proofs.ShownCalls.{among-filter, Spares, Stays, none, only-one, spares-here, spares-then}
+use Rattle.mdl_script_laws.proofs.ListLemmas.{among-filter, only-one}
+use Rattle.mdl_script_laws.proofs.ShownCalls.{Spares, Stays, none, spares-here, spares-then}
 
 -- ---- tickets with rising numbers
 
@@ -70,15 +71,21 @@ fits-fewer a b context gone p stay fits stays = record {
   wait = λ wanted w e f. fits.wait wanted w e (stays.1 w f);
 }
 
--- the same are
-pub fits-same : (a b : Core) (context : ContextView) → Fits a context → Stays context.who none a b → Fits b context
-fits-same a b context fits stays = record {
-  speaks = stays.0.speaks;
-  backed = λ k among. (let t = fits.backed k among in (t.0, stays.0.held t.0 t.1 (λ g. g), t.2, t.3));
+-- the same are, with a wait where the session waits
+pub fits-waiting : (a b : Core) (context : ContextView) (wait : Option Wanted) → Fits a context → Spares context.who none a b
+    → ((wanted : Wanted) (w : Wait) → wait ≡ Some wanted → (own_at b context.who).wait ≡ Some w → w.place ≡ wanted.place)
+    → Fits b (record context { wait = wait })
+fits-waiting a b context wait fits spares at = record {
+  speaks = spares.speaks;
+  backed = λ k among. (let t = fits.backed k among in (t.0, spares.held t.0 t.1 (λ g. g), t.2, t.3));
   alone = fits.alone;
-  known = λ key place e. stays.0.known place key (fits.known key place e);
-  wait = λ wanted w e f. fits.wait wanted w e (stays.1 w f);
+  known = λ key place e. spares.known place key (fits.known key place e);
+  wait = at;
 }
+
+-- and with the wait that it has
+pub fits-same : (a b : Core) (context : ContextView) → Fits a context → Stays context.who none a b → Fits b context
+fits-same a b context fits stays = fits-waiting a b context context.wait fits stays.0 (λ wanted w e f. fits.wait wanted w e (stays.1 w f))
 
 -- one more is, of a new number
 pub fits-more : (a b : Core) (context : ContextView) (new : Kept) (t : Held) → Fits a context → Spares context.who none a b → IsFresh a context.who new.id
@@ -120,6 +127,12 @@ pub record Followed (a : Core) (before : ContextView) (b : Core) (after : Contex
 
 pub followed-here : (a : Core) (context : ContextView) → Fits a context → Followed a context a context
 followed-here a context fits = record { fits = fits; spares = spares-here context.who none a fits.speaks; who = refl; grown = inl refl }
+
+pub followed-waiting : (a b : Core) (context : ContextView) (wait : Option Wanted) → Fits a context → Spares context.who none a b
+    → ((wanted : Wanted) (w : Wait) → wait ≡ Some wanted → (own_at b context.who).wait ≡ Some w → w.place ≡ wanted.place)
+    → Followed a context b (record context { wait = wait })
+followed-waiting a b context wait fits spares at =
+    record { fits = fits-waiting a b context wait fits spares at; spares = spares; who = refl; grown = inl refl }
 
 pub followed-same : (a b : Core) (context : ContextView) → Fits a context → Stays context.who none a b → Followed a context b context
 followed-same a b context fits stays = record { fits = fits-same a b context fits stays; spares = stays.0; who = refl; grown = inl refl }

@@ -1,30 +1,27 @@
 -- What a session was shown of a table is what it is shown again, and what stands, while its transaction is open.
-use Rattle.std.proofs.Common.{◌≡◌, inl, inr, ℕ, zero, suc, true, false, List, [], ◌∷◌, ◌++◌, Option, Some, None, Contains, refl, sym, ap, ◌∙◌, subst}
-use Rattle.std.specs.Prelude.{if◌then◌else◌}
+use Rattle.std.proofs.Common.{◌≡◌, inl, inr, ℕ, zero, suc, true, List, [], ◌∷◌, ◌++◌, Option, Some, None, refl, sym, ap, ◌∙◌}
 use Rattle.std.specs.List.{All}
-use Rattle.std.proofs.lemmas.List.Elements.{All-cons, All-head, All-nil, All-tail, Contains-append_cases}
+use Rattle.std.proofs.lemmas.List.Elements.{All-append, All-cons, All-contains, All-head, All-nil, All-tail}
 use Rattle.mdl_defs.specs.declared.definition.Definition.{Definition}
 use Rattle.mdl_system.specs.Words.{Versioned}
-use Rattle.mdl_system.proofs.MemberLemmas.{Contains-none}
 use Rattle.mdl_core.specs.CoreSystems.{defined_in, system_of}
 use Rattle.mdl_core.specs.Cores.{Core, book_at, key_at}
 use Rattle.mdl_core.proofs.CoreGranted.{book_of-at}
 use Rattle.mdl_context.specs.Contexts.{ContextView}
 use Rattle.mdl_lines.specs.Sessions.{IsScriptSession}
 use Rattle.mdl_syntax.specs.declared.script.Line.{Line}
-use Rattle.mdl_syntax.specs.declared.statement.Statement.{Statement}
-use Rattle.mdl_syntax.specs.declared.statement.Statement.TheVariants.{Timeout}
 use Rattle.mdl_stmt.specs.declared.reply.Reply.TheVariants as reply
 use Rattle.mdl_stmt.specs.declared.reply.TableShown.{TableShown}
 use Rattle.mdl_stmt.specs.Endings.{Pause, Ends, Begins_to_wait, Waits_on, Faults}
 use Rattle.mdl_stmt.specs.Sessions.{Session}
 use Rattle.mdl_stmt.specs.Statements.{columns_of}
-use Rattle.mdl_script.specs.declared.told.News.TheVariants.{Busy, Ends as Has_ended, Waits as Has_waits}
+use Rattle.mdl_script.specs.declared.told.News.TheVariants.{Ends as Has_ended, Waits as Has_waits}
 use Rattle.mdl_script.specs.declared.told.Told.{Told}
-use Rattle.mdl_script.specs.Worlds.{Scene, World, asked, asked_waiting, first_settled, first_world, going, going_first, is_waiting, line_played, lines_played, most_turns, player_at, script_played, settling, started, told_of, ◌and_then◌}
+use Rattle.mdl_script.specs.Worlds.{Scene, World, asked, first_settled, first_world, going, going_first, line_played, lines_played, most_turns, player_at, script_played, settling, told_of}
 use Rattle.mdl_script.proofs.SoundLemmas.{first-session}
 use Rattle.mdl_script_laws.specs.Shown.{AreOfSessions, IsShownTo, LeavesTransaction, StandsAsShown, TransactionsKeepWhatTheySaw, TransactionsSeeOneDefinition, has_transaction}
-use Rattle.mdl_script_laws.proofs.ShownCalls.{key-held, only-one}
+use Rattle.mdl_script_laws.proofs.ScriptLemmas.{asked-by}
+use Rattle.mdl_script_laws.proofs.ShownCalls.{key-held}
 use Rattle.mdl_script_laws.proofs.ShownContexts.{Fits}
 use Rattle.mdl_script_laws.proofs.ShownPoints.{IsStanding, shown_at}
 use Rattle.mdl_script_laws.proofs.ShownPlays.{Keeps}
@@ -32,49 +29,40 @@ use Rattle.mdl_script_laws.proofs.ShownWorlds.{IsGood, IsGoodScene, Nothing, goo
 
 -- ---- whom something is told
 
--- all that is told is told to sessions that there are
-abbrev AreToldToSessions : List Told → Type 0
-AreToldToSessions told = (t : Told) → Contains told t → IsScriptSession t.who
+-- a session that there is
+abbrev IsToldToSession : Told → Type 0
+IsToldToSession told = IsScriptSession told.who
 
-told-one : (t : Told) → IsScriptSession t.who → AreToldToSessions (t ∷ [])
-told-one t is u among = subst (λ (v : Told). IsScriptSession v.who) (sym (only-one t u among)) is
+told-one : (t : Told) → IsScriptSession t.who → All IsToldToSession (t ∷ [])
+told-one t is = All-cons IsToldToSession t [] is (All-nil IsToldToSession)
 
-told-of : (line s : ℕ) (pause : Pause) → IsScriptSession s → AreToldToSessions (told_of line s pause)
+told-of : (line s : ℕ) (pause : Pause) → IsScriptSession s → All IsToldToSession (told_of line s pause)
 told-of line s (Ends r session) is = told-one (record { line = line; who = s; news = Has_ended r }) is
 told-of line s (Begins_to_wait key mode session) is = told-one (record { line = line; who = s; news = Has_waits key mode }) is
-told-of line s (Waits_on session) is = λ t among. absurd (Contains-none t among)
-told-of line s (Faults session) is = λ t among. absurd (Contains-none t among)
+told-of line s (Waits_on session) is = All-nil IsToldToSession
+told-of line s (Faults session) is = All-nil IsToldToSession
 
-told-waiting : (statement : Statement) (line s : ℕ) (world : World) → IsScriptSession s → AreToldToSessions (asked_waiting statement line s world).told
-told-waiting Timeout line s world is = told-one (record { line = line; who = s; news = Has_ended reply.Ok }) is
-told-waiting _ line s world is = told-one (record { line = line; who = s; news = Busy }) is
-
-told-asked : (line : Line) (world : World) → IsScriptSession line.session → AreToldToSessions (asked line world).told
+told-asked : (line : Line) (world : World) → IsScriptSession line.session → All IsToldToSession (asked line world).told
 told-asked line world is =
-    elim (is_waiting world line.session) as
-    (λ waits. AreToldToSessions (if waits then asked_waiting line.statement line.number line.session world else started line world).told) [
-      | true ↦ told-waiting line.statement line.number line.session world is
-      | false ↦ told-of line.number line.session _ is
-    ]
+    asked-by (λ scene. All IsToldToSession scene.told) line world (told-one _ is) (told-one _ is) (λ idle. told-of line.number line.session _ is)
 
-told-then : (scene : Scene) (next : World → Scene) → AreToldToSessions scene.told → AreToldToSessions (next scene.world).told
-    → AreToldToSessions (scene and_then next).told
-told-then scene next first later = λ t among.
-    elim (Contains-append_cases scene.told (next scene.world).told t among) [ inl early ↦ first t early | inr late ↦ later t late ]
-
-told-first : (first : Option ℕ) (world : World) (more : World → Scene) → first_settled world ≡ first → ((after : World) → AreToldToSessions (more after).told)
-    → AreToldToSessions (going_first first more world).told
-told-first None world more found rest = λ t among. absurd (Contains-none t among)
+told-first : (first : Option ℕ) (world : World) (more : World → Scene) → first_settled world ≡ first
+    → ((after : World) → All IsToldToSession (more after).told) → All IsToldToSession (going_first first more world).told
+told-first None world more found rest = All-nil IsToldToSession
 told-first (Some s) world more found rest =
-    told-then (going s world) more (told-of (player_at s world).line s _ (first-session world s found)) (rest (going s world).world)
+    All-append IsToldToSession (going s world).told (more (going s world).world).told
+    (told-of (player_at s world).line s _ (first-session world s found)) (rest (going s world).world)
 
-told-settling : (n : ℕ) (world : World) → AreToldToSessions (settling n world).told
+told-settling : (n : ℕ) (world : World) → All IsToldToSession (settling n world).told
 unfolding settling
-told-settling zero world = λ t among. absurd (Contains-none t among)
+told-settling zero world = All-nil IsToldToSession
 told-settling (suc n) world = told-first (first_settled world) world (settling n) refl (told-settling n)
 
-told-line : (line : Line) (world : World) → IsScriptSession line.session → AreToldToSessions (line_played line world).told
-told-line line world is = told-then (asked line world) (settling most_turns) (told-asked line world is) (told-settling most_turns (asked line world).world)
+-- all that is told is told to sessions that there are
+told-line : (line : Line) (world : World) → IsScriptSession line.session → All IsToldToSession (line_played line world).told
+told-line line world is =
+    All-append IsToldToSession (asked line world).told (settling most_turns (asked line world).world).told (told-asked line world is)
+    (told-settling most_turns (asked line world).world)
 
 -- ---- after a line that shows a table
 
@@ -124,7 +112,8 @@ good-shown : (before : List Line) (line : Line) (who : ℕ) (table : TableShown)
     → IsScriptSession who × IsGood who (with_table Nothing table) (line_played line (script_played before).world).world
 good-shown before line who table are is shown =
     let start = (script_played before).world in
-    let session = told-line line start is (record { line = shown.0; who = who; news = Has_ended (reply.Columns shown.1) }) shown.2 in (
+    let told : Told = record { line = shown.0; who = who; news = Has_ended (reply.Columns shown.1) } in
+    let session = All-contains IsToldToSession (line_played line start).told told (told-line line start is) shown.2 in (
       session,
       (scene-line who session Nothing line start is (λ e. inr (λ x none. none))
           (good-lines who session before first_world are (good-first who session))).shown table shown,

@@ -51,7 +51,8 @@ use Rattle.mdl_stmt.specs.Rows.{Row}
 use Rattle.mdl_stmt.specs.Rows as row
 use Rattle.mdl_stmt.specs.Sessions.{Left, Session}
 use Rattle.mdl_stmt.specs.States.{State, has_locked}
-use Rattle.mdl_script_laws.proofs.ShownCalls.{Leads, Stays, among-filter, leads-bind, leads-each, none, stays-call, stays-other}
+use Rattle.mdl_script_laws.proofs.ListLemmas.{among-filter}
+use Rattle.mdl_script_laws.proofs.ShownCalls.{Leads, Stays, leads-bind, leads-each, none, stays-call, stays-other}
 use Rattle.mdl_script_laws.proofs.ShownContexts.{Fits, Followed, followed-same}
 use Rattle.mdl_script_laws.proofs.ShownAsking.{held-number, leads-acquiring}
 use Rattle.mdl_script_laws.proofs.ShownWaits.{GaveUp, IsAmong, Resumed, leads-giving_up, leads-releasing, leads-resuming}

@@ -22,7 +22,7 @@ use Rattle.mdl_context.specs.Releases as releases
 use Rattle.mdl_context.specs.Requests.{Outcome}
 use Rattle.mdl_context.specs.Waits as waits
 use Rattle.mdl_script_laws.proofs.ShownCalls.{IsQuiet, Leads, Spares, Stays, leads-bind, leads-quiet, none, stays-call, stays-here}
-use Rattle.mdl_script_laws.proofs.ShownContexts.{Fits, Followed, fits-fewer, fits-more, fits-same, followed-here, followed-late, followed-same}
+use Rattle.mdl_script_laws.proofs.ShownContexts.{Fits, Followed, fits-fewer, fits-more, fits-same, followed-here, followed-late, followed-same, followed-waiting}
 use Rattle.mdl_script_laws.proofs.ShownAsking.{leads-abandoning, leads-map, quiet-seeking, won-by}
 
 -- ---- a wait that goes on
@@ -46,21 +46,8 @@ taken-up : (a b : Core) (context : ContextView) (id : ℕ) (o : Option Wanted) �
     → Followed a context b (waits.taking_up id (record context { wait = o }))
     × ComesTo context (Ok (resume.Acquired id), waits.taking_up id (record context { wait = o })) b
 taken-up a b context id None e fits joins =
-    let stays = stays-call context.who none a b (End_wait context.who) (Granted id) fits.speaks (refl, tt, refl) joins in (
-      record {
-        fits = record {
-          speaks = stays.0.speaks;
-          backed = λ k among. (let t = fits.backed k among in (t.0, stays.0.held t.0 t.1 (λ g. g), t.2, t.3));
-          alone = fits.alone;
-          known = λ key p f. stays.0.known p key (fits.known key p f);
-          wait = λ wanted w f g. cc;
-        };
-        spares = stays.0;
-        who = refl;
-        grown = inl refl;
-      },
-      λ wanted f. cc,
-    )
+    let stays = stays-call context.who none a b (End_wait context.who) (Granted id) fits.speaks (refl, tt, refl) joins in
+    (followed-waiting a b context None fits stays.0 (λ wanted w f g. cc), λ wanted f. cc)
 taken-up a b context id (Some wanted) e fits joins =
     let won = won-by a b context.who id fits.speaks joins in
     let place : won.0.place ≡ wanted.place = fits.wait wanted won.0 e won.1 in
@@ -85,18 +72,7 @@ taken-up a b context id (Some wanted) e fits joins =
 
 -- the context has no wait any more
 lost-so : (a b : Core) (context : ContextView) → Fits a context → Spares context.who none a b → Followed a context b (waits.without_wait context)
-lost-so a b context fits spares = record {
-  fits = record {
-    speaks = spares.speaks;
-    backed = λ k among. (let t = fits.backed k among in (t.0, spares.held t.0 t.1 (λ g. g), t.2, t.3));
-    alone = fits.alone;
-    known = λ key p f. spares.known p key (fits.known key p f);
-    wait = λ wanted w f g. cc;
-  };
-  spares = spares;
-  who = refl;
-  grown = inl refl;
-}
+lost-so a b context fits spares = followed-waiting a b context None fits spares (λ wanted w f g. cc)
 
 ended-so : (a b : Core) (context : ContextView) (answer : Answer) → Fits a context → Joins a (End_wait context.who) answer b
     → Leads (Resumed a context) (waits.end_answered context answer) b

@@ -1,9 +1,6 @@
 -- Line by line, what a session was shown in its transaction stands on, and so what it is shown again is the same.
-use Rattle.std.proofs.Common.{◌≡◌, ◌≢◌, ◌⊎◌, inl, inr, ℕ, zero, suc, ◌<◌, ◌-◌, Bool, true, false, List, [], ◌∷◌, length, Option, Some, None, is_some, refl, sym, ap, ◌∙◌, subst, arith}
-use Rattle.std.specs.Prelude.{if◌then◌else◌}
+use Rattle.std.proofs.Common.{◌≡◌, ◌≢◌, ◌⊎◌, inl, inr, ℕ, zero, suc, true, false, List, [], ◌∷◌, Option, Some, None, is_some, refl, sym, ap, ◌∙◌, subst}
 use Rattle.std.proofs.lemmas.Bool.Decides.{eqb_tells}
-use Rattle.std.proofs.lemmas.List.{get_or-set_other, get_or-set_same}
-use Rattle.std.proofs.lemmas.List.FromFn.{get_or-map-range_with_len}
 use Rattle.std.proofs.lemmas.List.Elements.{All-head, All-tail, Contains-append_cases}
 use Rattle.mdl_key.specs.declared.mode.Mode.{Mode}
 use Rattle.mdl_key.specs.Keys.{KeyName}
@@ -17,7 +14,6 @@ use Rattle.mdl_context.specs.Contexts.{mark_of}
 use Rattle.mdl_lines.specs.Sessions.{IsScriptSession}
 use Rattle.mdl_syntax.specs.declared.script.Line.{Line}
 use Rattle.mdl_syntax.specs.declared.statement.Statement.{Statement}
-use Rattle.mdl_syntax.specs.declared.statement.Statement.TheVariants.{Timeout}
 use Rattle.mdl_stmt.specs.declared.reply.Reply.{Reply}
 use Rattle.mdl_stmt.specs.declared.reply.Reply.TheVariants as reply
 use Rattle.mdl_stmt.specs.declared.reply.TableShown.{TableShown}
@@ -30,10 +26,13 @@ use Rattle.mdl_stmt.proofs.RowCalls.{rows_call}
 use Rattle.mdl_script.specs.declared.told.News.{News}
 use Rattle.mdl_script.specs.declared.told.News.TheVariants.{Busy, Ends as Has_ended, Waits as Has_waits}
 use Rattle.mdl_script.specs.declared.told.Told.{Told}
-use Rattle.mdl_script.specs.Worlds.{Player, Scene, World, asked, asked_waiting, first_core, first_settled, first_world, going, going_first, is_waiting, line_played, lines_played, most_turns, newcomer, played, player_at, sessions, settling, started, timed_out, told_of, ◌and_then◌}
+use Rattle.mdl_script.specs.Worlds.{Player, Scene, World, asked, first_core, first_settled, first_world, going, going_first, is_waiting, line_played, lines_played, most_turns, played, player_at, settling, started, timed_out, told_of, ◌and_then◌}
 use Rattle.mdl_script.proofs.SoundLemmas.{IsStaffed, first-session, staffed-first, staffed-going, staffed-started, staffed-timed_out}
 use Rattle.mdl_script_laws.specs.Shown.{AreOfSessions, IsShownTo, LeavesTransaction, leaves_transaction}
-use Rattle.mdl_script_laws.proofs.ShownCalls.{Leads, Stays, joins-outcome, leads-outcome, none, only-one, stays-call, stays-other, stays-outcome}
+use Rattle.mdl_script_laws.proofs.ListLemmas.{only-one}
+use Rattle.mdl_script_laws.proofs.OutcomeLemmas.{joins-outcome}
+use Rattle.mdl_script_laws.proofs.ScriptLemmas.{asked-by, lines-by, new-session, plays-other, plays-same}
+use Rattle.mdl_script_laws.proofs.ShownCalls.{Leads, Stays, leads-outcome, none, stays-call, stays-other, stays-outcome}
 use Rattle.mdl_script_laws.proofs.ShownContexts.{followed-same, fits-same}
 use Rattle.mdl_script_laws.proofs.ShownPoints.{IsStanding, old-now, standing-followed}
 use Rattle.mdl_script_laws.proofs.ShownPlays.{Comes, Keeps, Rests, Tells, leads-going, leads-play, point-same}
@@ -181,16 +180,11 @@ module _ (who : ℕ) (old : TableShown → Type 0) (line s : ℕ) (program : Ses
   abbrev after : World
   after = (played line s (program before) world).world
 
-  inside : s - 1 < length world.players
-  inside = subst (λ n. s - 1 < n) (sym good.staffed.all) (omega (arith, is.0, is.1))
-
   mine : (player_at s after).session ≡ session_at end.0
-  mine = ap (λ (p : Player). p.session) (get_or-set_same world.players (s - 1) (record { session = session_at end.0; line = line }) (newcomer s) inside)
+  mine = ap (λ (p : Player). p.session) (plays-same line s (program before) world is good.staffed)
 
   theirs : (w : ℕ) → IsScriptSession w → w ≢ s → (player_at w after).session ≡ (player_at w world).session
-  theirs w there apart =
-      ap (λ (p : Player). p.session) (get_or-set_other world.players (s - 1) (w - 1) (record { session = session_at end.0; line = line }) (newcomer w)
-      (λ e. apart (omega (arith, e, is.0, there.0))))
+  theirs w there apart = ap (λ (p : Player). p.session) (plays-other line s (program before) world is good.staffed w there apart)
 
   -- another session
   other-keeps : (facts : TableShown → Type 0) (w : ℕ) → IsScriptSession w → w ≢ s → Keeps facts world.core (player_at w world).session
@@ -316,25 +310,17 @@ module _ (who : ℕ) (there : IsScriptSession who) where
           keeps-stays facts world.core (outcome (Settle_timeout s) world.core).1 (player_at w world).session
           (subst (λ v. Stays v none world.core (outcome (Settle_timeout s) world.core).1) (sym (good.staffed.named w session)) (stays w session)) keeps
 
-  scene-waiting : (old : TableShown → Type 0) (statement : Statement) (line s : ℕ) (world : World) → IsScriptSession s → IsGood who old world
-      → IsGoodScene who old (asked_waiting statement line s world)
-  scene-waiting old Timeout line s world is good = record {
-    good = good-timed_out old s world is good;
-    shown = λ x shown. absurd (shows_ok shown.1 (same_reply (reply.Columns shown.1) reply.Ok (told-alone who line s (Has_ended reply.Ok) x shown).1));
-  }
-  scene-waiting old _ line s world is good = record {
-    good = good;
-    shown = λ x shown. absurd (ended_busy (reply.Columns shown.1) (told-alone who line s Busy x shown).1);
-  }
-
   scene-asked : (old : TableShown → Type 0) (line : Line) (world : World) → IsScriptSession line.session → (line.session ≡ who → MayStart old line.statement)
       → IsGood who old world → IsGoodScene who old (asked line world)
-  scene-asked old line world is may good = by (is_waiting world line.session) refl
-    where
-      by : (waits : Bool) → is_waiting world line.session ≡ waits
-          → IsGoodScene who old (if waits then asked_waiting line.statement line.number line.session world else started line world)
-      by true e = scene-waiting old line.statement line.number line.session world is good
-      by false e = scene-started old line world is may e good
+  scene-asked old line world is may good =
+      asked-by (IsGoodScene who old) line world (record {
+        good = good-timed_out old line.session world is good;
+        shown = λ x shown. absurd (shows_ok shown.1 (same_reply (reply.Columns shown.1) reply.Ok
+            (told-alone who line.number line.session (Has_ended reply.Ok) x shown).1));
+      }) (record {
+        good = good;
+        shown = λ x shown. absurd (ended_busy (reply.Columns shown.1) (told-alone who line.number line.session Busy x shown).1);
+      }) (λ idle. scene-started old line world is may idle good)
 
   -- one scene after another
   scene-then : (old : TableShown → Type 0) (scene : Scene) (next : World → Scene) → IsGoodScene who old scene
@@ -385,19 +371,14 @@ module _ (who : ℕ) (there : IsScriptSession who) where
 
   -- before anything was shown, whatever the lines
   pub good-lines : (lines : List Line) (world : World) → AreOfSessions lines → IsGood who Nothing world → IsGood who Nothing (lines_played lines world).world
-  good-lines [] world are good = good
-  good-lines (line ∷ lines) world are good =
-      good-lines lines (line_played line world).world (All-tail (λ (l : Line). IsScriptSession l.session) line lines are)
-      (scene-line Nothing line world (All-head (λ (l : Line). IsScriptSession l.session) line lines are) (λ e. inr (λ x none. none)) good).good
+  good-lines lines world are good =
+      lines-by (λ line. IsScriptSession line.session) (IsGood who Nothing)
+      (λ line world is good. (scene-line Nothing line world is (λ e. inr (λ x none. none)) good).good) lines world are good
 
 -- ---- the world at first
 
-newcomer-first : (w : ℕ) → IsScriptSession w → player_at w first_world ≡ newcomer w
-unfolding sessions
-newcomer-first w is = get_or-map-range_with_len newcomer 1 64 (w - 1) w (newcomer w) (omega (arith, is.0, is.1)) (omega (arith, is.0))
-
 keeps-first : (w : ℕ) → IsScriptSession w → Keeps Nothing first_world.core (player_at w first_world).session
-keeps-first w is = subst (λ (p : Player). Keeps Nothing first_core p.session) (sym (newcomer-first w is)) (inl (record {
+keeps-first w is = subst (λ (p : Player). Keeps Nothing first_core p.session) (sym (new-session w is)) (inl (record {
   left = refl;
   fits = record {
     speaks = staffed-first.speaks w is.0 is.1;

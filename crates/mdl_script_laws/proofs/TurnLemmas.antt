@@ -1,23 +1,17 @@
 -- The turns after a line are always enough: with each of them the locks that are left to ask for become fewer.
-use Rattle.std.proofs.Common.{◌≡◌, ◌≢◌, ◌⊎◌, inl, inr, ℕ, zero, suc, ◌<◌, ◌≤◌, ◌-◌, ◌*◌, Bool, true, false, cond, List, [], ◌∷◌, length, get_or, set, take, replicate, Option, Some, None, Result, Ok, refl, subst, ap, ◌∙◌, sym, arith}
-use Rattle.std.specs.Prelude.{IfOk, if◌then◌else◌, is_some}
+use Rattle.std.proofs.Common.{◌≡◌, ℕ, zero, suc, ◌<◌, ◌≤◌, ◌-◌, ◌*◌, Bool, true, false, cond, List, [], ◌∷◌, length, get_or, set, take, replicate, Option, Some, None, Result, Ok, refl, subst, ap, ◌∙◌, sym, arith}
+use Rattle.std.specs.Prelude.{IfOk, is_some}
 use Rattle.std.specs.List.{All, find, sum_by}
-use Rattle.std.proofs.Math.Dec.{eqb}
-use Rattle.std.proofs.lemmas.Bool.Decides.{eqb_tells}
 use Rattle.std.proofs.lemmas.List.{get_or-set_other, get_or-set_same, get_or-replicate, length-set, length-replicate}
-use Rattle.std.proofs.lemmas.List.Elements.{All-cons, All-head, All-nil, All-replicate, All-set, All-tail}
-use Rattle.std.proofs.lemmas.List.FromFn.{get_or-map-range_with_len}
+use Rattle.std.proofs.lemmas.List.Elements.{All-cons, All-nil, All-replicate, All-set, All-take}
 use Rattle.std.proofs.lemmas.List.Sums.{sum_by-le, sum_by-set}
 use Rattle.mdl_book.proofs.TicketLemmas.{find-passes}
 use Rattle.mdl_calls.specs.Words.{Program, outcome_of}
 use Rattle.mdl_core.specs.CoreCalls.{has_settled, outcome}
-use Rattle.mdl_core.specs.Cores.{Core}
 use Rattle.mdl_lines.specs.declared.fault.LineError.{LineError}
 use Rattle.mdl_lines.specs.Lines.{lines_of}
 use Rattle.mdl_lines.specs.Sessions.{IsScriptSession}
 use Rattle.mdl_syntax.specs.declared.script.Line.{Line}
-use Rattle.mdl_syntax.specs.declared.statement.Statement.{Statement}
-use Rattle.mdl_syntax.specs.declared.statement.Statement.TheVariants.{Timeout}
 use Rattle.mdl_syntax.specs.Laws.{IsWithinLimits}
 use Rattle.mdl_syntax.specs.Scripts.{parsed}
 use Rattle.mdl_syntax.proofs.LawLemmas.{lines_say-limited}
@@ -27,13 +21,15 @@ use Rattle.mdl_stmt.specs.MemoryLaws.{session_at}
 use Rattle.mdl_stmt.specs.Playing.{going_on, starting}
 use Rattle.mdl_stmt.specs.Sessions.{Left}
 use Rattle.mdl_stmt.specs.Statements.{row_of}
-use Rattle.mdl_script.specs.Worlds.{Player, Scene, World, asked, asked_waiting, first_settled, first_world, going, is_waiting, line_played, lines_played, most_turns, most_waits, newcomer, played, player_at, script_played, sessions, settling, started, waiting_in}
+use Rattle.mdl_script.specs.Worlds.{Player, Scene, World, asked, first_settled, first_world, going, is_waiting, line_played, most_turns, most_waits, played, player_at, script_played, settling, started, timed_out, waiting_in}
 use Rattle.mdl_script.proofs.HallLemmas.{waiting-sessions}
 use Rattle.mdl_script.proofs.ListLemmas.{All-find}
 use Rattle.mdl_script.proofs.SettleLemmas.{settling-none, settling-over, settling-some}
-use Rattle.mdl_script.proofs.SoundLemmas.{IsStaffed, first-session, staffed-asked, staffed-first, staffed-going}
+use Rattle.mdl_script.proofs.SoundLemmas.{IsStaffed, first-session, staffed-first, staffed-going, staffed-started, staffed-timed_out}
 use Rattle.mdl_script_laws.specs.Turns.{AsksForAtMost, MoreTurnsDoNothing, NobodyIsLeftSettled, TurnsSuffice, locks_of, most_locks}
-use Rattle.mdl_script_laws.proofs.TurnPlays.{IsLeftWithin, PausesWithin, each-outcome, left-within, within-going, within-play}
+use Rattle.mdl_script_laws.proofs.OutcomeLemmas.{each-outcome}
+use Rattle.mdl_script_laws.proofs.ScriptLemmas.{asked-by, lines-by, new-session, plays-each}
+use Rattle.mdl_script_laws.proofs.TurnPlays.{IsLeftWithin, PausesWithin, left-within, within-going, within-play}
 use Rattle.mdl_script_laws.proofs.TurnRows.{few-locks}
 
 -- what a session may still ask for: the locks, and the line of its last statement
@@ -52,6 +48,10 @@ pub record IsBounded (dues : List Due) (world : World) : Type 0 where
   pub lines : (who : ℕ) → IsScriptSession who → (get_or dues (who - 1) nothing_due).line ≡ (player_at who world).line
   pub within : (who : ℕ) → IsScriptSession who → IsLeftWithin (get_or dues (who - 1) nothing_due).locks (player_at who world).session.left
 
+-- a line as it is read
+abbrev pub IsRead : Line → Type 0
+IsRead line = IsScriptSession line.session × IsWithinLimits line.statement
+
 -- the locks that may still be asked for
 abbrev total : List Due → ℕ
 total dues = sum_by (λ due. due.locks) dues
@@ -66,47 +66,29 @@ bounded-played line who n program world dues is most staffed here bounded = reco
   staffed = staffed;
   all = length-set dues (who - 1) new ∙ bounded.all;
   few = All-set (λ due. due.locks ≤ most_waits) dues (who - 1) new most bounded.few;
-  lines = λ w session. (by w session (eqb_tells w who)).0;
-  within = λ w session. (by w session (eqb_tells w who)).1;
+  lines = λ w session. (each w session).0;
+  within = λ w session. (each w session).1;
 } where
-  end : Pause × Core
-  end = outcome_of outcome program world.core
-
   next : Player
-  next = record { session = session_at end.0; line = line }
+  next = record { session = session_at (outcome_of outcome program world.core).0; line = line }
 
   new : Due
   new = record { line = line; locks = n }
 
-  after : World
-  after = record { core = end.1; players = set world.players (who - 1) next }
-
   Fits : Due → Player → Type 0
   Fits due player = (due.line ≡ player.line) × IsLeftWithin due.locks player.session.left
-
-  inside : who - 1 < length world.players
-  inside = let all = bounded.staffed.all in omega (arith, is.0, is.1, all)
 
   among : who - 1 < length dues
   among = let all = bounded.all in omega (arith, is.0, is.1, all)
 
-  mine : Fits (get_or (set dues (who - 1) new) (who - 1) nothing_due) (player_at who after)
-  mine =
-      let due : get_or (set dues (who - 1) new) (who - 1) nothing_due ≡ new = get_or-set_same dues (who - 1) new nothing_due among in
-      let player : player_at who after ≡ next = get_or-set_same world.players (who - 1) next (newcomer who) inside in
-      subst (λ (p : Player). Fits (get_or (set dues (who - 1) new) (who - 1) nothing_due) p) (sym player)
-      (subst (λ (d : Due). Fits d next) (sym due) (refl, left-within n end.0 here))
-
-  by : (w : ℕ) → IsScriptSession w → ((eqb w who ≡ true) × (w ≡ who)) ⊎ ((eqb w who ≡ false) × (w ≢ who))
-      → Fits (get_or (set dues (who - 1) new) (w - 1) nothing_due) (player_at w after)
-  by w there (inl same) = subst (λ k. Fits (get_or (set dues (who - 1) new) (k - 1) nothing_due) (player_at k after)) (sym same.1) mine
-  by w there (inr other) =
-      let apart : w - 1 ≢ who - 1 = λ e. other.1 (omega (arith, e, is.0, there.0)) in
-      let due : get_or (set dues (who - 1) new) (w - 1) nothing_due ≡ get_or dues (w - 1) nothing_due = get_or-set_other dues (who - 1)
-      (w - 1) new nothing_due apart in
-      let player : player_at w after ≡ player_at w world = get_or-set_other world.players (who - 1) (w - 1) next (newcomer w) apart in
-      subst (λ (p : Player). Fits (get_or (set dues (who - 1) new) (w - 1) nothing_due) p) (sym player)
-      (subst (λ (d : Due). Fits d (player_at w world)) (sym due) (bounded.lines w there, bounded.within w there))
+  each : (w : ℕ) → IsScriptSession w → Fits (get_or (set dues (who - 1) new) (w - 1) nothing_due) (player_at w (played line who program world).world)
+  each =
+      plays-each line who program world is bounded.staffed (λ w player. Fits (get_or (set dues (who - 1) new) (w - 1) nothing_due) player)
+      (subst (λ (due : Due). Fits due next) (sym (get_or-set_same dues (who - 1) new nothing_due among))
+      (refl, left-within n (outcome_of outcome program world.core).0 here))
+      (λ w there apart. subst (λ (due : Due). Fits due (player_at w world))
+      (sym (get_or-set_other dues (who - 1) (w - 1) new nothing_due (λ e. apart (omega (arith, e, is.0, there.0)))))
+      (bounded.lines w there, bounded.within w there))
 
 -- how far a statement comes that a session starts
 pub pauses-started : (line : Line) (world : World)
@@ -115,15 +97,14 @@ pauses-started line world =
     let session = (player_at line.session world).session in
     let most = locks_of line.statement in
     each-outcome (PausesWithin most) outcome (starting line.statement session) world.core
-    (within-play most most (row_of line.statement) (mark_of session.context.kept) session (omega arith) (few-locks line.statement).0)
+    (within-play most (row_of line.statement) (mark_of session.context.kept) session (few-locks line.statement).0)
 
-pub bounded-started : (line : Line) (world : World) (dues : List Due) → IsScriptSession line.session → IsWithinLimits line.statement
-    → IsStaffed (started line world).world → IsBounded dues world
+pub bounded-started : (line : Line) (world : World) (dues : List Due) → IsRead line → IsBounded dues world
     → IsBounded (set dues (line.session - 1) (record { line = line.number; locks = locks_of line.statement })) (started line world).world
-bounded-started line world dues is limited staffed bounded =
-    let few : locks_of line.statement ≤ most_locks = (few-locks line.statement).1 limited in
-    bounded-played line.number line.session (locks_of line.statement) (starting line.statement (player_at line.session world).session) world dues is
-    (omega (arith, few)) staffed (pauses-started line world) bounded
+bounded-started line world dues read bounded =
+    let few : locks_of line.statement ≤ most_locks = (few-locks line.statement).1 read.1 in
+    bounded-played line.number line.session (locks_of line.statement) (starting line.statement (player_at line.session world).session) world dues read.0
+    (omega (arith, few)) (staffed-started line world read.0 bounded.staffed) (pauses-started line world) bounded
 
 -- ---- turns
 
@@ -132,6 +113,12 @@ pub found-waits : (world : World) (who : ℕ) → first_settled world ≡ Some w
 found-waits world who found =
     let P : ℕ → Type 0 = λ w. is_waiting world w ≡ true in
     All-find P (has_settled world.core) (waiting_in world) who (waiting-sessions P world (λ w session waits. waits)) found
+
+pub found-settled : (world : World) (who : ℕ) → IsStaffed world → first_settled world ≡ Some who
+    → has_settled world.core (player_at who world).session.context.who ≡ true
+found-settled world who staffed found =
+    subst (λ w. has_settled world.core w ≡ true) (sym (staffed.named who (first-session world who found)))
+    (find-passes (has_settled world.core) (waiting_in world) who found)
 
 -- so it has something left
 something-left : (most : ℕ) (left : Option Left) → is_some left ≡ true → IsLeftWithin most left
@@ -170,11 +157,8 @@ turn-going world dues who found bounded = record {
   fewer : ℕ
   fewer = its.1
 
-  settled : has_settled world.core player.session.context.who ≡ true
-  settled = subst (λ w. has_settled world.core w ≡ true) (sym (bounded.staffed.named who is)) (find-passes (has_settled world.core) (waiting_in world) who found)
-
   pauses : PausesWithin fewer (outcome_of outcome (going_on player.session) world.core).0
-  pauses = within-going fewer player.session its.0 world.core its.2 its.4 settled
+  pauses = within-going fewer player.session its.0 world.core its.2 its.4 (found-settled world who bounded.staffed found)
 
   among : who - 1 < length dues
   among = let all = bounded.all in omega (arith, is.0, is.1, all)
@@ -226,61 +210,38 @@ rests-settling (suc n) world dues bounded less =
 
 -- ---- lines
 
-pub bounded-waiting : (statement : Statement) (line who : ℕ) (world : World) (dues : List Due) → IsStaffed (asked_waiting statement line who world).world
-    → IsBounded dues world → IsBounded dues (asked_waiting statement line who world).world
-bounded-waiting Timeout line who world dues staffed bounded = record { staffed = staffed; all = bounded.all; few = bounded.few; lines = bounded.lines; within = bounded.within }
-bounded-waiting _ line who world dues staffed bounded = bounded
+pub bounded-timed_out : (who : ℕ) (world : World) (dues : List Due) → IsScriptSession who → IsBounded dues world → IsBounded dues (timed_out who world)
+bounded-timed_out who world dues is bounded = record {
+  staffed = staffed-timed_out who world is bounded.staffed;
+  all = bounded.all;
+  few = bounded.few;
+  lines = bounded.lines;
+  within = bounded.within;
+}
 
-bounded-asked : (line : Line) (world : World) (dues : List Due) → IsScriptSession line.session → IsWithinLimits line.statement → IsBounded dues world
-    → (after : List Due) × IsBounded after (asked line world).world
-bounded-asked line world dues is limited bounded = by (is_waiting world line.session) refl (staffed-asked line world is bounded.staffed) where
-  scene : Bool → Scene
-  scene waits = if waits then asked_waiting line.statement line.number line.session world else started line world
+bounded-asked : (line : Line) (world : World) (dues : List Due) → IsRead line → IsBounded dues world → (after : List Due) × IsBounded after (asked line world).world
+bounded-asked line world dues read bounded =
+    asked-by (λ scene. (after : List Due) × IsBounded after scene.world) line world (dues, bounded-timed_out line.session world dues read.0 bounded)
+    (dues, bounded) (λ free. (_, bounded-started line world dues read bounded))
 
-  by : (waits : Bool) → is_waiting world line.session ≡ waits → IsStaffed (scene (is_waiting world line.session)).world
-      → (after : List Due) × IsBounded after (scene (is_waiting world line.session)).world
-  by true e staffed =
-      let there = subst (λ b. IsStaffed (scene b).world) e staffed in
-      subst (λ b. (after : List Due) × IsBounded after (scene b).world) (sym e)
-      (dues, bounded-waiting line.statement line.number line.session world dues there bounded)
-  by false e staffed =
-      let there = subst (λ b. IsStaffed (scene b).world) e staffed in
-      subst (λ b. (after : List Due) × IsBounded after (scene b).world) (sym e)
-      (set dues (line.session - 1) (record { line = line.number; locks = locks_of line.statement }), bounded-started line world dues is limited there bounded)
-
-rests-line : (line : Line) (world : World) → IsScriptSession line.session → IsWithinLimits line.statement → IsAtRest world
-    → IsAtRest (line_played line world).world
-rests-line line world is limited rest =
-    let begun = bounded-asked line world rest.dues is limited rest.bounded in
+rests-line : (line : Line) (world : World) → IsRead line → IsAtRest world → IsAtRest (line_played line world).world
+rests-line line world read rest =
+    let begun = bounded-asked line world rest.dues read rest.bounded in
     let most = sum_by-le (λ (due : Due). due.locks) most_waits begun.0 begun.1.few in
     let all = begun.1.all in
     let count : total begun.0 ≤ most_turns = subst (λ k. total begun.0 ≤ k * most_waits) all most in
     rests-settling most_turns (asked line world).world begun.0 begun.1 count
 
-rests-lines : (n : ℕ) (lines : List Line) (world : World) → All (λ line. IsScriptSession line.session × IsWithinLimits line.statement) lines → IsAtRest world
-    → IsAtRest (lines_played (take n lines) world).world
-rests-lines zero lines world are rest = rest
-rests-lines (suc n) [] world are rest = rest
-rests-lines (suc n) (line ∷ lines) world are rest =
-    let P : Line → Type 0 = λ line. IsScriptSession line.session × IsWithinLimits line.statement in
-    let here = All-head P line lines are in
-    rests-lines n lines (line_played line world).world (All-tail P line lines are) (rests-line line world here.0 here.1 rest)
-
 -- ---- scripts
 
-pub newcomer-at : (who : ℕ) → IsScriptSession who → player_at who first_world ≡ newcomer who
-unfolding sessions
-newcomer-at who is = get_or-map-range_with_len newcomer 1 64 (who - 1) who (newcomer who) (omega (arith, is.0, is.1)) (omega (arith, is.0))
-
 pub bounded-first : IsBounded (replicate 64 nothing_due) first_world
-unfolding sessions
 bounded-first = record {
   staffed = staffed-first;
   all = length-replicate {A = Due} 64 nothing_due;
   few = All-replicate (λ (due : Due). due.locks ≤ most_waits) 64 nothing_due (omega arith);
-  lines = λ who is. rw (newcomer-at who is) (ap (λ (due : Due). due.line) (get_or-replicate 64 (who - 1) nothing_due nothing_due (omega (arith, is.0, is.1))));
+  lines = λ who is. rw (new-session who is) (ap (λ (due : Due). due.line) (get_or-replicate 64 (who - 1) nothing_due nothing_due (omega (arith, is.0, is.1))));
   within = λ who is.
-      subst (λ (p : Player). IsLeftWithin (get_or (replicate 64 nothing_due) (who - 1) nothing_due).locks p.session.left) (sym (newcomer-at who is)) tt;
+      subst (λ (p : Player). IsLeftWithin (get_or (replicate 64 nothing_due) (who - 1) nothing_due).locks p.session.left) (sym (new-session who is)) tt;
 }
 
 rests-first : IsAtRest first_world
@@ -292,13 +253,14 @@ rests-first = record {
 }
 
 -- the lines that were read are of sessions that a script can name, and their statements are within the limits
-pub read-limits : (text : List ℕ) (lines : List Line) → parsed text ≡ Ok lines → All (λ line. IsScriptSession line.session × IsWithinLimits line.statement) lines
+pub read-limits : (text : List ℕ) (lines : List Line) → parsed text ≡ Ok lines → All IsRead lines
 read-limits text lines read =
-    subst (λ (said : Result (List Line) (ℕ × LineError)). IfOk said (All (λ line. IsScriptSession line.session × IsWithinLimits line.statement))) read
+    subst (λ (said : Result (List Line) (ℕ × LineError)). IfOk said (All IsRead)) read
     (lines_say-limited 1 (lines_of text))
 
 rests-throughout : (text : List ℕ) (lines : List Line) → parsed text ≡ Ok lines → (n : ℕ) → IsAtRest (script_played (take n lines)).world
-rests-throughout text lines read n = rests-lines n lines first_world (read-limits text lines read) rests-first
+rests-throughout text lines read n =
+    lines-by IsRead IsAtRest rests-line (take n lines) first_world (All-take IsRead n lines (read-limits text lines read)) rests-first
 
 pub turns-suffice : TurnsSuffice
 turns-suffice text lines read n = (rests-throughout text lines read n).none

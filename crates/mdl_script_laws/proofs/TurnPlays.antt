@@ -1,32 +1,26 @@
 -- How many locks are left to ask for, however far a statement comes; and that a session whose wait is settled has one less to ask for
 -- once it goes on.
-use Rattle.std.proofs.Common.{◌≡◌, ℕ, suc, ◌-◌, ◌≤◌, Bool, true, false, Option, Some, None, Ok, Err, refl, subst, sym, arith}
+use Rattle.std.proofs.Common.{◌≡◌, ℕ, suc, ◌≤◌, Bool, true, false, Option, Some, None, Ok, Err, refl, subst, sym, arith}
 use Rattle.std.specs.Prelude.{is_some, if◌then◌else◌}
-use Rattle.mdl_defs.specs.declared.standing.Standing.{Standing}
 use Rattle.mdl_calls.specs.declared.answers.Settled.{Settled}
-use Rattle.mdl_calls.specs.Words.{Answer, Reads, Changed, Granted, Lost, Is_settled, Call, Program, Give, Ask, Grow, ◌>>=◌, Each, outcome_of}
+use Rattle.mdl_calls.specs.Words.{Answer, Granted, Lost, Is_settled, Give, Each, outcome_of}
 use Rattle.mdl_calls.proofs.FaithfulLemmas.{each_then}
 use Rattle.mdl_core.specs.declared.pending.Pending.{Pending}
 use Rattle.mdl_core.specs.CoreCalls.{ending, has_settled, outcome, polling, polling_of}
 use Rattle.mdl_core.specs.Cores.{Core, has_session, seat_at}
 use Rattle.mdl_core.specs.Seats.{is_closed}
-use Rattle.mdl_context.specs.declared.request.Acquire.{Acquire}
-use Rattle.mdl_context.specs.declared.request.Acquire.TheVariants as acquire
 use Rattle.mdl_context.specs.declared.request.Mark.{Mark}
 use Rattle.mdl_context.specs.declared.request.Resume.{Resume}
 use Rattle.mdl_context.specs.declared.request.Resume.TheVariants as resume
-use Rattle.mdl_context.specs.Contexts.{ContextView, mark_of}
-use Rattle.mdl_context.specs.Gains.{refusal_of}
-use Rattle.mdl_context.specs.Releases.{giving_up, releasing}
-use Rattle.mdl_context.specs.Requests.{Outcome, acquiring}
+use Rattle.mdl_context.specs.Contexts.{ContextView}
+use Rattle.mdl_context.specs.Releases.{giving_up}
+use Rattle.mdl_context.specs.Requests.{Outcome}
 use Rattle.mdl_context.specs.Waits as waits
 use Rattle.mdl_context.specs.Waits.{giving_up_wait, resuming}
-use Rattle.mdl_context.specs.Wishes.{Wish}
 use Rattle.mdl_stmt.specs.declared.ending.Ending.{Ending}
 use Rattle.mdl_stmt.specs.declared.ending.Ending.TheVariants.{Answers, Misses, Falls, Starves}
 use Rattle.mdl_stmt.specs.declared.reply.Reply.{Reply}
-use Rattle.mdl_stmt.specs.declared.reply.Reply.TheVariants as reply
-use Rattle.mdl_stmt.specs.Endings.{Pause, Ends, Begins_to_wait, Waits_on, Faults, closing, ended, ending_of_error, ending_of_loss, ending_of_refusal, gone_at, state_after}
+use Rattle.mdl_stmt.specs.Endings.{Pause, Ends, Begins_to_wait, Waits_on, Faults, closing, ended, ending_of_error, ending_of_loss, gone_at, state_after}
 use Rattle.mdl_stmt.specs.MemoryLaws.{session_at}
 use Rattle.mdl_stmt.specs.Playing as playing
 use Rattle.mdl_stmt.specs.Playing.{going_on, play, with_context}
@@ -35,6 +29,8 @@ use Rattle.mdl_stmt.specs.Rows as row
 use Rattle.mdl_stmt.specs.Sessions.{Left, Session}
 use Rattle.mdl_stmt.specs.States.{State}
 use Rattle.mdl_script_laws.specs.Turns.{AsksForAtMost}
+use Rattle.mdl_script_laws.proofs.OutcomeLemmas.{each-outcome, outcome-then}
+use Rattle.mdl_script_laws.proofs.RowPauses.{AnyEnding, Follows, Rules, any-endings, so-play}
 use Rattle.mdl_script_laws.proofs.TurnRows.{few-more}
 
 -- what is left of a statement is within a bound: the lock that it waits for, and those that it still asks for
@@ -69,72 +65,23 @@ within-closing most ending mark session =
     (λ outcome. Give (ended ending (record { context = outcome.1; state = state_after ending session.state; left = None })))
     (λ outcome. within-ended most ending outcome.1 (state_after ending session.state))
 
-within-untold : (most : ℕ) (mark : Mark) (session : Session) (outcome : Outcome Resume) → Each (PausesWithin most) (playing.untold mark session outcome)
-within-untold most mark session (Ok (resume.Acquired id), context) =
-    each_then {A = Outcome (Unit {0})} {B = Pause} (PausesWithin most) (releasing id context) (λ outcome. closing Starves mark (with_context session outcome.1))
-    (λ outcome. within-closing most Starves mark (with_context session outcome.1))
-within-untold most mark session (Ok resume.Waiting, context) = within-closing most Starves mark (with_context session context)
-within-untold most mark session (Ok (resume.Lost how), context) = within-closing most Starves mark (with_context session context)
-within-untold most mark session (Err error, context) = within-closing most Starves mark (with_context session context)
-
-within-waiting : (most : ℕ) (wish : Wish) (left : Left) (session : Session) → IsLeftWithin most (Some left)
-    → Each (PausesWithin most) (playing.beginning_to_wait wish left session)
-within-waiting most wish left session (fewer, same, is) = (
-  each_then {A = Outcome Resume} {B = Pause} (PausesWithin most) (giving_up_wait session.context) (playing.untold left.mark session)
-      (within-untold most left.mark session),
-  (omega (arith, same), (fewer, same, is)),
-)
-
-within-acquired : (most : ℕ) (wish : Wish) (rest : ℕ → Row Reply) (mark : Mark) (session : Session) (more : ℕ → Session → Program Pause)
-    → IsLeftWithin most (Some (record { rest = rest; mark = mark })) → ((id : ℕ) (after : Session) → Each (PausesWithin most)
-    (more id after)) → (outcome : Outcome Acquire)
-    → Each (PausesWithin most) (playing.acquired wish rest mark session more outcome)
-within-acquired most wish rest mark session more is made (Ok (acquire.Acquired id), context) = made id (with_context session context)
-within-acquired most wish rest mark session more is made (Ok (acquire.MustWait number), context) =
-    within-waiting most wish (record { rest = rest; mark = mark }) (with_context session context) is
-within-acquired most wish rest mark session more is made (Err error, context) = within-closing most (ending_of_error error) mark (with_context session context)
-
-within-read : (most : ℕ) (mark : Mark) (session : Session) (more : Standing → Program Pause) → ((standing : Standing) → Each (PausesWithin most) (more standing))
-    → (answer : Answer) → Each (PausesWithin most) (playing.read_answered mark session more answer)
-within-read most mark session more made (Reads version definition) = made (record { version = version; definition = definition })
-within-read most mark session more made answer = within-closing most (ending_of_refusal (refusal_of answer)) mark session
-
-within-change : (most : ℕ) (mark : Mark) (session : Session) (more : Program Pause) → Each (PausesWithin most) more
-    → (answer : Answer) → Each (PausesWithin most) (playing.change_answered mark session more answer)
-within-change most mark session more made (Changed version) = made
-within-change most mark session more made answer = within-closing most (ending_of_refusal (refusal_of answer)) mark session
+follows-within : (most : ℕ) (asked : Row Reply) → AsksForAtMost most asked → Follows (AsksForAtMost most) AnyEnding asked
+follows-within most (row.Give reply) is = tt
+follows-within most (row.Fail number) is = tt
+follows-within most (row.Acquire wish rest) (fewer, same, is) = λ id. few-more fewer most (rest id) (omega (arith, same)) (is id)
+follows-within most _ is = is
 
 -- the bound may be greater than what is left, so that a lock that is had at once leaves it as it is
-pub within-play : (n most : ℕ) (asked : Row Reply) (mark : Mark) (session : Session) → n ≤ most → AsksForAtMost n asked
-    → Each (PausesWithin most) (play asked mark session)
-within-play n most (row.Give reply) mark session less is = within-closing most (Answers reply) mark session
-within-play n most (row.Fail number) mark session less is = within-closing most (Answers (reply.Error number)) mark session
-within-play n most (row.Room rest) mark session less is = (within-closing most Starves mark session, within-play n most rest mark session less is)
-within-play n most (row.Look rest) mark session less is = within-play n most (rest session.state) mark session less (is session.state)
-within-play n most (row.Set change rest) mark session less is = within-play n most rest mark (record session { state = change session.state }) less is
-within-play n most (row.Here rest) mark session less is =
-    within-play n most (rest (mark_of session.context.kept)) mark session less (is (mark_of session.context.kept))
-within-play n most (row.Acquire wish rest) mark session less (fewer, same, is) =
-    let at : most ≡ suc (most - 1) = omega (arith, less, same) in
-    let below : fewer ≤ most - 1 = omega (arith, less, same) in
-    let under : fewer ≤ most = omega (arith, less, same) in
-    each_then {A = Outcome Acquire} {B = Pause} (PausesWithin most) (acquiring wish session.context)
-    (playing.acquired wish rest mark session (λ id after. play (rest id) mark after))
-    (within-acquired most wish rest mark session (λ id after. play (rest id) mark after)
-    (most - 1, at, λ id. few-more fewer (most - 1) (rest id) below (is id)) (λ id after. within-play fewer most (rest id) mark after under (is id)))
-within-play n most (row.Give_up which rest) mark session less is =
-    each_then {A = Outcome (Unit {0})} {B = Pause} (PausesWithin most) (giving_up (which session.context.kept) session.context)
-    (λ outcome. play rest mark (with_context session outcome.1)) (λ outcome. within-play n most rest mark (with_context session outcome.1) less is)
-within-play n most (row.Release id rest) mark session less is =
-    each_then {A = Outcome (Unit {0})} {B = Pause} (PausesWithin most) (releasing id session.context)
-    (λ outcome. play rest mark (with_context session outcome.1)) (λ outcome. within-play n most rest mark (with_context session outcome.1) less is)
-within-play n most (row.Read id rest) mark session less is =
-    within-read most mark session (λ standing. play (rest standing) mark session) (λ standing. within-play n most (rest standing) mark session less (is standing))
-within-play n most (row.Redefine id change rest) mark session less is =
-    within-change most mark session (play rest mark session) (within-play n most rest mark session less is)
-within-play n most (row.Kill target rest) mark session less is =
-    each_then {A = Unit {0}} {B = Pause} (PausesWithin most) (playing.killing target) (λ _. play rest mark session)
-    (λ _. within-play n most rest mark session less is)
+rules-within : (most : ℕ) (mark : Mark) → Rules (PausesWithin most) mark AnyEnding (AsksForAtMost most)
+rules-within most mark = record {
+  endings = any-endings;
+  closes = λ ending session _. within-closing most ending mark session;
+  follows = follows-within most;
+  waits = λ wish rest session is. (let more = is.1 in omega (arith, more), is);
+}
+
+pub within-play : (most : ℕ) (asked : Row Reply) (mark : Mark) (session : Session) → AsksForAtMost most asked → Each (PausesWithin most) (play asked mark session)
+within-play most asked mark session is = so-play (PausesWithin most) mark AnyEnding (AsksForAtMost most) (rules-within most mark) asked session is
 
 -- ---- what is left of a statement
 
@@ -149,8 +96,7 @@ IsOver (Err error, context) = Unit {0}
 within-resumed : (n : ℕ) (left : Left) (session : Session) (outcome : Outcome Resume) → ((id : ℕ) → AsksForAtMost n (left.rest id)) → IsOver outcome
     → Each (PausesWithin n) (playing.resumed left session outcome)
 within-resumed n left session (Ok resume.Waiting, context) is over = absurd over
-within-resumed n left session (Ok (resume.Acquired id), context) is over = within-play n n (left.rest id) left.mark (with_context session context)
-    (omega arith) (is id)
+within-resumed n left session (Ok (resume.Acquired id), context) is over = within-play n (left.rest id) left.mark (with_context session context) (is id)
 within-resumed n left session (Ok (resume.Lost how), context) is over = within-closing n (ending_of_loss how) left.mark (with_context session context)
 within-resumed n left session (Err error, context) is over = within-closing n (ending_of_error error) left.mark (with_context session context)
 
@@ -203,24 +149,13 @@ over-resuming context core settled =
 
 -- ---- outcomes
 
--- what all replies are, that of the outcome is
-pub each-outcome : {S A : Type 0} (P : A → Type 0) (step : Call → S → Answer × S) (program : Program A) (s : S) → Each P program → P (outcome_of step program s).0
-each-outcome P step (Give x) s each = each
-each-outcome P step (Ask call next) s each = each-outcome P step (next (step call s).0) (step call s).1 (each (step call s).0)
-each-outcome P step (Grow refused found) s each = each-outcome P step found s each.1
-
--- the same behind what came first
-each-after : {S A B : Type 0} (P : B → Type 0) (step : Call → S → Answer × S) (first : Program A) (next : A → Program B) (s : S)
-    → Each P (next (outcome_of step first s).0) → P (outcome_of step (first >>= next) s).0
-each-after P step (Give x) next s each = each-outcome P step (next x) s each
-each-after P step (Ask call more) next s each = each-after P step (more (step call s).0) next (step call s).1 each
-each-after P step (Grow refused found) next s each = each-after P step found next s each
-
 -- a session goes on whose wait is settled: if it waits again, then with one lock less to ask for
 pub within-going : (n : ℕ) (session : Session) (left : Left) (core : Core) → session.left ≡ Some left → ((id : ℕ) → AsksForAtMost n (left.rest id))
     → has_settled core session.context.who ≡ true → PausesWithin n (outcome_of outcome (going_on session) core).0
 within-going n session left core same is settled =
     let bare : Session = record session { left = None } in
+    let end : Outcome Resume × Core = outcome_of outcome (resuming session.context) core in
     subst (λ (its : Option Left). PausesWithin n (outcome_of outcome (playing.going_on_with its bare) core).0) (sym same)
-    (each-after {A = Outcome Resume} {B = Pause} (PausesWithin n) outcome (resuming session.context) (playing.resumed left bare) core
-    (within-resumed n left bare (outcome_of outcome (resuming session.context) core).0 is (over-resuming session.context core settled)))
+    (subst (λ (end : Pause × Core). PausesWithin n end.0) (sym (outcome-then outcome (resuming session.context) (playing.resumed left bare) core))
+    (each-outcome (PausesWithin n) outcome (playing.resumed left bare end.0) end.1
+    (within-resumed n left bare end.0 is (over-resuming session.context core settled))))

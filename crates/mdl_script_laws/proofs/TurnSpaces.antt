@@ -1,12 +1,12 @@
 -- After each line a session's statement waits exactly where the session has a wait in the space.
-use Rattle.std.proofs.Common.{◌≡◌, ◌≢◌, ◌⊎◌, inl, inr, ℕ, zero, suc, ◌<◌, ◌≤◌, ◌+◌, ◌-◌, Bool, true, false, cond, List, [], ◌∷◌, length, set, filter, take, Option, Some, None, Ok, Err, refl, subst, ap, ◌∙◌, sym, arith}
+use Rattle.std.proofs.Common.{◌≡◌, ◌≢◌, ◌⊎◌, inl, inr, ℕ, ◌-◌, Bool, true, false, take, Option, Some, None, Ok, Err, refl, subst, ap, ◌∙◌, sym, arith}
 use Rattle.std.specs.Prelude.{codes, if◌then◌else◌, is_some, not}
-use Rattle.std.specs.List.{All, find, range_with_len}
+use Rattle.std.specs.List.{Contains, range_with_len}
 use Rattle.std.proofs.Math.Dec.{eqb}
 use Rattle.std.proofs.lemmas.Bool.Decides.{eqb_tells}
-use Rattle.std.proofs.lemmas.List.{get_or-replicate, get_or-set_other, get_or-set_same}
-use Rattle.std.proofs.lemmas.List.Elements.{All-head, All-tail}
-use Rattle.mdl_book.proofs.TicketLemmas.{find-passes}
+use Rattle.std.proofs.lemmas.List.{get_or-replicate}
+use Rattle.std.proofs.lemmas.List.Elements.{All-contains, Contains-from_at}
+use Rattle.std.proofs.lemmas.List.FromFn.{get_or-range_with_len, length-range_with_len}
 use Rattle.mdl_key.specs.Keys.{KeyName, schema_key}
 use Rattle.mdl_calls.specs.declared.answers.Settled.{Settled}
 use Rattle.mdl_calls.specs.declared.answers.Settled.TheVariants as settled_as
@@ -21,8 +21,6 @@ use Rattle.mdl_core.proofs.CallLaws.{core-others}
 use Rattle.mdl_core.proofs.RunOutcomes.{outcomes-are_runs}
 use Rattle.mdl_lines.specs.Sessions.{IsScriptSession}
 use Rattle.mdl_syntax.specs.declared.script.Line.{Line}
-use Rattle.mdl_syntax.specs.declared.statement.Statement.{Statement}
-use Rattle.mdl_syntax.specs.declared.statement.Statement.TheVariants.{Timeout}
 use Rattle.mdl_context.specs.declared.kept.Wanted.{Wanted}
 use Rattle.mdl_context.specs.declared.request.Resume.{Resume}
 use Rattle.mdl_context.specs.declared.request.Resume.TheVariants as resume
@@ -37,22 +35,19 @@ use Rattle.mdl_stmt.specs.Playing.{going_on, play, starting, with_context}
 use Rattle.mdl_stmt.specs.Sessions.{Left, Session}
 use Rattle.mdl_stmt.specs.Statements.{row_of}
 use Rattle.mdl_stmt.proofs.RowCalls.{rows_call}
-use Rattle.mdl_script.specs.Worlds.{Player, Scene, World, asked, asked_waiting, create_at, create_under, creating, first_core, first_settled, first_world, going, is_waiting, line_played, lines_played, most_turns, newcomer, played, player_at, script_played, sessions, settling, started, timed_out, waiting_in}
-use Rattle.mdl_script.proofs.SettleLemmas.{settling-none, settling-over, settling-some, read-sessions}
-use Rattle.mdl_script.proofs.SoundLemmas.{IsStaffed, first-session, made-creating, speak-empty, staffed-asked, staffed-first, staffed-going}
+use Rattle.mdl_script.specs.Worlds.{Player, World, create_at, create_under, creating, first_core, first_settled, first_world, going, is_waiting, played, player_at, script_played, sessions, started, timed_out, waiting_in}
+use Rattle.mdl_script.proofs.SettleLemmas.{read-sessions}
+use Rattle.mdl_script.proofs.SoundLemmas.{IsStaffed, first-session, made-creating, speak-empty, staffed-first}
 use Rattle.mdl_script_laws.specs.Turns.{StatementsWaitInTheSpace}
-use Rattle.mdl_script_laws.proofs.TurnLemmas.{found-waits, newcomer-at, turns-suffice}
+use Rattle.mdl_script_laws.proofs.ListLemmas.{filter-among}
+use Rattle.mdl_script_laws.proofs.OutcomeLemmas.{joins-outcome, outcome-then}
+use Rattle.mdl_script_laws.proofs.ScriptLemmas.{Anything, IsKept, Keeps, kept-lines, new-session, plays-each}
+use Rattle.mdl_script_laws.proofs.TurnLemmas.{found-settled, found-waits, nobody-left}
 use Rattle.mdl_script_laws.proofs.TurnPlays.{polls-settled, settled-wait}
 use Rattle.mdl_script_laws.proofs.TurnTies.{IsTied, PausesTied, tied-closing, tied-play}
-use Rattle.mdl_script_laws.proofs.TurnTracks.{Tracks, call-waits, joins-outcome, others-outcome, tracks-outcome, wait_after}
+use Rattle.mdl_script_laws.proofs.TurnTracks.{Tracks, call-waits, others-outcome, tracks-outcome, wait_after}
 
 -- ---- one program after another
-
-outcome-then : {S A B : Type 0} (step : Call → S → Answer × S) (first : Program A) (next : A → Program B) (s : S)
-    → outcome_of step (first >>= next) s ≡ outcome_of step (next (outcome_of step first s).0) (outcome_of step first s).1
-outcome-then step (Give x) next s = refl
-outcome-then step (Ask call more) next s = outcome-then step (more (step call s).0) next (step call s).1
-outcome-then step (Grow refused found) next s = outcome-then step found next s
 
 calls-first : {A B : Type 0} (P : Call → Type 0) (first : Program A) (next : A → Program B) → EachCall P (first >>= next) → EachCall P first
 calls-first P (Give x) next each = tt
@@ -176,48 +171,27 @@ tied-going_on session left core same speaks some settled =
 
 -- ---- worlds
 
--- all sessions are there, and each one's statement waits where the session has a wait
-record IsSeen (world : World) : Type 0 where
-  staffed : IsStaffed world
-  tied : (who : ℕ) → IsScriptSession who → IsTied (player_at who world).session (is_some (own_at world.core who).wait)
+-- each session's statement waits where the session has a wait
+abbrev IsSeen : World → Type 0
+IsSeen world = (who : ℕ) → IsScriptSession who → IsTied (player_at who world).session (is_some (own_at world.core who).wait)
 
 -- a program of a session is played
-seen-played : (line who : ℕ) (program : Program Pause) (world : World) → IsScriptSession who → EachCall (IsMadeFor who) program
-    → IsStaffed (played line who program world).world → ComesTied who program world.core → IsSeen world → IsSeen (played line who program world).world
-seen-played line who program world is made staffed tied seen = record { staffed = staffed; tied = λ w session. by w session (eqb_tells w who) } where
-  end : Pause × Core
-  end = outcome_of outcome program world.core
+seen-played : (line who : ℕ) (program : Program Pause) (world : World) → IsScriptSession who → EachCall (IsMadeFor who) program → IsStaffed world
+    → ComesTied who program world.core → IsSeen world → IsSeen (played line who program world).world
+seen-played line who program world is made staffed tied seen =
+    plays-each line who program world is staffed (λ w player. IsTied player.session (is_some (own_at after w).wait)) tied
+    (λ w there apart.
+    let own : own_at after w ≡ own_at world.core w =
+    others-outcome program world.core who w (staffed.speaks who is.0 is.1) (staffed.speaks w there.0 there.1) apart made in
+    subst (λ (has : Own). IsTied (player_at w world).session (is_some has.wait)) (sym own) (seen w there)) where
+      after : Core
+      after = (outcome_of outcome program world.core).1
 
-  next : Player
-  next = record { session = session_at end.0; line = line }
-
-  after : World
-  after = record { core = end.1; players = set world.players (who - 1) next }
-
-  inside : who - 1 < length world.players
-  inside = let all = seen.staffed.all in omega (arith, is.0, is.1, all)
-
-  mine : IsTied (player_at who after).session (is_some (own_at end.1 who).wait)
-  mine =
-      let player : player_at who after ≡ next = get_or-set_same world.players (who - 1) next (newcomer who) inside in
-      subst (λ (p : Player). IsTied p.session (is_some (own_at end.1 who).wait)) (sym player) tied
-
-  by : (w : ℕ) → IsScriptSession w → ((eqb w who ≡ true) × (w ≡ who)) ⊎ ((eqb w who ≡ false) × (w ≢ who))
-      → IsTied (player_at w after).session (is_some (own_at end.1 w).wait)
-  by w there (inl same) = subst (λ k. IsTied (player_at k after).session (is_some (own_at end.1 k).wait)) (sym same.1) mine
-  by w there (inr other) =
-      let player : player_at w after ≡ player_at w world =
-      get_or-set_other world.players (who - 1) (w - 1) next (newcomer w) (λ e. other.1 (omega (arith, e, is.0, there.0))) in
-      let own : own_at end.1 w ≡ own_at world.core w =
-      others-outcome program world.core who w (seen.staffed.speaks who is.0 is.1) (seen.staffed.speaks w there.0 there.1) other.1 made in
-      subst (λ (p : Player). IsTied p.session (is_some (own_at end.1 w).wait)) (sym player)
-      (subst (λ (has : Own). IsTied (player_at w world).session (is_some has.wait)) (sym own) (seen.tied w there))
-
-seen-started : (line : Line) (world : World) → IsScriptSession line.session → is_waiting world line.session ≡ false → IsStaffed (started line world).world
-    → IsSeen world → IsSeen (started line world).world
+seen-started : (line : Line) (world : World) → IsScriptSession line.session → is_waiting world line.session ≡ false → IsStaffed world → IsSeen world
+    → IsSeen (started line world).world
 seen-started line world is free staffed seen =
     seen-played line.number line.session program world is made staffed
-    (tracks-outcome PausesTied program world.core line.session (seen.staffed.speaks line.session is.0 is.1) made tracks) seen where
+    (tracks-outcome PausesTied program world.core line.session (staffed.speaks line.session is.0 is.1) made tracks) seen where
       session : Session
       session = (player_at line.session world).session
 
@@ -225,11 +199,11 @@ seen-started line world is free staffed seen =
       program = starting line.statement session
 
       made : EachCall (IsMadeFor line.session) program
-      made = subst (λ k. EachCall (IsMadeFor k) program) (seen.staffed.named line.session is) ((rows_call session).1 line.statement)
+      made = subst (λ k. EachCall (IsMadeFor k) program) (staffed.named line.session is) ((rows_call session).1 line.statement)
 
       tracks : Tracks PausesTied program (is_some (own_at world.core line.session).wait)
       tracks =
-          let none : is_some (own_at world.core line.session).wait ≡ false = sym (seen.tied line.session is).left ∙ free in
+          let none : is_some (own_at world.core line.session).wait ≡ false = sym (seen line.session is).left ∙ free in
           subst (λ w. Tracks PausesTied program w) (sym none) (tied-play (row_of line.statement) (mark_of session.context.kept) session)
 
 -- who has something left
@@ -237,9 +211,9 @@ left-some : (left : Option Left) → is_some left ≡ true → (its : Left) × (
 left-some None some = cc
 left-some (Some its) some = (its, refl)
 
-seen-going : (world : World) (who : ℕ) → first_settled world ≡ Some who → IsSeen world → IsSeen (going who world).world
-seen-going world who found seen =
-    seen-played player.line who (going_on player.session) world is made (staffed-going who world is seen.staffed) tied seen where
+seen-going : (who : ℕ) (world : World) → first_settled world ≡ Some who → IsStaffed world → IsSeen world → IsSeen (going who world).world
+seen-going who world found staffed seen =
+    seen-played player.line who (going_on player.session) world is made staffed tied seen where
       player : Player
       player = player_at who world
 
@@ -247,7 +221,7 @@ seen-going world who found seen =
       is = first-session world who found
 
       named : player.session.context.who ≡ who
-      named = seen.staffed.named who is
+      named = staffed.named who is
 
       made : EachCall (IsMadeFor who) (going_on player.session)
       made = subst (λ k. EachCall (IsMadeFor k) (going_on player.session)) named (rows_call player.session).2
@@ -258,33 +232,18 @@ seen-going world who found seen =
       tied : ComesTied who (going_on player.session) world.core
       tied =
           let its = left-some player.session.left waits in
-          let here = seen.tied who is in
-          let speaks : SpeaksFor world.core player.session.context.who = subst (λ k. SpeaksFor world.core k) (sym named) (seen.staffed.speaks who is.0 is.1) in
-          let settled : has_settled world.core player.session.context.who ≡ true =
-          subst (λ k. has_settled world.core k ≡ true) (sym named) (find-passes (has_settled world.core) (waiting_in world) who found) in
+          let here = seen who is in
+          let speaks : SpeaksFor world.core player.session.context.who = subst (λ k. SpeaksFor world.core k) (sym named) (staffed.speaks who is.0 is.1) in
           subst (λ k. ComesTied k (going_on player.session) world.core) named
-          (tied-going_on player.session its.0 world.core its.1 speaks (here.wait (sym here.left ∙ waits)) settled)
-
--- ---- turns
-
-seen-turn : (n : ℕ) (world : World) (first : Option ℕ) → first_settled world ≡ first → IsSeen world
-    → ((after : World) → IsSeen after → IsSeen (settling n after).world)
-    → IsSeen (settling (suc n) world).world
-seen-turn n world None found seen rest = subst (λ (scene : Scene). IsSeen scene.world) (sym (settling-none (suc n) world found)) seen
-seen-turn n world (Some who) found seen rest =
-    subst (λ (scene : Scene). IsSeen scene.world) (sym (settling-some (suc n) n world who refl found))
-    (rest (going who world).world (seen-going world who found seen))
-
-seen-settling : (n : ℕ) (world : World) → IsSeen world → IsSeen (settling n world).world
-seen-settling zero world seen = subst (λ (scene : Scene). IsSeen scene.world) (sym (settling-over world)) seen
-seen-settling (suc n) world seen = seen-turn n world (first_settled world) refl seen (λ after there. seen-settling n after there)
+          (tied-going_on player.session its.0 world.core its.1 speaks (here.wait (sym here.left ∙ waits))
+          (found-settled world who staffed found))
 
 -- ---- lines
 
-seen-timed_out : (who : ℕ) (world : World) → IsScriptSession who → IsStaffed (timed_out who world) → IsSeen world → IsSeen (timed_out who world)
-seen-timed_out who world is staffed seen = record { staffed = staffed; tied = λ w session. by w session (eqb_tells w who) } where
+seen-timed_out : (who : ℕ) (world : World) → IsScriptSession who → IsStaffed world → IsSeen world → IsSeen (timed_out who world)
+seen-timed_out who world is staffed seen w session = by w session (eqb_tells w who) where
   speaks : SpeaksFor world.core who
-  speaks = seen.staffed.speaks who is.0 is.1
+  speaks = staffed.speaks who is.0 is.1
 
   after : Core
   after = (outcome (Settle_timeout who) world.core).1
@@ -294,38 +253,20 @@ seen-timed_out who world is staffed seen = record { staffed = staffed; tied = λ
   by w there (inl same) =
       let own : is_some (own_at after who).wait ≡ is_some (own_at world.core who).wait = call-waits who world.core (Settle_timeout who) speaks (refl, refl) in
       subst (λ k. IsTied (player_at k world).session (is_some (own_at after k).wait)) (sym same.1)
-      (subst (λ waits. IsTied (player_at who world).session waits) (sym own) (seen.tied who is))
+      (subst (λ waits. IsTied (player_at who world).session waits) (sym own) (seen who is))
   by w there (inr other) =
       let joins = joins-outcome who world.core (Settle_timeout who) speaks (refl, refl) in
       let own : own_at after w ≡ own_at world.core w =
-      core-others world.core after (Settle_timeout who) (outcome (Settle_timeout who) world.core).0 w (seen.staffed.speaks w there.0 there.1)
+      core-others world.core after (Settle_timeout who) (outcome (Settle_timeout who) world.core).0 w (staffed.speaks w there.0 there.1)
       (λ e. other.1 (cc)) joins in
-      subst (λ (has : Own). IsTied (player_at w world).session (is_some has.wait)) (sym own) (seen.tied w there)
+      subst (λ (has : Own). IsTied (player_at w world).session (is_some has.wait)) (sym own) (seen w there)
 
-seen-waiting : (statement : Statement) (line who : ℕ) (world : World) → IsScriptSession who → IsStaffed (asked_waiting statement line who world).world
-    → IsSeen world → IsSeen (asked_waiting statement line who world).world
-seen-waiting Timeout line who world is staffed seen = seen-timed_out who world is staffed seen
-seen-waiting _ line who world is staffed seen = seen
-
-seen-asked : (line : Line) (world : World) → IsScriptSession line.session → IsSeen world → IsSeen (asked line world).world
-seen-asked line world is seen = by (is_waiting world line.session) refl (staffed-asked line world is seen.staffed) where
-  scene : Bool → Scene
-  scene waits = if waits then asked_waiting line.statement line.number line.session world else started line world
-
-  by : (waits : Bool) → is_waiting world line.session ≡ waits → IsStaffed (scene waits).world → IsSeen (scene waits).world
-  by true e staffed = seen-waiting line.statement line.number line.session world is staffed seen
-  by false e staffed = seen-started line world is e staffed seen
-
-seen-line : (line : Line) (world : World) → IsScriptSession line.session → IsSeen world → IsSeen (line_played line world).world
-seen-line line world is seen = seen-settling most_turns (asked line world).world (seen-asked line world is seen)
-
-seen-lines : (n : ℕ) (lines : List Line) (world : World) → All (λ line. IsScriptSession line.session) lines → IsSeen world
-    → IsSeen (lines_played (take n lines) world).world
-seen-lines zero lines world are seen = seen
-seen-lines (suc n) [] world are seen = seen
-seen-lines (suc n) (line ∷ lines) world are seen =
-    let P : Line → Type 0 = λ line. IsScriptSession line.session in
-    seen-lines n lines (line_played line world).world (All-tail P line lines are) (seen-line line world (All-head P line lines are) seen)
+keeps-seen : Keeps IsSeen Anything
+keeps-seen = record {
+  starts = seen-started;
+  goes = λ who world found staffed seen. (seen-going who world found staffed seen, λ k d inside. tt);
+  ends = seen-timed_out;
+}
 
 -- ---- the world at first
 
@@ -366,34 +307,11 @@ none-first who is = by (eqb_tells who 1) where
       (made-creating test) ∙ none-empty who is)
 
 seen-first : IsSeen first_world
-seen-first = record {
-  staffed = staffed-first;
-  tied = λ who is.
-      subst (λ (p : Player). IsTied p.session (is_some (own_at first_core who).wait)) (sym (newcomer-at who is))
-      (record { left = sym (none-first who is); wait = λ some. let none = none-first who is in cc });
-}
+seen-first who is =
+    subst (λ (p : Player). IsTied p.session (is_some (own_at first_core who).wait)) (sym (new-session who is))
+    (record { left = sym (none-first who is); wait = λ some. let none = none-first who is in cc })
 
 -- ---- scripts
-
--- it isn't the first one, which fails too
-unfound-here : (p : ℕ → Bool) (a k : ℕ) → p a ≡ false → (a ≢ k → p k ≡ false) → ((eqb a k ≡ true) × (a ≡ k)) ⊎ ((eqb a k ≡ false) × (a ≢ k)) → p k ≡ false
-unfound-here p a k fails rest (inl same) = ap p (sym same.1) ∙ fails
-unfound-here p a k fails rest (inr other) = rest other.1
-
--- what isn't found among those that pass a test
-unfound : (p q : ℕ → Bool) (a n k : ℕ) → find p (filter q (range_with_len a n)) ≡ None → a ≤ k → k < a + n → q k ≡ true → p k ≡ false
-unfound p q a zero k none least most passes = absurd (omega (arith, least, most))
-unfound p q a (suc n) k none least most passes =
-    let rest = filter q (range_with_len (a + 1) n) in
-    let later : find p rest ≡ None → a ≢ k → p k ≡ false = λ without other. unfound p q (a + 1) n k without (omega (arith, least, other))
-    (omega (arith, most)) passes in
-    elim (q a) as (λ b. q a ≡ b → find p (cond b (a ∷ rest) rest) ≡ None → p k ≡ false) [
-      | true ↦ λ here. elim (p a) as (λ c. p a ≡ c → cond c (Some a) (find p rest) ≡ None → p k ≡ false) [
-        | true ↦ λ its found. cc
-        | false ↦ λ fails without. unfound-here p a k fails (later without) (eqb_tells a k)
-      ] refl
-      | false ↦ λ fails without. later without (λ same. cc)
-    ] refl none
 
 is_some-own : (seat : SeatView) → is_some (own_of seat).wait ≡ is_some seat.wait
 is_some-own seat = elim seat.wait as (λ wait. is_some (own_of (record seat { wait = wait })).wait ≡ is_some wait) [ None ↦ refl | Some wait ↦ refl ]
@@ -409,9 +327,12 @@ open-same here seat waits is tied unsettled =
     subst (λ h. waits ≡ is_open (if h then seat.wait else None)) (sym is)
     (open-wait seat.wait waits (tied ∙ is_some-own seat) (subst (λ h. waits ≡ true → is_closed (if h then seat.wait else None) ≡ false) is unsettled))
 
-settled-none : (world : World) (who : ℕ) → IsScriptSession who → is_waiting world who ≡ true → first_settled world ≡ None → has_settled world.core who ≡ false
+-- who waits is among those who do
+waits-among : (world : World) (who : ℕ) → IsScriptSession who → is_waiting world who ≡ true → Contains (waiting_in world) who
 unfolding sessions
-settled-none world who is waits none = unfound (has_settled world.core) (is_waiting world) 1 64 who none is.0 (omega (arith, is.1)) waits
+waits-among world who is waits =
+    filter-among (is_waiting world) (range_with_len 1 64) who waits (Contains-from_at (range_with_len 1 64) who
+    (who - 1, omega (arith, is.0, is.1, length-range_with_len 1 64), λ d. get_or-range_with_len 1 64 (who - 1) d (omega (arith, is.0, is.1)) ∙ omega (arith, is.0)))
 
 -- a statement waits exactly where the session has a wait that isn't settled
 pub waits-in-space : StatementsWaitInTheSpace
@@ -419,14 +340,16 @@ waits-in-space text lines read n who is = open-same (has_session who world.core)
   world : World
   world = (script_played (take n lines)).world
 
-  seen : IsSeen world
-  seen = seen-lines n lines first_world (read-sessions text lines read) seen-first
+  kept : IsKept IsSeen world
+  kept =
+      kept-lines IsSeen Anything keeps-seen n lines first_world (read-sessions text lines read) (record { staffed = staffed-first; so = seen-first })
 
   speaks : SpeaksFor world.core who
-  speaks = seen.staffed.speaks who is.0 is.1
+  speaks = kept.staffed.speaks who is.0 is.1
 
   tied : is_waiting world who ≡ is_some (own_at world.core who).wait
-  tied = (seen.tied who is).left
+  tied = (kept.so who is).left
 
   unsettled : is_waiting world who ≡ true → has_settled world.core who ≡ false
-  unsettled waits = settled-none world who is waits (turns-suffice text lines read n)
+  unsettled waits =
+      All-contains (λ w. has_settled world.core w ≡ false) (waiting_in world) who (nobody-left text lines read n) (waits-among world who is waits)

@@ -1,5 +1,5 @@
 -- Whether a session has a wait in the space of one thread, followed through a program of its calls.
-use Rattle.std.proofs.Common.{◌≡◌, ◌≢◌, ℕ, Bool, true, false, Option, Some, None, IfSome, refl, subst, ap, ◌∙◌, sym, inr}
+use Rattle.std.proofs.Common.{◌≡◌, ◌≢◌, ℕ, Bool, true, false, Option, Some, None, IfSome, refl, subst, ap, ◌∙◌, sym}
 use Rattle.std.specs.Prelude.{is_some}
 use Rattle.mdl_calls.specs.Own.{Own, own_after, ticket_held}
 use Rattle.mdl_calls.specs.Own as own
@@ -10,6 +10,7 @@ use Rattle.mdl_core.specs.Cores.{Core}
 use Rattle.mdl_core.specs.RunLaws.{IsMadeFor}
 use Rattle.mdl_core.proofs.CallLaws.{core-changes, core-keeps, core-others}
 use Rattle.mdl_core.proofs.CoreSound.{calls_keep-sound}
+use Rattle.mdl_script_laws.proofs.OutcomeLemmas.{joins-outcome}
 
 -- ---- one call
 
@@ -42,13 +43,6 @@ IsAnswer _ _ = Unit {0}
 is-answer : (call : Call) (core : Core) → IsAnswer call (outcome call core).0
 is-answer (Search who) core = elim (victim_at who core) as (λ victim. IsAnswer (Search who) (searching_of victim core).0) [ None ↦ tt | Some victim ↦ tt ]
 is-answer _ core = tt
-
--- a call for the session or for nobody joins by its outcome
-pub joins-outcome : (who : ℕ) (core : Core) (call : Call) → SpeaksFor core who → IsMadeFor who call → Joins core call (outcome call core).0 (outcome call core).1
-joins-outcome who core call speaks made = (by (caller call) made.1, made.0, inr refl) where
-  by : (maker : Option ℕ) → IfSome maker (λ w. w ≡ who) → IfSome maker (SpeaksFor core)
-  by None same = tt
-  by (Some w) same = subst (SpeaksFor core) (sym same) speaks
 
 -- a call that is made for nobody is about no wait of its caller
 nobody-waits : (call : Call) (answer : Answer) (waits : Bool) → caller call ≡ None → wait_after call answer waits ≡ waits

@@ -1,6 +1,6 @@
 -- How many waits a script tells of each statement: each of them is for one of the locks that the statement may ask for.
 use Rattle.std.proofs.Common.{◌≡◌, ◌≢◌, ◌⊎◌, inl, inr, ℕ, zero, suc, ◌<◌, ◌≤◌, ◌+◌, ◌-◌, ◌*◌, Bool, true, false, cond, List, [], ◌∷◌, ◌++◌, length, get_or, set, filter, replicate, Option, Some, None, Result, refl, subst, ap, ◌∙◌, sym, arith}
-use Rattle.std.specs.Prelude.{IfOk, if◌then◌else◌}
+use Rattle.std.specs.Prelude.{IfOk}
 use Rattle.std.specs.List.{All, sum_by}
 use Rattle.std.proofs.Math.Dec.{eqb}
 use Rattle.std.proofs.lemmas.Bool.Decides.{eqb_tells}
@@ -10,19 +10,19 @@ use Rattle.std.proofs.lemmas.List.Folds.{sum_by-replicate}
 use Rattle.std.proofs.lemmas.List.Sums.{sum_by-set}
 use Rattle.mdl_lines.specs.declared.fault.LineError.{LineError}
 use Rattle.mdl_lines.specs.Lines.{lines_of}
-use Rattle.mdl_lines.specs.Sessions.{IsScriptSession}
 use Rattle.mdl_syntax.specs.declared.script.Line.{Line}
-use Rattle.mdl_syntax.specs.declared.statement.Statement.{Statement}
-use Rattle.mdl_syntax.specs.declared.statement.Statement.TheVariants.{Timeout}
-use Rattle.mdl_syntax.specs.Laws.{IsWithinLimits, RiseFrom}
+use Rattle.mdl_syntax.specs.Laws.{RiseFrom}
 use Rattle.mdl_syntax.proofs.LawLemmas.{lines_say-rise}
+use Rattle.mdl_stmt.specs.declared.reply.Reply.TheVariants as reply
 use Rattle.mdl_stmt.specs.Endings.{Pause, Ends, Begins_to_wait, Waits_on, Faults}
+use Rattle.mdl_script.specs.declared.told.News.{News}
+use Rattle.mdl_script.specs.declared.told.News.TheVariants.{Busy, Ends as Has_ended}
 use Rattle.mdl_script.specs.declared.told.Told.{Told}
-use Rattle.mdl_script.specs.Worlds.{Scene, World, ◌and_then◌, asked, asked_waiting, first_settled, first_world, going, is_waiting, line_played, lines_played, most_turns, player_at, settling, started, told_of}
+use Rattle.mdl_script.specs.Worlds.{Scene, World, ◌and_then◌, asked, first_settled, first_world, going, line_played, lines_played, most_turns, player_at, settling, started, timed_out, told_of}
 use Rattle.mdl_script.proofs.SettleLemmas.{settling-none, settling-over, settling-some}
-use Rattle.mdl_script.proofs.SoundLemmas.{IsStaffed, staffed-asked}
-use Rattle.mdl_script_laws.specs.Turns.{StatementsTellOfFewWaits, is_wait_of, locks_of, waits_told}
-use Rattle.mdl_script_laws.proofs.TurnLemmas.{Due, IsBounded, Turn, bounded-first, bounded-started, bounded-waiting, nothing_due, pauses-started, read-limits, turn-going}
+use Rattle.mdl_script_laws.specs.Turns.{StatementsTellOfFewWaits, is_wait, is_wait_of, locks_of, waits_told}
+use Rattle.mdl_script_laws.proofs.ScriptLemmas.{asked-by, telling}
+use Rattle.mdl_script_laws.proofs.TurnLemmas.{Due, IsBounded, IsRead, Turn, bounded-first, bounded-started, bounded-timed_out, nothing_due, pauses-started, read-limits, turn-going}
 use Rattle.mdl_script_laws.proofs.TurnPlays.{PausesWithin}
 
 -- ---- counts
@@ -121,30 +121,23 @@ record IsBegun (dues : List Due) (line : Line) (scene : Scene) : Type 0 where
   others : (number : ℕ) → number ≢ line.number → waits_told number scene.told + owed number after ≤ owed number dues
   its : owed line.number dues ≡ 0 → waits_told line.number scene.told + owed line.number after ≤ locks_of line.statement
 
--- a session that waits is only told that it is busy, or that its patience ends
-waits-busy : (statement : Statement) (line who : ℕ) (world : World) (number : ℕ) → waits_told number (asked_waiting statement line who world).told ≡ 0
-waits-busy statement line who world number = by statement (eqb line number) refl where
-  by : (statement : Statement) (same : Bool) → eqb line number ≡ same → waits_told number (asked_waiting statement line who world).told ≡ 0
-  by Timeout true e = rw e refl
-  by Timeout false e = rw e refl
-  by _ true e = rw e refl
-  by _ false e = rw e refl
-
-begun-waiting : (line : Line) (world : World) (dues : List Due) → IsStaffed (asked_waiting line.statement line.number line.session world).world
-    → IsBounded dues world
-    → IsBegun dues line (asked_waiting line.statement line.number line.session world)
-begun-waiting line world dues staffed bounded = record {
+-- a session that waits is told of no wait, and starts nothing
+begun-waiting : (line : Line) (news : News) (world : World) (dues : List Due) → is_wait news ≡ false → IsBounded dues world
+    → IsBegun dues line (telling line.number line.session news world)
+begun-waiting line news world dues silent bounded = record {
   after = dues;
-  bounded = bounded-waiting line.statement line.number line.session world dues staffed bounded;
-  others = λ number other. let none = waits-busy line.statement line.number line.session world number in omega (arith, none);
-  its = λ nothing. let none = waits-busy line.statement line.number line.session world line.number in omega (arith, none, nothing);
-}
+  bounded = bounded;
+  others = λ number other. let none = none-told number (eqb line.number number) refl in omega (arith, none);
+  its = λ nothing. let none = none-told line.number (eqb line.number line.number) refl in omega (arith, none, nothing);
+} where
+  none-told : (number : ℕ) (same : Bool) → eqb line.number number ≡ same → waits_told number (telling line.number line.session news world).told ≡ 0
+  none-told number true e = rw e (rw silent refl)
+  none-told number false e = rw e refl
 
-begun-started : (line : Line) (world : World) (dues : List Due) → IsScriptSession line.session → IsWithinLimits line.statement
-    → IsStaffed (started line world).world → IsBounded dues world → IsBegun dues line (started line world)
-begun-started line world dues is limited staffed bounded = record {
+begun-started : (line : Line) (world : World) (dues : List Due) → IsRead line → IsBounded dues world → IsBegun dues line (started line world)
+begun-started line world dues read bounded = record {
   after = set dues (line.session - 1) new;
-  bounded = bounded-started line world dues is limited staffed bounded;
+  bounded = bounded-started line world dues read bounded;
   others = λ number other. let sums = sum_by-set (owed_at number) dues (line.session - 1) new nothing_due among in by number
       (eqb_tells line.number number) other sums;
   its = λ nothing.
@@ -157,7 +150,7 @@ begun-started line world dues is limited staffed bounded = record {
   new = record { line = line.number; locks = locks_of line.statement }
 
   among : line.session - 1 < length dues
-  among = let all = bounded.all in omega (arith, is.0, is.1, all)
+  among = let all = bounded.all in let is = read.0 in omega (arith, is.0, is.1, all)
 
   told : (number : ℕ) → waits_told number (started line world).told + owed_at number new ≤ cond (eqb line.number number) (locks_of line.statement) 0
   told number = waits-told number line.number line.session (locks_of line.statement) _ (pauses-started line world)
@@ -177,21 +170,16 @@ begun-started line world dues is limited staffed bounded = record {
       subst (λ b. waits_told number (started line world).told + owed_at number new ≤ cond b (locks_of line.statement) 0) apart.0 (told number) in
       omega (arith, here, sums)
 
-begun-asked : (line : Line) (world : World) (dues : List Due) → IsScriptSession line.session → IsWithinLimits line.statement → IsBounded dues world
-    → IsBegun dues line (asked line world)
-begun-asked line world dues is limited bounded = by (is_waiting world line.session) (staffed-asked line world is bounded.staffed) where
-  scene : Bool → Scene
-  scene waits = if waits then asked_waiting line.statement line.number line.session world else started line world
-
-  by : (waits : Bool) → IsStaffed (scene waits).world → IsBegun dues line (scene waits)
-  by true staffed = begun-waiting line world dues staffed bounded
-  by false staffed = begun-started line world dues is limited staffed bounded
+begun-asked : (line : Line) (world : World) (dues : List Due) → IsRead line → IsBounded dues world → IsBegun dues line (asked line world)
+begun-asked line world dues read bounded =
+    asked-by (IsBegun dues line) line world
+    (begun-waiting line (Has_ended reply.Ok) (timed_out line.session world) dues refl (bounded-timed_out line.session world dues read.0 bounded))
+    (begun-waiting line Busy world dues refl bounded) (λ free. begun-started line world dues read bounded)
 
 -- a line, and all turns after it
-begun-line : (line : Line) (world : World) (dues : List Due) → IsScriptSession line.session → IsWithinLimits line.statement → IsBounded dues world
-    → IsBegun dues line (line_played line world)
-begun-line line world dues is limited bounded =
-    let first = begun-asked line world dues is limited bounded in
+begun-line : (line : Line) (world : World) (dues : List Due) → IsRead line → IsBounded dues world → IsBegun dues line (line_played line world)
+begun-line line world dues read bounded =
+    let first = begun-asked line world dues read bounded in
     let begun = (asked line world).world in
     let rest = paid-settling most_turns begun first.after first.bounded in
     let told = λ (number : ℕ). waits-append number (asked line world).told (settling most_turns begun).told in record {
@@ -215,22 +203,20 @@ record IsToldWithin (number : ℕ) (dues : List Due) (lines : List Line) (told :
   before : (earlier : ℕ) → earlier < number → waits_told earlier told ≤ owed earlier dues
   each : All (λ line. waits_told line.number told ≤ locks_of line.statement) lines
 
-told-lines : (number : ℕ) (lines : List Line) (world : World) (dues : List Due) → All (λ line. IsScriptSession line.session × IsWithinLimits line.statement) lines
+told-lines : (number : ℕ) (lines : List Line) (world : World) (dues : List Due) → All IsRead lines
     → RiseFrom number lines → IsBounded dues world → ((later : ℕ) → number ≤ later → owed later dues ≡ 0)
     → IsToldWithin number dues lines (lines_played lines world).told
 told-lines number [] world dues are rise bounded none =
     record { before = λ earlier less. omega arith; each = All-nil (λ (line : Line). waits_told line.number [] ≤ locks_of line.statement) }
 told-lines number (line ∷ lines) world dues are rise bounded none =
-    let Limited : Line → Type 0 = λ line. IsScriptSession line.session × IsWithinLimits line.statement in
-    let head = All-head Limited line lines are in
-    let first = begun-line line world dues head.0 head.1 bounded in
+    let first = begun-line line world dues (All-head IsRead line lines are) bounded in
     let step = line_played line world in
     let more = (lines_played lines step.world).told in
     let later : (later : ℕ) → line.number + 1 ≤ later → owed later first.after ≡ 0 = λ later less.
     let here = first.others later (λ e. omega (arith, e, less)) in
     let nothing = none later (omega (arith, less, rise.0)) in
     omega (arith, here, nothing) in
-    let rest = told-lines (line.number + 1) lines step.world first.after (All-tail Limited line lines are) rise.1 first.bounded later in
+    let rest = told-lines (line.number + 1) lines step.world first.after (All-tail IsRead line lines are) rise.1 first.bounded later in
     let sum = λ (earlier : ℕ). waits-append earlier step.told more in
     let Few : Line → Type 0 = λ one. waits_told one.number (step.told ++ more) ≤ locks_of one.statement in record {
       before = λ earlier less.

@@ -1,0 +1,148 @@
+-- Rows that keep to a rule, whatever they are told: how they fail, what they give, and that they lock no tables for their session.
+use Rattle.std.proofs.Common.{◌≡◌, ℕ, Bool, true, false, List, [], ◌∷◌, refl}
+use Rattle.std.specs.Prelude.{if◌then◌else◌, map, not, ◌++◌}
+use Rattle.mdl_key.specs.Keys.{KeyName, global_key}
+use Rattle.mdl_defs.specs.declared.change.Change.TheVariants as change
+use Rattle.mdl_defs.specs.Columns.{names_twice}
+use Rattle.mdl_defs.specs.declared.definition.Definition.TheVariants.{Schema}
+use Rattle.mdl_defs.specs.declared.standing.Standing.{Standing}
+use Rattle.mdl_context.specs.declared.request.Mark.{Mark}
+use Rattle.mdl_context.specs.Wishes.{Wish}
+use Rattle.mdl_stmt.specs.declared.error_number.ErrorNumber.{ErrorNumber}
+use Rattle.mdl_stmt.specs.declared.error_number.ErrorNumber.TheVariants.{SchemaExists, UnknownDatabase, TableExists, DuplicateColumn, NoSuchTable, VersionLimit}
+use Rattle.mdl_stmt.specs.declared.reply.Reply.{Reply}
+use Rattle.mdl_stmt.specs.declared.reply.Reply.TheVariants as reply
+use Rattle.mdl_stmt.specs.KeyOrder.{in_key_order}
+use Rattle.mdl_stmt.specs.Rows.{Row, Act, Give, Fail, Room, Look, Set, Here, Acquire, Give_up, Release, Read, Redefine, Kill, ◌>>=◌, ◌>>◌, acquire_all, check, for_each, nothing, redefine, release, set}
+use Rattle.mdl_stmt.specs.States.{Locked, State, has_locked, opened, unlocked}
+use Rattle.mdl_stmt.specs.Statements as rows
+use Rattle.mdl_script_laws.specs.RefusalsFirst.{is_early}
+
+-- a change after which a session has no locked tables, if it had none before
+abbrev pub LeavesUnlocked : (State → State) → Type 0
+LeavesUnlocked change = (state : State) → has_locked state.locked ≡ false → has_locked (change state).locked ≡ false
+
+-- its failures are of these, what it gives is so, and it locks no tables for its session
+abbrev pub KeepsTo : {A : Type 0} → (ErrorNumber → Type 0) → (A → Type 0) → Row A → Type 0
+KeepsTo F P (Give x) = P x
+KeepsTo F P (Fail number) = F number
+KeepsTo F P (Room rest) = KeepsTo F P rest
+KeepsTo F P (Look rest) = (state : State) → KeepsTo F P (rest state)
+KeepsTo F P (Set change rest) = LeavesUnlocked change × KeepsTo F P rest
+KeepsTo F P (Here rest) = (mark : Mark) → KeepsTo F P (rest mark)
+KeepsTo F P (Acquire wish rest) = (id : ℕ) → KeepsTo F P (rest id)
+KeepsTo F P (Give_up which rest) = KeepsTo F P rest
+KeepsTo F P (Release id rest) = KeepsTo F P rest
+KeepsTo F P (Read id rest) = (standing : Standing) → KeepsTo F P (rest standing)
+KeepsTo F P (Redefine id change rest) = KeepsTo F P rest
+KeepsTo F P (Kill target rest) = KeepsTo F P rest
+
+-- whatever it is
+abbrev pub Any : {A : Type 0} → A → Type 0
+Any x = Unit {0}
+
+-- one row after another
+pub keeps-bind : {A B : Type 0} (F : ErrorNumber → Type 0) (P : A → Type 0) (Q : B → Type 0) (first : Row A) (next : A → Row B) → KeepsTo F P first
+    → ((x : A) → P x → KeepsTo F Q (next x)) → KeepsTo F Q (first >>= next)
+keeps-bind F P Q (Give x) next so later = later x so
+keeps-bind F P Q (Fail number) next so later = so
+keeps-bind F P Q (Room rest) next so later = keeps-bind F P Q rest next so later
+keeps-bind F P Q (Look rest) next so later = λ state. keeps-bind F P Q (rest state) next (so state) later
+keeps-bind F P Q (Set change rest) next so later = (so.0, keeps-bind F P Q rest next so.1 later)
+keeps-bind F P Q (Here rest) next so later = λ mark. keeps-bind F P Q (rest mark) next (so mark) later
+keeps-bind F P Q (Acquire wish rest) next so later = λ id. keeps-bind F P Q (rest id) next (so id) later
+keeps-bind F P Q (Give_up which rest) next so later = keeps-bind F P Q rest next so later
+keeps-bind F P Q (Release id rest) next so later = keeps-bind F P Q rest next so later
+keeps-bind F P Q (Read id rest) next so later = λ standing. keeps-bind F P Q (rest standing) next (so standing) later
+keeps-bind F P Q (Redefine id change rest) next so later = keeps-bind F P Q rest next so later
+keeps-bind F P Q (Kill target rest) next so later = keeps-bind F P Q rest next so later
+
+-- something is done, and then this follows
+pub keeps-then : {B : Type 0} (F : ErrorNumber → Type 0) (Q : B → Type 0) (first : Act) (next : Row B) → KeepsTo F Any first → KeepsTo F Q next
+    → KeepsTo F Q (first >> next)
+keeps-then F Q first next so later = keeps-bind F Any Q first (λ _. next) so (λ _ _. later)
+
+pub keeps-either : {A : Type 0} (F : ErrorNumber → Type 0) (P : A → Type 0) (test : Bool) (one other : Row A) → KeepsTo F P one → KeepsTo F P other
+    → KeepsTo F P (if test then one else other)
+keeps-either F P true one other first second = first
+keeps-either F P false one other first second = second
+
+pub keeps-check : (F : ErrorNumber → Type 0) (test : Bool) (number : ErrorNumber) → F number → KeepsTo F Any (check test number)
+keeps-check F true number so = tt
+keeps-check F false number so = so
+
+keeps-each : (F : ErrorNumber → Type 0) (act : ℕ → Act) → ((id : ℕ) → KeepsTo F Any (act id)) → (ids : List ℕ) → KeepsTo F Any (for_each act ids)
+keeps-each F act so [] = tt
+keeps-each F act so (id ∷ ids) = keeps-then F Any (act id) (for_each act ids) (so id) (keeps-each F act so ids)
+
+keeps-locks : (F : ErrorNumber → Type 0) (wishes : List Wish) → KeepsTo F Any (acquire_all wishes)
+keeps-locks F [] = tt
+keeps-locks F (wish ∷ wishes) = λ id. keeps-bind F Any Any (acquire_all wishes) (λ tickets. Give (id ∷ tickets)) (keeps-locks F wishes) (λ _ _. tt)
+
+-- ---- rows that fail by no early error
+
+module _ (F : ErrorNumber → Type 0) (late : (number : ErrorNumber) → is_early number ≡ false → F number) where
+  pub keeps-commit : KeepsTo F Any rows.commit
+  keeps-commit = λ state.
+      keeps-either F Any state.is_open (if state.has_written then rows.commit_writes else rows.end_transaction) nothing
+      (keeps-either F Any state.has_written rows.commit_writes rows.end_transaction (λ _. ((λ s u. u), tt)) ((λ s u. u), tt)) tt
+
+  pub keeps-rollback : KeepsTo F Any rows.rollback
+  keeps-rollback = λ state. keeps-either F Any state.is_open rows.end_transaction nothing ((λ s u. u), tt) tt
+
+  keeps-unlock : KeepsTo F Any rows.unlock_tables
+  keeps-unlock = λ state.
+      let tickets = map (λ (table : Locked). table.ticket) state.locked ++ state.scopes in
+      keeps-then F Any (for_each release tickets) (set unlocked) (keeps-each F release (λ _. tt) tickets) ((λ s u. refl), tt)
+
+  pub keeps-exists : (ticket : ℕ) → KeepsTo F Any (rows.exists ticket)
+  keeps-exists ticket = λ standing.
+      keeps-bind F Any Any (check (rows.is_defined standing) NoSuchTable) (λ _. Give standing)
+      (keeps-check F (rows.is_defined standing) NoSuchTable (late NoSuchTable refl)) (λ _ _. tt)
+
+  keeps-version : (standing : Standing) → KeepsTo F Any (check (rows.has_version_left standing) VersionLimit)
+  keeps-version standing = keeps-check F (rows.has_version_left standing) VersionLimit (late VersionLimit refl)
+
+  keeps-new : (columns : List (List ℕ)) (table : ℕ) → KeepsTo F Any (rows.check_new columns table)
+  keeps-new columns table = λ standing.
+      let twice = check (not (names_twice columns)) DuplicateColumn in
+      let version = check (rows.has_version_left standing) VersionLimit in
+      keeps-then F Any (check (not (rows.is_defined standing)) TableExists) (twice >> version)
+      (keeps-check F (not (rows.is_defined standing)) TableExists (late TableExists refl))
+      (keeps-then F Any twice version (keeps-check F (not (names_twice columns)) DuplicateColumn (late DuplicateColumn refl)) (keeps-version standing))
+
+  keeps-new_schema : (schema : ℕ) → KeepsTo F Any (rows.check_new_schema schema)
+  keeps-new_schema schema = λ standing.
+      keeps-then F Any (check (not (rows.is_defined standing)) SchemaExists) (check (rows.has_version_left standing) VersionLimit)
+      (keeps-check F (not (rows.is_defined standing)) SchemaExists (late SchemaExists refl)) (keeps-version standing)
+
+  -- those that are told that it is done
+  module _ (P : Reply → Type 0) (ok : P reply.Ok) where
+    pub keeps-begin : KeepsTo F P rows.begin_after_commit
+    keeps-begin = keeps-then F P rows.unlock_tables (set opened >> Give reply.Ok) keeps-unlock ((λ s u. u), ok)
+
+    pub keeps-create : (table : KeyName) (columns : List (List ℕ)) → KeepsTo F P (rows.create_after_commit table columns)
+    keeps-create table columns = λ global schema ticket.
+        keeps-then F P (rows.check_schema schema) (rows.check_new columns ticket >> (rows.make_table columns ticket >> Give reply.Ok))
+        (λ over. keeps-check F (rows.is_defined over) UnknownDatabase (late UnknownDatabase refl))
+        (keeps-then F P (rows.check_new columns ticket) (rows.make_table columns ticket >> Give reply.Ok) (keeps-new columns ticket) ok)
+
+    pub keeps-create_schema : (name : List ℕ) → KeepsTo F P (rows.create_schema_after_commit name)
+    keeps-create_schema name = λ global schema.
+        keeps-then F P (rows.check_new_schema schema) (redefine schema (change.Create Schema) >> Give reply.Ok) (keeps-new_schema schema) ok
+
+    keeps-drop_under : (tickets : List ℕ) → KeepsTo F P (rows.drop_under tickets)
+    keeps-drop_under tickets =
+        let dropping : Act = for_each (λ ticket. redefine ticket change.Drop) tickets in
+        keeps-then F P (for_each rows.stands tickets) (for_each rows.can_change tickets >> (dropping >> Give reply.Ok))
+        (keeps-each F rows.stands (λ ticket. keeps-bind F Any Any (rows.exists ticket) (λ _. nothing) (keeps-exists ticket) (λ _ _. tt)) tickets)
+        (keeps-then F P (for_each rows.can_change tickets) (dropping >> Give reply.Ok)
+        (keeps-each F rows.can_change (λ ticket standing. keeps-version standing) tickets)
+        (keeps-then F P dropping (Give reply.Ok) (keeps-each F (λ ticket. redefine ticket change.Drop) (λ _. tt) tickets) ok))
+
+    pub keeps-drop : (tables : List KeyName) → KeepsTo F P (rows.drop_after_commit tables)
+    keeps-drop tables =
+        let scopes = map rows.ddl_lock (global_key ∷ in_key_order (map rows.schema_of tables)) in
+        let wishes = map rows.ddl_lock (in_key_order tables) in
+        keeps-bind F Any P (acquire_all scopes) (λ _. rows.lock_and_drop tables) (keeps-locks F scopes)
+        (λ _ _. keeps-bind F Any P (acquire_all wishes) rows.drop_under (keeps-locks F wishes) (λ tickets _. keeps-drop_under tickets))
