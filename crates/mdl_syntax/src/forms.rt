@@ -4,7 +4,7 @@ ghost use Rattle.mdl_key.specs.Keys.{table_key};
 ghost use Rattle.mdl_lines.specs.Lines.{words_of};
 ghost use Rattle.mdl_syntax.specs.declared.statement.Statement.TheVariants.{Savepoint, RollbackTo, CreateTable, KillQuery};
 ghost use Rattle.mdl_syntax.specs.Forms as forms;
-ghost use Rattle.mdl_syntax.specs.Reading.{ReadsAs, create_of, write_of};
+ghost use Rattle.mdl_syntax.specs.Reading.{ReadsAs, create_of, flush_of, unlock_of, write_of};
 
 use crate::key_words::behind;
 use crate::no_statement::NoStatement;
@@ -49,6 +49,8 @@ pub(crate) fn statement_of(alloc: Global, words: &[u8]) -> Result<Statement, NoS
             Some(rest) => Ok(Statement::DropTables(some_tables(alloc, rest)?)),
             None => bad_word(),
         },
+        "UNLOCK" => unlock(rest),
+        "FLUSH" => flush(rest),
         "KILL" => match behind("QUERY", rest) {
             Some(rest) => kill_query(rest),
             None => bad_word(),
@@ -220,6 +222,35 @@ fn push_column(alloc: Global, columns: &mut Columns, name: &str) -> Result<(), A
     match Column::new(alloc, name) {
         Ok(column) => columns.push(column),
         Err(_) => Err(AllocError),
+    }
+}
+
+// Locks given up.
+fn unlock(words: &[u8]) -> Result<Statement, NoStatement>
+    ensures { ReadsAs (unlock_of (words_of words.now)) result }
+{
+    match behind("TABLES", words) {
+        Some(rest) => no_more(Statement::UnlockTables, rest),
+        None => bad_word(),
+    }
+}
+
+// The global read lock.
+fn flush(words: &[u8]) -> Result<Statement, NoStatement>
+    ensures { ReadsAs (flush_of (words_of words.now)) result }
+{
+    let Some(words) = behind("TABLES", words) else {
+        return bad_word();
+    };
+    let Some(words) = behind("WITH", words) else {
+        return bad_word();
+    };
+    let Some(words) = behind("READ", words) else {
+        return bad_word();
+    };
+    match behind("LOCK", words) {
+        Some(words) => no_more(Statement::FlushTablesWithReadLock, words),
+        None => bad_word(),
     }
 }
 

@@ -18,6 +18,7 @@ const ROWS: &str = "\
 1 CREATE SCHEMA s / 1 CREATE SCHEMA az09_ / 1 CREATE SCHEMA test => 1 1 create schema s / 2 1 create schema az09_ / 3 1 \
     create schema test
 1 DROP TABLE t / 1 DROP TABLE b s.a a => 1 1 drop TABLE test.t / 2 1 drop TABLE test.b TABLE s.a TABLE test.a
+1 UNLOCK TABLES / 2 FLUSH TABLES WITH READ LOCK => 1 1 unlock tables / 2 2 flush tables with read lock
 1 KILL QUERY 64 / 9 KILL QUERY 1 / 9 TIMEOUT => 1 1 kill 64 / 2 9 kill 1 / 3 9 time out
 1 SELECT a b c d e f g h => 1 1 read TABLE test.a TABLE test.b TABLE test.c TABLE test.d TABLE test.e TABLE test.f \
     TABLE test.g TABLE test.h
@@ -52,6 +53,15 @@ const ROWS: &str = "\
 BEGIN => line 1: BadSession
  # x => line 1: BadSession
 0 SELECT T => line 1: BadSession
+1 UNLOCK => line 1: BadWord
+1 UNLOCK TABLE => line 1: BadWord
+1 UNLOCK TABLES t => line 1: BadWord
+1 FLUSH => line 1: BadWord
+1 FLUSH TABLES => line 1: BadWord
+1 FLUSH TABLES WITH READ => line 1: BadWord
+1 FLUSH TABLES READ LOCK => line 1: BadWord
+1 FLUSH TABLES WITH READ LOCK t => line 1: BadWord
+1 FLUSH TABLES WITH READ LOCKS => line 1: BadWord
 1 KILL QUERY 0 => line 1: BadSession
 1 KILL QUERY 01 => line 1: BadSession
 1 KILL QUERY 65 => line 1: BadSession

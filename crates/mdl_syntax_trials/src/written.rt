@@ -54,6 +54,10 @@ fn statement_text(alloc: Global, statement: &Statement) -> Result<String, Fail> 
             Ok(format!(in alloc; "create schema {name}")?)
         }
         Statement::DropTables(tables) => named(alloc, "drop", tables),
+        Statement::UnlockTables => Ok(String::from_str(alloc, "unlock tables")?),
+        Statement::FlushTablesWithReadLock => {
+            Ok(String::from_str(alloc, "flush tables with read lock")?)
+        }
         Statement::KillQuery(session) => Ok(format!(in alloc; "kill {session}")?),
         Statement::Timeout => Ok(String::from_str(alloc, "time out")?),
     }
