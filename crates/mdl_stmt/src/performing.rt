@@ -42,6 +42,8 @@ impl<S: LockSpace> Player<S> {
             Statement::RollbackTo(name) => Played::Ends(self.rollback_to(space, name)),
             Statement::Select(tables) => self.select(space, tables.as_slice()),
             Statement::Write { table, priority } => self.write(space, table, *priority),
+            Statement::UnlockTables => Played::Ends(self.unlock(space)),
+            Statement::FlushTablesWithReadLock => self.flush(space, statement),
             Statement::KillQuery(target) => {
                 self.kill(space, *target);
                 Played::Ends(Ending::Answers(Reply::Ok))
@@ -111,6 +113,8 @@ impl<S: LockSpace> Player<S> {
                 self.lock_scopes(space, tables, locks.with(ticket))
             }
             Stage::DropTables(locks) => self.lock_tables(space, locks.with(ticket)),
+            Stage::FlushGlobal => self.lock_commits(space, ticket),
+            Stage::FlushCommit => Played::Ends(self.read_lock_under(space, ticket)),
         }
     }
 
@@ -129,6 +133,7 @@ impl<S: LockSpace> Player<S> {
         ensures who { self.new.context.who ≡ self.old.context.who }
         ensures idle { self.new.context.wait ≡ None }
     {
+        self.drop_half(space, &ending);
         self.let_go(space, &ending, mark);
         match ending {
             Ending::Answers(reply) => Ok(Progress::Done(reply)),

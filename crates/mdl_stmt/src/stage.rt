@@ -92,4 +92,8 @@ pub enum Stage<'s> {
     DropScopes(&'s Tables, LockList),
     /// The lock of a table that is to be dropped.
     DropTables(LockList),
+    /// The lock of all writes, for the global read lock.
+    FlushGlobal,
+    /// The COMMIT lock beside it.
+    FlushCommit,
 }
