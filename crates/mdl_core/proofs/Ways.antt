@@ -8,7 +8,7 @@ use Rattle.mdl_calls.specs.declared.answers.TimedOut.TheVariants.{ByThisCall, Al
 use Rattle.mdl_calls.specs.Words.{Answer, Refused, At_place, Would_wait, Waits, Victim_is, Is_settled, Timed_out, Has_wait, Has_killed, Key_is, Holds, is_answer_of, Call, Resolve, Try_now, Begin_wait, Search, Poll_wait, Settle_timeout, End_wait, Wait_of, Kill, Key_of, List_held, caller, IsExplained, own_after, wait_number, Draws, IsToldOf}
 use Rattle.mdl_core.specs.declared.pending.Pending.{Pending}
 use Rattle.mdl_core.specs.ChangeEvents.{IsChangeEvent}
-use Rattle.mdl_core.specs.Changes.{Change, Lose, Settle, Leave, May, seat_after, changing, opening, serving}
+use Rattle.mdl_core.specs.Changes.{Change, Lose, Settle, Leave, Alter, Fold, May, seat_after, changing, opening, serving}
 use Rattle.mdl_core.specs.CoreCalls.{wait_at, is_open_wait}
 use Rattle.mdl_core.specs.CoreJoins.{own_at, numbers_at, Knows}
 use Rattle.mdl_core.specs.CoreLaws.{is_change, IsEventOf}
@@ -16,7 +16,7 @@ use Rattle.mdl_core.specs.Cores.{Core, seat_at, key_at, index_of}
 use Rattle.mdl_core.specs.CoreSystems.{system_of}
 use Rattle.mdl_core.specs.Seats.{SeatView, own_of, numbers_of}
 use Rattle.mdl_core.specs.SessionLaws.{MeetsLimit}
-use Rattle.mdl_system.specs.Words.{WaitsForCause, Event, IsGrantable}
+use Rattle.mdl_system.specs.Words.{WaitsForCause, Event, IsGrantable, may_downgrade}
 use Rattle.mdl_core.proofs.SparedSeats.{HasSettled, is_end}
 
 -- ---- ways
@@ -32,6 +32,8 @@ pub data Way : Type 0 where
 abbrev pub makes_room : Change → Bool
 makes_room (Lose ticket) = true
 makes_room (Leave wait) = true
+makes_room (Alter ticket mode) = may_downgrade ticket.mode mode
+makes_room (Fold old new) = true
 makes_room _ = false
 
 abbrev pub served_if : Bool → ℕ → Core → Core
