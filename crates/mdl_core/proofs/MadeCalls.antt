@@ -40,7 +40,7 @@ use Rattle.mdl_core.proofs.KnownPlaces.{unplaced, new-known, wait_placed}
 use Rattle.mdl_core.proofs.PairLemmas.{below, map-agree, map-same, pairs-from_rising, same-number}
 use Rattle.mdl_core.proofs.SparedSeats.{HasSettled, settled_at, settled-once, none_settled, not_settled, as_wait, is_end}
 use Rattle.mdl_core.proofs.VictimLemmas.{victim-waits}
-use Rattle.mdl_core.proofs.Ways.{Way, Stay, Open, Settle_wait, Make, served_if, space_by, seat_by, IsSo, ServesCaller, Comes}
+use Rattle.mdl_core.proofs.Ways.{HasAtOnce, HasNotAtOnce, Way, Stay, Open, Settle_wait, Make, served_if, space_by, seat_by, IsSo, ServesCaller, Comes}
 use Rattle.mdl_system.proofs.StrengthLemmas.{covers-at_least, upgrade-raises}
 
 -- ---- tests
@@ -445,13 +445,15 @@ module _ (a : Core) where
             let key : has_key ticket.place a ≡ true = tied.placed who ticket is (inl (inl mine.0)) in
             let free = free-grantable a who ticket.place mode tied key in
             tested
-            (λ strong. stays refl (ap (is_weaker mode) e ∙ ap not strong) tt
+            (λ strong. stays refl (ap (is_weaker mode) e ∙ ap not strong) (of_held who id ticket (HasAtOnce a who mode) e (inl strong))
             (tells (sym (own-kept (seat_at who a) rising id ticket mine.0 mine.1 (upgraded mode) (ap (λ b. if b then ticket.mode else mode) strong))) refl clear (λ _ _. tt)))
-            (λ weak. tested (λ busy. stays refl refl tt (tells refl refl clear (λ _ _. tt)))
+            (λ weak. tested (λ busy. stays refl refl
+            (of_held who id ticket (HasNotAtOnce a who mode) e (weak, λ grantable. false≢true (sym (not_true _ busy) ∙ free.1 grantable))) (tells refl refl clear (λ _ _. tt)))
             (λ may_have. (let up = or-right _ _ able weak in
             subst (λ room. F (Upgrade_now who id mode) (Upgraded, served_if room ticket.place (altering who ticket mode a))) (upgrade-raises ticket.mode mode up).1
             (makes who ticket.place (Alter ticket mode) (record { session = is; key = key; allows = (mine.0, refl, fits) }) (Raise (holding_of who ticket a) mode)
-            (inl (refl, none_there _ idle, up, free.0 (not_false _ may_have)), (_, refl, mine.1, refl), tt) (refl, λ f. cc) refl tt
+            (inl (refl, none_there _ idle, up, free.0 (not_false _ may_have)), (_, refl, mine.1, refl), tt) (refl, λ f. cc) refl
+            (of_held who id ticket (HasAtOnce a who mode) e (inr (free.0 (not_false _ may_have))))
             (tells (own-changed (seat_at who a) rising id ticket mine.0 mine.1 (upgraded mode) mode (ap (λ b. if b then ticket.mode else mode) weak)) refl clear (λ _ _. tt))))))
     made (Merge who old new) has is =
         option_cases (λ o. F (Merge who old new) (merging_of who o (held_ticket who new a) a)) (held_ticket who old a)
