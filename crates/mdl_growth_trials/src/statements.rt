@@ -16,7 +16,8 @@ use std::marker::Model;
 
 const SCRIPT: &[u8] =
     b"1 CREATE TABLE t x y\n1 CREATE TABLE u z\n1 BEGIN\n1 SAVEPOINT p\n1 INSERT u\n1 ROLLBACK TO p\n1 SELECT u t\n\
-    1 SAVEPOINT q\n2 DROP TABLE t u\n1 COMMIT\n2 SELECT t\n2 CREATE TABLE t v\n2 BEGIN\n2 SELECT t\n2 SELECT u\n2 ROLLBACK\n";
+    1 SAVEPOINT q\n2 DROP TABLE t u\n1 COMMIT\n2 SELECT t\n2 CREATE TABLE t v\n2 RENAME TABLE t TO w\n\
+    2 SELECT w\n2 RENAME TABLE w TO t\n2 BEGIN\n2 SELECT t\n2 SELECT u\n2 ROLLBACK\n";
 
 // What comes of a statement.
 #[derive(Clone, Copy, PartialEq, Eq)]
@@ -46,7 +47,10 @@ const OUTCOMES: &[Outcome] = &[
     Outcome::Fails(1146),
     Outcome::Done,
     Outcome::Done,
-    Outcome::Reads(3),
+    Outcome::Reads(1),
+    Outcome::Done,
+    Outcome::Done,
+    Outcome::Reads(5),
     Outcome::Fails(1146),
     Outcome::Done,
 ];
