@@ -47,6 +47,8 @@ pub struct Wanted {
     pub mode: Mode,
     /// How long the ticket is to be kept.
     pub duration: Duration,
+    /// The held ticket that is to have the mode, where the wait is for an upgrade. The new ticket is merged into it then.
+    pub upgrades: Option<TicketId>,
     /// Whether the searches for deadlocks are over. Else they were cut off, and go on with the next look at the wait.
     pub searched: bool,
 }

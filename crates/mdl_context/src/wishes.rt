@@ -48,6 +48,7 @@ impl Request<'_> {
             place,
             mode: self.mode,
             duration: self.duration,
+            upgrades: None,
             searched,
         }
     }
