@@ -424,4 +424,5 @@ impl CoreSpace {
 mod calls;
 mod deadlocks;
 mod definitions;
+mod modes;
 mod serving;

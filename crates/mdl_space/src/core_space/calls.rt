@@ -10,6 +10,7 @@ ghost use Rattle.mdl_core.proofs.ReadLaws.{core-reads, core-redefines, core-rede
 use super::CoreSpace;
 use crate::{
     Attempt, Begun, Ended, Held, LockSpace, Place, Poll, Search, SpaceError, TicketId, TimedOut,
+    Upgrade,
 };
 use mdl_defs::{Change, Standing};
 use mdl_key::{Key, Mode};
@@ -77,6 +78,18 @@ impl LockSpace for CoreSpace {
 
     fn clone_ticket(&mut self, who: u16, id: TicketId, mode: Mode) -> Result<TicketId, SpaceError> {
         self.clone_held(who, id, mode)
+    }
+
+    fn upgrade_now(&mut self, who: u16, id: TicketId, mode: Mode) -> Result<Upgrade, SpaceError> {
+        self.upgrade_held(who, id, mode)
+    }
+
+    fn merge(&mut self, who: u16, old: TicketId, new: TicketId) -> Result<(), SpaceError> {
+        self.merge_held(who, old, new)
+    }
+
+    fn downgrade(&mut self, who: u16, id: TicketId, mode: Mode) -> Result<(), SpaceError> {
+        self.downgrade_held(who, id, mode)
     }
 
     fn read_definition(&mut self, who: u16, id: TicketId) -> Result<Standing, SpaceError> {
