@@ -10,6 +10,7 @@ mod holdings;
 mod kept;
 mod laws;
 mod memory_laws;
+mod merging;
 mod releasing;
 mod request;
 mod searches;
