@@ -4,6 +4,7 @@ pub mod FrontLemmas
 pub mod GainLemmas
 pub mod IndexLemmas
 pub mod MemoryLemmas
+pub mod MergeLemmas
 pub mod ModeLemmas
 pub mod NameLemmas
 pub mod OthersLemmas
