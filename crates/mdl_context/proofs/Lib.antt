@@ -16,6 +16,7 @@ pub mod SeekLemmas
 pub mod ServingLemmas
 pub mod SoughtLemmas
 pub mod SureLemmas
+pub mod UpgradeLemmas
 pub mod WaitLemmas
 pub mod WhoLemmas
 pub mod WishLemmas

@@ -25,6 +25,9 @@ either-place : (b : Bool) (t : Kept) (m : Mode) → (if b then record t { mode =
 either-place true t m = refl
 either-place false t m = refl
 
+pub changed-place : (id : ℕ) (f : Mode → Mode) (t : Kept) → (changed id f t).place ≡ t.place
+changed-place id f t = either-place (is_ticket id t) t (f t.mode)
+
 -- that changes no number and no place
 pub numbers-in_mode : (id : ℕ) (f : Mode → Mode) (place : ℕ) (kept : List Kept) → numbers_among place (in_mode id f kept) ≡ numbers_among place kept
 numbers-in_mode id f place kept =

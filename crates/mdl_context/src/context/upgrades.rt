@@ -4,6 +4,7 @@ ghost use Rattle.std.specs.Option.{IfSome};
 ghost use Rattle.mdl_calls.specs.Words.{Runs};
 ghost use Rattle.mdl_system.specs.Strength.{covers};
 ghost use Rattle.mdl_context.specs.Contexts.{Attends, LeavesOthers, ticket_kept};
+ghost use Rattle.mdl_context.specs.declared.kept.Kept.{Kept};
 ghost use Rattle.mdl_context.specs.Holdings.{wanted_upgrade};
 ghost use Rattle.mdl_context.specs.Requests.{WaitsAfter};
 ghost use Rattle.mdl_context.specs.Releases.{release_fault};
@@ -100,7 +101,7 @@ impl<S: LockSpace> Context<S> {
         requires attends { Attends S.speaks_for S.own S.knows space.old self.old }
         requires idle { self.old.wait ≡ None }
         requires kept { MatchOption (ticket_kept id self.old.kept) ⊥ (λ ticket. (wanted ≡ wanted_upgrade ticket wanted.mode false) × (covers wanted.mode ticket.mode ≡ true)) }
-        ensures run { IfSome (ticket_kept id self.old.kept) (λ ticket. Runs S.joins space.old (waiting_to_upgrade ticket wanted.mode self.old) (result, self.new) space.new) }
+        ensures run { (ticket : Kept) → ticket_kept id self.old.kept ≡ Some ticket → Runs S.joins space.old (waiting_to_upgrade ticket wanted.mode self.old) (result, self.new) space.new }
         ensures attends { Attends S.speaks_for S.own S.knows space.new self.new }
         ensures who { self.new.who ≡ self.old.who }
         ensures unchanged { OnErr result (self.new ≡ self.old) }

@@ -1,0 +1,127 @@
+-- A context goes on to attend to its session as the mode of a ticket changes, and runs of upgrades.
+use Rattle.std.proofs.Common.{◌≡◌, ℕ, ◌<◌, Bool, true, false, List, [], ◌∷◌, ◌++◌, length, Option, Some, None, Result, Ok, Err, inl, inr, refl, sym, ap, ◌∙◌, subst, arith}
+use Rattle.std.specs.Prelude.{All, map, find, is_some, slice_index_or, ◌||◌, ◌==◌, MatchOption, if◌then◌else◌}
+use Rattle.std.specs.Option.{IfSome, option_map}
+use Rattle.std.proofs.lemmas.List.{get_or_append_left, length-append, map-append}
+use Rattle.std.proofs.lemmas.List.Elements.{All-map, All-push}
+use Rattle.mdl_key.specs.declared.mode.Mode.{Mode}
+use Rattle.mdl_key.specs.Keys.{KeyName}
+use Rattle.mdl_book.proofs.TicketLemmas.{find-contains}
+use Rattle.mdl_system.specs.Strength.{covers, may_upgrade}
+use Rattle.mdl_system.proofs.StrengthLemmas.{upgrade-raises}
+use Rattle.mdl_calls.specs.declared.answers.Held.{Held}
+use Rattle.mdl_calls.specs.declared.space_error.SpaceError.{SpaceError}
+use Rattle.mdl_calls.specs.Causes.{Mergeable}
+use Rattle.mdl_calls.specs.Own.{changing, upgraded}
+use Rattle.mdl_calls.specs.Own as owned
+use Rattle.mdl_calls.specs.Words.{Answer, Done, Upgraded, Would_wait, Call, Upgrade_now, Downgrade, Unpin, caller, Own, IsRising, own_after, gaining, giving_up, ticket_held, Runs, Give}
+use Rattle.mdl_calls.proofs.RunLemmas.{runs_bind}
+use Rattle.mdl_context.specs.declared.asking.Got.{Got}
+use Rattle.mdl_context.specs.declared.asking.Got.TheVariants as got
+use Rattle.mdl_context.specs.declared.kept.Kept.{Kept}
+use Rattle.mdl_context.specs.declared.kept.Wanted.{Wanted}
+use Rattle.mdl_context.specs.declared.request.Acquire.{Acquire}
+use Rattle.mdl_context.specs.declared.request.Acquire.TheVariants.{Acquired, MustWait}
+use Rattle.mdl_context.specs.Contexts.{ContextView, Attends, Serves, AreRising, held_of, is_known_place, ticket_kept, wish_here, wish_there}
+use Rattle.mdl_context.specs.Gains.{waiting_at}
+use Rattle.mdl_context.specs.Holdings.{in_mode}
+use Rattle.mdl_context.specs.Requests.{Outcome}
+use Rattle.mdl_context.specs.Upgrades.{HasSecond, with_ticket, waiting_to_upgrade, second_got}
+use Rattle.mdl_context.proofs.AttendLemmas.{ArePlaced, attends-over, attends-after, awaited-idle, placed-push, unpins}
+use Rattle.mdl_context.proofs.MergeLemmas.{can-merge, others-rising, serves-in_mode, serves-merged, serves-released}
+use Rattle.mdl_context.proofs.ModeLemmas.{changed, changed-place}
+
+-- ---- places
+
+placed-front : (known : List (KeyName × ℕ)) (xs ys : List Kept) → ArePlaced known (xs ++ ys) → ArePlaced known xs
+placed-front known xs ys placed k d inside =
+    let bound : k < length (xs ++ ys) = grind (arith, length-append xs ys, inside) in
+    ap (λ (t : Kept). is_known_place known t.place) (sym (get_or_append_left xs ys d k inside)) ∙ placed k d bound
+
+pub placed-in_mode : (known : List (KeyName × ℕ)) (id : ℕ) (f : Mode → Mode) (xs : List Kept) → ArePlaced known xs → ArePlaced known (in_mode id f xs)
+placed-in_mode known id f xs placed =
+    All-map (λ (t : Kept). is_known_place known t.place ≡ true) (changed id f) xs
+    (λ k d inside. ap (is_known_place known) (changed-place id f (slice_index_or xs k d)) ∙ placed k d inside)
+
+-- a kept ticket is at a known place
+pub placed-kept : (known : List (KeyName × ℕ)) (id : ℕ) (xs : List Kept) (t : Kept) → ArePlaced known xs → ticket_kept id xs ≡ Some t → is_known_place known t.place ≡ true
+placed-kept known id xs t placed found =
+    let inside = find-contains (λ (x : Kept). x.id == id) xs t found in
+    ap (λ (x : Kept). is_known_place known x.place) (sym inside.2) ∙ placed inside.0 t inside.1
+
+-- ---- what the context attends to
+
+-- a ticket is gained
+serves-more : (own after : Own) (before now : ContextView) (t : Kept) → Serves own before → after ≡ gaining t.id t.place t.mode own
+    → now.kept ≡ before.kept ++ t ∷ [] → now.wait ≡ before.wait → Serves after now
+serves-more own after before now t serves gain kept wait = record {
+  held = ap (λ (o : Own). o.held) gain ∙ ap (λ hs. hs ++ held_of t ∷ []) serves.held ∙ sym (map-append held_of before.kept (t ∷ [])) ∙ sym (ap (map held_of) kept);
+  wait = ap (λ (o : Own). option_map wish_there o.wait) gain ∙ serves.wait ∙ sym (ap (option_map wish_here) wait);
+}
+
+module _ {S : Type 0} {speaks_for : S → ℕ → Type 0} {own : S → ℕ → Own} {knows : S → ℕ → ℕ → KeyName → Type 0} where
+  -- a second ticket is gained beside one of its place
+  pub attends-second : (a b : S) (before : ContextView) (t : Kept) → Attends speaks_for own knows a before → ((at : ℕ) (key : KeyName) → knows a before.who at key → knows b before.who at key)
+      → speaks_for b before.who → own b before.who ≡ gaining t.id t.place t.mode (own a before.who) → is_known_place before.known t.place ≡ true → is_some before.wait ≡ false
+      → Attends speaks_for own knows b (with_ticket t before)
+  attends-second a b before t attends still speaks gains there idle =
+      attends-over a b before (with_ticket t before) attends still speaks (serves-more _ _ before (with_ticket t before) t attends.serves gains refl refl) refl refl
+      (placed-push before.known before.kept (before.kept ++ t ∷ []) t refl attends.places there) (awaited-idle before.known (before.kept ++ t ∷ []) before.wait idle)
+
+  -- it is gone, and tickets may be in other modes
+  pub attends-one : (a b : S) (before after : ContextView) (t : Kept) (id : ℕ) (f : Mode → Mode) → Attends speaks_for own knows a (with_ticket t before)
+      → ((at : ℕ) (key : KeyName) → knows a before.who at key → knows b before.who at key) → speaks_for b before.who → Serves (own b before.who) after → after.who ≡ before.who
+      → after.known ≡ before.known → after.kept ≡ in_mode id f before.kept → after.wait ≡ before.wait → is_some before.wait ≡ false → Attends speaks_for own knows b after
+  attends-one a b before after t id f attends still speaks serves who known kept wait idle =
+      attends-over a b (with_ticket t before) after attends still speaks serves who known
+      (subst (ArePlaced before.known) (sym kept) (placed-in_mode before.known id f before.kept (placed-front before.known before.kept (t ∷ []) attends.places)))
+      (awaited-idle before.known after.kept after.wait (ap is_some wait ∙ idle))
+
+  pub attends-back : (a b : S) (before after : ContextView) (t : Kept) → Attends speaks_for own knows a (with_ticket t before)
+      → ((at : ℕ) (key : KeyName) → knows a before.who at key → knows b before.who at key) → speaks_for b before.who → Serves (own b before.who) after → after.who ≡ before.who
+      → after.known ≡ before.known → after.kept ≡ before.kept → after.wait ≡ before.wait → is_some before.wait ≡ false → Attends speaks_for own knows b after
+  attends-back a b before after t attends still speaks serves who known kept wait idle =
+      attends-over a b (with_ticket t before) after attends still speaks serves who known
+      (subst (ArePlaced before.known) (sym kept) (placed-front before.known before.kept (t ∷ []) attends.places))
+      (awaited-idle before.known after.kept after.wait (ap is_some wait ∙ idle))
+
+  -- ---- a second ticket
+
+  module _ (id new : ℕ) (mode : Mode) (space : S) (context : ContextView) (rising : IsRising (own space context.who)) (has : HasSecond speaks_for own knows id new mode space context) where
+    pub has-mergeable : Mergeable true id new (own space context.who)
+    has-mergeable =
+        subst (λ n. Mergeable true id n (own space context.who)) has.1
+        (can-merge (own space context.who) context has.0 rising has.4.serves id
+        (subst (λ m. MatchOption (ticket_kept id context.kept) ⊥ (λ ticket. (ticket.place ≡ has.0.place) × (covers m ticket.mode ≡ true))) (sym has.2) has.3))
+
+    pub has-rising : AreRising context.kept
+    has-rising = others-rising (own space context.who) context has.0 rising has.4.serves
+
+    -- it is merged into the first one
+    pub attends-united : (b : S) (after : ContextView) → ((at : ℕ) (key : KeyName) → knows space context.who at key → knows b context.who at key) → speaks_for b context.who
+        → own b context.who ≡ owned.merging id new (ticket_held new (own space context.who)) (own space context.who) → after.who ≡ context.who → after.known ≡ context.known
+        → after.kept ≡ in_mode id (λ _. mode) context.kept → after.wait ≡ context.wait → is_some context.wait ≡ false → Attends speaks_for own knows b after
+    attends-united b after still speaks merged who known kept wait idle =
+        let o = own space context.who in
+        let here = ap (λ n. owned.merging id n (ticket_held n o) o) (sym has.1) in
+        let in_its = ap (λ m. in_mode id (λ _. m) context.kept) (sym has.2) in
+        attends-one space b context after has.0 id (λ _. mode) has.4 still speaks
+        (serves-merged o context has.0 rising has.4.serves id (own b context.who) after (merged ∙ here) (kept ∙ in_its) wait) who known kept wait idle
+
+    -- it is released
+    pub attends-parted : (b : S) (after : ContextView) → ((at : ℕ) (key : KeyName) → knows space context.who at key → knows b context.who at key) → speaks_for b context.who
+        → own b context.who ≡ giving_up new (own space context.who) → after.who ≡ context.who → after.known ≡ context.known → after.kept ≡ context.kept → after.wait ≡ context.wait
+        → is_some context.wait ≡ false → Attends speaks_for own knows b after
+    attends-parted b after still speaks gone who known kept wait idle =
+        let o = own space context.who in
+        attends-back space b context after has.0 has.4 still speaks
+        (serves-released o context has.0 rising has.4.serves (own b context.who) after (gone ∙ ap (λ n. giving_up n o) (sym has.1)) kept wait) who known kept wait idle
+
+-- ---- runs
+
+module _ {S : Type 0} (joins : S → Call → Answer → S → Type 0) where
+  -- a second ticket was asked for
+  pub run-second : (t : Kept) (mode : Mode) (context : ContextView) (end : Result Got SpaceError) (reply : Outcome Acquire) (a mid b : S)
+      → Runs joins a (waiting_at context.who t.place mode) end mid → Runs joins mid (second_got t mode context end) reply b → Runs joins a (waiting_to_upgrade t mode context) reply b
+  run-second t mode context end reply a mid b asked run =
+      inr (runs_bind joins (waiting_at context.who t.place mode) (second_got t mode context) a mid b end reply asked run)
