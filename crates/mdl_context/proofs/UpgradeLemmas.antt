@@ -117,6 +117,23 @@ module _ {S : Type 0} {speaks_for : S → ℕ → Type 0} {own : S → ℕ → O
         attends-back space b context after has.0 has.4 still speaks
         (serves-released o context has.0 rising has.4.serves (own b context.who) after (gone ∙ ap (λ n. giving_up n o) (sym has.1)) kept wait) who known kept wait idle
 
+-- ---- over a call
+
+module _ {S : Type 0} {speaks_for : S → ℕ → Type 0} {own : S → ℕ → Own} {knows : S → ℕ → ℕ → KeyName → Type 0} {joins : S → Call → Answer → S → Type 0}
+    (keeps : (a b : S) (call : Call) (answer : Answer) (w : ℕ) → speaks_for a w → joins a call answer b → speaks_for b w)
+    (changes : (a b : S) (call : Call) (answer : Answer) (who : ℕ) → caller call ≡ Some who → joins a call answer b → own b who ≡ own_after call answer (own a who))
+    (remembers : (a b : S) (call : Call) (answer : Answer) (w place : ℕ) (key : KeyName) → speaks_for a w → (call ≡ Unpin w place → answer ≡ Done → ⊥) → joins a call answer b
+    → knows a w place key → knows b w place key) where
+  -- the mode of a ticket is changed
+  pub attends-in_mode : (a b : S) (call : Call) (answer : Answer) (id : ℕ) (f : Mode → Mode) (before after : ContextView) → Attends speaks_for own knows a before
+      → caller call ≡ Some before.who → unpins call ≡ false → joins a call answer b → own_after call answer (own a before.who) ≡ changing id f (own a before.who) → after.who ≡ before.who
+      → after.known ≡ before.known → after.kept ≡ in_mode id f before.kept → after.wait ≡ before.wait → is_some before.wait ≡ false → Attends speaks_for own knows b after
+  attends-in_mode a b call answer id f before after attends by stays step changed_there who known kept wait idle =
+      attends-after keeps changes remembers a b call answer before after attends by stays step
+      (serves-in_mode id f (own a before.who) (own_after call answer (own a before.who)) before after attends.serves changed_there kept wait) who known
+      (subst (ArePlaced before.known) (sym kept) (placed-in_mode before.known id f before.kept attends.places))
+      (awaited-idle before.known after.kept after.wait (ap is_some wait ∙ idle))
+
 -- ---- runs
 
 module _ {S : Type 0} (joins : S → Call → Answer → S → Type 0) where
