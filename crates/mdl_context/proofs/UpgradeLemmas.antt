@@ -2,32 +2,34 @@
 use Rattle.std.proofs.Common.{◌≡◌, ℕ, ◌<◌, Bool, true, false, List, [], ◌∷◌, ◌++◌, length, Option, Some, None, Result, Ok, Err, inl, inr, refl, sym, ap, ◌∙◌, subst, arith}
 use Rattle.std.specs.Prelude.{All, map, find, is_some, slice_index_or, ◌||◌, ◌==◌, MatchOption, if◌then◌else◌}
 use Rattle.std.specs.Option.{IfSome, option_map}
+use Rattle.std.proofs.lemmas.Bool.{eqb-true}
 use Rattle.std.proofs.lemmas.List.{get_or_append_left, length-append, map-append}
 use Rattle.std.proofs.lemmas.List.Elements.{All-map, All-push}
 use Rattle.mdl_key.specs.declared.mode.Mode.{Mode}
 use Rattle.mdl_key.specs.Keys.{KeyName}
-use Rattle.mdl_book.proofs.TicketLemmas.{find-contains}
+use Rattle.mdl_book.proofs.TicketLemmas.{find-contains, find-passes}
 use Rattle.mdl_system.specs.Strength.{covers, may_upgrade}
 use Rattle.mdl_system.proofs.StrengthLemmas.{upgrade-raises}
 use Rattle.mdl_calls.specs.declared.answers.Held.{Held}
 use Rattle.mdl_calls.specs.declared.space_error.SpaceError.{SpaceError}
 use Rattle.mdl_calls.specs.Causes.{Mergeable}
-use Rattle.mdl_calls.specs.Own.{changing, upgraded}
+use Rattle.mdl_calls.specs.Own.{changing, upgraded, waiting}
 use Rattle.mdl_calls.specs.Own as owned
 use Rattle.mdl_calls.specs.Words.{Answer, Done, Upgraded, Would_wait, Call, Upgrade_now, Downgrade, Unpin, caller, Own, IsRising, own_after, gaining, giving_up, ticket_held, Runs, Give}
 use Rattle.mdl_calls.proofs.RunLemmas.{runs_bind}
 use Rattle.mdl_context.specs.declared.asking.Got.{Got}
 use Rattle.mdl_context.specs.declared.asking.Got.TheVariants as got
+use Rattle.mdl_context.specs.declared.context_error.ContextError.TheVariants.{Space}
 use Rattle.mdl_context.specs.declared.kept.Kept.{Kept}
 use Rattle.mdl_context.specs.declared.kept.Wanted.{Wanted}
 use Rattle.mdl_context.specs.declared.request.Acquire.{Acquire}
 use Rattle.mdl_context.specs.declared.request.Acquire.TheVariants.{Acquired, MustWait}
-use Rattle.mdl_context.specs.Contexts.{ContextView, Attends, Serves, AreRising, held_of, is_known_place, ticket_kept, wish_here, wish_there}
+use Rattle.mdl_context.specs.Contexts.{ContextView, Attends, IsAwaited, IsUpgradedBy, Serves, AreRising, held_of, is_known_place, ticket_kept, wish_here, wish_there}
 use Rattle.mdl_context.specs.Gains.{waiting_at}
-use Rattle.mdl_context.specs.Holdings.{in_mode}
+use Rattle.mdl_context.specs.Holdings.{in_mode, wanted_upgrade}
 use Rattle.mdl_context.specs.Requests.{Outcome}
-use Rattle.mdl_context.specs.Upgrades.{HasSecond, with_ticket, waiting_to_upgrade, second_got}
-use Rattle.mdl_context.proofs.AttendLemmas.{ArePlaced, attends-over, attends-after, awaited-idle, placed-push, unpins}
+use Rattle.mdl_context.specs.Upgrades.{HasSecond, with_mode, with_ticket, merging, merged, awaiting_upgrade, waiting_to_upgrade, second_got}
+use Rattle.mdl_context.proofs.AttendLemmas.{ArePlaced, IsAwaitedIn, attends-over, attends-after, awaited-idle, placed-push, unpins}
 use Rattle.mdl_context.proofs.MergeLemmas.{can-merge, others-rising, serves-in_mode, serves-merged, serves-released}
 use Rattle.mdl_context.proofs.ModeLemmas.{changed, changed-place}
 
@@ -49,6 +51,10 @@ placed-kept known id xs t placed found =
     let inside = find-contains (λ (x : Kept). x.id == id) xs t found in
     ap (λ (x : Kept). is_known_place known x.place) (sym inside.2) ∙ placed inside.0 t inside.1
 
+-- it has the number by which it is kept
+pub kept-number : (id : ℕ) (xs : List Kept) (t : Kept) → ticket_kept id xs ≡ Some t → t.id ≡ id
+kept-number id xs t found = eqb-true t.id id (find-passes (λ (x : Kept). x.id == id) xs t found)
+
 -- ---- what the context attends to
 
 -- a ticket is gained
@@ -67,6 +73,50 @@ module _ {S : Type 0} {speaks_for : S → ℕ → Type 0} {own : S → ℕ → O
   attends-second a b before t attends still speaks gains there idle =
       attends-over a b before (with_ticket t before) attends still speaks (serves-more _ _ before (with_ticket t before) t attends.serves gains refl refl) refl refl
       (placed-push before.known before.kept (before.kept ++ t ∷ []) t refl attends.places there) (awaited-idle before.known (before.kept ++ t ∷ []) before.wait idle)
+
+  -- that is one to be merged into the first
+  pub has-gained : (a b : S) (before : ContextView) (id new : ℕ) (wanted : Wanted) → Attends speaks_for own knows a before
+      → ((at : ℕ) (key : KeyName) → knows a before.who at key → knows b before.who at key) → speaks_for b before.who
+      → own b before.who ≡ gaining new wanted.place wanted.mode (own a before.who) → is_some before.wait ≡ false
+      → MatchOption (ticket_kept id before.kept) ⊥ (λ ticket. (wanted ≡ wanted_upgrade ticket wanted.mode false) × (covers wanted.mode ticket.mode ≡ true))
+      → HasSecond speaks_for own knows id new wanted.mode b before
+  has-gained a b before id new wanted attends still speaks gains idle fits = go (ticket_kept id before.kept) refl fits where
+    go : (o : Option Kept) → ticket_kept id before.kept ≡ o → MatchOption o ⊥ (λ ticket. (wanted ≡ wanted_upgrade ticket wanted.mode false) × (covers wanted.mode ticket.mode ≡ true))
+        → HasSecond speaks_for own knows id new wanted.mode b before
+    go None found fits = absurd fits
+    go (Some t) found fits =
+        let second : Kept = record { id = new; place = wanted.place; mode = wanted.mode; duration = wanted.duration } in
+        let place : wanted.place ≡ t.place = ap (λ (w : Wanted). w.place) fits.0 in (
+          second,
+          refl,
+          refl,
+          rw found (sym place, fits.1),
+          attends-second a b before second attends still speaks gains (ap (is_known_place before.known) place ∙ placed-kept before.known id before.kept t attends.places found) idle,
+        )
+
+  -- it is waited for
+  pub attends-to-upgrade : (a b : S) (before after : ContextView) (id number : ℕ) (wanted : Wanted) (searched : Bool) → Attends speaks_for own knows a before
+      → ((at : ℕ) (key : KeyName) → knows a before.who at key → knows b before.who at key) → speaks_for b before.who
+      → own b before.who ≡ waiting number wanted.place wanted.mode (own a before.who)
+      → MatchOption (ticket_kept id before.kept) ⊥ (λ ticket. (wanted ≡ wanted_upgrade ticket wanted.mode false) × (covers wanted.mode ticket.mode ≡ true))
+      → after.who ≡ before.who → after.known ≡ before.known → after.kept ≡ before.kept → after.wait ≡ Some (record wanted { searched = searched }) → Attends speaks_for own knows b after
+  attends-to-upgrade a b before after id number wanted searched attends still speaks begins fits who known kept wait =
+      attends-over a b before after attends still speaks (record {
+        held = ap (λ (o : Own). o.held) begins ∙ attends.serves.held ∙ sym (ap (map held_of) kept);
+        wait = ap (λ (o : Own). option_map wish_there o.wait) begins ∙ sym (ap (option_map wish_here) wait);
+      }) who known (subst (ArePlaced before.known) (sym kept) attends.places)
+      (subst (λ (ks : List Kept). IsAwaitedIn before.known ks after.wait) (sym kept)
+      (subst (IsAwaitedIn before.known before.kept) (sym wait) (go (ticket_kept id before.kept) refl fits)))
+    where
+      go : (o : Option Kept) → ticket_kept id before.kept ≡ o → MatchOption o ⊥ (λ ticket. (wanted ≡ wanted_upgrade ticket wanted.mode false) × (covers wanted.mode ticket.mode ≡ true))
+          → IsAwaited before.known before.kept (record wanted { searched = searched })
+      go None found fits = absurd fits
+      go (Some t) found fits =
+          let place : wanted.place ≡ t.place = ap (λ (w : Wanted). w.place) fits.0 in
+          let upgrades : wanted.upgrades ≡ Some id = ap (λ (w : Wanted). w.upgrades) fits.0 ∙ ap (λ n. Some n) (kept-number id before.kept t found) in (
+            ap (is_known_place before.known) place ∙ placed-kept before.known id before.kept t attends.places found,
+            subst (λ u. IfSome u (λ n. MatchOption (ticket_kept n before.kept) ⊥ (IsUpgradedBy (record wanted { searched = searched })))) (sym upgrades) (rw found (sym place, fits.1)),
+          )
 
   -- it is gone, and tickets may be in other modes
   pub attends-one : (a b : S) (before after : ContextView) (t : Kept) (id : ℕ) (f : Mode → Mode) → Attends speaks_for own knows a (with_ticket t before)
@@ -136,9 +186,41 @@ module _ {S : Type 0} {speaks_for : S → ℕ → Type 0} {own : S → ℕ → O
 
 -- ---- runs
 
-module _ {S : Type 0} (joins : S → Call → Answer → S → Type 0) where
+-- where the ticket of a number is kept, a second one was asked for, and this was answered
+abbrev pub HasAsked : {S : Type 0} → (S → Call → Answer → S → Type 0) → ℕ → Mode → S → Outcome Acquire → S → ContextView → Type 0
+HasAsked joins id mode a reply b context =
+    (ticket : Kept) → ticket_kept id context.kept ≡ Some ticket → Runs joins a (waiting_to_upgrade ticket mode context) reply b
+
+module _ {S : Type 0} (joins : S → Call → Answer → S → Type 0) (t : Kept) (id : ℕ) (mode : Mode) (context after : ContextView) (number : t.id ≡ id) where
   -- a second ticket was asked for
-  pub run-second : (t : Kept) (mode : Mode) (context : ContextView) (end : Result Got SpaceError) (reply : Outcome Acquire) (a mid b : S)
-      → Runs joins a (waiting_at context.who t.place mode) end mid → Runs joins mid (second_got t mode context end) reply b → Runs joins a (waiting_to_upgrade t mode context) reply b
-  run-second t mode context end reply a mid b asked run =
-      inr (runs_bind joins (waiting_at context.who t.place mode) (second_got t mode context) a mid b end reply asked run)
+  run-second : (end : Result Got SpaceError) (reply : Outcome Acquire) (a mid b : S) → Runs joins a (waiting_at context.who t.place mode) end mid
+      → Runs joins mid (second_got t mode context end) reply b → Runs joins a (waiting_to_upgrade t mode context) reply b
+  run-second end reply a mid b asked run = inr (runs_bind joins (waiting_at context.who t.place mode) (second_got t mode context) a mid b end reply asked run)
+
+  -- it could be had at once, and was merged into the first
+  pub run-united : (new : ℕ) (a mid b : S) → Runs joins a (waiting_at context.who t.place mode) (Ok (got.Granted new)) mid → Runs joins mid (merging context.who id new) (Ok tt) b
+      → after ≡ with_mode id (λ _. mode) context → Runs joins a (waiting_to_upgrade t mode context) (Ok (Acquired id), after) b
+  run-united new a mid b asked united is =
+      run-second (Ok (got.Granted new)) (Ok (Acquired id), after) a mid b asked
+      (runs_bind joins (merging context.who t.id new) (λ end. Give (merged (Acquired t.id) t.id mode context end)) mid b b (Ok tt) (Ok (Acquired id), after)
+      (rw number united) (rw (number, is) refl, refl))
+
+  -- or was given back
+  pub run-parted : (new : ℕ) (refusal : SpaceError) (a mid b : S) → Runs joins a (waiting_at context.who t.place mode) (Ok (got.Granted new)) mid
+      → Runs joins mid (merging context.who id new) (Err refusal) b → after ≡ context → Runs joins a (waiting_to_upgrade t mode context) (Err (Space refusal), after) b
+  run-parted new refusal a mid b asked parted is =
+      run-second (Ok (got.Granted new)) (Err (Space refusal), after) a mid b asked
+      (runs_bind joins (merging context.who t.id new) (λ end. Give (merged (Acquired t.id) t.id mode context end)) mid b b (Err refusal) (Err (Space refusal), after)
+      (rw number parted) (ap (λ (c : ContextView). let o : Outcome Acquire = (Err (Space refusal), c) in o) (sym is), refl))
+
+  -- it is waited for
+  pub run-awaiting : (wait : ℕ) (searched : Bool) (a b : S) → Runs joins a (waiting_at context.who t.place mode) (Ok (got.Waits wait searched)) b
+      → after ≡ awaiting_upgrade t mode searched context → Runs joins a (waiting_to_upgrade t mode context) (Ok (MustWait wait), after) b
+  run-awaiting wait searched a b asked is =
+      run-second (Ok (got.Waits wait searched)) (Ok (MustWait wait), after) a b b asked (ap (λ (c : ContextView). let o : Outcome Acquire = (Ok (MustWait wait), c) in o) (sym is), refl)
+
+  -- it isn't
+  pub run-unasked : (refusal : SpaceError) (a b : S) → Runs joins a (waiting_at context.who t.place mode) (Err refusal) b → after ≡ context
+      → Runs joins a (waiting_to_upgrade t mode context) (Err (Space refusal), after) b
+  run-unasked refusal a b asked is =
+      run-second (Err refusal) (Err (Space refusal), after) a b b asked (ap (λ (c : ContextView). let o : Outcome Acquire = (Err (Space refusal), c) in o) (sym is), refl)
