@@ -3,6 +3,7 @@ use Rattle.std.proofs.Common.{◌≡◌, ℕ, ◌<◌, Bool, true, false, List, 
 use Rattle.std.specs.Prelude.{All, map, find, is_some, slice_index_or, ◌||◌, ◌==◌, MatchOption, if◌then◌else◌}
 use Rattle.std.specs.Option.{IfSome, option_map}
 use Rattle.std.proofs.lemmas.Bool.{eqb-true}
+use Rattle.std.proofs.lemmas.Bool.Decides.{nat_tests}
 use Rattle.std.proofs.lemmas.List.{get_or_append_left, length-append, map-append}
 use Rattle.std.proofs.lemmas.List.Elements.{All-map, All-push}
 use Rattle.mdl_key.specs.declared.mode.Mode.{Mode}
@@ -12,26 +13,31 @@ use Rattle.mdl_system.specs.Strength.{covers, may_upgrade}
 use Rattle.mdl_system.proofs.StrengthLemmas.{upgrade-raises}
 use Rattle.mdl_calls.specs.declared.answers.Held.{Held}
 use Rattle.mdl_calls.specs.declared.space_error.SpaceError.{SpaceError}
-use Rattle.mdl_calls.specs.Causes.{Mergeable}
+use Rattle.mdl_calls.specs.Causes.{Knowledge, IsClear, IsFit, Mergeable}
 use Rattle.mdl_calls.specs.Own.{changing, upgraded, waiting}
 use Rattle.mdl_calls.specs.Own as owned
-use Rattle.mdl_calls.specs.Words.{Answer, Done, Upgraded, Would_wait, Call, Upgrade_now, Downgrade, Unpin, caller, Own, IsRising, own_after, gaining, giving_up, ticket_held, Runs, Give}
+use Rattle.mdl_calls.specs.Words.{Answer, Done, Upgraded, Would_wait, Call, Upgrade_now, Downgrade, Unpin, caller, Own, IsRising, own_after, gaining, giving_up, is_number, ticket_held, Runs, Give, Ask}
 use Rattle.mdl_calls.proofs.RunLemmas.{runs_bind}
 use Rattle.mdl_context.specs.declared.asking.Got.{Got}
 use Rattle.mdl_context.specs.declared.asking.Got.TheVariants as got
-use Rattle.mdl_context.specs.declared.context_error.ContextError.TheVariants.{Space}
+use Rattle.mdl_context.specs.declared.context_error.ContextError.TheVariants.{NotHeld, Waiting, Space}
 use Rattle.mdl_context.specs.declared.kept.Kept.{Kept}
 use Rattle.mdl_context.specs.declared.kept.Wanted.{Wanted}
 use Rattle.mdl_context.specs.declared.request.Acquire.{Acquire}
 use Rattle.mdl_context.specs.declared.request.Acquire.TheVariants.{Acquired, MustWait}
-use Rattle.mdl_context.specs.Contexts.{ContextView, Attends, IsAwaited, IsUpgradedBy, Serves, AreRising, held_of, is_known_place, ticket_kept, wish_here, wish_there}
+use Rattle.mdl_context.specs.Contexts.{ContextView, Attends, IsAwaited, IsUpgradedBy, Serves, AreRising, held_of, has_number, is_known_place, ticket_kept, wish_here, wish_there}
 use Rattle.mdl_context.specs.Gains.{waiting_at}
 use Rattle.mdl_context.specs.Holdings.{in_mode, wanted_upgrade}
 use Rattle.mdl_context.specs.Requests.{Outcome}
-use Rattle.mdl_context.specs.Upgrades.{HasSecond, with_mode, with_ticket, merging, merged, awaiting_upgrade, waiting_to_upgrade, second_got}
+use Rattle.mdl_context.specs.Upgrades.{HasSecond, with_mode, with_ticket, merging, merged, awaiting_upgrade, waiting_to_upgrade, second_got, upgrade_answered, upgrading_ticket, upgrading}
+use Rattle.mdl_context.specs.Releases.{release_fault, waiting_fault}
 use Rattle.mdl_context.proofs.AttendLemmas.{ArePlaced, IsAwaitedIn, attends-over, attends-after, awaited-idle, placed-push, unpins}
+use Rattle.mdl_context.proofs.BeyondLemmas.{no-wait, run-unless}
 use Rattle.mdl_context.proofs.MergeLemmas.{can-merge, others-rising, serves-in_mode, serves-merged, serves-released}
 use Rattle.mdl_context.proofs.ModeLemmas.{changed, changed-place}
+
+unwrap : {X : Type 0} {x y : X} → Some x ≡ Some y → x ≡ y
+unwrap e = cc
 
 -- ---- places
 
@@ -224,3 +230,75 @@ module _ {S : Type 0} (joins : S → Call → Answer → S → Type 0) (t : Kept
       → Runs joins a (waiting_to_upgrade t mode context) (Err (Space refusal), after) b
   run-unasked refusal a b asked is =
       run-second (Err refusal) (Err (Space refusal), after) a b b asked (ap (λ (c : ContextView). let o : Outcome Acquire = (Err (Space refusal), c) in o) (sym is), refl)
+
+-- ---- the ticket of a number
+
+-- it is kept, or not
+kept-some : (id : ℕ) (xs : List Kept) (t : Kept) → ticket_kept id xs ≡ Some t → has_number xs id ≡ true
+kept-some id [] t found = cc
+kept-some id (x ∷ xs) t found = grind (arith, nat_tests, kept-some id xs t)
+
+kept-none : (id : ℕ) (xs : List Kept) → ticket_kept id xs ≡ None → has_number xs id ≡ false
+kept-none id [] found = refl
+kept-none id (x ∷ xs) found = grind (arith, nat_tests, kept-none id xs)
+
+-- and so the change of its mode isn't refused by the context
+pub fault-none : (id : ℕ) (context : ContextView) (t : Kept) → ticket_kept id context.kept ≡ Some t → is_some context.wait ≡ false → release_fault id context ≡ None
+fault-none id context t found idle = rw (kept-some id context.kept t found, idle) refl
+
+pub fault-waiting : (id : ℕ) (context : ContextView) (t : Kept) → ticket_kept id context.kept ≡ Some t → is_some context.wait ≡ true → release_fault id context ≡ Some Waiting
+fault-waiting id context t found waits = rw (kept-some id context.kept t found, waits) refl
+
+pub fault-absent : (id : ℕ) (context : ContextView) → ticket_kept id context.kept ≡ None → release_fault id context ≡ Some NotHeld
+fault-absent id context none = rw (kept-none id context.kept none) refl
+
+-- how it is wanted
+pub wish-kept : (mode : Mode) (o : Option Kept) (w : Wanted) → option_map (λ t. wanted_upgrade t mode false) o ≡ Some w → (t : Kept) × (o ≡ Some t) × (w ≡ wanted_upgrade t mode false)
+wish-kept mode None w is = cc
+wish-kept mode (Some t) w is = (t, refl, sym (unwrap is))
+
+pub wish-none : (mode : Mode) (o : Option Kept) → option_map (λ t. wanted_upgrade t mode false) o ≡ None → o ≡ None
+wish-none mode None is = refl
+wish-none mode (Some t) is = cc
+
+-- it is held
+kept-held : (id : ℕ) (xs : List Kept) (t : Kept) → ticket_kept id xs ≡ Some t → find (is_number id) (map held_of xs) ≡ Some (held_of t)
+kept-held id [] t found = cc
+kept-held id (x ∷ xs) t found = grind (arith, nat_tests, kept-held id xs t)
+
+-- where its mode may be raised and isn't so strong already, the new mode is stronger
+pub may-rise : (knows : Knowledge) (who id : ℕ) (mode : Mode) (own : Own) (context : ContextView) (t : Kept) → Serves own context → ticket_kept id context.kept ≡ Some t
+    → IsClear knows (Upgrade_now who id mode) own → ((h : Held) → ticket_held id own ≡ Some h → covers h.mode mode ≡ true → ⊥) → covers mode t.mode ≡ true
+may-rise knows who id mode own context t serves found clear weaker = go (covers t.mode mode) refl where
+  held : ticket_held id own ≡ Some (held_of t)
+  held = ap (find (is_number id)) serves.held ∙ kept-held id context.kept t found
+
+  able : ((covers t.mode mode || may_upgrade t.mode mode) ≡ true) × IsFit knows t.place mode
+  able = rw held at clear.1
+
+  go : (b : Bool) → covers t.mode mode ≡ b → covers mode t.mode ≡ true
+  go true e = absurd (weaker (held_of t) held e)
+  go false e = (upgrade-raises t.mode mode (rw e at able.0)).0
+
+-- a wish for an upgrade that can't be had at once
+pub wait-fits : (knows : Knowledge) (who id : ℕ) (mode : Mode) (own : Own) (context : ContextView) (wanted : Wanted) → Serves own context
+    → option_map (λ t. wanted_upgrade t mode false) (ticket_kept id context.kept) ≡ Some wanted
+    → IsClear knows (Upgrade_now who id mode) own → ((h : Held) → ticket_held id own ≡ Some h → covers h.mode mode ≡ true → ⊥)
+    → MatchOption (ticket_kept id context.kept) ⊥ (λ ticket. (wanted ≡ wanted_upgrade ticket wanted.mode false) × (covers wanted.mode ticket.mode ≡ true))
+wait-fits knows who id mode own context wanted serves is clear weaker =
+    let its = wish-kept mode (ticket_kept id context.kept) wanted is in
+    let same : wanted.mode ≡ mode = ap (λ (w : Wanted). w.mode) its.2 in
+    rw its.1 (
+      subst (λ m. wanted ≡ wanted_upgrade its.0 m false) (sym same) its.2,
+      subst (λ m. covers m its.0.mode ≡ true) (sym same) (may-rise knows who id mode own context its.0 serves its.1 clear weaker),
+    )
+
+module _ {S : Type 0} (joins : S → Call → Answer → S → Type 0) where
+  -- whether the upgrade can be had at once was asked
+  pub run-upgrading : (id : ℕ) (mode : Mode) (context : ContextView) (t : Kept) (answer : Answer) (reply : Outcome Acquire) (a mid b : S) → ticket_kept id context.kept ≡ Some t
+      → is_some context.wait ≡ false → joins a (Upgrade_now context.who id mode) answer mid → Runs joins mid (upgrade_answered t mode context answer) reply b
+      → Runs joins a (upgrading id mode context) reply b
+  run-upgrading id mode context t answer reply a mid b found idle step run =
+      let asked = subst (λ n. joins a (Upgrade_now context.who n mode) answer mid) (sym (kept-number id context.kept t found)) step in
+      subst (λ o. Runs joins a (upgrading_ticket o mode context) reply b) (sym found)
+      (run-unless joins {A = Acquire} (waiting_fault context) context (Ask (Upgrade_now context.who t.id mode) (upgrade_answered t mode context)) a b reply (no-wait context idle) (answer, mid, asked, run))
