@@ -1,6 +1,6 @@
 -- The tickets of a session by how long it keeps them, after MySQL 5.7: `MDL_context` of sql/mdl.h and sql/mdl.cc. That a mark
 -- counts tickets, where MySQL points at the newest ones, is this project's own choice.
-use Rattle.std.specs.Prelude.{◌≡◌, ◌≢◌, ℕ, Bool, true, not, ◌||◌, ◌==◌, nat_lt, List, ◌++◌, map, filter, drop, length, All, Option, IsTrue}
+use Rattle.std.specs.Prelude.{◌≡◌, ◌≢◌, ℕ, Bool, true, not, ◌||◌, ◌==◌, nat_lt, List, ◌++◌, map, filter, find, drop, length, All, Option, MatchOption, IsTrue}
 use Rattle.std.specs.List.{list_any}
 use Rattle.std.specs.Map.{lookup}
 use Rattle.std.specs.Option.{IfSome, option_map}
@@ -11,6 +11,7 @@ use Rattle.mdl_key.specs.Keys.{KeyName, key_eq}
 use Rattle.mdl_calls.specs.declared.answers.Held.{Held}
 use Rattle.mdl_calls.specs.declared.answers.Settled.{Settled}
 use Rattle.mdl_calls.specs.Own.{Own, Wait, are_rising}
+use Rattle.mdl_system.specs.Strength.{covers}
 use Rattle.mdl_context.specs.declared.kept.Kept.{Kept}
 use Rattle.mdl_context.specs.declared.kept.Wanted.{Wanted}
 use Rattle.mdl_context.specs.declared.request.Mark.{Mark}
@@ -62,6 +63,10 @@ of_transaction kept = held_for Statement kept ++ held_for Transaction kept
 abbrev pub has_number : List Kept → ℕ → Bool
 has_number tickets id = list_any (λ ticket. ticket.id == id) tickets
 
+-- the kept ticket of a number
+abbrev pub ticket_kept : ℕ → List Kept → Option Kept
+ticket_kept id kept = find (λ ticket. ticket.id == id) kept
+
 -- the tickets that are left without those of these numbers
 abbrev pub without : List Kept → List Kept → List Kept
 without gone kept = filter (λ ticket. not (has_number gone ticket.id)) kept
@@ -94,6 +99,15 @@ pub record Serves (own : Own) (context : ContextView) : Type 0 where
   pub held : own.held ≡ map held_of context.kept
   pub wait : option_map wish_there own.wait ≡ option_map wish_here context.wait
 
+-- a ticket is at the place that is waited for, and the wanted mode is at least as strong as its own
+abbrev pub IsUpgradedBy : Wanted → Kept → Type 0
+IsUpgradedBy wanted ticket = (ticket.place ≡ wanted.place) × (covers wanted.mode ticket.mode ≡ true)
+
+-- what is waited for is at a known place, and where it is to upgrade a ticket, that is kept there, in a mode that isn't stronger
+abbrev pub IsAwaited : List (KeyName × ℕ) → List Kept → Wanted → Type 0
+IsAwaited known kept wanted =
+    (is_known_place known wanted.place ≡ true) × IfSome wanted.upgrades (λ id. MatchOption (ticket_kept id kept) ⊥ (IsUpgradedBy wanted))
+
 -- the lock space speaks for the context's session, and the context keeps what that has there. The session knows each place that
 -- the context knows, with its key; and each ticket is at one of these places, and so is what is waited for
 pub record Attends {S : Type 0} (speaks_for : S → ℕ → Type 0) (own : S → ℕ → Own) (knows : S → ℕ → ℕ → KeyName → Type 0) (space : S) (context : ContextView) : Type 0 where
@@ -101,7 +115,7 @@ pub record Attends {S : Type 0} (speaks_for : S → ℕ → Type 0) (own : S →
   pub serves : Serves (own space context.who) context
   pub known : All (λ entry. knows space context.who entry.1 entry.0) context.known
   pub places : All (λ ticket. is_known_place context.known ticket.place ≡ true) context.kept
-  pub wish : IfSome context.wait (λ wanted. is_known_place context.known wanted.place ≡ true)
+  pub wish : IfSome context.wait (IsAwaited context.known context.kept)
 
 -- a session's wait is settled, in one way or another
 abbrev pub IsSettled : {S : Type 0} → (S → ℕ → Settled → Type 0) → S → ℕ → Type 0

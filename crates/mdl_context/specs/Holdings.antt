@@ -1,6 +1,7 @@
 -- What a context keeps of its session's tickets and wait, as its own code sees it.
-use Rattle.std.specs.Prelude.{◌≡◌, ℕ, Bool, true, not, ◌&&◌, ◌==◌, List, [], ◌∷◌, ◌++◌, map, filter, find, Option, Some, None}
+use Rattle.std.specs.Prelude.{◌≡◌, ℕ, Bool, true, not, ◌&&◌, ◌==◌, List, [], ◌∷◌, ◌++◌, map, filter, find, Option, Some, None, if◌then◌else◌}
 use Rattle.std.specs.Option.{option_map}
+use Rattle.mdl_key.specs.declared.mode.Mode.{Mode}
 use Rattle.mdl_key.specs.declared.mode.Duration.{Duration}
 use Rattle.mdl_key.specs.declared.mode.Duration.TheVariants.{Transaction, Explicit}
 use Rattle.mdl_key.specs.Keys.{KeyName}
@@ -31,6 +32,10 @@ is_ticket id ticket = ticket.id == id
 -- the tickets without that of a number
 abbrev pub without_number : ℕ → List Kept → List Kept
 without_number id kept = filter (λ ticket. not (is_ticket id ticket)) kept
+
+-- the tickets, with another mode for that of a number
+abbrev pub in_mode : ℕ → (Mode → Mode) → List Kept → List Kept
+in_mode id change kept = map (λ ticket. if is_ticket id ticket then record ticket { mode = change ticket.mode } else ticket) kept
 
 -- whether a ticket is at this place
 abbrev pub is_at : ℕ → Kept → Bool
@@ -71,9 +76,19 @@ kept_of id place request = record { id = id; place = place; mode = request.mode;
 
 -- the ticket that a request waits for, and whether the searches for deadlocks are over
 abbrev pub wanted_of : ℕ → Wish → Bool → Wanted
-wanted_of place request searched = record { place = place; mode = request.mode; duration = request.duration; searched = searched }
+wanted_of place request searched = record { place = place; mode = request.mode; duration = request.duration; upgrades = None; searched = searched }
 
--- the same, for which the searches are over
+-- the ticket by which another one is to be upgraded
+abbrev pub wanted_upgrade : Kept → Mode → Bool → Wanted
+wanted_upgrade ticket mode searched =
+    record { place = ticket.place; mode = mode; duration = ticket.duration; upgrades = Some ticket.id; searched = searched }
+
+-- which ticket a wait is to upgrade, and to which mode, where it is
+abbrev pub upgrade_of : Option Wanted → Option (ℕ × Mode)
+upgrade_of None = None
+upgrade_of (Some wanted) = option_map (λ id. (id, wanted.mode)) wanted.upgrades
+
+-- the same wish, for which the searches are over
 abbrev pub search_over : Wanted → Wanted
 search_over wanted = record wanted { searched = true }
 

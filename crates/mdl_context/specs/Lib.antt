@@ -9,6 +9,7 @@ pub mod NameLaws
 pub mod Releases
 pub mod Requests
 pub mod SearchEnds
+pub mod Upgrades
 pub mod Waits
 pub mod Wishes
 pub mod WishLaws

@@ -2,6 +2,7 @@
 -- is seen through by calls of its own is this project's own choice.
 use Rattle.std.specs.Prelude.{◌≡◌, ℕ, Bool, true, false, Option, Some, None, IsSome, is_some, Result, Ok, Err, if◌then◌else◌}
 use Rattle.std.specs.Option.{option_map}
+use Rattle.mdl_key.specs.declared.mode.Mode.{Mode}
 use Rattle.mdl_calls.specs.declared.space_error.SpaceError.TheVariants.{NoWait}
 use Rattle.mdl_calls.specs.Words.{Answer, Granted, Pending, Is_settled, Lost, Poll_wait, Settle_timeout, End_wait, Program, Give, Ask, ◌>>=◌, ◌>>◌, SearchEnd, Over, Cut_off, Failed, seeking, most_searches}
 use Rattle.mdl_context.specs.declared.context_error.ContextError.{ContextError}
@@ -11,8 +12,9 @@ use Rattle.mdl_context.specs.declared.request.Resume.{Resume}
 use Rattle.mdl_context.specs.declared.request.Resume.TheVariants as resume_as
 use Rattle.mdl_context.specs.Contexts.{ContextView}
 use Rattle.mdl_context.specs.Gains.{refusal_of, abandoning}
-use Rattle.mdl_context.specs.Holdings.{with_wanted, search_over}
+use Rattle.mdl_context.specs.Holdings.{with_wanted, search_over, upgrade_of}
 use Rattle.mdl_context.specs.Requests.{Outcome}
+use Rattle.mdl_context.specs.Upgrades.{merging, merged}
 
 -- without a wait
 abbrev pub without_wait : ContextView → ContextView
@@ -22,9 +24,15 @@ without_wait context = record context { wait = None }
 abbrev pub taking_up : ℕ → ContextView → ContextView
 taking_up id context = record context { kept = with_wanted id context.wait context.kept; wait = None }
 
+-- the ticket that was waited for is there: it is kept, or merged into the one that it is to upgrade
+abbrev pub wait_won : Option (ℕ × Mode) → ℕ → ContextView → Program (Outcome Resume)
+wait_won None new context = Give (Ok (resume_as.Acquired new), taking_up new context)
+wait_won (Some (id, mode)) new context =
+    merging context.who id new >>= (λ end. Give (merged (resume_as.Acquired id) id mode (without_wait context) end))
+
 -- the end of the wait is answered
 abbrev pub end_answered : ContextView → Answer → Program (Outcome Resume)
-end_answered context (Granted id) = Give (Ok (resume_as.Acquired id), taking_up id context)
+end_answered context (Granted id) = wait_won (upgrade_of context.wait) id context
 end_answered context (Lost how) = Give (Ok (resume_as.Lost how), without_wait context)
 end_answered context answer = Give (Err (Space (refusal_of answer)), context)
 

@@ -1,6 +1,7 @@
 //! What a context keeps of a ticket, and of a wait.
-ghost use Rattle.std.specs.Prelude.{◌≡◌};
+ghost use Rattle.std.specs.Prelude.{◌≡◌, false};
 ghost use Rattle.mdl_context.specs.Contexts.{held_of, lasts};
+ghost use Rattle.mdl_context.specs.Holdings.{wanted_upgrade};
 
 use mdl_key::{Duration, Mode};
 use mdl_space::{Held, Place, TicketId};
@@ -30,6 +31,19 @@ impl Kept {
         }
     }
 
+    /// The wish by which it is upgraded to a mode. No deadlock was searched for.
+    pub(crate) fn upgrade_wish(&self, mode: Mode) -> Wanted
+        ensures { result ≡ wanted_upgrade self.now mode false }
+    {
+        Wanted {
+            place: self.place,
+            mode,
+            duration: self.duration,
+            upgrades: Some(self.id),
+            searched: false,
+        }
+    }
+
     /// Whether the ticket is kept so long.
     pub(crate) fn lasts(&self, duration: Duration) -> bool
         ensures { result ≡ lasts duration self.now }
@@ -47,6 +61,8 @@ pub struct Wanted {
     pub mode: Mode,
     /// How long the ticket is to be kept.
     pub duration: Duration,
+    /// The held ticket that is to have the mode, where the wait is for an upgrade. The new ticket is merged into it then.
+    pub upgrades: Option<TicketId>,
     /// Whether the searches for deadlocks are over. Else they were cut off, and go on with the next look at the wait.
     pub searched: bool,
 }

@@ -1,9 +1,10 @@
 -- What a context does leaves a space without a deadlock: where a wait begins, it searches until there is none.
-use Rattle.std.proofs.Common.{◌≡◌, ℕ, true, false, List, Option, Some, None, Err, refl, sym, ap, subst, ◌∙◌}
+use Rattle.std.proofs.Common.{◌≡◌, ℕ, true, false, List, Option, Some, None, Result, Err, refl, sym, ap, subst, ◌∙◌}
 use Rattle.std.specs.Prelude.{Bool, is_some}
 use Rattle.mdl_key.specs.declared.mode.Mode.{Mode}
 use Rattle.mdl_calls.specs.declared.answers.Held.{Held}
-use Rattle.mdl_calls.specs.Words.{Answer, At_place, Granted, Would_wait, Waits, Pending, Is_settled, Lost, Begin_wait, Call, Clone_ticket, Resolve, Try_now, Program, Give, Ask, ◌>>◌, EachCall, SearchEnd, Over, Cut_off, Failed, outcome_of, seeking, most_searches}
+use Rattle.mdl_calls.specs.declared.space_error.SpaceError.{SpaceError}
+use Rattle.mdl_calls.specs.Words.{Answer, At_place, Done, Granted, Would_wait, Waits, Pending, Is_settled, Lost, Begin_wait, Call, Clone_ticket, Resolve, Try_now, Program, Give, Ask, ◌>>◌, EachCall, SearchEnd, Over, Cut_off, Failed, outcome_of, seeking, most_searches}
 use Rattle.mdl_calls.proofs.FaithfulLemmas.{either, calls_bind}
 use Rattle.mdl_calls.proofs.SeekingLemmas.{calls_seeking}
 use Rattle.mdl_core.specs.CoreCalls.{outcome}
@@ -15,12 +16,14 @@ use Rattle.mdl_context.specs.declared.context_error.ContextError.TheVariants.{Wa
 use Rattle.mdl_context.specs.declared.kept.Kept.{Kept}
 use Rattle.mdl_context.specs.declared.request.Acquire.{Acquire}
 use Rattle.mdl_context.specs.declared.request.Resume.{Resume}
+use Rattle.mdl_context.specs.declared.request.Resume.TheVariants as resume
 use Rattle.mdl_context.specs.Contexts.{ContextView, place_known}
 use Rattle.mdl_context.specs.Gains as gains
-use Rattle.mdl_context.specs.Holdings.{earliest}
+use Rattle.mdl_context.specs.Holdings.{earliest, upgrade_of}
 use Rattle.mdl_context.specs.Releases as releases
 use Rattle.mdl_context.specs.Requests as requests
 use Rattle.mdl_context.specs.Requests.{Outcome}
+use Rattle.mdl_context.specs.Upgrades as upgrades
 use Rattle.mdl_context.specs.Waits as waits
 use Rattle.mdl_context.specs.Wishes.{Wish}
 use Rattle.mdl_context.proofs.MemoryLemmas.{frugal_giving_up, frugal_releasing}
@@ -119,8 +122,19 @@ quiet-abandoning context reply =
     calls_bind {A = Unit {0}} {B = Outcome Resume} IsQuiet (gains.abandoning context.who) (λ _. Give reply)
     (λ answer session. refl, λ _. (λ answer session. refl, quiet-unwanted context.who)) (λ _. tt)
 
+quiet-merge : (who new : ℕ) (answer : Answer) → AreQuiet (upgrades.merge_answered who new answer)
+quiet-merge who new Done = tt
+quiet-merge who new _ = (λ answer session. refl, λ _. tt)
+
+quiet-won : (upgrade : Option (ℕ × Mode)) (new : ℕ) (context : ContextView) → AreQuiet (waits.wait_won upgrade new context)
+quiet-won None new context = tt
+quiet-won (Some (id, mode)) new context =
+    calls_bind {A = Result (Unit {0}) SpaceError} {B = Outcome Resume} IsQuiet (upgrades.merging context.who id new)
+    (λ end. Give (upgrades.merged (resume.Acquired id) id mode (waits.without_wait context) end))
+    (λ answer session. refl, quiet-merge context.who new) (λ _. tt)
+
 quiet-end : (context : ContextView) (answer : Answer) → AreQuiet (waits.end_answered context answer)
-quiet-end context (Granted id) = tt
+quiet-end context (Granted id) = quiet-won (upgrade_of context.wait) id context
 quiet-end context (Lost how) = tt
 quiet-end context _ = tt
 
