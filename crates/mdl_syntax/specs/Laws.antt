@@ -3,10 +3,12 @@ use Rattle.std.specs.Prelude.{◌≡◌, ℕ, ◌+◌, ◌≤◌, List, [], ◌�
 use Rattle.std.specs.List.{All, IsDistinct}
 use Rattle.mdl_key.specs.declared.namespace.Namespace.TheVariants.{Table}
 use Rattle.mdl_key.specs.Keys.{KeyName, key_eq, name_fault}
+use Rattle.mdl_defs.specs.declared.change.Change.{Change}
+use Rattle.mdl_defs.specs.declared.change.Change.TheVariants.{AddColumn, DropColumn}
 use Rattle.mdl_lines.specs.Sessions.{IsScriptSession}
 use Rattle.mdl_syntax.specs.declared.script.Line.{Line}
 use Rattle.mdl_syntax.specs.declared.statement.Statement.{Statement}
-use Rattle.mdl_syntax.specs.declared.statement.Statement.TheVariants.{Begin, Commit, Rollback, Savepoint, RollbackTo, Select, Write, CreateTable, CreateSchema, DropTables, KillQuery, Timeout}
+use Rattle.mdl_syntax.specs.declared.statement.Statement.TheVariants.{Begin, Commit, Rollback, Savepoint, RollbackTo, Select, Write, CreateTable, CreateSchema, DropTables, AlterTable, KillQuery, Timeout}
 use Rattle.mdl_syntax.specs.Scripts.{parsed}
 
 -- a name of 1 to 64 bytes of a-z, 0-9 and _
@@ -25,6 +27,12 @@ AreTables tables = (1 ≤ length tables) × (length tables ≤ 8) × IsDistinct 
 abbrev pub AreColumns : List (List ℕ) → Type 0
 AreColumns columns = (1 ≤ length columns) × (length columns ≤ 64) × All IsName columns
 
+-- a column that a table gains or loses
+abbrev pub IsColumnChange : Change → Type 0
+IsColumnChange (AddColumn column) = IsName column
+IsColumnChange (DropColumn column) = IsName column
+IsColumnChange _ = ⊥
+
 -- a statement within the limits of the language
 abbrev pub IsWithinLimits : Statement → Type 0
 IsWithinLimits Begin = Unit {0}
@@ -37,6 +45,7 @@ IsWithinLimits (Write table priority) = IsTable table
 IsWithinLimits (CreateTable table columns) = IsTable table × AreColumns columns
 IsWithinLimits (CreateSchema name) = IsName name
 IsWithinLimits (DropTables tables) = AreTables tables
+IsWithinLimits (AlterTable alteration) = IsTable alteration.table × IsColumnChange alteration.change
 IsWithinLimits (KillQuery session) = IsScriptSession session
 IsWithinLimits Timeout = Unit {0}
 
