@@ -5,6 +5,7 @@ use Rattle.std.specs.Prelude.{is_some}
 use Rattle.mdl_key.specs.declared.mode.Mode.TheVariants.{IX}
 use Rattle.mdl_key.specs.declared.mode.Duration.TheVariants as for
 use Rattle.mdl_key.specs.Keys.{KeyName, global_key}
+use Rattle.mdl_syntax.specs.declared.statement.Alteration.{Alteration}
 use Rattle.mdl_syntax.specs.declared.statement.Priority.{Priority}
 use Rattle.mdl_context.specs.declared.request.Mark.{Mark}
 use Rattle.mdl_stmt.specs.declared.error_number.ErrorNumber.TheVariants.{ActiveLocks, ConflictingReadLock}
@@ -14,7 +15,7 @@ use Rattle.mdl_syntax.specs.declared.statement.Statement.{Statement}
 use Rattle.mdl_syntax.specs.declared.statement.Statement.TheVariants as statement
 use Rattle.mdl_stmt.specs.Gets.{at_rest}
 use Rattle.mdl_stmt.specs.Playing.{play}
-use Rattle.mdl_stmt.specs.Rows.{Row, Give, Fail, Room, Look, Set, Here, Acquire, Give_up, Release, Read, Redefine, Kill, ◌>>=◌, ◌>>◌, acquire, check, nothing}
+use Rattle.mdl_stmt.specs.Rows.{Row, Give, Fail, Room, Look, Set, Here, Acquire, Upgrade, Downgrade, Give_up, Release, Read, Redefine, Kill, ◌>>=◌, ◌>>◌, acquire, check, nothing}
 use Rattle.mdl_stmt.specs.Sessions.{PlayerView}
 use Rattle.mdl_stmt.specs.States.{Locked, has_locked}
 use Rattle.mdl_stmt.specs.Statements.{after_commit, commit, commit_first, commit_writes, ddl_first, end_transaction, no_locked_tables, lock_and_write, lock_held, lock_to_read, select, show_all, write, write_locked, write_unlocked}
@@ -28,6 +29,8 @@ bind-assoc (Look rest) f g = ap Look (fun_ext (λ x. bind-assoc (rest x) f g))
 bind-assoc (Set change rest) f g = ap (Set change) (bind-assoc rest f g)
 bind-assoc (Here rest) f g = ap Here (fun_ext (λ x. bind-assoc (rest x) f g))
 bind-assoc (Acquire wish rest) f g = ap (Acquire wish) (fun_ext (λ x. bind-assoc (rest x) f g))
+bind-assoc (Upgrade id key mode rest) f g = ap (Upgrade id key mode) (fun_ext (λ x. bind-assoc (rest x) f g))
+bind-assoc (Downgrade id mode rest) f g = ap (Downgrade id mode) (bind-assoc rest f g)
 bind-assoc (Give_up which rest) f g = ap (Give_up which) (bind-assoc rest f g)
 bind-assoc (Release id rest) f g = ap (Release id) (bind-assoc rest f g)
 bind-assoc (Read id rest) f g = ap (Read id) (fun_ext (λ x. bind-assoc (rest x) f g))
@@ -61,16 +64,18 @@ closed-so x rest shut mark =
 
 -- all others are done once the transaction is committed
 pub after-others : (st : Statement) → (st ≡ statement.Begin → ⊥) → ((table : KeyName) (columns : List (List ℕ)) → st ≡ statement.CreateTable table columns → ⊥) →
-    ((name : List ℕ) → st ≡ statement.CreateSchema name → ⊥) → ((tables : List KeyName) → st ≡ statement.DropTables tables → ⊥) → after_commit st ≡ Give reply.Ok
-after-others statement.Begin a b c d = absurd (a refl)
-after-others statement.Commit a b c d = refl
-after-others statement.Rollback a b c d = refl
-after-others (statement.Savepoint name) a b c d = refl
-after-others (statement.RollbackTo name) a b c d = refl
-after-others (statement.Select tables) a b c d = refl
-after-others (statement.Write table priority) a b c d = refl
-after-others (statement.CreateTable table columns) a b c d = absurd (b table columns refl)
-after-others (statement.CreateSchema name) a b c d = absurd (c name refl)
-after-others (statement.DropTables tables) a b c d = absurd (d tables refl)
-after-others (statement.KillQuery target) a b c d = refl
-after-others statement.Timeout a b c d = refl
+    ((name : List ℕ) → st ≡ statement.CreateSchema name → ⊥) → ((tables : List KeyName) → st ≡ statement.DropTables tables → ⊥) →
+    ((alteration : Alteration) → st ≡ statement.AlterTable alteration → ⊥) → after_commit st ≡ Give reply.Ok
+after-others statement.Begin a b c d e = absurd (a refl)
+after-others statement.Commit a b c d e = refl
+after-others statement.Rollback a b c d e = refl
+after-others (statement.Savepoint name) a b c d e = refl
+after-others (statement.RollbackTo name) a b c d e = refl
+after-others (statement.Select tables) a b c d e = refl
+after-others (statement.Write table priority) a b c d e = refl
+after-others (statement.CreateTable table columns) a b c d e = absurd (b table columns refl)
+after-others (statement.CreateSchema name) a b c d e = absurd (c name refl)
+after-others (statement.DropTables tables) a b c d e = absurd (d tables refl)
+after-others (statement.AlterTable alteration) a b c d e = absurd (e alteration refl)
+after-others (statement.KillQuery target) a b c d e = refl
+after-others statement.Timeout a b c d e = refl

@@ -33,6 +33,9 @@ impl<S: LockSpace> Player<S> {
             Statement::CreateTable { .. } => self.define(space, statement),
             Statement::CreateSchema(_) => self.define(space, statement),
             Statement::DropTables(_) => self.define(space, statement),
+            Statement::AlterTable(alteration) => {
+                self.alter_first(space, &alteration.table, statement)
+            }
             Statement::Rollback => {
                 self.rollback(space);
                 Played::Ends(Ending::Answers(Reply::Ok))
@@ -107,6 +110,14 @@ impl<S: LockSpace> Player<S> {
                 self.lock_scopes(space, tables, locks.with(ticket))
             }
             Stage::DropTables(locks) => self.lock_tables(space, locks.with(ticket)),
+            Stage::AlterGlobal(alteration) => self.lock_schema_and_alter(space, alteration),
+            Stage::AlterSchema(alteration) => self.alter_in_schema(space, alteration),
+            Stage::AlterTable(alteration) => self.alter_under(space, alteration, ticket),
+            Stage::AlterByCopy(alteration) => self.raise_and_change(space, alteration, ticket),
+            Stage::AlterInPlace(alteration) => self.reopen_and_change(space, alteration, ticket),
+            Stage::ChangeTable(alteration) => self.change_table(space, alteration, ticket),
+            Stage::AlterLocked(alteration) => self.alter_locked_under(space, alteration, ticket),
+            Stage::ChangeLocked(alteration) => self.change_and_lower(space, alteration, ticket),
         }
     }
 

@@ -126,6 +126,7 @@ impl<S: LockSpace> Player<S> {
             Statement::CreateTable { table, columns } => self.create(space, table, columns),
             Statement::CreateSchema(name) => self.create_schema(space, name),
             Statement::DropTables(tables) => self.drop_tables(space, tables),
+            Statement::AlterTable(alteration) => self.alter(space, alteration),
             _ => Played::Ends(Ending::Answers(Reply::Ok)),
         }
     }
