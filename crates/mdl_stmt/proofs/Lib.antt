@@ -1,3 +1,4 @@
+pub mod AlterLemmas
 pub mod CallLemmas
 pub mod DropLemmas
 pub mod EndLemmas
@@ -10,3 +11,4 @@ pub mod RowMemory
 pub mod RowOutcomes
 pub mod RunLemmas
 pub mod SavepointLemmas
+pub mod UnlockLemmas

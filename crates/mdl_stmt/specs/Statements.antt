@@ -32,12 +32,13 @@ use Rattle.mdl_context.specs.Contexts.{beyond_mark, of_transaction}
 use Rattle.mdl_context.specs.Wishes.{Wish}
 use Rattle.mdl_stmt.specs.declared.error_number.ErrorNumber.{ErrorNumber}
 use Rattle.mdl_stmt.specs.declared.error_number.ErrorNumber.TheVariants.{SchemaExists, UnknownDatabase, TableExists, DuplicateColumn, CantDropColumn, TableLockedForRead, TableNotLocked, NoSuchTable, ActiveLocks, ConflictingReadLock, NoSuchSavepoint, LastColumn, TooManyColumns, VersionLimit}
+use Rattle.mdl_stmt.specs.declared.explicit.Locked.{Locked}
 use Rattle.mdl_stmt.specs.declared.reply.Reply.{Reply}
 use Rattle.mdl_stmt.specs.declared.reply.Reply.TheVariants as reply
 use Rattle.mdl_stmt.specs.declared.reply.TableShown.{TableShown}
 use Rattle.mdl_stmt.specs.KeyOrder.{in_key_order}
 use Rattle.mdl_stmt.specs.Rows.{Row, Act, Give, Fail, Acquire, ◌>>=◌, ◌>>◌, nothing, room, look, set, here, acquire, upgrade, downgrade, give_up, release, read, redefine, kill, check, acquire_all, for_each}
-use Rattle.mdl_stmt.specs.States.{Locked, has_locked, opened, closed, written, unlocked, with_savepoint, savepoint_mark, up_to}
+use Rattle.mdl_stmt.specs.States.{has_locked, opened, closed, written, unlocked, with_savepoint, savepoint_mark, up_to}
 
 -- ---- transactions
 
@@ -189,6 +190,12 @@ lock_held table = do
   locked ← held_lock table
   Give locked.ticket
 
+-- a table is shown under the lock that is held
+abbrev pub show_held : List TableShown → KeyName → Row (List TableShown)
+show_held shown table = do
+  ticket ← lock_held table
+  show shown table ticket
+
 -- SELECT
 abbrev pub select : List KeyName → Row Reply
 select tables = do
@@ -221,12 +228,17 @@ lock_and_write table priority = do
   ticket ← acquire table (write_mode priority) for.Transaction
   write_under ticket
 
+-- all writes are locked, against whoever would keep the data still, and then the table
+abbrev pub lock_writes : KeyName → Priority → Row Reply
+lock_writes table priority = do
+  global ← acquire global_key IX for.Statement
+  lock_and_write table priority
+
 -- a write of a session that has locked no tables
 abbrev pub write_unlocked : KeyName → Priority → Row Reply
 write_unlocked table priority = do
   no_read_lock
-  global ← acquire global_key IX for.Statement
-  lock_and_write table priority
+  lock_writes table priority
 
 -- a write of one that has
 abbrev pub write_locked : KeyName → Row Reply
@@ -374,21 +386,6 @@ drop_after_commit tables = do
 
 -- ---- ALTER TABLE
 
--- a session that has locked tables alters only one of them, which it has locked to be written
-abbrev pub may_alter : KeyName → Act
-may_alter table = do
-  locked ← held_lock table
-  check locked.may_write TableLockedForRead
-
--- how ALTER TABLE begins. After it no transaction is open, so what it locks goes as it ends
-abbrev pub alter_first : KeyName → Row Reply → Row Reply
-alter_first table rest = do
-  no_read_lock
-  state ← look
-  if has_locked state.locked then may_alter table else nothing
-  commit
-  rest
-
 -- the error of a change that can't be made. What is no table can't be altered
 abbrev pub fault_number : DefError → ErrorNumber
 fault_number fault.DuplicateColumn = DuplicateColumn
@@ -506,6 +503,20 @@ commit_first rest = commit >> rest
 -- so it is before definitions are changed
 abbrev pub ddl_first : Row Reply → Row Reply
 ddl_first rest = ddl >> rest
+
+-- a session that has locked tables alters only one of them, which it has locked to be written
+abbrev pub alter_among_locked : KeyName → Row Reply → Row Reply
+alter_among_locked table rest = do
+  locked ← held_lock table
+  check locked.may_write TableLockedForRead
+  commit_first rest
+
+-- ALTER TABLE is refused under the global read lock of its session, but not under locked tables
+abbrev pub alter_first : KeyName → Row Reply → Row Reply
+alter_first table rest = do
+  no_read_lock
+  state ← look
+  if has_locked state.locked then alter_among_locked table rest else commit_first rest
 
 -- what is left of a statement once no transaction is open that it has to commit
 abbrev pub after_commit : Statement → Row Reply

@@ -5,7 +5,7 @@ ghost use Rattle.mdl_context.specs.Contexts.{Attends, LeavesOthers};
 ghost use Rattle.mdl_defs.specs.Changes.{change_fault};
 ghost use Rattle.mdl_stmt.specs.Gets.{IsPlayed, IsRaised, IsStep, IdleUnlessGot, IdleUnlessPlayed};
 ghost use Rattle.mdl_stmt.specs.Rows.{downgrade};
-ghost use Rattle.mdl_stmt.specs.Statements.{after_commit, alter_after_commit, alter_by_copy, alter_first, alter_in_place, alter_in_schema, alter_locked_under, alter_under, change_and_lower, change_table, check_change, fault_number, lock_schema_and_alter, raise_and_change, reopen_and_change};
+ghost use Rattle.mdl_stmt.specs.Statements.{after_commit, alter_after_commit, alter_among_locked, alter_by_copy, alter_first, alter_in_place, alter_in_schema, alter_locked, alter_locked_under, alter_under, alter_unlocked, change_and_lower, change_table, check_change, fault_number, lock_schema_and_alter, raise_and_change, reopen_and_change};
 ghost use Rattle.mdl_stmt.specs.declared.ending.Ending.TheVariants.{Answers, Starves};
 ghost use Rattle.mdl_stmt.specs.declared.reply.Reply.TheVariants.{Error};
 
@@ -38,6 +38,36 @@ impl<S: LockSpace> Player<S> {
         ensures who { self.new.context.who ≡ self.old.context.who }
         ensures idle { IdleUnlessPlayed result self.new }
     {
+        if self.explicit.has_read_lock() {
+            return Played::Ends(failing(ErrorNumber::ConflictingReadLock));
+        }
+        if self.explicit.has_locked() {
+            return self.alter_among_locked(space, table, statement);
+        }
+        self.commit_first(space, statement)
+    }
+
+    /// Performs one where the session has locked tables.
+    fn alter_among_locked<'s>(
+        &mut self,
+        space: &mut S,
+        table: &Key,
+        statement: &'s Statement,
+    ) -> Played<'s>
+        requires attends { Attends S.speaks_for S.own S.knows space.old self.old.context }
+        requires idle { self.old.context.wait ≡ None }
+        ensures run { IsPlayed S.joins (alter_among_locked table.now (after_commit statement.now)) space.old self.old result space.new self.new }
+        ensures attends { Attends S.speaks_for S.own S.knows space.new self.new.context }
+        ensures others { LeavesOthers S.speaks_for S.own S.knows self.old.context.who space.old space.new }
+        ensures who { self.new.context.who ≡ self.old.context.who }
+        ensures idle { IdleUnlessPlayed result self.new }
+    {
+        let Some(locked) = self.explicit.find(table) else {
+            return Played::Ends(failing(ErrorNumber::TableNotLocked));
+        };
+        if !locked.may_write {
+            return Played::Ends(failing(ErrorNumber::TableLockedForRead));
+        }
         self.commit_first(space, statement)
     }
 
@@ -93,7 +123,7 @@ impl<S: LockSpace> Player<S> {
         }
     }
 
-    /// Locks a table under its schema's lock, and alters it.
+    /// Alters a table under its schema's lock.
     pub(crate) fn alter_in_schema<'s>(
         &mut self,
         space: &mut S,
@@ -102,6 +132,22 @@ impl<S: LockSpace> Player<S> {
         requires attends { Attends S.speaks_for S.own S.knows space.old self.old.context }
         requires idle { self.old.context.wait ≡ None }
         ensures run { IsPlayed S.joins (alter_in_schema alteration.now) space.old self.old result space.new self.new }
+        ensures attends { Attends S.speaks_for S.own S.knows space.new self.new.context }
+        ensures others { LeavesOthers S.speaks_for S.own S.knows self.old.context.who space.old space.new }
+        ensures who { self.new.context.who ≡ self.old.context.who }
+        ensures idle { IdleUnlessPlayed result self.new }
+    {
+        if self.explicit.has_locked() {
+            return self.alter_locked(space, alteration);
+        }
+        self.alter_unlocked(space, alteration)
+    }
+
+    /// Locks a table against other changes, and alters it.
+    fn alter_unlocked<'s>(&mut self, space: &mut S, alteration: &'s Alteration) -> Played<'s>
+        requires attends { Attends S.speaks_for S.own S.knows space.old self.old.context }
+        requires idle { self.old.context.wait ≡ None }
+        ensures run { IsPlayed S.joins (alter_unlocked alteration.now) space.old self.old result space.new self.new }
         ensures attends { Attends S.speaks_for S.own S.knows space.new self.new.context }
         ensures others { LeavesOthers S.speaks_for S.own S.knows self.old.context.who space.old space.new }
         ensures who { self.new.context.who ≡ self.old.context.who }
@@ -246,6 +292,28 @@ impl<S: LockSpace> Player<S> {
         match self.redefine(space, ticket, &alteration.change) {
             Ok(()) => Played::Ends(Ending::Answers(Reply::Ok)),
             Err(ending) => Played::Ends(ending),
+        }
+    }
+
+    /// Clones the lock that the session has of a table, and alters the table.
+    fn alter_locked<'s>(&mut self, space: &mut S, alteration: &'s Alteration) -> Played<'s>
+        requires attends { Attends S.speaks_for S.own S.knows space.old self.old.context }
+        requires idle { self.old.context.wait ≡ None }
+        ensures run { IsPlayed S.joins (alter_locked alteration.now) space.old self.old result space.new self.new }
+        ensures attends { Attends S.speaks_for S.own S.knows space.new self.new.context }
+        ensures others { LeavesOthers S.speaks_for S.own S.knows self.old.context.who space.old space.new }
+        ensures who { self.new.context.who ≡ self.old.context.who }
+        ensures idle { IdleUnlessPlayed result self.new }
+    {
+        let request = Request {
+            key: &alteration.table,
+            mode: Mode::SNRW,
+            duration: Duration::Transaction,
+        };
+        match self.get(space, request) {
+            Got::Had(ticket) => self.alter_locked_under(space, alteration, ticket),
+            Got::Waits(key) => Played::Waits(key, Mode::SNRW, Stage::AlterLocked(alteration)),
+            Got::Ends(ending) => Played::Ends(ending),
         }
     }
 

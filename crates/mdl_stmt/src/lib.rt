@@ -7,6 +7,7 @@ mod creating_schemas;
 mod dropping;
 mod ending;
 mod error_number;
+mod explicit;
 mod key_lists;
 mod memory_laws;
 mod out_of_memory;
@@ -19,6 +20,7 @@ mod runner;
 mod savepoint;
 mod stage;
 mod transactions;
+mod unlocking;
 
 pub use error_number::ErrorNumber;
 pub use memory_laws::{
