@@ -119,7 +119,8 @@ impl Drawn {
             0..=6 => self.alone()?,
             7..=14 => self.some("SELECT", 3)?,
             15..=20 => self.write()?,
-            21..=25 => self.some("DROP TABLE", 3)?,
+            21..=23 => self.some("DROP TABLE", 3)?,
+            24..=25 => self.alter()?,
             26..=27 => self.create()?,
             28 => self.create_schema()?,
             29 => self.kill()?,
@@ -174,6 +175,15 @@ impl Drawn {
             3 => write!(self.text, "CREATE TABLE {name} x y x"),
             _ => write!(self.text, "CREATE TABLE {name} x y"),
         }
+    }
+
+    // A column that a table gains or loses, which it may have or not.
+    fn alter(&mut self) -> Result<(), AllocError> {
+        let name = table_name(self.draw_below(self.tables));
+        let change = ["ADD", "DROP"][usize::from(self.chance.draw(2))];
+        let column = ["x", "y", "z"][usize::from(self.chance.draw(3))];
+        let algorithm = ["COPY", "INPLACE"][usize::from(self.chance.draw(2))];
+        write!(self.text, "ALTER TABLE {name} {change} {column} {algorithm}")
     }
 
     // A new schema, or at times one that is there from the start.

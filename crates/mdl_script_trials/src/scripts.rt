@@ -77,6 +77,31 @@ const ROWS: &str = "\
 1 BEGIN / 1 SELECT s.a / 2 DROP TABLE s.a / 3 CREATE SCHEMA s / 1 KILL QUERY 3 / 4 CREATE SCHEMA s / 4 TIMEOUT / 1 \
     COMMIT / 4 CREATE SCHEMA s => 1 1 OK / 2 1 ERR 1146 / 3 2 WAIT TABLE s.a X / 4 3 WAIT SCHEMA s X / 5 1 OK / 4 3 \
     ERR 1317 / 6 4 WAIT SCHEMA s X / 7 4 OK / 6 4 ERR 1205 / 8 1 OK / 3 2 ERR 1146 / 9 4 OK
+1 CREATE TABLE t x / 1 BEGIN / 1 SELECT t / 2 ALTER TABLE t ADD y COPY / 1 SELECT t / 3 SELECT t / 1 COMMIT => 1 1 \
+    OK / 2 1 OK / 3 1 OK test.t@1(x) / 4 2 WAIT TABLE test.t X / 5 1 OK test.t@1(x) / 6 3 WAIT TABLE test.t SR / 7 \
+    1 OK / 4 2 OK / 6 3 OK test.t@2(x,y)
+1 CREATE TABLE t x / 2 BEGIN / 2 SELECT t / 1 ALTER TABLE t ADD y INPLACE / 1 TIMEOUT / 1 SELECT t => 1 1 OK / 2 2 \
+    OK / 3 2 OK test.t@1(x) / 4 1 WAIT TABLE test.t X / 5 1 OK / 4 1 ERR 1205 / 6 1 OK test.t@1(x)
+1 CREATE TABLE t x / 1 ALTER TABLE t DROP x COPY / 1 ALTER TABLE t ADD x COPY / 1 ALTER TABLE t DROP z COPY / 1 \
+    ALTER TABLE u DROP z COPY / 1 ALTER TABLE t ADD z INPLACE / 1 ALTER TABLE t DROP x INPLACE / 1 SELECT t => 1 1 \
+    OK / 2 1 ERR 9001 / 3 1 ERR 1060 / 4 1 ERR 1091 / 5 1 ERR 1146 / 6 1 OK / 7 1 OK / 8 1 OK test.t@3(z)
+1 CREATE TABLE t x / 1 BEGIN / 1 INSERT t / 2 ALTER TABLE t ADD y COPY / 3 DROP TABLE t / 1 COMMIT => 1 1 OK / 2 1 \
+    OK / 3 1 OK / 4 2 WAIT TABLE test.t SNW / 5 3 WAIT TABLE test.t X / 5 3 ERR 1213 / 6 1 OK / 4 2 OK
+1 CREATE TABLE t x / 1 BEGIN / 1 INSERT t / 3 ALTER TABLE t ADD y COPY / 2 DROP TABLE t / 1 COMMIT => 1 1 OK / 2 1 \
+    OK / 3 1 OK / 4 3 WAIT TABLE test.t SNW / 5 2 WAIT TABLE test.t X / 4 3 ERR 1213 / 6 1 OK / 5 2 OK
+1 CREATE TABLE t x / 1 BEGIN / 1 SELECT t / 2 ALTER TABLE t ADD y INPLACE / 3 SELECT t / 1 COMMIT => 1 1 OK / 2 1 \
+    OK / 3 1 OK test.t@1(x) / 4 2 WAIT TABLE test.t X / 5 3 WAIT TABLE test.t SR / 6 1 OK / 4 2 WAIT TABLE test.t X \
+    / 5 3 OK test.t@1(x) / 4 2 OK
+1 CREATE TABLE t x / 1 BEGIN / 1 SELECT t / 2 ALTER TABLE t ADD y COPY / 3 INSERT t / 2 SELECT t / 1 KILL QUERY 2 / \
+    1 SELECT t => 1 1 OK / 2 1 OK / 3 1 OK test.t@1(x) / 4 2 WAIT TABLE test.t X / 5 3 WAIT TABLE test.t SW / 6 2 \
+    BUSY / 7 1 OK / 4 2 ERR 1317 / 5 3 OK / 8 1 OK test.t@1(x)
+1 CREATE TABLE t x / 1 BEGIN / 1 SELECT t / 2 ALTER TABLE t ADD y COPY / 3 ALTER TABLE t ADD y INPLACE / 1 COMMIT / \
+    1 SELECT t => 1 1 OK / 2 1 OK / 3 1 OK test.t@1(x) / 4 2 WAIT TABLE test.t X / 5 3 WAIT TABLE test.t SU / 6 1 \
+    OK / 4 2 OK / 5 3 ERR 1060 / 7 1 OK test.t@2(x,y)
+1 CREATE TABLE t x / 1 BEGIN / 1 INSERT t / 1 SAVEPOINT p / 1 ALTER TABLE t ADD y COPY / 1 ROLLBACK TO p / 2 DROP \
+    TABLE t => 1 1 OK / 2 1 OK / 3 1 OK / 4 1 OK / 5 1 OK / 6 1 ERR 1305 / 7 2 OK
+1 BEGIN / 1 SELECT t / 2 CREATE TABLE t x / 3 ALTER TABLE t ADD y INPLACE / 1 SELECT t / 1 ROLLBACK => 1 1 OK / 2 1 \
+    ERR 1146 / 3 2 WAIT TABLE test.t X / 4 3 WAIT TABLE test.t SU / 5 1 ERR 1146 / 6 1 OK / 3 2 OK / 4 3 OK
 1 CREATE SCHEMA S => line 1: BadName
 1 CREATE SCHEMA s t => line 1: BadWord
 1 SELECT a b c d e f g h T => line 1: BadWord

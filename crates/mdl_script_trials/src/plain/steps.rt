@@ -15,6 +15,10 @@ impl Plain {
             Step::CreateSchema(schema) => Ok(self.create_schema(&schema)),
             Step::CheckVersion(table) => Ok(self.check_version(&table)),
             Step::Drop(table) => Ok(self.drop_table(&table)),
+            Step::CheckChange(table, change) => Ok(self.check_change(&table, &change)),
+            Step::Raise(table, mode) => self.raise(who, &table, mode),
+            Step::Lower(table, mode) => Ok(self.lower(who, &table, mode)),
+            Step::Alter(table, change) => self.alter(&table, &change),
             Step::Save(name) => self.save(who, name),
             Step::GoBack(name) => self.go_back(who, &name),
             other => self.take_plain(who, other),
@@ -29,6 +33,7 @@ impl Plain {
             Step::EndCommitted => self.end_committed(who)?,
             Step::Open => self.set_open(who, true),
             Step::Write => self.set_written(who),
+            Step::Merge => self.merge(who),
             _ => {}
         }
         Ok(Taken::Done)

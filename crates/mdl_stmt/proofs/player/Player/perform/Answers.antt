@@ -7,7 +7,7 @@ use Rattle.mdl_stmt.specs.Endings.{closing}
 use Rattle.mdl_stmt.specs.Gets.{Comes, IsPlayed}
 use Rattle.mdl_stmt.specs.Playing.{play}
 use Rattle.mdl_stmt.specs.Rows.{Give}
-use Rattle.mdl_stmt.specs.Statements.{row_of}
+use Rattle.mdl_stmt.specs.Statements.{after_commit, alter_first, row_of}
 use Rattle.mdl_stmt.proofs.player.Player.perform.Goals as goal
 
 pub returns-in-Rollback-clause-run : goal.returns-in-Rollback-clause-run
@@ -23,3 +23,10 @@ pub returns-in-KillQuery-clause-run : goal.returns-in-KillQuery-clause-run
 returns-in-KillQuery-clause-run g c =
     subst (λ (s : Statement). Comes g.S.LockSpace.joins c.args.space.now c.args.self.now (play (row_of s)) c.kill.new.space c.kill.new.self (closing (Answers reply.Ok))) (sym c.in-KillQuery.is)
     (c.kill.ensures.run (λ _. Give reply.Ok))
+
+pub returns-in-AlterTable-clause-run : goal.returns-in-AlterTable-clause-run
+returns-in-AlterTable-clause-run g c =
+    let table = c.in-AlterTable.alteration.table in
+    subst (λ (s : Statement). IsPlayed g.S.LockSpace.joins (row_of s) c.args.space.now c.args.self.now c.alter_first.result c.alter_first.new.space c.alter_first.new.self) (sym c.in-AlterTable.is)
+    (subst (λ (s : Statement). IsPlayed g.S.LockSpace.joins (alter_first table (after_commit s)) c.args.space.now c.args.self.now c.alter_first.result c.alter_first.new.space c.alter_first.new.self) c.in-AlterTable.is
+    c.alter_first.ensures.run)
