@@ -1,6 +1,6 @@
 -- A context goes on to attend to its session over each call.
 use Rattle.std.proofs.Common.{◌≡◌, ℕ, Bool, true, false, List, [], ◌∷◌, ◌++◌, Option, Some, None, refl, sym, ap, ◌∙◌, subst, arith}
-use Rattle.std.specs.Prelude.{All, filter, map, slice_index_or}
+use Rattle.std.specs.Prelude.{All, filter, is_some, map, slice_index_or}
 use Rattle.std.specs.Option.{IfSome}
 use Rattle.std.proofs.lemmas.Bool.Decides.{nat_tests}
 use Rattle.std.proofs.lemmas.List.Elements.{All-push, All-map, All-filter}
@@ -12,7 +12,7 @@ use Rattle.mdl_calls.specs.Words.{Answer, Done, Granted, Lost, Call, End_wait, U
 use Rattle.mdl_calls.specs.Own.{waiting}
 use Rattle.mdl_context.specs.declared.kept.Kept.{Kept}
 use Rattle.mdl_context.specs.declared.kept.Wanted.{Wanted}
-use Rattle.mdl_context.specs.Contexts.{ContextView, Attends, Serves, held_of, place_known, is_known_place}
+use Rattle.mdl_context.specs.Contexts.{ContextView, Attends, IsAwaited, Serves, held_of, place_known, is_known_place}
 use Rattle.mdl_context.specs.Holdings.{with_wanted}
 use Rattle.mdl_context.specs.Wishes.{Wish}
 use Rattle.mdl_context.specs.Requests.{remembering, keeping, awaiting}
@@ -34,9 +34,9 @@ AreKnown knows space who known = All (λ entry. knows space who entry.1 entry.0)
 abbrev pub ArePlaced : List (KeyName × ℕ) → List Kept → Type 0
 ArePlaced known kept = All (λ ticket. is_known_place known ticket.place ≡ true) kept
 
--- and so is what is waited for
-abbrev pub IsPlaced : List (KeyName × ℕ) → Option Wanted → Type 0
-IsPlaced known wait = IfSome wait (λ wanted. is_known_place known wanted.place ≡ true)
+-- what is waited for is as a context awaits it
+abbrev pub IsAwaitedIn : List (KeyName × ℕ) → List Kept → Option Wanted → Type 0
+IsAwaitedIn known kept wait = IfSome wait (IsAwaited known kept)
 
 -- the place of a known key is a known place
 pub known-place : (key : KeyName) (known : List (KeyName × ℕ)) (place : ℕ) → place_known key known ≡ Some place → is_known_place known place ≡ true
@@ -65,35 +65,39 @@ placed-push known kept now ticket more placed there =
     subst (ArePlaced known) (sym more) (All-push (λ (t : Kept). is_known_place known t.place ≡ true) kept ticket placed there)
 
 -- with the ticket that was waited for
-pub placed-taken : (known : List (KeyName × ℕ)) (id : ℕ) (wait : Option Wanted) (kept now : List Kept) → now ≡ with_wanted id wait kept → ArePlaced known kept → IsPlaced known wait → ArePlaced known now
+pub placed-taken : (known : List (KeyName × ℕ)) (id : ℕ) (wait : Option Wanted) (kept now : List Kept) → now ≡ with_wanted id wait kept → ArePlaced known kept → IsAwaitedIn known kept wait → ArePlaced known now
 placed-taken known id None kept now more placed there = subst (ArePlaced known) (sym more) placed
-placed-taken known id (Some wanted) kept now more placed there = placed-push known kept now _ more placed there
+placed-taken known id (Some wanted) kept now more placed there = placed-push known kept now _ more placed there.0
 
 -- where there is no wait
-pub placed-none : (known : List (KeyName × ℕ)) (wait : Option Wanted) → wait ≡ None → IsPlaced known wait
-placed-none known wait none = subst (IsPlaced known) (sym none) tt
+pub awaited-none : (known : List (KeyName × ℕ)) (kept : List Kept) (wait : Option Wanted) → wait ≡ None → IsAwaitedIn known kept wait
+awaited-none known kept wait none = subst (IsAwaitedIn known kept) (sym none) tt
+
+pub awaited-idle : (known : List (KeyName × ℕ)) (kept : List Kept) (wait : Option Wanted) → is_some wait ≡ false → IsAwaitedIn known kept wait
+awaited-idle known kept None idle = tt
+awaited-idle known kept (Some wanted) idle = cc
 
 -- where one more place is known
 still-placed : (known : List (KeyName × ℕ)) (e : KeyName × ℕ) (kept : List Kept) → ArePlaced known kept → ArePlaced (known ++ e ∷ []) kept
 still-placed known e kept placed k d inside = still-known-place known e _ (placed k d inside)
 
-still-wished : (known : List (KeyName × ℕ)) (e : KeyName × ℕ) (wait : Option Wanted) → IsPlaced known wait → IsPlaced (known ++ e ∷ []) wait
-still-wished known e None placed = placed
-still-wished known e (Some wanted) placed = still-known-place known e _ placed
+still-awaited : (known : List (KeyName × ℕ)) (e : KeyName × ℕ) (kept : List Kept) (wait : Option Wanted) → IsAwaitedIn known kept wait → IsAwaitedIn (known ++ e ∷ []) kept wait
+still-awaited known e kept None awaited = awaited
+still-awaited known e kept (Some wanted) awaited = (still-known-place known e _ awaited.0, awaited.1)
 
 -- ---- over calls
 
 module _ {S : Type 0} {speaks_for : S → ℕ → Type 0} {own : S → ℕ → Own} {knows : S → ℕ → ℕ → KeyName → Type 0} where
   -- what the context serves then is what the session has then, and it knows what it knew
   pub attends-over : (a b : S) (before after : ContextView) → Attends speaks_for own knows a before → ((place : ℕ) (key : KeyName) → knows a before.who place key → knows b before.who place key)
-      → speaks_for b before.who → Serves (own b before.who) after → after.who ≡ before.who → after.known ≡ before.known → ArePlaced before.known after.kept → IsPlaced before.known after.wait
-      → Attends speaks_for own knows b after
+      → speaks_for b before.who → Serves (own b before.who) after → after.who ≡ before.who → after.known ≡ before.known → ArePlaced before.known after.kept
+      → IsAwaitedIn before.known after.kept after.wait → Attends speaks_for own knows b after
   attends-over a b before after attends still speaks serves same known placed wished = record {
     speaks = subst (speaks_for b) (sym same) speaks;
     serves = subst (λ who. Serves (own b who) after) (sym same) serves;
     known = subst (λ who. AreKnown knows b who after.known) (sym same) (subst (AreKnown knows b before.who) (sym known) (λ k d inside. still _ _ (attends.known k d inside)));
     places = subst (λ (es : List (KeyName × ℕ)). ArePlaced es after.kept) (sym known) placed;
-    wish = subst (λ (es : List (KeyName × ℕ)). IsPlaced es after.wait) (sym known) wished;
+    wish = subst (λ (es : List (KeyName × ℕ)). IsAwaitedIn es after.kept after.wait) (sym known) wished;
   }
 
   -- nothing has changed, though there were calls
@@ -105,20 +109,20 @@ module _ {S : Type 0} {speaks_for : S → ℕ → Type 0} {own : S → ℕ → O
   -- fewer tickets are left
   pub attends-left : (a b : S) (before after : ContextView) (stays : Kept → Bool) → Attends speaks_for own knows a before → ((place : ℕ) (key : KeyName) → knows a before.who place key → knows b before.who place key)
       → speaks_for b before.who → Serves (own b before.who) after → after.who ≡ before.who → after.known ≡ before.known → after.kept ≡ filter stays before.kept → after.wait ≡ before.wait
-      → Attends speaks_for own knows b after
-  attends-left a b before after stays attends still speaks serves same known left waits =
+      → is_some before.wait ≡ false → Attends speaks_for own knows b after
+  attends-left a b before after stays attends still speaks serves same known left waits idle =
       attends-over a b before after attends still speaks serves same known
       (subst (ArePlaced before.known) (sym left) (All-filter stays (λ (t : Kept). is_known_place before.known t.place ≡ true) before.kept attends.places))
-      (subst (IsPlaced before.known) (sym waits) attends.wish)
+      (awaited-idle before.known after.kept after.wait (ap is_some waits ∙ idle))
 
   -- other durations
   pub attends-changed : (f : Kept → Kept) → ((t : Kept) → held_of (f t) ≡ held_of t) → (space : S) (before after : ContextView) → after.who ≡ before.who → after.known ≡ before.known
-      → after.kept ≡ map f before.kept → after.wait ≡ before.wait → Attends speaks_for own knows space before → Attends speaks_for own knows space after
-  attends-changed f same space before after who known kept wait attends =
+      → after.kept ≡ map f before.kept → after.wait ≡ before.wait → is_some before.wait ≡ false → Attends speaks_for own knows space before → Attends speaks_for own knows space after
+  attends-changed f same space before after who known kept wait idle attends =
       attends-over space space before after attends (λ place key there. there) attends.speaks (serves-changed f same (own space before.who) before after kept wait attends.serves) who known
       (subst (ArePlaced before.known) (sym kept)
       (All-map (λ (t : Kept). is_known_place before.known t.place ≡ true) f before.kept (λ k d inside. placed-changed (slice_index_or before.kept k d) (attends.places k d inside))))
-      (subst (IsPlaced before.known) (sym wait) attends.wish)
+      (awaited-idle before.known after.kept after.wait (ap is_some wait ∙ idle))
     where
       placed-changed : (t : Kept) → is_known_place before.known t.place ≡ true → is_known_place before.known (f t).place ≡ true
       placed-changed t there = ap (λ (h : Held). is_known_place before.known h.place) (same t) ∙ there
@@ -132,18 +136,18 @@ module _ {S : Type 0} {speaks_for : S → ℕ → Type 0} {own : S → ℕ → O
         serves = record { held = attends.serves.held; wait = attends.serves.wait };
         known = All-push (λ (e : KeyName × ℕ). knows space before.who e.1 e.0) before.known (key, place) attends.known knew;
         places = still-placed before.known (key, place) before.kept attends.places;
-        wish = still-wished before.known (key, place) before.wait attends.wish;
+        wish = still-awaited before.known (key, place) before.kept before.wait attends.wish;
       })
 
   -- a ticket at a known place is gained
   pub attends-granted : (a b : S) (before after : ContextView) (id place : ℕ) (request : Wish) → Attends speaks_for own knows a before
       → ((at : ℕ) (key : KeyName) → knows a before.who at key → knows b before.who at key) → speaks_for b before.who → own b before.who ≡ gaining id place request.mode (own a before.who)
-      → is_known_place before.known place ≡ true → after ≡ keeping id place request before → Attends speaks_for own knows b after
-  attends-granted a b before after id place request attends still speaks gains there is =
+      → is_known_place before.known place ≡ true → is_some before.wait ≡ false → after ≡ keeping id place request before → Attends speaks_for own knows b after
+  attends-granted a b before after id place request attends still speaks gains there idle is =
       let then_after = keeping id place request before in
       subst (Attends speaks_for own knows b) (sym is)
       (attends-over a b before then_after attends still speaks (serves-gaining _ _ before then_after id place request attends.serves gains refl refl) refl refl
-      (placed-push before.known before.kept then_after.kept _ refl attends.places there) attends.wish)
+      (placed-push before.known before.kept then_after.kept _ refl attends.places there) (awaited-idle before.known then_after.kept before.wait idle))
 
   -- a wait for a ticket at a known place begins
   pub attends-awaiting : (a b : S) (before after : ContextView) (number place : ℕ) (request : Wish) (searched : Bool) → Attends speaks_for own knows a before
@@ -152,7 +156,7 @@ module _ {S : Type 0} {speaks_for : S → ℕ → Type 0} {own : S → ℕ → O
   attends-awaiting a b before after number place request searched attends still speaks begins there is =
       let then_after = awaiting place request searched before in
       subst (Attends speaks_for own knows b) (sym is)
-      (attends-over a b before then_after attends still speaks (serves-waiting _ _ before then_after number place request searched attends.serves begins refl refl) refl refl attends.places there)
+      (attends-over a b before then_after attends still speaks (serves-waiting _ _ before then_after number place request searched attends.serves begins refl refl) refl refl attends.places (there, tt))
 
 -- ---- over a call
 
@@ -169,7 +173,7 @@ module _ {S : Type 0} {speaks_for : S → ℕ → Type 0} {own : S → ℕ → O
   -- the context serves what the call makes of the session
   pub attends-after : (a b : S) (call : Call) (answer : Answer) (before after : ContextView) → Attends speaks_for own knows a before → caller call ≡ Some before.who → unpins call ≡ false
       → joins a call answer b → Serves (own_after call answer (own a before.who)) after → after.who ≡ before.who → after.known ≡ before.known → ArePlaced before.known after.kept
-      → IsPlaced before.known after.wait → Attends speaks_for own knows b after
+      → IsAwaitedIn before.known after.kept after.wait → Attends speaks_for own knows b after
   attends-after a b call answer before after attends by stays step serves same known placed wished =
       let now : own b before.who ≡ own_after call answer (own a before.who) = changes a b call answer before.who by step in
       attends-over a b before after attends (known-still a b call answer before.who attends.speaks stays step) (keeps a b call answer before.who attends.speaks step)
@@ -186,7 +190,7 @@ module _ {S : Type 0} {speaks_for : S → ℕ → Type 0} {own : S → ℕ → O
       → after.who ≡ before.who → after.known ≡ before.known → after.kept ≡ with_wanted id before.wait before.kept → after.wait ≡ None → Attends speaks_for own knows b after
   attends-won a b id before after attends step same known kept wait =
       attends-after a b _ _ before after attends refl refl step (serves-winning id _ _ before after attends.serves refl kept wait) same known
-      (placed-taken before.known id before.wait before.kept after.kept kept attends.places attends.wish) (placed-none before.known after.wait wait)
+      (placed-taken before.known id before.wait before.kept after.kept kept attends.places attends.wish) (awaited-none before.known after.kept after.wait wait)
 
   -- a wait ends without it
   pub attends-lost : (a b : S) (how : Settled) (before after : ContextView) → Attends speaks_for own knows a before → joins a (End_wait before.who) (Lost how) b → after ≡ without_wait before

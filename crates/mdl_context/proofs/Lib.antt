@@ -4,6 +4,8 @@ pub mod FrontLemmas
 pub mod GainLemmas
 pub mod IndexLemmas
 pub mod MemoryLemmas
+pub mod MergeLemmas
+pub mod ModeLemmas
 pub mod NameLemmas
 pub mod OthersLemmas
 pub mod OwnCallLemmas
@@ -14,6 +16,7 @@ pub mod SeekLemmas
 pub mod ServingLemmas
 pub mod SoughtLemmas
 pub mod SureLemmas
+pub mod UpgradeLemmas
 pub mod WaitLemmas
 pub mod WhoLemmas
 pub mod WishLemmas

@@ -5,23 +5,27 @@ use Rattle.mdl_key.specs.declared.mode.Mode.{Mode}
 use Rattle.mdl_calls.specs.declared.answers.Held.{Held}
 use Rattle.mdl_calls.specs.declared.space_error.SpaceError.{SpaceError}
 use Rattle.mdl_calls.specs.declared.space_error.SpaceError.TheVariants.{OutOfMemory, NoWait}
-use Rattle.mdl_calls.specs.Words.{Answer, At_place, Granted, Would_wait, Waits, Pending, Is_settled, Lost, Settle_timeout, Release, Program, Give, Ask, ◌>>◌, Each, IsFaithful, IsFrugal, SearchEnd, Over, Cut_off, Failed, IsStarvedSearch, seeking, most_searches}
+use Rattle.mdl_calls.specs.Words.{Answer, At_place, Done, Granted, Upgraded, Would_wait, Waits, Pending, Is_settled, Lost, Settle_timeout, Release, Upgrade_now, Downgrade, Program, Give, Ask, ◌>>◌, Each, IsFaithful, IsFrugal, SearchEnd, Over, Cut_off, Failed, IsStarvedSearch, seeking, most_searches}
 use Rattle.mdl_calls.proofs.FaithfulLemmas.{either, each_then, faithful_bind, frugal_bind, frugal_faithful}
 use Rattle.mdl_calls.proofs.SeekingLemmas.{faithful_seeking}
 use Rattle.mdl_context.specs.declared.asking.Got.{Got}
+use Rattle.mdl_context.specs.declared.asking.Got.TheVariants as got
 use Rattle.mdl_context.specs.declared.context_error.ContextError.{ContextError}
 use Rattle.mdl_context.specs.declared.context_error.ContextError.TheVariants.{Waiting, Space}
 use Rattle.mdl_context.specs.declared.kept.Kept.{Kept}
 use Rattle.mdl_context.specs.declared.request.Acquire.{Acquire}
+use Rattle.mdl_context.specs.declared.request.Acquire.TheVariants.{Acquired}
 use Rattle.mdl_context.specs.Wishes.{Wish}
 use Rattle.mdl_context.specs.declared.request.Resume.{Resume}
-use Rattle.mdl_context.specs.Contexts.{ContextView, without, place_known}
+use Rattle.mdl_context.specs.declared.request.Resume.TheVariants as resume_as
+use Rattle.mdl_context.specs.Contexts.{ContextView, ticket_kept, without, place_known}
 use Rattle.mdl_context.specs.Gains as gains
-use Rattle.mdl_context.specs.Holdings.{earliest, without_number}
+use Rattle.mdl_context.specs.Holdings.{earliest, upgrade_of, without_number}
 use Rattle.mdl_context.specs.MemoryLaws.{IsStarved}
 use Rattle.mdl_context.specs.Releases as releases
 use Rattle.mdl_context.specs.Requests as requests
 use Rattle.mdl_context.specs.Requests.{Outcome}
+use Rattle.mdl_context.specs.Upgrades as upgrades
 use Rattle.mdl_context.specs.Waits as waits
 
 -- ---- what takes no memory
@@ -35,27 +39,25 @@ frugal_abandoning : {A : Type 0} (who : ℕ) (reply : A) → IsFrugal (gains.aba
 frugal_abandoning who reply =
     frugal_bind {A = Unit {0}} (gains.abandoning who) (λ _. Give reply) (refl, λ _. (refl, frugal_unwanted who)) (λ _. tt)
 
-frugal_end : (context : ContextView) (answer : Answer) → IsFrugal (waits.end_answered context answer)
-frugal_end context (Granted id) = tt
-frugal_end context (Lost how) = tt
-frugal_end context _ = tt
+-- the end of a wait that upgrades no ticket
+frugal_end : (context : ContextView) → upgrade_of context.wait ≡ None → (answer : Answer) → IsFrugal (waits.end_answered context answer)
+frugal_end context none (Granted id) = subst (λ upgrade. IsFrugal (waits.wait_won upgrade id context)) (sym none) tt
+frugal_end context none (Lost how) = tt
+frugal_end context none _ = tt
 
-frugal_poll : (context : ContextView) (answer : Answer) → IsFrugal (waits.poll_answered context answer)
-frugal_poll context Pending = tt
-frugal_poll context (Is_settled how) = (refl, frugal_end context)
-frugal_poll context _ = tt
-
-frugal_looking : (context : ContextView) → IsFrugal (waits.looking context)
-frugal_looking context = (refl, frugal_poll context)
+frugal_poll : (context : ContextView) → upgrade_of context.wait ≡ None → (answer : Answer) → IsFrugal (waits.poll_answered context answer)
+frugal_poll context none Pending = tt
+frugal_poll context none (Is_settled how) = (refl, frugal_end context none)
+frugal_poll context none _ = tt
 
 -- a wait for which the searches are over goes on
-pub frugal_resuming : (context : ContextView) → waits.is_searched context.wait ≡ Some true → IsFrugal (waits.resuming context)
-frugal_resuming context over = subst (λ searched. IsFrugal (waits.going_on searched context)) (sym over) (frugal_looking context)
+pub frugal_resuming : (context : ContextView) → waits.is_searched context.wait ≡ Some true → upgrade_of context.wait ≡ None → IsFrugal (waits.resuming context)
+frugal_resuming context over none = subst (λ searched. IsFrugal (waits.going_on searched context)) (sym over) (refl, frugal_poll context none)
 
-pub frugal_giving_up_wait : (context : ContextView) → IsFrugal (waits.giving_up_wait context)
-frugal_giving_up_wait context =
+pub frugal_giving_up_wait : (context : ContextView) → upgrade_of context.wait ≡ None → IsFrugal (waits.giving_up_wait context)
+frugal_giving_up_wait context none =
     either {A = Outcome Resume} IsFrugal (is_some context.wait) (Ask (Settle_timeout context.who) (λ _. waits.ending context))
-    (Give (Err (Space NoWait), context)) (refl, λ _. (refl, frugal_end context)) tt
+    (Give (Err (Space NoWait), context)) (refl, λ _. (refl, frugal_end context none)) tt
 
 frugal_all : (who : ℕ) (gone : List Kept) → IsFrugal (releases.releasing_all who gone)
 frugal_all who [] = tt
@@ -67,7 +69,7 @@ frugal_giving_up gone context =
     (λ _. Give (Ok tt, record context { kept = without gone context.kept })) (frugal_all context.who gone) (λ _. tt)
 
 -- so does what may be refused first
-pub frugal_unless : (fault : Option ContextError) (context : ContextView) (program : Program (Outcome (Unit {0}))) → IsFrugal program → IsFrugal (releases.unless fault context program)
+pub frugal_unless : {A : Type 0} (fault : Option ContextError) (context : ContextView) (program : Program (Outcome A)) → IsFrugal program → IsFrugal (releases.unless fault context program)
 frugal_unless (Some fault) context program made = tt
 frugal_unless None context program made = made
 
@@ -75,6 +77,15 @@ pub frugal_releasing : (id : ℕ) (context : ContextView) → IsFrugal (releases
 frugal_releasing id context =
     frugal_unless (releases.release_fault id context) context
     (Ask (Release context.who id) (λ _. Give (Ok tt, record context { kept = without_number id context.kept }))) (refl, λ _. tt)
+
+frugal_downgrade : (id : ℕ) (mode : Mode) (context : ContextView) (answer : Answer) → IsFrugal (upgrades.downgrade_answered id mode context answer)
+frugal_downgrade id mode context Done = tt
+frugal_downgrade id mode context _ = tt
+
+pub frugal_downgrading : (id : ℕ) (mode : Mode) (context : ContextView) → IsFrugal (upgrades.downgrading id mode context)
+frugal_downgrading id mode context =
+    frugal_unless {A = Unit {0}} (releases.release_fault id context) context
+    (Ask (Downgrade context.who id mode) (upgrades.downgrade_answered id mode context)) (refl, frugal_downgrade id mode context)
 
 -- ---- wishes
 
@@ -140,11 +151,47 @@ faithful_acquiring request context =
     either {A = Outcome Acquire} (IsFaithful IsStarved) (is_some context.wait) (Give (Err Waiting, context)) (requests.finding place request context)
     tt (faithful_finding place request context)
 
+-- ---- merges
+
+-- a merge was refused for want of memory
+abbrev IsStarvedMerge : Result (Unit {0}) SpaceError → Type 0
+IsStarvedMerge end = end ≡ Err OutOfMemory
+
+faithful_merge : (who new : ℕ) (answer : Answer) → IsFaithful IsStarvedMerge (upgrades.merge_answered who new answer)
+faithful_merge who new Done = tt
+faithful_merge who new _ = (λ takes. cc, λ _. tt)
+
+faithful_merging : (who id new : ℕ) → IsFaithful IsStarvedMerge (upgrades.merging who id new)
+faithful_merging who id new = (λ _ answer. refl, faithful_merge who new)
+
 -- ---- waits that go on
 
+faithful_won : (upgrade : Option (ℕ × Mode)) (new : ℕ) (context : ContextView) → IsFaithful IsStarved (waits.wait_won upgrade new context)
+faithful_won None new context = tt
+faithful_won (Some (id, mode)) new context =
+    faithful_bind {A = Result (Unit {0}) SpaceError} {B = Outcome Resume} IsStarvedMerge IsStarved (upgrades.merging context.who id new)
+    (λ end. Give (upgrades.merged (resume_as.Acquired id) id mode (waits.without_wait context) end)) (faithful_merging context.who id new)
+    (λ end e. ap (λ x. (upgrades.merged (resume_as.Acquired id) id mode (waits.without_wait context) x).0) e) (λ _. tt)
+
+faithful_end : (context : ContextView) (answer : Answer) → IsFaithful IsStarved (waits.end_answered context answer)
+faithful_end context (Granted id) = faithful_won (upgrade_of context.wait) id context
+faithful_end context (Lost how) = tt
+faithful_end context _ = tt
+
+faithful_ending : (context : ContextView) → IsFaithful IsStarved (waits.ending context)
+faithful_ending context = (λ takes. cc, faithful_end context)
+
+faithful_poll : (context : ContextView) (answer : Answer) → IsFaithful IsStarved (waits.poll_answered context answer)
+faithful_poll context Pending = tt
+faithful_poll context (Is_settled how) = faithful_ending context
+faithful_poll context _ = tt
+
+faithful_looking : (context : ContextView) → IsFaithful IsStarved (waits.looking context)
+faithful_looking context = (λ takes. cc, faithful_poll context)
+
 faithful_wait_sought : (context : ContextView) (end : SearchEnd) → IsFaithful IsStarved (waits.wait_sought context end)
-faithful_wait_sought context Over = frugal_faithful {A = Outcome Resume} IsStarved (waits.looking (waits.searched context)) (frugal_looking (waits.searched context))
-faithful_wait_sought context Cut_off = frugal_faithful {A = Outcome Resume} IsStarved (waits.looking context) (frugal_looking context)
+faithful_wait_sought context Over = faithful_looking (waits.searched context)
+faithful_wait_sought context Cut_off = faithful_looking context
 faithful_wait_sought context (Failed refusal) =
     let reply : Outcome Resume = (Err (Space refusal), waits.without_wait context) in
     frugal_faithful {A = Outcome Resume} IsStarved (gains.abandoning context.who >> Give reply) (frugal_abandoning context.who reply)
@@ -160,13 +207,55 @@ faithful_cut_off : (context : ContextView) (answer : Answer) → IsFaithful IsSt
 faithful_cut_off context Pending =
     faithful_bind {A = SearchEnd} {B = Outcome Resume} IsStarvedSearch IsStarved (seeking most_searches context.who) (waits.wait_sought context)
     (faithful_seeking most_searches context.who) (each_wait_sought context) (faithful_wait_sought context)
-faithful_cut_off context (Is_settled how) = frugal_faithful {A = Outcome Resume} IsStarved (waits.ending context) (refl, frugal_end context)
+faithful_cut_off context (Is_settled how) = faithful_ending context
 faithful_cut_off context _ = tt
 
 faithful_going_on : (searched : Option Bool) (context : ContextView) → IsFaithful IsStarved (waits.going_on searched context)
 faithful_going_on None context = tt
-faithful_going_on (Some true) context = frugal_faithful {A = Outcome Resume} IsStarved (waits.looking context) (frugal_looking context)
+faithful_going_on (Some true) context = faithful_looking context
 faithful_going_on (Some false) context = (λ takes. cc, faithful_cut_off context)
 
 pub faithful_resuming : (context : ContextView) → IsFaithful IsStarved (waits.resuming context)
 faithful_resuming context = faithful_going_on (waits.is_searched context.wait) context
+
+pub faithful_giving_up_wait : (context : ContextView) → IsFaithful IsStarved (waits.giving_up_wait context)
+faithful_giving_up_wait context =
+    either {A = Outcome Resume} (IsFaithful IsStarved) (is_some context.wait) (Ask (Settle_timeout context.who) (λ _. waits.ending context))
+    (Give (Err (Space NoWait), context)) (λ takes. cc, λ _. faithful_ending context) tt
+
+-- ---- upgrades
+
+faithful_second : (ticket : Kept) (mode : Mode) (context : ContextView) (end : Result Got SpaceError) → IsFaithful IsStarved (upgrades.second_got ticket mode context end)
+faithful_second ticket mode context (Ok (got.Granted new)) =
+    faithful_bind {A = Result (Unit {0}) SpaceError} {B = Outcome Acquire} IsStarvedMerge IsStarved (upgrades.merging context.who ticket.id new)
+    (λ end. Give (upgrades.merged (Acquired ticket.id) ticket.id mode context end)) (faithful_merging context.who ticket.id new)
+    (λ end e. ap (λ x. (upgrades.merged (Acquired ticket.id) ticket.id mode context x).0) e) (λ _. tt)
+faithful_second ticket mode context (Ok (got.Waits number searched)) = tt
+faithful_second ticket mode context (Err refusal) = tt
+
+-- there was no memory to wait, and so none for the upgrade
+each_second : (ticket : Kept) (mode : Mode) (context : ContextView) (end : Result Got SpaceError) → IsStarvedGain end → Each IsStarved (upgrades.second_got ticket mode context end)
+each_second ticket mode context end e = subst (λ x. Each IsStarved (upgrades.second_got ticket mode context x)) (sym e) refl
+
+faithful_upgrade : (ticket : Kept) (mode : Mode) (context : ContextView) (answer : Answer) → IsFaithful IsStarved (upgrades.upgrade_answered ticket mode context answer)
+faithful_upgrade ticket mode context Upgraded = tt
+faithful_upgrade ticket mode context Would_wait = (
+  refl,
+  faithful_bind {A = Result Got SpaceError} {B = Outcome Acquire} IsStarvedGain IsStarved (gains.waiting_at context.who ticket.place mode)
+      (upgrades.second_got ticket mode context) (λ _. refl, faithful_wish context.who) (each_second ticket mode context) (faithful_second ticket mode context),
+)
+faithful_upgrade ticket mode context _ = tt
+
+faithful_unless : {A : Type 0} (fault : Option ContextError) (context : ContextView) (program : Program (Outcome A)) → IsFaithful IsStarved program
+    → IsFaithful IsStarved (releases.unless fault context program)
+faithful_unless (Some fault) context program made = tt
+faithful_unless None context program made = made
+
+faithful_upgrading_ticket : (ticket : Option Kept) (mode : Mode) (context : ContextView) → IsFaithful IsStarved (upgrades.upgrading_ticket ticket mode context)
+faithful_upgrading_ticket None mode context = tt
+faithful_upgrading_ticket (Some ticket) mode context =
+    faithful_unless {A = Acquire} (releases.waiting_fault context) context
+    (Ask (Upgrade_now context.who ticket.id mode) (upgrades.upgrade_answered ticket mode context)) (λ _. refl, faithful_upgrade ticket mode context)
+
+pub faithful_upgrading : (id : ℕ) (mode : Mode) (context : ContextView) → IsFaithful IsStarved (upgrades.upgrading id mode context)
+faithful_upgrading id mode context = faithful_upgrading_ticket (ticket_kept id context.kept) mode context

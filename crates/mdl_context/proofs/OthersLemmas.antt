@@ -1,5 +1,6 @@
 -- A context makes its calls for its own session, so nothing changes for the others.
 use Rattle.std.proofs.Common.{◌≡◌, ◌≢◌, ℕ, List, Option, Some, inl, inr, refl, sym, ap, ◌∙◌, subst}
+use Rattle.mdl_key.specs.declared.mode.Mode.{Mode}
 use Rattle.mdl_key.specs.Keys.{KeyName}
 use Rattle.mdl_calls.specs.declared.answers.Held.{Held}
 use Rattle.mdl_calls.specs.Words.{Answer, Done, Call, Unpin, caller, EachCall, Own, Program, Runs, Give, Ask, Grow}
@@ -12,8 +13,9 @@ use Rattle.mdl_context.specs.MemoryLaws.{IsOwnCall}
 use Rattle.mdl_context.specs.Releases as releases
 use Rattle.mdl_context.specs.Requests as requests
 use Rattle.mdl_context.specs.Requests.{Outcome}
+use Rattle.mdl_context.specs.Upgrades as upgrades
 use Rattle.mdl_context.specs.Waits as waits
-use Rattle.mdl_context.proofs.OwnCallLemmas.{calls_weaker, own_reusing, own_finding, own_ending, own_looking, own_searching_on, own_all}
+use Rattle.mdl_context.proofs.OwnCallLemmas.{calls_weaker, own_reusing, own_finding, own_ending, own_looking, own_searching_on, own_all, own_upgrading, own_downgrading}
 
 -- a program makes all its calls for one session
 abbrev pub IsFor : {A : Type 0} → ℕ → Program A → Type 0
@@ -73,3 +75,9 @@ for_searching_on context = for_own {A = Outcome Resume} context.who (waits.searc
 
 pub for_all : (who : ℕ) (gone : List Kept) → IsFor who (releases.releasing_all who gone)
 for_all who gone = for_own {A = Unit {0}} who (releases.releasing_all who gone) (own_all who gone)
+
+pub for_upgrading : (id : ℕ) (mode : Mode) (context : ContextView) → IsFor context.who (upgrades.upgrading id mode context)
+for_upgrading id mode context = for_own {A = Outcome Acquire} context.who (upgrades.upgrading id mode context) (own_upgrading id mode context)
+
+pub for_downgrading : (id : ℕ) (mode : Mode) (context : ContextView) → IsFor context.who (upgrades.downgrading id mode context)
+for_downgrading id mode context = for_own {A = Outcome (Unit {0})} context.who (upgrades.downgrading id mode context) (own_downgrading id mode context)

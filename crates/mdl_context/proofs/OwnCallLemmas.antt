@@ -6,24 +6,28 @@ use Rattle.mdl_key.specs.declared.mode.Mode.{Mode}
 use Rattle.mdl_calls.specs.declared.answers.Held.{Held}
 use Rattle.mdl_calls.specs.declared.space_error.SpaceError.{SpaceError}
 use Rattle.mdl_calls.specs.declared.space_error.SpaceError.TheVariants.{NoWait}
-use Rattle.mdl_calls.specs.Words.{Answer, At_place, Granted, Would_wait, Waits, Pending, Is_settled, Lost, Call, Release, Settle_timeout, Program, Give, Ask, Grow, ◌>>◌, EachCall, SearchEnd, Over, Cut_off, Failed, seeking, most_searches}
+use Rattle.mdl_calls.specs.Words.{Answer, At_place, Done, Granted, Upgraded, Would_wait, Waits, Pending, Is_settled, Lost, Call, Release, Upgrade_now, Downgrade, Settle_timeout, Program, Give, Ask, Grow, ◌>>◌, EachCall, SearchEnd, Over, Cut_off, Failed, seeking, most_searches}
 use Rattle.mdl_calls.proofs.FaithfulLemmas.{either, calls_bind}
 use Rattle.mdl_calls.proofs.SeekingLemmas.{calls_seeking}
 use Rattle.mdl_core.specs.RunLaws.{IsMadeFor}
 use Rattle.mdl_context.specs.declared.asking.Got.{Got}
+use Rattle.mdl_context.specs.declared.asking.Got.TheVariants as got
 use Rattle.mdl_context.specs.declared.context_error.ContextError.{ContextError}
 use Rattle.mdl_context.specs.declared.context_error.ContextError.TheVariants.{Waiting, Space}
 use Rattle.mdl_context.specs.declared.kept.Kept.{Kept}
 use Rattle.mdl_context.specs.declared.request.Acquire.{Acquire}
+use Rattle.mdl_context.specs.declared.request.Acquire.TheVariants.{Acquired}
 use Rattle.mdl_context.specs.Wishes.{Wish}
 use Rattle.mdl_context.specs.declared.request.Resume.{Resume}
-use Rattle.mdl_context.specs.Contexts.{ContextView, without, place_known}
+use Rattle.mdl_context.specs.declared.request.Resume.TheVariants as resume_as
+use Rattle.mdl_context.specs.Contexts.{ContextView, ticket_kept, without, place_known}
 use Rattle.mdl_context.specs.Gains as gains
-use Rattle.mdl_context.specs.Holdings.{earliest, without_number}
+use Rattle.mdl_context.specs.Holdings.{earliest, upgrade_of, without_number}
 use Rattle.mdl_context.specs.MemoryLaws.{IsOwnCall}
 use Rattle.mdl_context.specs.Releases as releases
 use Rattle.mdl_context.specs.Requests as requests
 use Rattle.mdl_context.specs.Requests.{Outcome}
+use Rattle.mdl_context.specs.Upgrades as upgrades
 use Rattle.mdl_context.specs.Waits as waits
 
 -- all calls of a program are made for a session
@@ -96,10 +100,25 @@ own_acquiring request context =
     either {A = Outcome Acquire} (AreOwn context.who) (is_some context.wait) (Give (Err Waiting, context)) (requests.finding place request context)
     tt (own_finding place request context)
 
+-- ---- merges
+
+own_merge : (who new : ℕ) (answer : Answer) → AreOwn who (upgrades.merge_answered who new answer)
+own_merge who new Done = tt
+own_merge who new _ = ((refl, refl), λ _. tt)
+
+pub own_merging : (who id new : ℕ) → AreOwn who (upgrades.merging who id new)
+own_merging who id new = ((refl, refl), own_merge who new)
+
 -- ---- waits
 
+pub own_won : (upgrade : Option (ℕ × Mode)) (new : ℕ) (context : ContextView) → AreOwn context.who (waits.wait_won upgrade new context)
+own_won None new context = tt
+own_won (Some (id, mode)) new context =
+    calls_bind {A = Result (Unit {0}) SpaceError} {B = Outcome Resume} (IsOwnCall context.who) (upgrades.merging context.who id new)
+    (λ end. Give (upgrades.merged (resume_as.Acquired id) id mode (waits.without_wait context) end)) (own_merging context.who id new) (λ _. tt)
+
 own_end : (context : ContextView) (answer : Answer) → AreOwn context.who (waits.end_answered context answer)
-own_end context (Granted id) = tt
+own_end context (Granted id) = own_won (upgrade_of context.wait) id context
 own_end context (Lost how) = tt
 own_end context _ = tt
 
@@ -153,7 +172,7 @@ own_giving_up gone context =
     calls_bind {A = Unit {0}} {B = Outcome (Unit {0})} (IsOwnCall context.who) (releases.releasing_all context.who gone)
     (λ _. Give (Ok tt, record context { kept = without gone context.kept })) (own_all context.who gone) (λ _. tt)
 
-pub own_unless : (fault : Option ContextError) (context : ContextView) (program : Program (Outcome (Unit {0}))) →
+pub own_unless : {A : Type 0} (fault : Option ContextError) (context : ContextView) (program : Program (Outcome A)) →
     EachCall (IsOwnCall context.who) program → EachCall (IsOwnCall context.who) (releases.unless fault context program)
 own_unless (Some fault) context program made = tt
 own_unless None context program made = made
@@ -162,6 +181,48 @@ pub own_releasing : (id : ℕ) (context : ContextView) → EachCall (IsOwnCall c
 own_releasing id context =
     own_unless (releases.release_fault id context) context
     (Ask (Release context.who id) (λ _. Give (Ok tt, record context { kept = without_number id context.kept }))) ((refl, refl), λ _. tt)
+
+-- ---- other modes
+
+own_waiting_at : (who place : ℕ) (mode : Mode) → AreOwn who (gains.waiting_at who place mode)
+own_waiting_at who place mode = ((refl, refl), own_wish who)
+
+own_second : (ticket : Kept) (mode : Mode) (context : ContextView) (end : Result Got SpaceError) → AreOwn context.who (upgrades.second_got ticket mode context end)
+own_second ticket mode context (Ok (got.Granted new)) =
+    calls_bind {A = Result (Unit {0}) SpaceError} {B = Outcome Acquire} (IsOwnCall context.who) (upgrades.merging context.who ticket.id new)
+    (λ end. Give (upgrades.merged (Acquired ticket.id) ticket.id mode context end)) (own_merging context.who ticket.id new) (λ _. tt)
+own_second ticket mode context (Ok (got.Waits number searched)) = tt
+own_second ticket mode context (Err refusal) = tt
+
+pub own_to_upgrade : (ticket : Kept) (mode : Mode) (context : ContextView) → AreOwn context.who (upgrades.waiting_to_upgrade ticket mode context)
+own_to_upgrade ticket mode context = (
+  tt,
+  calls_bind {A = Result Got SpaceError} {B = Outcome Acquire} (IsOwnCall context.who) (gains.waiting_at context.who ticket.place mode)
+      (upgrades.second_got ticket mode context) (own_waiting_at context.who ticket.place mode) (own_second ticket mode context),
+)
+
+own_upgrade : (ticket : Kept) (mode : Mode) (context : ContextView) (answer : Answer) → AreOwn context.who (upgrades.upgrade_answered ticket mode context answer)
+own_upgrade ticket mode context Upgraded = tt
+own_upgrade ticket mode context Would_wait = own_to_upgrade ticket mode context
+own_upgrade ticket mode context _ = tt
+
+own_upgrading_ticket : (ticket : Option Kept) (mode : Mode) (context : ContextView) → AreOwn context.who (upgrades.upgrading_ticket ticket mode context)
+own_upgrading_ticket None mode context = tt
+own_upgrading_ticket (Some ticket) mode context =
+    own_unless {A = Acquire} (releases.waiting_fault context) context (Ask (Upgrade_now context.who ticket.id mode) (upgrades.upgrade_answered ticket mode context))
+    ((refl, refl), own_upgrade ticket mode context)
+
+pub own_upgrading : (id : ℕ) (mode : Mode) (context : ContextView) → EachCall (IsOwnCall context.who) (upgrades.upgrading id mode context)
+own_upgrading id mode context = own_upgrading_ticket (ticket_kept id context.kept) mode context
+
+own_downgrade : (id : ℕ) (mode : Mode) (context : ContextView) (answer : Answer) → AreOwn context.who (upgrades.downgrade_answered id mode context answer)
+own_downgrade id mode context Done = tt
+own_downgrade id mode context _ = tt
+
+pub own_downgrading : (id : ℕ) (mode : Mode) (context : ContextView) → EachCall (IsOwnCall context.who) (upgrades.downgrading id mode context)
+own_downgrading id mode context =
+    own_unless {A = Unit {0}} (releases.release_fault id context) context (Ask (Downgrade context.who id mode) (upgrades.downgrade_answered id mode context))
+    ((refl, refl), own_downgrade id mode context)
 
 -- ---- for those who ask more, or less, of calls
 

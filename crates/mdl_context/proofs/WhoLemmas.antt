@@ -1,10 +1,11 @@
 -- Whatever a context does, it stays its session's.
 use Rattle.std.proofs.Common.{◌≡◌, ℕ, true, false, List, Option, Some, None, Result, Ok, Err, refl}
 use Rattle.std.specs.Prelude.{Bool, is_some}
+use Rattle.mdl_key.specs.declared.mode.Mode.{Mode}
 use Rattle.mdl_calls.specs.declared.answers.Held.{Held}
 use Rattle.mdl_calls.specs.declared.space_error.SpaceError.{SpaceError}
 use Rattle.mdl_calls.specs.declared.space_error.SpaceError.TheVariants.{NoWait}
-use Rattle.mdl_calls.specs.Words.{Answer, At_place, Granted, Pending, Is_settled, Lost, Release, Settle_timeout, Program, Give, Ask, Each, SearchEnd, Over, Cut_off, Failed, seeking, most_searches}
+use Rattle.mdl_calls.specs.Words.{Answer, At_place, Done, Granted, Upgraded, Would_wait, Pending, Is_settled, Lost, Release, Upgrade_now, Downgrade, Settle_timeout, Program, Give, Ask, Each, SearchEnd, Over, Cut_off, Failed, seeking, most_searches}
 use Rattle.mdl_calls.proofs.FaithfulLemmas.{either, each_then}
 use Rattle.mdl_context.specs.declared.asking.Got.{Got}
 use Rattle.mdl_context.specs.declared.asking.Got.TheVariants as got
@@ -12,13 +13,16 @@ use Rattle.mdl_context.specs.declared.context_error.ContextError.{ContextError}
 use Rattle.mdl_context.specs.declared.context_error.ContextError.TheVariants.{Waiting, Space}
 use Rattle.mdl_context.specs.declared.kept.Kept.{Kept}
 use Rattle.mdl_context.specs.declared.request.Acquire.{Acquire}
+use Rattle.mdl_context.specs.declared.request.Acquire.TheVariants.{Acquired}
 use Rattle.mdl_context.specs.declared.request.Resume.{Resume}
-use Rattle.mdl_context.specs.Contexts.{ContextView, without, place_known}
+use Rattle.mdl_context.specs.declared.request.Resume.TheVariants as resume_as
+use Rattle.mdl_context.specs.Contexts.{ContextView, ticket_kept, without, place_known}
 use Rattle.mdl_context.specs.Gains as gains
-use Rattle.mdl_context.specs.Holdings.{earliest, without_number}
+use Rattle.mdl_context.specs.Holdings.{earliest, upgrade_of, without_number}
 use Rattle.mdl_context.specs.Releases as releases
 use Rattle.mdl_context.specs.Requests as requests
 use Rattle.mdl_context.specs.Requests.{Outcome}
+use Rattle.mdl_context.specs.Upgrades as upgrades
 use Rattle.mdl_context.specs.Waits as waits
 use Rattle.mdl_context.specs.Wishes.{Wish}
 
@@ -63,10 +67,24 @@ of_acquiring request context =
     either {A = Outcome Acquire} (StaysOf context.who) (is_some context.wait) (Give (Err Waiting, context)) (requests.finding place request context)
     refl (of_finding place request context)
 
+-- ---- merges
+
+of_merged : {A : Type 0} (answer : A) (id : ℕ) (mode : Mode) (context : ContextView) (end : Result (Unit {0}) SpaceError) →
+    IsOf {A = A} context.who (upgrades.merged answer id mode context end)
+of_merged answer id mode context (Ok x) = refl
+of_merged answer id mode context (Err refusal) = refl
+
 -- ---- waits
 
+of_won : (upgrade : Option (ℕ × Mode)) (new : ℕ) (context : ContextView) → StaysOf {A = Resume} context.who (waits.wait_won upgrade new context)
+of_won None new context = refl
+of_won (Some (id, mode)) new context =
+    each_then {A = Result (Unit {0}) SpaceError} {B = Outcome Resume} (IsOf context.who) (upgrades.merging context.who id new)
+    (λ end. Give (upgrades.merged (resume_as.Acquired id) id mode (waits.without_wait context) end))
+    (of_merged {A = Resume} (resume_as.Acquired id) id mode (waits.without_wait context))
+
 of_end : (context : ContextView) (answer : Answer) → StaysOf {A = Resume} context.who (waits.end_answered context answer)
-of_end context (Granted id) = refl
+of_end context (Granted id) = of_won (upgrade_of context.wait) id context
 of_end context (Lost how) = refl
 of_end context _ = refl
 
@@ -108,12 +126,48 @@ of_giving_up gone context =
     each_then {A = Unit {0}} {B = Outcome (Unit {0})} (IsOf context.who) (releases.releasing_all context.who gone)
     (λ _. Give (Ok tt, record context { kept = without gone context.kept })) (λ _. refl)
 
-of_unless : (fault : Option ContextError) (context : ContextView) (program : Program (Outcome (Unit {0}))) →
-    StaysOf {A = Unit {0}} context.who program → StaysOf {A = Unit {0}} context.who (releases.unless fault context program)
+of_unless : {A : Type 0} (fault : Option ContextError) (context : ContextView) (program : Program (Outcome A)) →
+    StaysOf {A = A} context.who program → StaysOf {A = A} context.who (releases.unless fault context program)
 of_unless (Some fault) context program each = refl
 of_unless None context program each = each
 
 pub of_releasing : (id : ℕ) (context : ContextView) → StaysOf {A = Unit {0}} context.who (releases.releasing id context)
 of_releasing id context =
-    of_unless (releases.release_fault id context) context
+    of_unless {A = Unit {0}} (releases.release_fault id context) context
     (Ask (Release context.who id) (λ _. Give (Ok tt, record context { kept = without_number id context.kept }))) (λ _. refl)
+
+-- ---- other modes
+
+of_second : (ticket : Kept) (mode : Mode) (context : ContextView) (end : Result Got SpaceError) → StaysOf {A = Acquire} context.who (upgrades.second_got ticket mode context end)
+of_second ticket mode context (Ok (got.Granted new)) =
+    each_then {A = Result (Unit {0}) SpaceError} {B = Outcome Acquire} (IsOf context.who) (upgrades.merging context.who ticket.id new)
+    (λ end. Give (upgrades.merged (Acquired ticket.id) ticket.id mode context end)) (of_merged {A = Acquire} (Acquired ticket.id) ticket.id mode context)
+of_second ticket mode context (Ok (got.Waits number searched)) = refl
+of_second ticket mode context (Err refusal) = refl
+
+of_upgrade : (ticket : Kept) (mode : Mode) (context : ContextView) (answer : Answer) → StaysOf {A = Acquire} context.who (upgrades.upgrade_answered ticket mode context answer)
+of_upgrade ticket mode context Upgraded = refl
+of_upgrade ticket mode context Would_wait = (
+  refl,
+  each_then {A = Result Got SpaceError} {B = Outcome Acquire} (IsOf context.who) (gains.waiting_at context.who ticket.place mode)
+      (upgrades.second_got ticket mode context) (of_second ticket mode context),
+)
+of_upgrade ticket mode context _ = refl
+
+of_upgrading_ticket : (ticket : Option Kept) (mode : Mode) (context : ContextView) → StaysOf {A = Acquire} context.who (upgrades.upgrading_ticket ticket mode context)
+of_upgrading_ticket None mode context = refl
+of_upgrading_ticket (Some ticket) mode context =
+    of_unless {A = Acquire} (releases.waiting_fault context) context (Ask (Upgrade_now context.who ticket.id mode) (upgrades.upgrade_answered ticket mode context))
+    (of_upgrade ticket mode context)
+
+pub of_upgrading : (id : ℕ) (mode : Mode) (context : ContextView) → StaysOf {A = Acquire} context.who (upgrades.upgrading id mode context)
+of_upgrading id mode context = of_upgrading_ticket (ticket_kept id context.kept) mode context
+
+of_downgrade : (id : ℕ) (mode : Mode) (context : ContextView) (answer : Answer) → StaysOf {A = Unit {0}} context.who (upgrades.downgrade_answered id mode context answer)
+of_downgrade id mode context Done = refl
+of_downgrade id mode context _ = refl
+
+pub of_downgrading : (id : ℕ) (mode : Mode) (context : ContextView) → StaysOf {A = Unit {0}} context.who (upgrades.downgrading id mode context)
+of_downgrading id mode context =
+    of_unless {A = Unit {0}} (releases.release_fault id context) context (Ask (Downgrade context.who id mode) (upgrades.downgrade_answered id mode context))
+    (of_downgrade id mode context)

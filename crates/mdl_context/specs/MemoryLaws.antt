@@ -1,7 +1,8 @@
 -- What want of memory does to the calls of a context. Once memory was wanting, a wish for a lock answers that and nothing else,
--- and so does a wait that goes on; all that gives something up takes no memory. So over the space of one thread each answer that
+-- and so do an upgrade and a wait that goes on; all that gives something up takes no memory, but for a wait that upgrades a ticket. So over the space of one thread each answer that
 -- isn't want of memory is the one that the definitions name.
-use Rattle.std.specs.Prelude.{◌≡◌, ℕ, true, List, Some, Err}
+use Rattle.std.specs.Prelude.{◌≡◌, ℕ, true, List, Some, None, Err}
+use Rattle.mdl_key.specs.declared.mode.Mode.{Mode}
 use Rattle.mdl_key.specs.Keys.{KeyName}
 use Rattle.mdl_calls.specs.declared.space_error.SpaceError.TheVariants.{OutOfMemory}
 use Rattle.mdl_calls.specs.Words.{Call, caller, EachCall, IsFaithful, IsFrugal, Program, Runs, outcome_of}
@@ -13,37 +14,46 @@ use Rattle.mdl_context.specs.declared.kept.Kept.{Kept}
 use Rattle.mdl_context.specs.declared.request.Mark.{Mark}
 use Rattle.mdl_context.specs.Wishes.{Wish}
 use Rattle.mdl_context.specs.Contexts.{ContextView}
+use Rattle.mdl_context.specs.Holdings.{upgrade_of}
 use Rattle.mdl_context.specs.Releases.{giving_up, releasing, releasing_name, rolling_back, ending_statement, ending_transaction}
 use Rattle.mdl_context.specs.Requests.{Outcome, acquiring}
+use Rattle.mdl_context.specs.Upgrades.{upgrading, downgrading}
 use Rattle.mdl_context.specs.Waits.{is_searched, resuming, giving_up_wait}
 
 -- a call of a context was refused for want of memory
 abbrev pub IsStarved : {A : Type 0} → Outcome A → Type 0
 IsStarved outcome = outcome.0 ≡ Err (Space OutOfMemory)
 
--- this is so of each program by which a context gives up its wait or tickets: of those that may be refused, and of the one that
--- can't be
+-- this is so of each program by which a context gives up its wait, unless that is for an upgrade, since a merge may follow then; its
+-- tickets, whether it may be refused or not; or the strength of one
 abbrev pub EachEnding : ((A : Type 0) → Program A → Type 0) → ContextView → Type 0
 EachEnding P context =
-    P _ (giving_up_wait context)
+    (upgrade_of context.wait ≡ None → P _ (giving_up_wait context))
     × ((id : ℕ) → P _ (releasing id context))
     × ((key : KeyName) → P _ (releasing_name key context))
     × ((mark : Mark) → P _ (rolling_back mark context))
     × P _ (ending_statement context)
     × P _ (ending_transaction context)
     × ((gone : List Kept) → P _ (giving_up gone context))
+    × ((id : ℕ) (mode : Mode) → P _ (downgrading id mode context))
 
 -- once memory was wanting, a wish for a lock answers that
 abbrev pub WishesTellOfWant : Type 0
 WishesTellOfWant = (request : Wish) (context : ContextView) → IsFaithful IsStarved (acquiring request context)
 
--- so does a wait that goes on, which takes no memory where its searches for deadlocks are over
+-- so does an upgrade
+abbrev pub UpgradesTellOfWant : Type 0
+UpgradesTellOfWant = (id : ℕ) (mode : Mode) (context : ContextView) → IsFaithful IsStarved (upgrading id mode context)
+
+-- so does a wait that goes on or is given up. To go on takes no memory where its searches for deadlocks are over and it isn't for an
+-- upgrade
 abbrev pub WaitsTellOfWant : Type 0
 WaitsTellOfWant =
     (context : ContextView) →
-    IsFaithful IsStarved (resuming context) × (is_searched context.wait ≡ Some true → IsFrugal (resuming context))
+    IsFaithful IsStarved (resuming context) × IsFaithful IsStarved (giving_up_wait context)
+    × (is_searched context.wait ≡ Some true → upgrade_of context.wait ≡ None → IsFrugal (resuming context))
 
--- to give up a wait or tickets takes no memory
+-- to give up a wait that isn't for an upgrade, tickets or their strength takes no memory
 abbrev pub EndingsTakeNoMemory : Type 0
 EndingsTakeNoMemory = (context : ContextView) → EachEnding (λ A program. IsFrugal program) context
 
@@ -56,7 +66,9 @@ abbrev pub ContextsCallForTheirSession : Type 0
 ContextsCallForTheirSession =
     (context : ContextView) →
     ((request : Wish) → EachCall (IsOwnCall context.who) (acquiring request context))
+    × ((id : ℕ) (mode : Mode) → EachCall (IsOwnCall context.who) (upgrading id mode context))
     × EachCall (IsOwnCall context.who) (resuming context)
+    × EachCall (IsOwnCall context.who) (giving_up_wait context)
     × EachEnding (λ A program. EachCall (IsOwnCall context.who) program) context
 
 -- over the space of one thread each run of a program is its outcome: its reply, and the space after it
@@ -73,10 +85,14 @@ IsSureUnless {A} IsFault program =
 abbrev pub SureWishes : Type 0
 SureWishes = (request : Wish) (context : ContextView) → IsSureUnless IsStarved (acquiring request context)
 
--- and so for a wait that goes on
-abbrev pub SureWaits : Type 0
-SureWaits = (context : ContextView) → IsSureUnless IsStarved (resuming context)
+-- and so for an upgrade
+abbrev pub SureUpgrades : Type 0
+SureUpgrades = (id : ℕ) (mode : Mode) (context : ContextView) → IsSureUnless IsStarved (upgrading id mode context)
 
--- where a wait or tickets are given up, they always are
+-- and so for a wait that goes on or is given up
+abbrev pub SureWaits : Type 0
+SureWaits = (context : ContextView) → IsSureUnless IsStarved (resuming context) × IsSureUnless IsStarved (giving_up_wait context)
+
+-- where a wait that isn't for an upgrade, tickets or their strength are given up, they always are
 abbrev pub SureEndings : Type 0
 SureEndings = (context : ContextView) → EachEnding (λ A program. IsSure program) context

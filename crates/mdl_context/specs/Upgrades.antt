@@ -1,22 +1,31 @@
 -- How a session changes the mode of a held ticket, after MySQL 5.7: `MDL_context::upgrade_shared_lock` and
 -- `MDL_ticket::downgrade_lock` of sql/mdl.cc. That an upgrade is tried first without a second ticket, and each refusal, is this
 -- project's own choice.
-use Rattle.std.specs.Prelude.{ℕ, Bool, Option, Some, None, Result, Ok, Err}
+use Rattle.std.specs.Prelude.{◌≡◌, ℕ, Bool, true, false, [], ◌∷◌, ◌++◌, Option, Some, None, MatchOption, Result, Ok, Err, IfErr, IsOk, IsOkUnless}
 use Rattle.mdl_key.specs.declared.mode.Mode.{Mode}
+use Rattle.mdl_key.specs.Keys.{KeyName}
 use Rattle.mdl_calls.specs.declared.space_error.SpaceError.{SpaceError}
-use Rattle.mdl_calls.specs.Own.{upgraded}
-use Rattle.mdl_calls.specs.Words.{Answer, Done, Upgraded, Would_wait, Upgrade_now, Merge, Downgrade, Release, Program, Give, Ask, Grow, ◌>>=◌}
+use Rattle.mdl_calls.specs.declared.space_error.SpaceError.TheVariants.{OutOfMemory, Full}
+use Rattle.mdl_calls.specs.Own.{Own, upgraded, giving_up}
+use Rattle.mdl_calls.specs.Own as owned
+use Rattle.mdl_calls.specs.Words.{Answer, Done, Upgraded, Would_wait, ticket_held, Upgrade_now, Merge, Downgrade, Release, Program, Give, Ask, Grow, ◌>>=◌}
 use Rattle.mdl_context.specs.declared.asking.Got.{Got}
 use Rattle.mdl_context.specs.declared.asking.Got.TheVariants as got
+use Rattle.mdl_context.specs.declared.context_error.ContextError.{ContextError}
 use Rattle.mdl_context.specs.declared.context_error.ContextError.TheVariants.{NotHeld, Space}
 use Rattle.mdl_context.specs.declared.kept.Kept.{Kept}
 use Rattle.mdl_context.specs.declared.request.Acquire.{Acquire}
 use Rattle.mdl_context.specs.declared.request.Acquire.TheVariants.{Acquired, MustWait}
-use Rattle.mdl_context.specs.Contexts.{ContextView, ticket_kept}
+use Rattle.mdl_system.specs.Strength.{covers}
+use Rattle.mdl_context.specs.Contexts.{ContextView, Attends, ticket_kept}
 use Rattle.mdl_context.specs.Gains.{refusal_of, waiting_at}
 use Rattle.mdl_context.specs.Holdings.{in_mode, wanted_upgrade}
 use Rattle.mdl_context.specs.Releases.{unless, waiting_fault, release_fault}
 use Rattle.mdl_context.specs.Requests.{Outcome, starved}
+
+-- with one more ticket
+abbrev pub with_ticket : Kept → ContextView → ContextView
+with_ticket ticket context = record context { kept = context.kept ++ ticket ∷ [] }
 
 -- with a ticket in another mode
 abbrev pub with_mode : ℕ → (Mode → Mode) → ContextView → ContextView
@@ -37,6 +46,40 @@ merging who id new = Ask (Merge who id new) (merge_answered who new)
 abbrev pub merged : {A : Type 0} → A → ℕ → Mode → ContextView → Result (Unit {0}) SpaceError → Outcome A
 merged answer id mode context (Ok _) = (Ok answer, with_mode id (λ _. mode) context)
 merged answer id mode context (Err refusal) = (Err (Space refusal), context)
+
+-- what the session has after it
+abbrev pub own_merged : ℕ → ℕ → Result (Unit {0}) SpaceError → Own → Own
+own_merged id new (Ok _) own = owned.merging id new (ticket_held new own) own
+own_merged id new (Err refusal) own = giving_up new own
+
+-- what a merge is refused for: want of memory, or of room in a book
+abbrev pub is_merge_refusal : SpaceError → Bool
+is_merge_refusal OutOfMemory = true
+is_merge_refusal Full = true
+is_merge_refusal _ = false
+
+-- a context tells such a refusal
+abbrev pub is_merge_fault : ContextError → Bool
+is_merge_fault (Space refusal) = is_merge_refusal refusal
+is_merge_fault _ = false
+
+-- a call fails only where a merge is made and refused
+abbrev pub FailsByMerge : {A : Type 0} → Option (ℕ × Mode) → Result A ContextError → Type 0
+FailsByMerge None result = IsOk result
+FailsByMerge (Some _) result = IfErr result (λ error. is_merge_fault error ≡ true)
+
+-- or for want of memory
+abbrev pub FailsByMergeOrWant : {A : Type 0} → Option (ℕ × Mode) → Result A ContextError → Type 0
+FailsByMergeOrWant None result = IsOkUnless result (Space OutOfMemory)
+FailsByMergeOrWant (Some _) result = IfErr result (λ error. is_merge_fault error ≡ true)
+
+-- the session has gained a ticket of this number and mode that the context doesn't keep, at the place of a kept one, which isn't
+-- stronger
+abbrev pub HasSecond : {S : Type 0} → (S → ℕ → Type 0) → (S → ℕ → Own) → (S → ℕ → ℕ → KeyName → Type 0) → ℕ → ℕ → Mode → S → ContextView → Type 0
+HasSecond speaks_for own knows id new mode space context =
+    (second : Kept) × (second.id ≡ new) × (second.mode ≡ mode)
+    × MatchOption (ticket_kept id context.kept) ⊥ (λ ticket. (ticket.place ≡ second.place) × (covers mode ticket.mode ≡ true))
+    × Attends speaks_for own knows space (with_ticket second context)
 
 -- ---- upgrades
 

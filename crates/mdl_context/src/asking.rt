@@ -59,8 +59,8 @@ fn ask<S: LockSpace>(space: &mut S, who: u16, place: Place, mode: Mode) -> Resul
     }
 }
 
-// Begins to wait for a lock, unless it can be had now after all.
-fn wait_at<S: LockSpace>(
+/// Begins to wait for a lock, unless it can be had now after all.
+pub(crate) fn wait_at<S: LockSpace>(
     space: &mut S,
     who: u16,
     place: Place,

@@ -15,6 +15,7 @@ use std::marker::{Model, PhantomData};
 
 mod acquire;
 mod releases;
+mod upgrades;
 mod waits;
 
 /// A session's tickets in a lock space by how long they last, and its wait.

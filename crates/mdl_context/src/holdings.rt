@@ -1,11 +1,12 @@
 //! The tickets that a context keeps, the places that it knows, and its wait.
-ghost use Rattle.std.specs.Prelude.{◌≡◌, ℕ, true, Some, None, [], ◌∷◌, ◌++◌, map, filter, find, length, is_some, OnOk, OnErr, slice_get, position, not, ◌≤◌};
+ghost use Rattle.std.specs.Prelude.{◌≡◌, ℕ, true, false, Some, None, [], ◌∷◌, ◌++◌, map, filter, find, length, is_some, OnOk, OnErr, slice_get, position, not, ◌≤◌};
 ghost use Rattle.std.specs.Vec.{vec_capacity};
 ghost use Rattle.std.specs.Option.{option_copied, option_map};
 ghost use Rattle.mdl_key.specs.declared.mode.Duration.TheVariants.{Explicit};
-ghost use Rattle.mdl_context.specs.Contexts.{AreRising, lasts, held_for, has_number, held_of, place_known};
+ghost use Rattle.mdl_calls.specs.Own.{upgraded};
+ghost use Rattle.mdl_context.specs.Contexts.{AreRising, lasts, held_for, has_number, held_of, place_known, ticket_kept};
 ghost use Rattle.mdl_context.specs.Goings.{goes};
-ghost use Rattle.mdl_context.specs.Holdings.{without_number, is_at, is_ticket, IsIndexOf, has_room, earliest, kept_for, in_transaction, transactional, kept_of, wanted_of, with_wanted, search_over};
+ghost use Rattle.mdl_context.specs.Holdings.{without_number, is_at, is_ticket, IsIndexOf, has_room, earliest, kept_for, in_transaction, transactional, kept_of, wanted_of, wanted_upgrade, upgrade_of, in_mode, with_wanted, search_over};
 ghost use Rattle.mdl_context.specs.Indexes.{has_room_for};
 ghost use Rattle.mdl_context.specs.Waits.{is_searched};
 ghost use Rattle.mdl_context.specs.Requests.{suffices, is_reusable};
@@ -13,9 +14,10 @@ ghost use Rattle.mdl_context.specs.Wishes.{wish_of};
 
 use crate::by_place::ByPlace;
 use crate::going::Going;
+use crate::wishes::covers;
 use crate::{Kept, Request, Wanted};
 use indexmap::IndexMap;
-use mdl_key::{Duration, Key};
+use mdl_key::{Duration, Key, Mode};
 use mdl_space::{Held, Place, TicketId};
 use std::alloc::{AllocError, Global};
 use std::marker::Model;
@@ -88,6 +90,15 @@ impl Holdings {
         ensures { result ≡ is_some self.now.wait }
     {
         self.wait.is_some()
+    }
+
+    /// Which ticket the wait is to upgrade, and to which mode, if it is.
+    pub(crate) fn upgrade(&self) -> Option<(TicketId, Mode)>
+        ensures { result ≡ upgrade_of self.now.wait }
+    {
+        let wanted = self.wait?;
+        let id = wanted.upgrades?;
+        Some((id, wanted.mode))
     }
 
     /// Whether the searches for deadlocks are over, if there is a wait.
@@ -195,6 +206,42 @@ impl Holdings {
         ensures has { is_some result ≡ has_number self.now.kept id }
     {
         place_of(&self.tickets, id)
+    }
+
+    /// The wish by which the ticket of a number is upgraded, if there is one. No deadlock was searched for.
+    pub(crate) fn upgrade_wish(&self, id: TicketId, mode: Mode) -> Option<Wanted>
+        requires { AreRising self.now.kept }
+        ensures { result ≡ option_map (λ ticket. wanted_upgrade ticket mode false) (ticket_kept id self.now.kept) }
+    {
+        let ticket = numbered(&self.tickets, id)?;
+        Some(ticket.upgrade_wish(mode))
+    }
+
+    /// Lets the ticket of a number, if there is one, have this mode. It takes no memory.
+    pub(crate) fn set_mode(&mut self, id: TicketId, mode: Mode)
+        requires { AreRising self.old.kept }
+        ensures kept { self.new.kept ≡ in_mode id (λ _. mode) self.old.kept }
+        ensures known { self.new.known ≡ self.old.known }
+        ensures wait { self.new.wait ≡ self.old.wait }
+    {
+        if let Some(at) = place_of(&self.tickets, id) {
+            self.tickets[at].mode = mode;
+        }
+    }
+
+    /// The same, unless its own mode is at least as strong.
+    pub(crate) fn strengthen(&mut self, id: TicketId, mode: Mode)
+        requires { AreRising self.old.kept }
+        ensures kept { self.new.kept ≡ in_mode id (upgraded mode) self.old.kept }
+        ensures known { self.new.known ≡ self.old.known }
+        ensures wait { self.new.wait ≡ self.old.wait }
+    {
+        if let Some(at) = place_of(&self.tickets, id) {
+            let ticket = &mut self.tickets[at];
+            if !covers(ticket.mode, mode) {
+                ticket.mode = mode;
+            }
+        }
     }
 
     /// How many tickets are kept so long.

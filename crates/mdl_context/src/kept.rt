@@ -1,6 +1,7 @@
 //! What a context keeps of a ticket, and of a wait.
-ghost use Rattle.std.specs.Prelude.{◌≡◌};
+ghost use Rattle.std.specs.Prelude.{◌≡◌, false};
 ghost use Rattle.mdl_context.specs.Contexts.{held_of, lasts};
+ghost use Rattle.mdl_context.specs.Holdings.{wanted_upgrade};
 
 use mdl_key::{Duration, Mode};
 use mdl_space::{Held, Place, TicketId};
@@ -27,6 +28,19 @@ impl Kept {
             id: self.id,
             place: self.place,
             mode: self.mode,
+        }
+    }
+
+    /// The wish by which it is upgraded to a mode. No deadlock was searched for.
+    pub(crate) fn upgrade_wish(&self, mode: Mode) -> Wanted
+        ensures { result ≡ wanted_upgrade self.now mode false }
+    {
+        Wanted {
+            place: self.place,
+            mode,
+            duration: self.duration,
+            upgrades: Some(self.id),
+            searched: false,
         }
     }
 

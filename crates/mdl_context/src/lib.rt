@@ -10,6 +10,7 @@ mod holdings;
 mod kept;
 mod laws;
 mod memory_laws;
+mod merging;
 mod releasing;
 mod request;
 mod searches;
@@ -24,8 +25,8 @@ pub use laws::{
     names_are_given_up, statements_end_alone,
 };
 pub use memory_laws::{
-    contexts_call_for_their_session, endings_take_no_memory, sure_endings, sure_waits, sure_wishes,
-    waits_tell_of_want, wishes_tell_of_want,
+    contexts_call_for_their_session, endings_take_no_memory, sure_endings, sure_upgrades,
+    sure_waits, sure_wishes, upgrades_tell_of_want, waits_tell_of_want, wishes_tell_of_want,
 };
 pub use request::{Acquire, Mark, Request, Resume};
 pub use wish_laws::{explicit_wishes_gain, tickets_are_used_again, wishes_are_met};

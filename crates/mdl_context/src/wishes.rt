@@ -54,8 +54,8 @@ impl Request<'_> {
     }
 }
 
-// Whether a mode is at least as strong as another one of its kind.
-fn covers(held: Mode, mode: Mode) -> bool
+/// Whether a mode is at least as strong as another one of its kind.
+pub(crate) fn covers(held: Mode, mode: Mode) -> bool
     ensures { result ≡ covers held mode }
 {
     let kind = if Kind::Object.has_mode(held) && Kind::Object.has_mode(mode) {

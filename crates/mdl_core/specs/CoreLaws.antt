@@ -107,6 +107,14 @@ GrantsWhatIsGrantable =
     × ((id : ℕ) → Joins a (Begin_wait who place mode) (Granted id) b → IsGrantable (system_of a) who (key_at place a) mode)
     × ((number : ℕ) → Joins a (Begin_wait who place mode) (Waits number) b → IsGrantable (system_of a) who (key_at place a) mode → ⊥)
 
+-- a held ticket has another mode at once exactly where it is as strong already or the wish for the mode is grantable
+abbrev pub UpgradesWhatIsGrantable : Type 0
+UpgradesWhatIsGrantable =
+    (a b : Core) (who id : ℕ) (mode : Mode) (ticket : Held) → held_ticket who id a ≡ Some ticket →
+    (Joins a (Upgrade_now who id mode) Upgraded b → (covers ticket.mode mode ≡ true) ⊎ IsGrantable (system_of a) who (key_at ticket.place a) mode)
+    × (Joins a (Upgrade_now who id mode) Would_wait b →
+    (covers ticket.mode mode ≡ false) × (IsGrantable (system_of a) who (key_at ticket.place a) mode → ⊥))
+
 -- calls, each with its answer, lead from one space to another
 abbrev pub Joined : List (Call × Answer) → Core → Core → Type 0
 Joined [] a b = a ≡ b

@@ -40,10 +40,14 @@ holding place mode seat = record seat {
 abbrev pub without_ticket : ℕ → SeatView → SeatView
 without_ticket id seat = record seat { held = filter (λ ticket. not (is_number id ticket)) seat.held }
 
+-- a held ticket in another mode
+abbrev pub held_in : Mode → Held → Held
+held_in mode ticket = record ticket { mode = mode }
+
 -- with the ticket of a number in another mode
 abbrev pub with_ticket_in : ℕ → Mode → SeatView → SeatView
 with_ticket_in id mode seat = record seat {
-  held = map (λ ticket. if is_number id ticket then record ticket { mode = mode } else ticket) seat.held;
+  held = map (λ ticket. if is_number id ticket then held_in mode ticket else ticket) seat.held;
 }
 
 -- with a wait for a new ticket

@@ -218,6 +218,15 @@ impl Seat {
             self.held[at].mode = mode;
         }
     }
+
+    /// Lets the ticket of a number, if it is held, have the mode of another one, which is given up.
+    pub(crate) fn fold(&mut self, kept: TicketId, gone: Held)
+        requires { IsTrue (are_rising self.old.held) }
+        ensures { self.new ≡ with_ticket_in kept gone.mode (without_ticket gone.id self.old) }
+    {
+        self.give_up(gone.id);
+        self.set_mode(kept, gone.mode);
+    }
 }
 
 // Where the ticket of a number stands, among tickets whose numbers rise.

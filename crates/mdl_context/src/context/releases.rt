@@ -167,7 +167,8 @@ impl<S: LockSpace> Context<S> {
 
     // Releases the tickets of a duration behind so many.
     fn release_beyond(&mut self, space: &mut S, duration: Duration, most: usize)
-        requires { Attends S.speaks_for S.own S.knows space.old self.old }
+        requires attends { Attends S.speaks_for S.own S.knows space.old self.old }
+        requires idle { self.old.wait ≡ None }
         ensures run { Runs S.joins space.old (releasing_all self.old.who (beyond duration most self.old.kept)) tt space.new }
         ensures kept { self.new ≡ record self.old { kept = without (beyond duration most self.old.kept) self.old.kept } }
         ensures attends { Attends S.speaks_for S.own S.knows space.new self.new }

@@ -1,25 +1,30 @@
 //! Waits of a session.
-ghost use Rattle.std.specs.Prelude.{◌≡◌, true, Some, None, is_some, Ok, IsOk, IsOkUnless, OnErr};
-ghost use Rattle.mdl_key.specs.Refusals.{Refuses, RefusesJust};
+ghost use Rattle.std.specs.Prelude.{◌≡◌, true, Some, None, is_some, Err, OnErr};
+ghost use Rattle.std.specs.Option.{IfSome};
 ghost use Rattle.mdl_calls.specs.Words.{Runs};
-ghost use Rattle.mdl_context.specs.Contexts.{Attends, IsSettled, LeavesOthers};
-ghost use Rattle.mdl_context.specs.Waits.{without_wait, searching_on, is_searched, resuming, giving_up_wait, looking, ending, no_wait_fault, WaitsOn};
+ghost use Rattle.mdl_context.specs.Contexts.{Attends, IsAwaited, IsSettled, LeavesOthers};
+ghost use Rattle.mdl_context.specs.Holdings.{upgrade_of};
+ghost use Rattle.mdl_context.specs.Upgrades.{FailsByMerge, FailsByMergeOrWant};
+ghost use Rattle.mdl_context.specs.Waits.{without_wait, taking_up, wait_won, searching_on, is_searched, resuming, giving_up_wait, looking, ending, no_wait_fault, WaitsOn};
 
 use crate::searches::{abandon, seek};
 use crate::{Context, ContextError, Resume};
-use mdl_space::{Ended, LockSpace, Poll, Settled, SpaceError};
+use mdl_space::{Ended, LockSpace, Poll, Settled, SpaceError, TicketId};
 
 impl<S: LockSpace> Context<S> {
     /// Sees how the wait stands, and ends it once it is settled.
     ///
     /// While it isn't settled and the searches for deadlocks were cut off, this call searches on, as [`Context::acquire`]
-    /// does, and gives the wait up where a search finds no memory. Else it takes no memory.
+    /// does, and gives the wait up where a search finds no memory. Where the wait was for an upgrade and is granted, the new ticket
+    /// is merged into the one that is upgraded, and that one is told; where the merge is refused, the new ticket is released and
+    /// the first is as it was. Else it takes no memory.
     ///
     /// After MySQL 5.7, `MDL_context::acquire_lock` of `sql/mdl.cc`, from its wait on.
     pub fn resume(&mut self, space: &mut S) -> Result<Resume, ContextError>
         requires { Attends S.speaks_for S.own S.knows space.old self.old }
-        ensures refused { Refuses (no_wait_fault self.old) (ContextError.Space SpaceError.OutOfMemory) result }
-        ensures searched { is_searched self.old.wait ≡ Some true → IsOk result }
+        ensures refused { IfSome (no_wait_fault self.old) (λ fault. result ≡ Err fault) }
+        ensures fails { is_some self.old.wait ≡ true → FailsByMergeOrWant (upgrade_of self.old.wait) result }
+        ensures searched { is_searched self.old.wait ≡ Some true → FailsByMerge (upgrade_of self.old.wait) result }
         ensures run { Runs S.joins space.old (resuming self.old) (result, self.new) space.new }
         ensures attends { Attends S.speaks_for S.own S.knows space.new self.new }
         ensures others { LeavesOthers S.speaks_for S.own S.knows self.old.who space.old space.new }
@@ -29,37 +34,39 @@ impl<S: LockSpace> Context<S> {
     {
         match self.holdings.is_searched() {
             None => Err(ContextError::Space(SpaceError::NoWait)),
-            Some(true) => Ok(self.look(space)),
+            Some(true) => self.look(space),
             Some(false) => match space.poll_wait(self.who).unwrap() {
                 Poll::Pending => self.search_on(space),
-                Poll::Settled(_) => Ok(self.end_wait(space)),
+                Poll::Settled(_) => self.end_wait(space),
             },
         }
     }
 
-    /// Gives the wait up, unless it is settled already, and ends it. It takes no memory.
+    /// Gives the wait up, unless it is settled already, and ends it. It takes no memory, unless the wait was for an upgrade and is
+    /// granted already; then the tickets are merged as by [`Context::resume`].
     pub fn give_up(&mut self, space: &mut S) -> Result<Resume, ContextError>
         requires { Attends S.speaks_for S.own S.knows space.old self.old }
-        ensures refused { RefusesJust (no_wait_fault self.old) result }
+        ensures refused { IfSome (no_wait_fault self.old) (λ fault. result ≡ Err fault) }
+        ensures fails { is_some self.old.wait ≡ true → FailsByMerge (upgrade_of self.old.wait) result }
         ensures run { Runs S.joins space.old (giving_up_wait self.old) (result, self.new) space.new }
         ensures attends { Attends S.speaks_for S.own S.knows space.new self.new }
         ensures others { LeavesOthers S.speaks_for S.own S.knows self.old.who space.old space.new }
         ensures who { self.new.who ≡ self.old.who }
         ensures ended { self.new.wait ≡ None }
-        ensures unchanged { OnErr result (self.new ≡ self.old) }
+        ensures lost { OnErr result (self.new ≡ without_wait self.old) }
     {
         if !self.holdings.is_waiting() {
             return Err(ContextError::Space(SpaceError::NoWait));
         }
         space.settle_timeout(self.who).unwrap();
-        Ok(self.end_wait(space))
+        self.end_wait(space)
     }
 
     // Searches on for deadlocks, and then sees how the wait stands.
     fn search_on(&mut self, space: &mut S) -> Result<Resume, ContextError>
         requires attends { Attends S.speaks_for S.own S.knows space.old self.old }
         requires waits { is_some self.old.wait ≡ true }
-        ensures refused { IsOkUnless result (ContextError.Space SpaceError.OutOfMemory) }
+        ensures fails { FailsByMergeOrWant (upgrade_of self.old.wait) result }
         ensures run { Runs S.joins space.old (searching_on self.old) (result, self.new) space.new }
         ensures attends { Attends S.speaks_for S.own S.knows space.new self.new }
         ensures who { self.new.who ≡ self.old.who }
@@ -69,9 +76,9 @@ impl<S: LockSpace> Context<S> {
         match seek(space, self.who) {
             Ok(true) => {
                 self.holdings.end_searches();
-                Ok(self.look(space))
+                self.look(space)
             }
-            Ok(false) => Ok(self.look(space)),
+            Ok(false) => self.look(space),
             Err(refusal) => {
                 abandon(space, self.who);
                 self.holdings.drop_wait();
@@ -80,39 +87,63 @@ impl<S: LockSpace> Context<S> {
         }
     }
 
-    // Sees how the wait stands, and ends it once it is settled. It takes no memory.
-    fn look(&mut self, space: &mut S) -> Resume
+    // Sees how the wait stands, and ends it once it is settled.
+    fn look(&mut self, space: &mut S) -> Result<Resume, ContextError>
         requires attends { Attends S.speaks_for S.own S.knows space.old self.old }
         requires waits { is_some self.old.wait ≡ true }
-        ensures run { Runs S.joins space.old (looking self.old) (Ok result, self.new) space.new }
+        ensures fails { FailsByMerge (upgrade_of self.old.wait) result }
+        ensures run { Runs S.joins space.old (looking self.old) (result, self.new) space.new }
         ensures attends { Attends S.speaks_for S.own S.knows space.new self.new }
         ensures who { self.new.who ≡ self.old.who }
-        ensures wait { WaitsOn (Ok result) self.new.wait }
+        ensures lost { OnErr result (self.new ≡ without_wait self.old) }
+        ensures wait { WaitsOn result self.new.wait }
     {
         match space.poll_wait(self.who).unwrap() {
-            Poll::Pending => Resume::Waiting,
+            Poll::Pending => Ok(Resume::Waiting),
             Poll::Settled(_) => self.end_wait(space),
         }
     }
 
-    // Ends the wait, which is settled. It takes no memory.
-    fn end_wait(&mut self, space: &mut S) -> Resume
+    // Ends the wait, which is settled.
+    fn end_wait(&mut self, space: &mut S) -> Result<Resume, ContextError>
         requires attends { Attends S.speaks_for S.own S.knows space.old self.old }
         requires settled { IsSettled S.is_settled space.old self.old.who }
-        ensures run { Runs S.joins space.old (ending self.old) (Ok result, self.new) space.new }
+        ensures fails { FailsByMerge (upgrade_of self.old.wait) result }
+        ensures run { Runs S.joins space.old (ending self.old) (result, self.new) space.new }
         ensures attends { Attends S.speaks_for S.own S.knows space.new self.new }
         ensures who { self.new.who ≡ self.old.who }
         ensures ended { self.new.wait ≡ None }
-        ensures wait { WaitsOn (Ok result) self.new.wait }
+        ensures lost { OnErr result (self.new ≡ without_wait self.old) }
+        ensures wait { WaitsOn result self.new.wait }
     {
         match space.end_wait(self.who).unwrap() {
-            Ended::Granted(id) => {
-                self.holdings.take_up(id);
-                Resume::Acquired(id)
-            }
-            Ended::Victim => self.lose(Settled::Victim),
-            Ended::Timeout => self.lose(Settled::Timeout),
-            Ended::Killed => self.lose(Settled::Killed),
+            Ended::Granted(id) => self.win(space, id),
+            Ended::Victim => Ok(self.lose(Settled::Victim)),
+            Ended::Timeout => Ok(self.lose(Settled::Timeout)),
+            Ended::Killed => Ok(self.lose(Settled::Killed)),
+        }
+    }
+
+    // Ends a wait that is granted: keeps the ticket, or merges it into the one that it is to upgrade.
+    fn win(&mut self, space: &mut S, new: TicketId) -> Result<Resume, ContextError>
+        requires attends { Attends S.speaks_for S.own S.knows space.old (taking_up new self.old) }
+        requires awaited { IfSome self.old.wait (IsAwaited self.old.known self.old.kept) }
+        ensures fails { FailsByMerge (upgrade_of self.old.wait) result }
+        ensures run { Runs S.joins space.old (wait_won (upgrade_of self.old.wait) new self.old) (result, self.new) space.new }
+        ensures attends { Attends S.speaks_for S.own S.knows space.new self.new }
+        ensures who { self.new.who ≡ self.old.who }
+        ensures ended { self.new.wait ≡ None }
+        ensures lost { OnErr result (self.new ≡ without_wait self.old) }
+        ensures wait { WaitsOn result self.new.wait }
+    {
+        let Some((id, mode)) = self.holdings.upgrade() else {
+            self.holdings.take_up(new);
+            return Ok(Resume::Acquired(new));
+        };
+        self.holdings.drop_wait();
+        match self.merge_ticket(space, id, new, mode) {
+            Ok(()) => Ok(Resume::Acquired(id)),
+            Err(refusal) => Err(ContextError::Space(refusal)),
         }
     }
 

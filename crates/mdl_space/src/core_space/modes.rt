@@ -1,13 +1,15 @@
 //! Held tickets that get another mode.
-ghost use Rattle.std.specs.Prelude.{◌≡◌, ◌≢◌, None, Some, IsSome, IsTrue, MatchResult, true};
+ghost use Rattle.std.specs.Prelude.{◌≡◌, ◌≢◌, None, Some, IsSome, IsTrue, OnOk, MatchResult, true, false};
 ghost use Rattle.mdl_book.specs.Books.{lock_kind};
 ghost use Rattle.mdl_book.specs.Granting.{is_compatible};
 ghost use Rattle.mdl_book.specs.Tickets.{ticket_of};
 ghost use Rattle.mdl_calls.specs.Words.{are_rising, done, upgrade_tried};
+ghost use Rattle.mdl_core.specs.CoreCalls.{is_lower};
+ghost use Rattle.mdl_core.specs.Cores.{is_free};
 ghost use Rattle.mdl_core.specs.Words.{Makes, SpeaksFor, altering, book_at, downgrading, first_cause, folding, has_key, has_session, merge_causes, merging, seat_at, serving, upgrade_causes, upgrading};
 
 use crate::core_space::CoreSpace;
-use crate::granting::{NO_FAST, is_free};
+use crate::granting::{NO_FAST, fold, is_free};
 use crate::{Held, SpaceError, TicketId, Upgrade};
 use mdl_key::Mode;
 use mdl_system::{covers, may_downgrade, may_upgrade};
@@ -27,14 +29,10 @@ impl CoreSpace {
             return Err(SpaceError::NotHeld);
         };
         self.check_upgrade(who, ticket, mode)?;
-        if covers(ticket.mode, mode) {
+        if covers(ticket.mode, mode) || self.alter_if_free(who, ticket, mode) {
             return Ok(Upgrade::Upgraded);
         }
-        if !is_free(&self.books[usize::from(ticket.place) - 1], who, mode) {
-            return Ok(Upgrade::WouldWait);
-        }
-        self.alter(who, ticket, mode);
-        Ok(Upgrade::Upgraded)
+        Ok(Upgrade::WouldWait)
     }
 
     /// Lets a held ticket have the mode of another one, which is given up.
@@ -72,8 +70,7 @@ impl CoreSpace {
         let Some(ticket) = self.seats[usize::from(who) - 1].ticket(id) else {
             return Err(SpaceError::NotHeld);
         };
-        let kind = self.books[usize::from(ticket.place) - 1].key().kind();
-        if !may_downgrade(ticket.mode, mode) || !kind.has_mode(mode) {
+        if !self.is_lower(ticket, mode) {
             return Err(SpaceError::NotUpgradable);
         }
         self.alter(who, ticket, mode);
@@ -100,12 +97,23 @@ impl CoreSpace {
         Ok(())
     }
 
+    /// Whether a held ticket may be brought down to a mode.
+    fn is_lower(&self, ticket: Held, mode: Mode) -> bool
+        requires { has_key ticket.place self.now ≡ true }
+        ensures { result ≡ is_lower mode ticket self.now }
+    {
+        let kind = self.books[usize::from(ticket.place) - 1].key().kind();
+        may_downgrade(ticket.mode, mode) && kind.has_mode(mode)
+    }
+
     /// Looks whether a session can merge two held tickets.
     fn check_merge(&self, who: u16, kept: Held, gone: Held) -> Result<(), SpaceError>
         requires { has_session who self.now ≡ true }
-        ensures { MatchResult result
+        ensures refused { MatchResult result
             (λ _. first_cause (merge_causes who kept gone self.now) ≡ None)
             (λ e. first_cause (merge_causes who kept gone self.now) ≡ Some e) }
+        ensures two { OnOk result (kept.id ≢ gone.id) }
+        ensures place { OnOk result (kept.place ≡ gone.place) }
     {
         if self.seats[usize::from(who) - 1].wait().is_some() {
             return Err(SpaceError::AlreadyWaiting);
@@ -115,6 +123,23 @@ impl CoreSpace {
             return Err(SpaceError::BadMode);
         }
         Ok(())
+    }
+
+    /// Lets a session's held ticket have a mode, if that can be had now. Whether it has it.
+    fn alter_if_free(&mut self, who: u16, ticket: Held, mode: Mode) -> bool
+        requires session { has_session who self.old ≡ true }
+        requires key { has_key ticket.place self.old ≡ true }
+        requires stands { IsSome (ticket_of who ticket.id (book_at ticket.place self.old).granted) }
+        requires rising { IsTrue (are_rising (seat_at who self.old).held) }
+        ensures free { result ≡ is_free who ticket.place mode self.old }
+        ensures altered { result ≡ true → self.new ≡ altering who ticket mode self.old }
+        ensures unchanged { result ≡ false → self.new ≡ self.old }
+    {
+        if !is_free(&self.books[usize::from(ticket.place) - 1], who, mode) {
+            return false;
+        }
+        self.alter(who, ticket, mode);
+        true
     }
 
     /// Lets a session's held ticket have a mode that clashes with no granted ticket.
@@ -143,12 +168,9 @@ impl CoreSpace {
         requires compatible { is_compatible (lock_kind (book_at kept.place self.old)) (book_at kept.place self.old).granted who gone.mode ≡ true }
         ensures { self.new ≡ serving kept.place (folding who kept gone self.old) }
     {
-        let seat = &mut self.seats[usize::from(who) - 1];
-        seat.give_up(gone.id);
-        seat.set_mode(kept.id, gone.mode);
+        self.seats[usize::from(who) - 1].fold(kept.id, gone);
         let book = &mut self.books[usize::from(kept.place) - 1];
-        book.remove(who, gone.id).unwrap();
-        book.set_mode(who, kept.id, gone.mode, NO_FAST).unwrap();
+        fold(book, who, kept.id, gone);
         self.serve(kept.place);
     }
 }

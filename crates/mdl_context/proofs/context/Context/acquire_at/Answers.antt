@@ -1,6 +1,7 @@
 -- What suffices is held, and what is gained or waited for is at a known place.
 use Rattle.mdl_context.specs.Wishes.{wish_of}
 use Rattle.std.proofs.Common.{◌≡◌, true, List, Some, Ok, Err, [], ◌∷◌, ◌++◌, sym, ap, ◌∙◌}
+use Rattle.std.specs.Prelude.{is_some}
 use Rattle.mdl_context.specs.declared.kept.Kept.{Kept}
 use Rattle.mdl_context.specs.declared.context_error.ContextError.TheVariants.{Space}
 use Rattle.mdl_context.specs.declared.request.Acquire.TheVariants.{Acquired, MustWait}
@@ -51,7 +52,7 @@ returns-in-Ok-Granted-clause-attends g c =
     let before : ContextView = context_of c.self.inside.who c.self.inside.holdings in
     let there : is_known_place before.known c.args.place ≡ true = known-place c.args.request.key.now before.known c.args.place (rw (← c.self.view_is) at c.requires.known) in
     attends-granted _ _ before _ c.in-Ok-Granted.id c.args.place (wish_of c.args.request) (rw (← c.self.view_is) at c.requires.attends) c.gain.ensures.remembers c.gain.ensures.speaks
-    (rw (c.in-Ok-Granted.is, c.in-Ok-Granted.field-0-is) at c.gain.ensures.own) there
+    (rw (c.in-Ok-Granted.is, c.in-Ok-Granted.field-0-is) at c.gain.ensures.own) there (ap is_some (rw (← c.self.view_is) at c.requires.idle))
     (same-context c.self.inside.who _ _ _ _ _ _ (c.keep.ensures.kept ∙ ap (λ (kept : List Kept). kept ++ c.kept.result ∷ []) c.reserve.ensures.kept ∙ ap (λ (ticket : Kept). c.self.inside.holdings.kept ++ ticket ∷ []) c.kept.ensures) (c.keep.ensures.known ∙ c.reserve.ensures.known) (c.keep.ensures.wait ∙ sym (rw (← c.self.view_is) at c.requires.idle)))
 
 pub returns-in-Ok-Waits-clause-attends : goal.returns-in-Ok-Waits-clause-attends

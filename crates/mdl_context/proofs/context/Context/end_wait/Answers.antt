@@ -1,6 +1,7 @@
 -- A settled wait ends, with its ticket or without.
-use Rattle.std.proofs.Common.{◌≡◌, ap, refl, subst, sym}
-use Rattle.mdl_context.specs.Contexts.{ContextView, Attends}
+use Rattle.std.proofs.Common.{◌≡◌, ap, refl}
+use Rattle.mdl_context.specs.Contexts.{ContextView}
+use Rattle.mdl_context.specs.Waits.{taking_up}
 use Rattle.mdl_context.proofs.AttendLemmas.{attends-won, attends-lost}
 use Rattle.mdl_context.proofs.WaitLemmas.{is_ok-ended}
 use Rattle.mdl_context.proofs.context.Context.end_wait.Goals as goal
@@ -10,11 +11,12 @@ unwrap-requires g c =
     let settled = rw (← c.self.view_is) at c.requires.settled in
     is_ok-ended settled.0 _ (g.met.S.LockSpace.agrees _ _ _ _ _ _ refl settled.1 c.end_wait.ensures)
 
-pub returns-in-Granted-clause-attends : goal.returns-in-Granted-clause-attends
-returns-in-Granted-clause-attends g c =
+pub win-requires-clause-attends : goal.win-requires-clause-attends
+win-requires-clause-attends g c =
+    let same : c.self.inside.who ≡ c.args.self.now.who = ap (λ (v : ContextView). v.who) c.self.view_is in
     let laws = g.met.S.LockSpace in
-    let step = rw (c.unwrap.ensures, c.in-Granted.is) at c.end_wait.ensures in
-    attends-won laws.keeps laws.changes laws.remembers _ _ _ _ _ (subst (Attends g.S.LockSpace.speaks_for g.S.LockSpace.own g.S.LockSpace.knows c.args.space.now) (sym c.self.view_is) c.requires.attends) step refl c.take_up.ensures.known c.take_up.ensures.kept c.take_up.ensures.wait
+    let step = rw (same, c.unwrap.ensures, c.in-Granted.is) at c.end_wait.ensures in
+    attends-won laws.keeps laws.changes laws.remembers _ _ c.in-Granted.id c.args.self.now (taking_up c.in-Granted.id c.args.self.now) c.requires.attends step refl refl refl refl
 
 pub returns-in-Victim-clause-attends : goal.returns-in-Victim-clause-attends
 returns-in-Victim-clause-attends g c =

@@ -1,5 +1,5 @@
 -- To lose patience changes nothing that the session has, and settles its wait.
-use Rattle.std.proofs.Common.{Ok, ap, refl, sym, ◌∙◌, ◌≡◌}
+use Rattle.std.proofs.Common.{ap, refl, sym, ◌∙◌, ◌≡◌}
 use Rattle.mdl_calls.specs.Causes.{Knowledge}
 use Rattle.mdl_context.specs.Contexts.{ContextView}
 use Rattle.mdl_context.proofs.AttendLemmas.{attends-still}
@@ -26,5 +26,5 @@ pub returns-clause-others : goal.returns-clause-others
 returns-clause-others g c =
     let same : c.self.inside.who ≡ c.args.self.now.who = ap (λ (v : ContextView). v.who) c.self.view_is in
     let laws = g.met.S.LockSpace in
-    leaves laws.keeps laws.others laws.remembers c.args.self.now.who (Ask (Settle_timeout c.args.self.now.who) (λ _. ending c.args.self.now)) _ _ (Ok c.end_wait.result, c.end_wait.new.self) (refl, λ _. for_ending c.args.self.now)
+    leaves laws.keeps laws.others laws.remembers c.args.self.now.who (Ask (Settle_timeout c.args.self.now.who) (λ _. ending c.args.self.now)) _ _ (c.end_wait.result, c.end_wait.new.self) (refl, λ _. for_ending c.args.self.now)
     (_, _, rw same at c.settle_timeout.ensures, c.end_wait.ensures.run)

@@ -1,8 +1,8 @@
-use Rattle.std.proofs.Common.{refl}
+use Rattle.std.proofs.Common.{refl, sym, ◌∙◌}
 use Rattle.mdl_context.specs.Holdings.{transactional}
 use Rattle.mdl_context.proofs.AttendLemmas.{attends-changed}
 use Rattle.mdl_context.proofs.context.Context.make_transactional.Goals as goal
 
 pub returns-clause-attends : goal.returns-clause-attends
 returns-clause-attends g c =
-    rw (← c.self.view_is) (λ space attends. attends-changed transactional (λ t. refl) space _ _ refl c.make_transactional.ensures.known c.make_transactional.ensures.kept c.make_transactional.ensures.wait attends)
+    rw (← c.self.view_is) (λ space attends. attends-changed transactional (λ t. refl) space _ _ refl c.make_transactional.ensures.known c.make_transactional.ensures.kept c.make_transactional.ensures.wait (sym c.is_waiting.ensures ∙ c.if-is_waiting.false) attends)

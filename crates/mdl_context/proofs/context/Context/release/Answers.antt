@@ -15,4 +15,4 @@ pub returns-clause-attends : goal.returns-clause-attends
 returns-clause-attends g c =
     attends-left _ _ _ _ _ (rw (← c.self.view_is) at c.requires) c.release.ensures.remembers c.release.ensures.speaks
     (serves-without c.args.id _ _ _ _ (rw (← c.self.view_is) at c.requires.serves) c.release.ensures.own c.remove.ensures.kept c.remove.ensures.wait)
-    refl c.remove.ensures.known c.remove.ensures.kept c.remove.ensures.wait
+    refl c.remove.ensures.known c.remove.ensures.kept c.remove.ensures.wait (sym c.is_waiting.ensures ∙ c.if-is_waiting.false)

@@ -1,5 +1,5 @@
 -- To look after the wait changes nothing that the session has.
-use Rattle.std.proofs.Common.{Ok, ap, refl, true, ◌≡◌}
+use Rattle.std.proofs.Common.{ap, refl, true, ◌≡◌}
 use Rattle.std.specs.Prelude.{is_some}
 use Rattle.mdl_calls.specs.Causes.{Knowledge}
 use Rattle.mdl_context.specs.Contexts.{ContextView}
@@ -32,7 +32,7 @@ search_on-requires-clause-attends g c =
 pub returns-in-Some-true-clause-others : goal.returns-in-Some-true-clause-others
 returns-in-Some-true-clause-others g c =
     let laws = g.met.S.LockSpace in
-    leaves laws.keeps laws.others laws.remembers c.args.self.now.who (looking c.args.self.now) _ _ (Ok c.look.result, c.look.new.self) (for_looking c.args.self.now) c.look.ensures.run
+    leaves laws.keeps laws.others laws.remembers c.args.self.now.who (looking c.args.self.now) _ _ (c.look.result, c.look.new.self) (for_looking c.args.self.now) c.look.ensures.run
 
 pub returns-in-Pending-clause-others : goal.returns-in-Pending-clause-others
 returns-in-Pending-clause-others g c =
@@ -45,5 +45,5 @@ pub returns-in-Settled-clause-others : goal.returns-in-Settled-clause-others
 returns-in-Settled-clause-others g c =
     let same : c.self.inside.who ≡ c.args.self.now.who = ap (λ (v : ContextView). v.who) c.self.view_is in
     let laws = g.met.S.LockSpace in
-    leaves laws.keeps laws.others laws.remembers c.args.self.now.who (Ask (Poll_wait c.args.self.now.who) (λ _. ending c.args.self.now)) _ _ (Ok c.end_wait.result, c.end_wait.new.self) (refl, λ _. for_ending c.args.self.now)
+    leaves laws.keeps laws.others laws.remembers c.args.self.now.who (Ask (Poll_wait c.args.self.now.who) (λ _. ending c.args.self.now)) _ _ (c.end_wait.result, c.end_wait.new.self) (refl, λ _. for_ending c.args.self.now)
     (_, _, rw same at c.poll_wait.ensures, c.end_wait.ensures.run)

@@ -16,9 +16,6 @@ returns-in-Ok-false-clause-run g c =
     let same : c.self.inside.who ≡ c.args.self.now.who = ap (λ (v : ContextView). v.who) c.self.view_is in
     run-cut_off g.S.LockSpace.joins c.args.self.now _ _ _ _ (rw (same, c.in-Ok-false.is, c.in-Ok-false.field-0-test) at c.seek.ensures.run) c.look-in-Ok-false.ensures.run
 
-pub returns-in-Err-clause-refused : goal.returns-in-Err-clause-refused
-returns-in-Err-clause-refused g c = ap Space (rw c.in-Err.is at c.seek.ensures.refused)
-
 pub returns-in-Err-clause-run : goal.returns-in-Err-clause-run
 returns-in-Err-clause-run g c =
     rw (← c.self.view_is) (run-failed g.S.LockSpace.joins c.in-Err.refusal _ _ _ _ _ (rw c.in-Err.is at c.seek.ensures.run) c.abandon.ensures.run
