@@ -1,6 +1,6 @@
 //! A lock space for tests: one session, one key, and one ticket and its clone at most, while another session comes and goes, and
 //! changes what stands under the key.
-ghost use Rattle.std.specs.Prelude.{◌&&◌, ◌||◌, ◌≡◌, ◌≢◌, ◌≤◌, ◌+◌, [], true, false, MatchResult, IfOk, OnErr, Err};
+ghost use Rattle.std.specs.Prelude.{◌&&◌, ◌||◌, ◌≡◌, ◌≢◌, ◌≤◌, ◌+◌, [], true, false, MatchResult, IfOk, IfSome, OnErr, Err};
 ghost use Rattle.mdl_key.specs.Words.{kind_of, is_mode_of};
 ghost use Rattle.mdl_system.specs.Strength.{covers, may_upgrade, may_downgrade};
 ghost use Rattle.mdl_defs.specs.Standings.{MayStand, standing_after};
@@ -157,7 +157,8 @@ impl LoneSession {
 
     // The held ticket of a number.
     fn ticket(&self, id: TicketId) -> Option<Held>
-        ensures { result ≡ ticket_held id self.now.own }
+        ensures found { result ≡ ticket_held id self.now.own }
+        ensures idle { IfSome result (λ _. is_waiting self.now.own ≡ false) }
     {
         match self.tickets {
             Some((ticket, _)) if ticket.id == id => Some(ticket),

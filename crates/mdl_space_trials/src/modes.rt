@@ -238,7 +238,9 @@ fn comes_to(room: &mut Room, held: Mode, act: Act, reply: Reply, mode: Mode) -> 
         mode,
     };
     match room.held(1) {
-        Ok(tickets) => gained == Reply::Granted(1) && answered == reply && tickets.as_slice() == [ticket],
+        Ok(tickets) => gained == Reply::Granted(1)
+            && answered == reply
+            && tickets.as_slice() == [ticket].as_slice(),
         Err(_) => false,
     }
 }
@@ -258,7 +260,10 @@ fn is_right(alloc: Global, held: Mode, act: Act, reply: Reply, mode: Option<Mode
 fn each_mode_has_its_upgrades(rt: HostRuntime) {
     for (held, wanted, mode) in UPGRADES {
         let act = Act::Upgrade(1, 1, *wanted);
-        assert!(rt; is_right(rt.alloc(), *held, act, Reply::Upgraded, *mode), "{held} to {wanted}");
+        assert!(rt;
+            is_right(rt.alloc(), *held, act, Reply::Upgraded, *mode),
+            "{held} to {wanted}"
+        );
     }
 }
 
@@ -266,6 +271,9 @@ fn each_mode_has_its_upgrades(rt: HostRuntime) {
 fn each_mode_has_its_downgrades(rt: HostRuntime) {
     for (held, wanted, mode) in FALLS {
         let act = Act::Downgrade(1, 1, *wanted);
-        assert!(rt; is_right(rt.alloc(), *held, act, Reply::Done, *mode), "{held} to {wanted}");
+        assert!(rt;
+            is_right(rt.alloc(), *held, act, Reply::Done, *mode),
+            "{held} to {wanted}"
+        );
     }
 }

@@ -279,12 +279,7 @@ impl LockSpace for LoneSession {
         Ok(id)
     }
 
-    fn upgrade_now(
-        &mut self,
-        _who: u16,
-        id: TicketId,
-        mode: Mode,
-    ) -> Result<Upgrade, SpaceError> {
+    fn upgrade_now(&mut self, _who: u16, id: TicketId, mode: Mode) -> Result<Upgrade, SpaceError> {
         let Some(ticket) = self.ticket(id) else {
             return Err(SpaceError::NotHeld);
         };
