@@ -115,15 +115,15 @@ impl Drawn {
     fn line(&mut self) -> Result<(), AllocError> {
         let who = self.draw_below(self.sessions).wrapping_add(1);
         write!(self.text, "{who} ")?;
-        match self.chance.draw(32) {
+        match self.chance.draw(35) {
             0..=6 => self.alone()?,
             7..=14 => self.some("SELECT", 3)?,
             15..=20 => self.write()?,
-            21..=23 => self.some("DROP TABLE", 3)?,
-            24..=25 => self.alter()?,
+            21..=25 => self.some("DROP TABLE", 3)?,
             26..=27 => self.create()?,
             28 => self.create_schema()?,
-            29 => self.kill()?,
+            29..=31 => self.alter()?,
+            32 => self.kill()?,
             _ => self.text.push_str("TIMEOUT")?,
         }
         self.text.push('\n')
