@@ -34,6 +34,8 @@ impl Lock {
 #[derive(Clone, Copy)]
 pub(crate) enum Act {
     Acquire(Lock, Mode, Duration),
+    Upgrade(TicketId, Mode),
+    Downgrade(TicketId, Mode),
     Release(TicketId),
     ReleaseName(Lock),
     Mark,
@@ -113,6 +115,8 @@ pub(crate) fn make<S: LockSpace>(
             let key = lock.key(alloc).ok()?;
             done(context.release_name(space, &key))
         }
+        Act::Upgrade(id, mode) => return acquired(context.upgrade(space, id, mode)),
+        Act::Downgrade(id, mode) => done(context.downgrade(space, id, mode)),
         Act::Release(id) => done(context.release(space, id)),
         Act::Mark => {
             let mark = context.savepoint();

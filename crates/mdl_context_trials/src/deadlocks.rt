@@ -40,8 +40,8 @@ fn make_at_last(hall: &mut Hall, who: u16, act: Act) -> Option<Reply>
     }
 }
 
-// Two sessions do this one after another: the first row whose reply isn't the wanted one.
-fn first_lost(alloc: Global, rows: &[Row]) -> Option<usize> {
+/// Two sessions do this one after another: the first row whose reply isn't the wanted one. Memory may be refused once.
+pub(crate) fn first_lost(alloc: Global, rows: &[Row]) -> Option<usize> {
     let Ok(mut hall) = Hall::new(alloc) else {
         return Some(rows.len());
     };

@@ -21,4 +21,6 @@ mod order;
 #[cfg(test)]
 mod rows;
 #[cfg(test)]
+mod upgrades;
+#[cfg(test)]
 mod waits;

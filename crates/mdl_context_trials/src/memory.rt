@@ -279,6 +279,41 @@ const ENDS: &[(Act, Reply)] = &[
     (Act::Mark, Reply::Stands(0, 0)),
 ];
 
+const UPGRADES: &[(Act, Reply)] = &[
+    (
+        Act::Upgrade(1, Mode::X),
+        Reply::MustWait(1),
+    ),
+    (Act::Resume, Reply::Resumed(Resume::Waiting)),
+    (Act::GiveUp, Reply::Resumed(Resume::Lost(Settled::Timeout))),
+    (
+        Act::Upgrade(1, Mode::X),
+        Reply::MustWait(2),
+    ),
+];
+
+const MERGED: &[(Act, Reply)] = &[
+    (Act::Resume, Reply::Resumed(Resume::Acquired(1))),
+    (Act::Downgrade(1, Mode::SU), Reply::Done),
+    (Act::Upgrade(1, Mode::X), Reply::Acquired(1)),
+    (Act::EndTransaction, Reply::Done),
+    (Act::Mark, Reply::Stands(0, 0)),
+];
+
+#[test]
+fn upgrades_outlive_want_of_memory(rt: HostRuntime) -> Result<(), Fail> {
+    let alloc = rt.alloc();
+    let (mut space, mut context) = start(alloc, 4)?;
+    let key = key_of(alloc, Lock::B)?;
+    let share = Act::Acquire(Lock::B, Mode::SU, Duration::Transaction);
+    assert!(rt; outlives(alloc, &mut space, &mut context, share, Reply::Acquired(1)));
+    assert!(rt; stand_in_the_way(&mut space, &context, &key));
+    assert!(rt; all_outlive(alloc, &mut space, &mut context, UPGRADES));
+    assert!(rt; get_out_of_the_way(&mut space, &context));
+    assert!(rt; all_outlive(alloc, &mut space, &mut context, MERGED));
+    Ok(())
+}
+
 #[test]
 fn outlives_want_of_memory(rt: HostRuntime) -> Result<(), Fail> {
     let alloc = rt.alloc();

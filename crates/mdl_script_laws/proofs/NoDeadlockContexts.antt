@@ -20,9 +20,10 @@ use Rattle.mdl_context.specs.declared.kept.Kept.{Kept}
 use Rattle.mdl_context.specs.declared.request.Acquire.{Acquire}
 use Rattle.mdl_context.specs.declared.request.Acquire.TheVariants.{Acquired}
 use Rattle.mdl_context.specs.declared.request.Resume.{Resume}
+use Rattle.mdl_context.specs.declared.request.Resume.TheVariants as resume
 use Rattle.mdl_context.specs.Contexts.{ContextView, place_known, ticket_kept}
 use Rattle.mdl_context.specs.Gains as gains
-use Rattle.mdl_context.specs.Holdings.{earliest}
+use Rattle.mdl_context.specs.Holdings.{earliest, upgrade_of}
 use Rattle.mdl_context.specs.Releases as releases
 use Rattle.mdl_context.specs.Requests as requests
 use Rattle.mdl_context.specs.Requests.{Outcome}
@@ -181,8 +182,19 @@ quiet-abandoning context reply =
     calls_bind {A = Unit {0}} {B = Outcome Resume} IsQuiet (gains.abandoning context.who) (λ _. Give reply)
     (λ answer session. refl, λ _. (λ answer session. refl, quiet-unwanted context.who)) (λ _. tt)
 
+quiet-merge : (who new : ℕ) (answer : Answer) → AreQuiet (upgrades.merge_answered who new answer)
+quiet-merge who new Done = tt
+quiet-merge who new _ = (λ answer session. refl, λ _. tt)
+
+quiet-won : (upgrade : Option (ℕ × Mode)) (new : ℕ) (context : ContextView) → AreQuiet (waits.wait_won upgrade new context)
+quiet-won None new context = tt
+quiet-won (Some (id, mode)) new context =
+    calls_bind {A = Result (Unit {0}) SpaceError} {B = Outcome Resume} IsQuiet (upgrades.merging context.who id new)
+    (λ end. Give (upgrades.merged (resume.Acquired id) id mode (waits.without_wait context) end))
+    (λ answer session. refl, quiet-merge context.who new) (λ _. tt)
+
 quiet-end : (context : ContextView) (answer : Answer) → AreQuiet (waits.end_answered context answer)
-quiet-end context (Granted id) = tt
+quiet-end context (Granted id) = quiet-won (upgrade_of context.wait) id context
 quiet-end context (Lost how) = tt
 quiet-end context _ = tt
 

@@ -348,6 +348,7 @@ fits-changed a b context id change answer fits joins =
       known = λ key place e. core-remembers a b (Change_definition context.who id change) answer context.who place key fits.speaks (λ f done. cc) joins
           (fits.known key place e);
       wait = λ wanted w e f. fits.wait wanted w e (subst (λ (o : Own). o.wait ≡ Some w) same f);
+      gains = fits.gains;
     }
 
 -- ---- locks

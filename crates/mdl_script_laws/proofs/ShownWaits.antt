@@ -1,5 +1,5 @@
 -- A context whose wait goes on, or that gives tickets up, keeps what it kept, held; but for what it gives up.
-use Rattle.std.proofs.Common.{◌≡◌, inl, inr, ℕ, Bool, true, false, not, List, [], ◌∷◌, Option, Some, None, Ok, Err, Contains, option_map, refl, sym, ap, ◌∙◌, arith}
+use Rattle.std.proofs.Common.{◌≡◌, inl, inr, ℕ, Bool, true, false, not, List, [], ◌∷◌, Option, Some, None, Ok, Err, Contains, option_map, refl, sym, ap, ◌∙◌, subst, arith}
 use Rattle.std.proofs.lemmas.Bool.Decides.{nat_tests}
 use Rattle.std.proofs.lemmas.List.Elements.{Contains-append_right}
 use Rattle.mdl_system.proofs.MemberLemmas.{Contains-none}
@@ -17,7 +17,7 @@ use Rattle.mdl_context.specs.declared.request.Resume.{Resume}
 use Rattle.mdl_context.specs.declared.request.Resume.TheVariants as resume
 use Rattle.mdl_context.specs.Contexts.{ContextView, has_number, without}
 use Rattle.mdl_context.specs.Gains as gains
-use Rattle.mdl_context.specs.Holdings.{search_over, without_number, is_ticket}
+use Rattle.mdl_context.specs.Holdings.{search_over, upgrade_of, without_number, is_ticket}
 use Rattle.mdl_context.specs.Releases as releases
 use Rattle.mdl_context.specs.Requests.{Outcome}
 use Rattle.mdl_context.specs.Waits as waits
@@ -47,7 +47,7 @@ taken-up : (a b : Core) (context : ContextView) (id : ℕ) (o : Option Wanted) �
     × ComesTo context (Ok (resume.Acquired id), waits.taking_up id (record context { wait = o })) b
 taken-up a b context id None e fits joins =
     let stays = stays-call context.who none a b (End_wait context.who) (Granted id) fits.speaks (refl, tt, refl) joins in
-    (followed-waiting a b context None fits stays.0 (λ wanted w f g. cc), λ wanted f. cc)
+    (followed-waiting a b context None fits stays.0 (λ wanted w f g. cc) refl, λ wanted f. cc)
 taken-up a b context id (Some wanted) e fits joins =
     let won = won-by a b context.who id fits.speaks joins in
     let place : won.0.place ≡ wanted.place = fits.wait wanted won.0 e won.1 in
@@ -72,11 +72,12 @@ taken-up a b context id (Some wanted) e fits joins =
 
 -- the context has no wait any more
 lost-so : (a b : Core) (context : ContextView) → Fits a context → Spares context.who none a b → Followed a context b (waits.without_wait context)
-lost-so a b context fits spares = followed-waiting a b context None fits spares (λ wanted w f g. cc)
+lost-so a b context fits spares = followed-waiting a b context None fits spares (λ wanted w f g. cc) refl
 
 ended-so : (a b : Core) (context : ContextView) (answer : Answer) → Fits a context → Joins a (End_wait context.who) answer b
     → Leads (Resumed a context) (waits.end_answered context answer) b
-ended-so a b context (Granted id) fits joins = taken-up a b context id context.wait refl fits joins
+ended-so a b context (Granted id) fits joins =
+    subst (λ upgrade. Leads (Resumed a context) (waits.wait_won upgrade id context) b) (sym fits.gains) (taken-up a b context id context.wait refl fits joins)
 ended-so a b context (Lost how) fits joins =
     let stays = stays-call context.who none a b (End_wait context.who) (Lost how) fits.speaks (refl, tt, refl) joins in
     (lost-so a b context fits stays.0, tt)
@@ -115,8 +116,13 @@ searched-fits a context fits = record {
   alone = fits.alone;
   known = fits.known;
   wait = λ wanted w e f. at context.wait refl wanted w e f;
+  gains = same context.wait ∙ fits.gains;
 }
   where
+    same : (o : Option Wanted) → upgrade_of (option_map search_over o) ≡ upgrade_of o
+    same None = refl
+    same (Some x) = refl
+
     at : (o : Option Wanted) → context.wait ≡ o → (wanted : Wanted) (w : Wait) → option_map search_over o ≡ Some wanted
         → (own_at a context.who).wait ≡ Some w → w.place ≡ wanted.place
     at None here wanted w e f = cc

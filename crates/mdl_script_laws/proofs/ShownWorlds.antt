@@ -386,6 +386,7 @@ keeps-first w is = subst (λ (p : Player). Keeps Nothing first_core p.session) (
     alone = λ k other one two e. absurd (Contains-none k one);
     known = λ key place e. cc;
     wait = λ wanted w e f. cc;
+    gains = refl;
   };
   unlocked = refl;
   kept = λ x none opens. absurd none;

@@ -1,8 +1,10 @@
 -- How many locks are left to ask for, however far a statement comes; and that a session whose wait is settled has one less to ask for
 -- once it goes on.
-use Rattle.std.proofs.Common.{◌≡◌, ℕ, suc, ◌≤◌, Bool, true, false, Option, Some, None, Ok, Err, refl, subst, sym, arith}
+use Rattle.std.proofs.Common.{◌≡◌, ℕ, suc, ◌≤◌, Bool, true, false, Option, Some, None, Result, Ok, Err, refl, subst, sym, arith}
 use Rattle.std.specs.Prelude.{is_some, if◌then◌else◌}
+use Rattle.mdl_key.specs.declared.mode.Mode.{Mode}
 use Rattle.mdl_calls.specs.declared.answers.Settled.{Settled}
+use Rattle.mdl_calls.specs.declared.space_error.SpaceError.{SpaceError}
 use Rattle.mdl_calls.specs.Words.{Answer, Granted, Lost, Is_settled, Give, Each, outcome_of}
 use Rattle.mdl_calls.proofs.FaithfulLemmas.{each_then}
 use Rattle.mdl_core.specs.declared.pending.Pending.{Pending}
@@ -13,8 +15,10 @@ use Rattle.mdl_context.specs.declared.request.Mark.{Mark}
 use Rattle.mdl_context.specs.declared.request.Resume.{Resume}
 use Rattle.mdl_context.specs.declared.request.Resume.TheVariants as resume
 use Rattle.mdl_context.specs.Contexts.{ContextView}
+use Rattle.mdl_context.specs.Holdings.{upgrade_of}
 use Rattle.mdl_context.specs.Releases.{giving_up}
 use Rattle.mdl_context.specs.Requests.{Outcome}
+use Rattle.mdl_context.specs.Upgrades as upgrades
 use Rattle.mdl_context.specs.Waits as waits
 use Rattle.mdl_context.specs.Waits.{giving_up_wait, resuming}
 use Rattle.mdl_stmt.specs.declared.ending.Ending.{Ending}
@@ -124,8 +128,20 @@ polls-settled who core settled =
     let it = settled-wait (has_session who core) (seat_at who core).wait settled in
     (it.1, polled-settled (seat_at who core).wait it.0 it.1 core it.2 it.3)
 
+-- a merge is no new wait
+over-merged : (id : ℕ) (mode : Mode) (context : ContextView) (end : Result (Unit {0}) SpaceError) → IsOver (upgrades.merged (resume.Acquired id) id mode context end)
+over-merged id mode context (Ok x) = tt
+over-merged id mode context (Err refusal) = tt
+
+over-won : (upgrade : Option (ℕ × Mode)) (new : ℕ) (context : ContextView) → Each IsOver (waits.wait_won upgrade new context)
+over-won None new context = tt
+over-won (Some (id, mode)) new context =
+    each_then {A = Result (Unit {0}) SpaceError} {B = Outcome Resume} IsOver (upgrades.merging context.who id new)
+    (λ end. Give (upgrades.merged (resume.Acquired id) id mode (waits.without_wait context) end)) (over-merged id mode (waits.without_wait context))
+
 over-ended : (context : ContextView) (answer : Answer) (core : Core) → IsOver (outcome_of outcome (waits.end_answered context answer) core).0
-over-ended context (Granted id) core = tt
+over-ended context (Granted id) core =
+    each-outcome IsOver outcome (waits.wait_won (upgrade_of context.wait) id context) core (over-won (upgrade_of context.wait) id context)
 over-ended context (Lost how) core = tt
 over-ended context answer core = tt
 

@@ -1,5 +1,5 @@
 -- After each line a session's statement waits exactly where the session has a wait in the space.
-use Rattle.std.proofs.Common.{◌≡◌, ◌≢◌, ◌⊎◌, inl, inr, ℕ, ◌-◌, Bool, true, false, take, Option, Some, None, Ok, Err, refl, subst, ap, ◌∙◌, sym, arith}
+use Rattle.std.proofs.Common.{◌≡◌, ◌≢◌, ◌⊎◌, inl, inr, ℕ, ◌-◌, Bool, true, false, take, Option, Some, None, Result, Ok, Err, refl, subst, ap, ◌∙◌, sym, arith}
 use Rattle.std.specs.Prelude.{codes, if◌then◌else◌, is_some, not}
 use Rattle.std.specs.List.{Contains, range_with_len}
 use Rattle.std.proofs.Math.Dec.{eqb}
@@ -7,17 +7,20 @@ use Rattle.std.proofs.lemmas.Bool.Decides.{eqb_tells}
 use Rattle.std.proofs.lemmas.List.{get_or-replicate}
 use Rattle.std.proofs.lemmas.List.Elements.{All-contains, Contains-from_at}
 use Rattle.std.proofs.lemmas.List.FromFn.{get_or-range_with_len, length-range_with_len}
+use Rattle.mdl_key.specs.declared.mode.Mode.{Mode}
 use Rattle.mdl_key.specs.Keys.{KeyName, schema_key}
 use Rattle.mdl_calls.specs.declared.answers.Settled.{Settled}
 use Rattle.mdl_calls.specs.declared.answers.Settled.TheVariants as settled_as
-use Rattle.mdl_calls.specs.Words.{Answer, At_place, Granted, Lost, Is_settled, Call, End_wait, Settle_timeout, Own, Program, Give, Ask, Grow, ◌>>=◌, EachCall, outcome_of}
+use Rattle.mdl_calls.specs.declared.space_error.SpaceError.{SpaceError}
+use Rattle.mdl_calls.specs.Words.{Answer, At_place, Done, Granted, Lost, Is_settled, Call, End_wait, Settle_timeout, Own, Program, Give, Ask, Grow, ◌>>=◌, EachCall, outcome_of}
 use Rattle.mdl_core.specs.declared.pending.Pending.{Pending}
 use Rattle.mdl_core.specs.CoreCalls.{ending, ending_at, ending_of, has_settled, outcome, polling}
 use Rattle.mdl_core.specs.CoreJoins.{SpeaksFor, own_at}
 use Rattle.mdl_core.specs.Cores.{Core, empty_core, has_session, seat_at}
 use Rattle.mdl_core.specs.RunLaws.{IsMadeFor}
 use Rattle.mdl_core.specs.Seats.{SeatView, empty_seat, is_closed, is_open, own_of}
-use Rattle.mdl_core.proofs.CallLaws.{core-others}
+use Rattle.mdl_core.proofs.CallLaws.{core-keeps, core-others}
+use Rattle.mdl_core.proofs.CoreSound.{calls_keep-sound}
 use Rattle.mdl_core.proofs.RunOutcomes.{outcomes-are_runs}
 use Rattle.mdl_lines.specs.Sessions.{IsScriptSession}
 use Rattle.mdl_syntax.specs.declared.script.Line.{Line}
@@ -26,8 +29,12 @@ use Rattle.mdl_context.specs.declared.request.Resume.{Resume}
 use Rattle.mdl_context.specs.declared.request.Resume.TheVariants as resume
 use Rattle.mdl_context.specs.Contexts.{ContextView, mark_of}
 use Rattle.mdl_context.specs.Requests.{Outcome}
+use Rattle.mdl_context.specs.Holdings.{upgrade_of}
+use Rattle.mdl_context.specs.MemoryLaws.{IsOwnCall}
+use Rattle.mdl_context.specs.Upgrades as upgrades
 use Rattle.mdl_context.specs.Waits as waits
 use Rattle.mdl_context.specs.Waits.{resuming}
+use Rattle.mdl_context.proofs.OwnCallLemmas.{calls_weaker, own_made, own_won}
 use Rattle.mdl_stmt.specs.Endings.{Pause, closing, ending_of_error, ending_of_loss}
 use Rattle.mdl_stmt.specs.MemoryLaws.{session_at}
 use Rattle.mdl_stmt.specs.Playing as playing
@@ -45,7 +52,7 @@ use Rattle.mdl_script_laws.proofs.ScriptLemmas.{Anything, IsKept, Keeps, kept-li
 use Rattle.mdl_script_laws.proofs.TurnLemmas.{found-settled, found-waits, nobody-left}
 use Rattle.mdl_script_laws.proofs.TurnPlays.{polls-settled, settled-wait}
 use Rattle.mdl_script_laws.proofs.TurnTies.{IsTied, PausesTied, tied-closing, tied-play}
-use Rattle.mdl_script_laws.proofs.TurnTracks.{Tracks, call-waits, others-outcome, tracks-outcome, wait_after}
+use Rattle.mdl_script_laws.proofs.TurnTracks.{Tracks, call-waits, others-outcome, tracks-outcome, tracks-then, wait_after}
 
 -- ---- one program after another
 
@@ -89,13 +96,34 @@ ends-settled : (who : ℕ) (core : Core) → has_settled core who ≡ true → I
 ends-settled who core settled =
     let it = settled-wait (has_session who core) (seat_at who core).wait settled in ends-of who (seat_at who core).wait it.0 it.1 core it.2 it.3
 
+-- a merge begins no wait
+ended-merged : (id : ℕ) (mode : Mode) (context : ContextView) (end : Result (Unit {0}) SpaceError) (waits : Bool) → waits ≡ false
+    → IsEnded (upgrades.merged (resume.Acquired id) id mode context end) waits
+ended-merged id mode context (Ok x) waits e = e
+ended-merged id mode context (Err refusal) waits e = e
+
+tracks-merge : (who new : ℕ) (answer : Answer) → Tracks (λ end waits. waits ≡ false) (upgrades.merge_answered who new answer) false
+tracks-merge who new Done = refl
+tracks-merge who new _ = λ answer is. refl
+
+tracks-won : (upgrade : Option (ℕ × Mode)) (new : ℕ) (context : ContextView) → Tracks IsEnded (waits.wait_won upgrade new context) false
+tracks-won None new context = refl
+tracks-won (Some (id, mode)) new context =
+    tracks-then {A = Result (Unit {0}) SpaceError} {B = Outcome Resume} (λ end waits. waits ≡ false) IsEnded (upgrades.merging context.who id new)
+    (λ end. Give (upgrades.merged (resume.Acquired id) id mode (waits.without_wait context) end)) false (λ answer is. tracks-merge context.who new answer)
+    (ended-merged id mode (waits.without_wait context))
+
 -- what is left then, by the answer
-ended-answered : (context : ContextView) (answer : Answer) (core : Core) (before : Bool) → IsEndAnswer answer
+ended-answered : (context : ContextView) (answer : Answer) (core : Core) (before : Bool) → SpeaksFor core context.who → IsEndAnswer answer
     → is_some (own_at core context.who).wait ≡ wait_after (End_wait context.who) answer before
     → let end = outcome_of outcome (waits.end_answered context answer) core in IsEnded end.0 (is_some (own_at end.1 context.who).wait)
-ended-answered context (Granted id) core before is e = e
-ended-answered context (Lost how) core before is e = e
-ended-answered context _ core before is e = absurd is
+ended-answered context (Granted id) core before speaks is e =
+    let program = waits.wait_won (upgrade_of context.wait) id context in
+    tracks-outcome IsEnded program core context.who speaks
+    (calls_weaker {A = Outcome Resume} (IsOwnCall context.who) (IsMadeFor context.who) (own_made context.who) program (own_won (upgrade_of context.wait) id context))
+    (subst (Tracks IsEnded program) (sym e) (tracks-won (upgrade_of context.wait) id context))
+ended-answered context (Lost how) core before speaks is e = e
+ended-answered context _ core before speaks is e = absurd is
 
 -- what a program comes to is so, with whether the session has a wait then
 abbrev Ends : ContextView → Program (Outcome Resume) → Core → Type 0
@@ -104,6 +132,8 @@ Ends context program core = let end = outcome_of outcome program core in IsEnded
 ended-ending : (context : ContextView) (core : Core) → SpeaksFor core context.who → has_settled core context.who ≡ true → Ends context (waits.ending context) core
 ended-ending context core speaks settled =
     ended-answered context (ending context.who core).0 (ending context.who core).1 (is_some (own_at core context.who).wait)
+    (core-keeps calls_keep-sound core (ending context.who core).1 (End_wait context.who) (ending context.who core).0 context.who speaks
+    (joins-outcome context.who core (End_wait context.who) speaks (refl, refl)))
     (ends-settled context.who core settled)
     (call-waits context.who core (End_wait context.who) speaks (refl, refl))
 

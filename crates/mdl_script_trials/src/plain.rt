@@ -99,6 +99,8 @@ enum Step {
     CheckVersion(Key),
     // Drops a table.
     Drop(Key),
+    // Gives a table another name, if it can get it.
+    Rename(Key, Key),
     // Fails where a table isn't there, or its columns can't be changed so.
     CheckChange(Key, Change),
     // Asks for a stronger lock of a table beside the one that is had.

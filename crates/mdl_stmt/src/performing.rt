@@ -34,6 +34,7 @@ impl<S: LockSpace> Player<S> {
             Statement::CreateTable { .. } => self.define(space, statement),
             Statement::CreateSchema(_) => self.define(space, statement),
             Statement::DropTables(_) => self.define(space, statement),
+            Statement::RenameTable { .. } => self.define(space, statement),
             Statement::AlterTable(alteration) => {
                 self.alter_first(space, &alteration.table, statement)
             }
@@ -114,6 +115,12 @@ impl<S: LockSpace> Player<S> {
                 self.lock_scopes(space, tables, locks.with(ticket))
             }
             Stage::DropTables(locks) => self.lock_tables(space, locks.with(ticket)),
+            Stage::RenameScopes(from, to, locks) => {
+                self.lock_rename_scopes(space, from, to, locks.with(ticket))
+            }
+            Stage::RenameTables(from, to, schema, locks) => {
+                self.lock_names(space, from, to, schema, locks.with(ticket))
+            }
             Stage::AlterGlobal(alteration) => self.lock_schema_and_alter(space, alteration),
             Stage::AlterSchema(alteration) => self.alter_in_schema(space, alteration),
             Stage::AlterTable(alteration) => self.alter_under(space, alteration, ticket),

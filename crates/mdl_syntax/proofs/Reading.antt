@@ -4,18 +4,15 @@ use Rattle.std.specs.Prelude.{Option, Some, None, IsOk}
 use Rattle.std.specs.Str.Lines.{strip_carriage_return}
 use Rattle.std.proofs.lemmas.List.{get_or-map, length-map, drop_all}
 use Rattle.mdl_lines.specs.declared.fault.LineError.{LineError}
-use Rattle.mdl_lines.specs.declared.fault.LineError.TheVariants.{BadSession}
 use Rattle.mdl_lines.specs.Lines.{lines_of}
 use Rattle.mdl_lines.specs.ScriptLines.{said_before}
-use Rattle.mdl_lines.specs.Sessions.{session_of}
 use Rattle.mdl_lines.proofs.ScriptLemmas.{joined, joined-said, pieces}
 use Rattle.mdl_syntax.specs.declared.no_statement.NoStatement.{NoStatement}
 use Rattle.mdl_syntax.specs.declared.no_statement.NoStatement.TheVariants.{Refused, Memory}
 use Rattle.mdl_syntax.specs.declared.script.Line.{Line}
-use Rattle.mdl_syntax.specs.declared.statement.Statement.{Statement}
-use Rattle.mdl_syntax.specs.Forms.{and_then, or_refuse, statement_of}
+use Rattle.mdl_syntax.specs.Forms.{and_then}
 use Rattle.mdl_syntax.specs.Reading.{ReadsAs}
-use Rattle.mdl_syntax.specs.Scripts.{line_says, lines_say, parsed, words_say}
+use Rattle.mdl_syntax.specs.Scripts.{line_says, lines_say, parsed}
 
 lines_left : (text line : List ℕ) (n : ℕ) → n < length (pieces text) → line ≡ get_or (pieces text) n line → drop n (lines_of text) ≡ strip_carriage_return line ∷ drop (n + 1) (lines_of text)
 lines_left text line n l e =
@@ -53,18 +50,9 @@ module _ {A : Type 0} (said : Result A LineError) (result : Result A NoStatement
   pub memory_said : result ≡ Err Memory → IsOk said
   memory_said is = subst (ReadsAs said) is reads
 
--- a line whose statement isn't read says no more than that
-pub refused-statement : (number : ℕ) (line words : List (List ℕ)) (word : List ℕ) (session : ℕ) (error : NoStatement) → line ≡ word ∷ words
-    → ReadsAs (statement_of words) (Err error) → session_of word ≡ Some session → ReadsAs {A = Option Line} (words_say number line) (Err error)
-refused-statement number line words word session error is reads of =
-    subst (λ (l : List (List ℕ)). ReadsAs {A = Option Line} (words_say number l) (Err error)) (sym is)
-    (subst (λ (s : Option ℕ). ReadsAs {A = Option Line} (and_then (or_refuse BadSession s) (saying words)) (Err error)) (sym of) (fails (statement_of words) error reads)) where
-      saying : List (List ℕ) → ℕ → Result (Option Line) LineError
-      saying words session = and_then (statement_of words) (λ statement. Ok (Some (record { number = number; session = session; statement = statement })))
-
-      fails : (said : Result Statement LineError) (error : NoStatement) → ReadsAs said (Err error)
-          → ReadsAs {A = Option Line} (and_then said (λ statement. Ok (Some (record { number = number; session = session; statement = statement })))) (Err error)
-      fails (Ok statement) Memory read = refl
-      fails (Ok statement) (Refused fault) read = absurd (cc)
-      fails (Err fault) Memory read = absurd (cc)
-      fails (Err fault) (Refused other) read = cc
+-- what refuses a statement refuses its line
+pub line-refused : {A B : Type 0} (said : Result A LineError) (made : A → B) (none : NoStatement) → ReadsAs said (Err none) → ReadsAs (and_then said (λ value. Ok (made value))) (Err none)
+line-refused (Ok value) made (Refused error) reads = cc
+line-refused (Err error) made (Refused other) reads = cc
+line-refused (Ok value) made Memory reads = refl
+line-refused (Err error) made Memory reads = reads

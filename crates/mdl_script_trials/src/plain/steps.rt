@@ -15,6 +15,7 @@ impl Plain {
             Step::CreateSchema(schema) => Ok(self.create_schema(&schema)),
             Step::CheckVersion(table) => Ok(self.check_version(&table)),
             Step::Drop(table) => Ok(self.drop_table(&table)),
+            Step::Rename(from, to) => self.rename(&from, &to),
             Step::CheckChange(table, change) => Ok(self.check_change(&table, &change)),
             Step::Raise(table, mode) => self.raise(who, &table, mode),
             Step::Lower(table, mode) => Ok(self.lower(who, &table, mode)),
