@@ -133,6 +133,12 @@ const ROWS: &str = "\
     TABLE t => 1 1 OK / 2 1 OK / 3 1 OK / 4 1 OK / 5 1 OK / 6 1 ERR 1305 / 7 2 OK
 1 BEGIN / 1 SELECT t / 2 CREATE TABLE t x / 3 ALTER TABLE t ADD y INPLACE / 1 SELECT t / 1 ROLLBACK => 1 1 OK / 2 1 \
     ERR 1146 / 3 2 WAIT TABLE test.t X / 4 3 WAIT TABLE test.t SU / 5 1 ERR 1146 / 6 1 OK / 3 2 OK / 4 3 OK
+1 CREATE TABLE t x / 1 ALTER TABLE t DROP x COPY / 1 ALTER TABLE t ADD x COPY / 1 ALTER TABLE t DROP z COPY / 1 \
+    RENAME TABLE t TO u / 1 SELECT u / 1 SELECT t => 1 1 OK / 2 1 ERR 9001 / 3 1 ERR 1060 / 4 1 ERR 1091 / 5 1 OK / \
+    6 1 OK test.u@1(x) / 7 1 ERR 1146
+1 CREATE TABLE t x / 1 ALTER TABLE t ADD y COPY / 1 RENAME TABLE t TO u / 1 SELECT u / 1 CREATE TABLE t z / 1 \
+    SELECT t / 1 RENAME TABLE u TO t / 1 RENAME TABLE v TO t => 1 1 OK / 2 1 OK / 3 1 OK / 4 1 OK test.u@1(x,y) / 5 \
+    1 OK / 6 1 OK test.t@4(z) / 7 1 ERR 1050 / 8 1 ERR 1050
 1 CREATE SCHEMA S => line 1: BadName
 1 CREATE SCHEMA s t => line 1: BadWord
 1 SELECT a b c d e f g h T => line 1: BadWord
