@@ -87,12 +87,12 @@ module _ (id : ℕ) (change : Mode → Mode) where
     backed = λ k among.
         let from = Contains-map_from changed context.kept k among in
         let t = fits.backed from.0 from.1 in
-        (t.0, t.1, t.2 ∙ sym (same-number from.0) ∙ ap (λ (x : Kept). x.id) from.2, t.3 ∙ sym (same-place from.0) ∙ ap (λ (x : Kept). x.place) from.2);
+        (t.0, t.1, t.2 ∙ sym (same-number from.0) ∙ sym (ap (λ (x : Kept). x.id) from.2), t.3 ∙ sym (same-place from.0) ∙ sym (ap (λ (x : Kept). x.place) from.2));
     alone = λ k other one two e.
         let f = Contains-map_from changed context.kept k one in
         let g = Contains-map_from changed context.kept other two in
-        let same = fits.alone f.0 g.0 f.1 g.1 (sym (same-number f.0) ∙ ap (λ (x : Kept). x.id) f.2 ∙ e ∙ sym (ap (λ (x : Kept). x.id) g.2) ∙ same-number g.0) in
-        sym (ap (λ (x : Kept). x.duration) f.2) ∙ same-duration f.0 ∙ same ∙ sym (same-duration g.0) ∙ ap (λ (x : Kept). x.duration) g.2;
+        let same = fits.alone f.0 g.0 f.1 g.1 (sym (same-number f.0) ∙ sym (ap (λ (x : Kept). x.id) f.2) ∙ e ∙ ap (λ (x : Kept). x.id) g.2 ∙ same-number g.0) in
+        ap (λ (x : Kept). x.duration) f.2 ∙ same-duration f.0 ∙ same ∙ sym (same-duration g.0) ∙ sym (ap (λ (x : Kept). x.duration) g.2);
     known = fits.known;
     wait = fits.wait;
   }
