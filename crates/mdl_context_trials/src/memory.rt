@@ -280,16 +280,10 @@ const ENDS: &[(Act, Reply)] = &[
 ];
 
 const UPGRADES: &[(Act, Reply)] = &[
-    (
-        Act::Upgrade(1, Mode::X),
-        Reply::MustWait(1),
-    ),
+    (Act::Upgrade(1, Mode::X), Reply::MustWait(1)),
     (Act::Resume, Reply::Resumed(Resume::Waiting)),
     (Act::GiveUp, Reply::Resumed(Resume::Lost(Settled::Timeout))),
-    (
-        Act::Upgrade(1, Mode::X),
-        Reply::MustWait(2),
-    ),
+    (Act::Upgrade(1, Mode::X), Reply::MustWait(2)),
 ];
 
 const MERGED: &[(Act, Reply)] = &[

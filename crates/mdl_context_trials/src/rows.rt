@@ -17,8 +17,9 @@ pub(crate) const NO_WAIT: Reply = Reply::Refused(ContextError::Space(SpaceError:
 
 pub(crate) const NO_PLACE: Reply = Reply::Refused(ContextError::Space(SpaceError::NoPlace));
 
-pub(crate) const NOT_UPGRADABLE: Reply =
-    Reply::Refused(ContextError::Space(SpaceError::NotUpgradable));
+pub(crate) const NOT_UPGRADABLE: Reply = Reply::Refused(ContextError::Space(
+    SpaceError::NotUpgradable,
+));
 
 pub(crate) const BAD_MODE: Reply = Reply::Refused(ContextError::Space(SpaceError::BadMode));
 

@@ -94,11 +94,11 @@ impl<S: LockSpace> Player<S> {
         ensures who { self.new.context.who ≡ self.old.context.who }
         ensures idle { self.new.context.wait ≡ None }
     {
-        match self.context.give_up(space) {
-            Ok(Resume::Acquired(ticket)) => {
-                let _released = self.context.release(space, ticket);
-            }
-            _ => {}
+        let Ok(end) = self.context.give_up(space) else {
+            return;
+        };
+        if let Resume::Acquired(ticket) = end {
+            let _released = self.context.release(space, ticket);
         }
     }
 }
