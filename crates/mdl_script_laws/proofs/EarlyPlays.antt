@@ -111,6 +111,7 @@ rules_late mark = record {
   closes = λ ending session so. late_closing ending mark session so;
   follows = follows_late;
   waits = λ wish rest session so. so;
+  raises = λ id key mode rest session so. so;
 }
 
 late_play : (asked : Row Reply) (mark : Mark) (session : Session) → FailsLate IsLate asked → AllLate (play asked mark session)

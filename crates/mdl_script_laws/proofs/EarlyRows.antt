@@ -20,7 +20,7 @@ use Rattle.mdl_stmt.specs.States.{State, has_locked, savepoint_mark, written}
 use Rattle.mdl_stmt.specs.Statements as rows
 use Rattle.mdl_stmt.specs.Statements.{row_of}
 use Rattle.mdl_script_laws.specs.RefusalsFirst.{is_early}
-use Rattle.mdl_script_laws.proofs.RowRules.{Any, KeepsTo, keeps-begin, keeps-bind, keeps-commit, keeps-create, keeps-create_schema, keeps-drop, keeps-either, keeps-exists, keeps-rename, keeps-flush, keeps-rollback, keeps-unlock_all}
+use Rattle.mdl_script_laws.proofs.RowRules.{Any, KeepsTo, keeps-begin, keeps-bind, keeps-commit, keeps-create, keeps-create_schema, keeps-drop, keeps-either, keeps-exists, keeps-rename, keeps-flush, keeps-rollback, keeps-unlock_all, keeps-alter}
 
 -- a failure by another error
 abbrev pub IsOther : ErrorNumber → Type 0
@@ -205,6 +205,17 @@ checks_ddl_first rest so = checks_bind Any Any IsLate IsLate rows.ddl (λ _. res
 late_commit_first : (rest : Row Reply) → FailsLate IsLate rest → FailsLate IsLate (rows.commit_first rest)
 late_commit_first rest so = keeps-bind IsOther Any IsLate rows.commit (λ _. rest) late_commit (λ _ _. so)
 
+-- ALTER TABLE looks at locked tables first
+checks_alter : (locked : Bool) (table : KeyName) (rest : Row Reply) → FailsLate IsLate rest
+    → ChecksFirst IsLate IsLate (if locked then rows.alter_among_locked table rest else rows.commit_first rest)
+checks_alter true table rest so =
+    checks_bind Any Never IsLate IsLate (rows.held_lock table) (λ (locked : Locked). check locked.may_write TableLockedForRead >> rows.commit_first rest)
+    (checks_held table)
+    (λ locked _. checks_then (check locked.may_write TableLockedForRead) (rows.commit_first rest) (checks_check locked.may_write TableLockedForRead)
+    (late_first IsLate (rows.commit_first rest) (late_commit_first rest so)))
+    (λ locked none. absurd none)
+checks_alter false table rest so = late_first IsLate (rows.commit_first rest) (late_commit_first rest so)
+
 -- each fails by an early error only before it changes anything
 pub statements_check : (asked : Statement) → ChecksFirst IsLate IsLate (row_of asked)
 statements_check statement.Begin =
@@ -231,5 +242,10 @@ statements_check statement.FlushTablesWithReadLock =
     checks_then rows.no_locked_tables (rows.commit_first rows.flush_after_commit) checks_no_locked
     (late_first IsLate (rows.commit_first rows.flush_after_commit) (late_commit_first rows.flush_after_commit
     (keeps-flush IsOther (λ number other. other) IsLate tt)))
+statements_check (statement.AlterTable alteration) =
+    let rest = rows.alter_after_commit alteration in
+    let looks : Row Reply = Look (λ (state : State). if has_locked state.locked then rows.alter_among_locked alteration.table rest else rows.commit_first rest) in
+    checks_then rows.no_read_lock looks checks_no_read_lock
+    (λ state. checks_alter (has_locked state.locked) alteration.table rest (keeps-alter IsOther (λ number other. other) IsLate tt alteration))
 statements_check (statement.KillQuery target) = tt
 statements_check statement.Timeout = tt

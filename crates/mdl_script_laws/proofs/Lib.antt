@@ -18,6 +18,7 @@ pub mod ShownContexts
 pub mod ShownLaws
 pub mod ShownPlays
 pub mod ShownPoints
+pub mod ShownRaising
 pub mod ShownRows
 pub mod ShownWaits
 pub mod ShownWorlds

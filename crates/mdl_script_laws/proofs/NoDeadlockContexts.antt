@@ -1,10 +1,10 @@
 -- What a context does leaves a space without a deadlock: where a wait begins, it searches until there is none.
-use Rattle.std.proofs.Common.{◌≡◌, ℕ, true, false, List, Option, Some, None, Result, Err, refl, sym, ap, subst, ◌∙◌}
+use Rattle.std.proofs.Common.{◌≡◌, ℕ, true, false, List, Option, Some, None, Result, Ok, Err, refl, sym, ap, subst, ◌∙◌}
 use Rattle.std.specs.Prelude.{Bool, is_some}
 use Rattle.mdl_key.specs.declared.mode.Mode.{Mode}
 use Rattle.mdl_calls.specs.declared.answers.Held.{Held}
 use Rattle.mdl_calls.specs.declared.space_error.SpaceError.{SpaceError}
-use Rattle.mdl_calls.specs.Words.{Answer, At_place, Done, Granted, Would_wait, Waits, Pending, Is_settled, Lost, Begin_wait, Call, Clone_ticket, Resolve, Try_now, Program, Give, Ask, ◌>>◌, EachCall, SearchEnd, Over, Cut_off, Failed, outcome_of, seeking, most_searches}
+use Rattle.mdl_calls.specs.Words.{Answer, At_place, Done, Granted, Upgraded, Would_wait, Waits, Pending, Is_settled, Lost, Begin_wait, Call, Clone_ticket, Downgrade, Merge, Release, Upgrade_now, Resolve, Try_now, Program, Give, Ask, ◌>>◌, EachCall, SearchEnd, Over, Cut_off, Failed, outcome_of, seeking, most_searches}
 use Rattle.mdl_calls.proofs.FaithfulLemmas.{either, calls_bind}
 use Rattle.mdl_calls.proofs.SeekingLemmas.{calls_seeking}
 use Rattle.mdl_core.specs.CoreCalls.{outcome}
@@ -12,12 +12,16 @@ use Rattle.mdl_core.specs.CoreJoins.{Joins}
 use Rattle.mdl_core.specs.Cores.{Core}
 use Rattle.mdl_core.specs.RunLaws.{IsMadeFor}
 use Rattle.mdl_core.proofs.CallDeadlocks.{waiting-leaves}
+use Rattle.mdl_context.specs.declared.asking.Got.{Got}
+use Rattle.mdl_context.specs.declared.asking.Got.TheVariants as got
+use Rattle.mdl_context.specs.declared.context_error.ContextError.{ContextError}
 use Rattle.mdl_context.specs.declared.context_error.ContextError.TheVariants.{Waiting, Space}
 use Rattle.mdl_context.specs.declared.kept.Kept.{Kept}
 use Rattle.mdl_context.specs.declared.request.Acquire.{Acquire}
+use Rattle.mdl_context.specs.declared.request.Acquire.TheVariants.{Acquired}
 use Rattle.mdl_context.specs.declared.request.Resume.{Resume}
 use Rattle.mdl_context.specs.declared.request.Resume.TheVariants as resume
-use Rattle.mdl_context.specs.Contexts.{ContextView, place_known}
+use Rattle.mdl_context.specs.Contexts.{ContextView, place_known, ticket_kept}
 use Rattle.mdl_context.specs.Gains as gains
 use Rattle.mdl_context.specs.Holdings.{earliest, upgrade_of}
 use Rattle.mdl_context.specs.Releases as releases
@@ -106,6 +110,62 @@ calm-acquiring request context =
     let place = place_known request.key context.known in
     either {A = Outcome Acquire} (LeavesCalm context.who) (is_some context.wait) (Give (Err Waiting, context)) (requests.finding place request context)
     (λ a calm. calm) (calm-finding place request context)
+
+-- ---- other modes
+
+calm-merged : (who new : ℕ) (answer : Answer) → LeavesCalm who (upgrades.merge_answered who new answer)
+calm-merged who new Done = λ a calm. calm
+calm-merged who new answer =
+    calm-ask {A = Result (Unit {0}) SpaceError} who (Release who new) (λ _. Give (Err (gains.refusal_of answer))) (refl, refl) (λ answer session. refl)
+    (λ _ a calm. calm)
+
+calm-merging : (who id new : ℕ) → LeavesCalm who (upgrades.merging who id new)
+calm-merging who id new = calm-ask who (Merge who id new) (upgrades.merge_answered who new) (refl, refl) (λ answer session. refl) (calm-merged who new)
+
+calm-second : (ticket : Kept) (mode : Mode) (context : ContextView) (end : Result Got SpaceError)
+    → LeavesCalm context.who (upgrades.second_got ticket mode context end)
+calm-second ticket mode context (Ok (got.Granted new)) =
+    calm-bind context.who (upgrades.merging context.who ticket.id new) (λ end. Give (upgrades.merged (Acquired ticket.id) ticket.id mode context end))
+    (calm-merging context.who ticket.id new) (λ end a calm. calm)
+calm-second ticket mode context (Ok (got.Waits number searched)) = λ a calm. calm
+calm-second ticket mode context (Err refusal) = λ a calm. calm
+
+calm-upgrade_answered : (ticket : Kept) (mode : Mode) (context : ContextView) (answer : Answer)
+    → LeavesCalm context.who (upgrades.upgrade_answered ticket mode context answer)
+calm-upgrade_answered ticket mode context Upgraded = λ a calm. calm
+calm-upgrade_answered ticket mode context Would_wait =
+    calm-bind context.who (gains.waiting_at context.who ticket.place mode) (upgrades.second_got ticket mode context)
+    (calm-waiting context.who ticket.place mode) (calm-second ticket mode context)
+calm-upgrade_answered ticket mode context _ = λ a calm. calm
+
+-- what may be refused first
+calm-unless : {A : Type 0} (fault : Option ContextError) (context : ContextView) (program : Program (Outcome A)) → LeavesCalm context.who program
+    → LeavesCalm context.who (releases.unless fault context program)
+calm-unless (Some fault) context program made = λ a calm. calm
+calm-unless None context program made = made
+
+calm-upgrading_ticket : (ticket : Option Kept) (mode : Mode) (context : ContextView) → LeavesCalm context.who (upgrades.upgrading_ticket ticket mode context)
+calm-upgrading_ticket None mode context = λ a calm. calm
+calm-upgrading_ticket (Some ticket) mode context =
+    let asks : Program (Outcome Acquire) = Ask (Upgrade_now context.who ticket.id mode) (upgrades.upgrade_answered ticket mode context) in
+    calm-unless {A = Acquire} (releases.waiting_fault context) context asks
+    (calm-ask {A = Outcome Acquire} context.who (Upgrade_now context.who ticket.id mode) (upgrades.upgrade_answered ticket mode context) (refl, refl)
+    (λ answer session. refl) (calm-upgrade_answered ticket mode context))
+
+pub calm-upgrading : (id : ℕ) (mode : Mode) (context : ContextView) → LeavesCalm context.who (upgrades.upgrading id mode context)
+calm-upgrading id mode context = calm-upgrading_ticket (ticket_kept id context.kept) mode context
+
+calm-downgraded : (id : ℕ) (mode : Mode) (context : ContextView) (answer : Answer)
+    → LeavesCalm context.who (upgrades.downgrade_answered id mode context answer)
+calm-downgraded id mode context Done = λ a calm. calm
+calm-downgraded id mode context _ = λ a calm. calm
+
+pub calm-downgrading : (id : ℕ) (mode : Mode) (context : ContextView) → LeavesCalm context.who (upgrades.downgrading id mode context)
+calm-downgrading id mode context =
+    let asks : Program (Outcome (Unit {0})) = Ask (Downgrade context.who id mode) (upgrades.downgrade_answered id mode context) in
+    calm-unless {A = Unit {0}} (releases.release_fault id context) context asks
+    (calm-ask {A = Outcome (Unit {0})} context.who (Downgrade context.who id mode) (upgrades.downgrade_answered id mode context) (refl, refl)
+    (λ answer session. refl) (calm-downgraded id mode context))
 
 -- ---- waits that go on
 

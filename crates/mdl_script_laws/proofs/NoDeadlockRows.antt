@@ -11,9 +11,10 @@ use Rattle.mdl_context.specs.Contexts.{mark_of}
 use Rattle.mdl_context.specs.Gains.{refusal_of}
 use Rattle.mdl_context.specs.Releases.{giving_up, releasing}
 use Rattle.mdl_context.specs.Requests.{Outcome, acquiring}
+use Rattle.mdl_context.specs.Upgrades.{upgrading, downgrading}
 use Rattle.mdl_context.specs.Waits.{resuming}
 use Rattle.mdl_context.specs.Wishes.{Wish}
-use Rattle.mdl_context.proofs.WhoLemmas.{of_acquiring, of_resuming, of_giving_up, of_releasing}
+use Rattle.mdl_context.proofs.WhoLemmas.{of_acquiring, of_resuming, of_giving_up, of_releasing, of_upgrading, of_downgrading}
 use Rattle.mdl_stmt.specs.declared.ending.Ending.{Ending}
 use Rattle.mdl_stmt.specs.declared.ending.Ending.TheVariants.{Answers}
 use Rattle.mdl_stmt.specs.declared.reply.Reply.{Reply}
@@ -27,7 +28,7 @@ use Rattle.mdl_stmt.specs.Rows as row
 use Rattle.mdl_stmt.specs.Sessions.{Left, Session}
 use Rattle.mdl_stmt.specs.States.{half_lock, without_read_lock}
 use Rattle.mdl_stmt.specs.Statements.{row_of}
-use Rattle.mdl_script_laws.proofs.NoDeadlockContexts.{calm-acquiring, calm-ask, calm-giving_up, calm-releasing, calm-resuming}
+use Rattle.mdl_script_laws.proofs.NoDeadlockContexts.{calm-acquiring, calm-ask, calm-downgrading, calm-giving_up, calm-releasing, calm-resuming, calm-upgrading}
 use Rattle.mdl_script_laws.proofs.NoDeadlockPrograms.{LeavesCalm, calm-then}
 
 -- a program of a statement, for its session
@@ -94,6 +95,15 @@ calm-play (row.Acquire wish rest) mark session =
     calm-then {A = Acquire} {B = Pause} session.context.who (acquiring wish session.context) (playing.acquired wish rest mark session more)
     (calm-acquiring wish session.context) (of_acquiring wish session.context)
     (calm-acquired wish rest mark session more (λ id after. calm-play (rest id) mark after))
+calm-play (row.Upgrade id key mode rest) mark session =
+    let wish = playing.upgrade_wish key mode in
+    let more = λ (id : ℕ) (after : Session). play (rest id) mark after in
+    calm-then {A = Acquire} {B = Pause} session.context.who (upgrading id mode session.context) (playing.acquired wish rest mark session more)
+    (calm-upgrading id mode session.context) (of_upgrading id mode session.context)
+    (calm-acquired wish rest mark session more (λ id after. calm-play (rest id) mark after))
+calm-play (row.Downgrade id mode rest) mark session =
+    calm-then {A = Unit {0}} {B = Pause} session.context.who (downgrading id mode session.context) (λ outcome. play rest mark (with_context session outcome.1))
+    (calm-downgrading id mode session.context) (of_downgrading id mode session.context) (λ outcome. calm-play rest mark (with_context session outcome.1))
 calm-play (row.Give_up which rest) mark session =
     let gone = which session.context.kept in
     calm-then {A = Unit {0}} {B = Pause} session.context.who (giving_up gone session.context) (λ outcome. play rest mark (with_context session outcome.1))

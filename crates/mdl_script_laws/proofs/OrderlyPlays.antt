@@ -102,6 +102,7 @@ follows_any : (asked : Row Reply) → Follows AnyRow AnyEnding asked
 follows_any (row.Look rest) = λ state. tt
 follows_any (row.Here rest) = λ mark. tt
 follows_any (row.Acquire wish rest) = λ id. tt
+follows_any (row.Upgrade id key mode rest) = λ id. tt
 follows_any (row.Read id rest) = λ standing. tt
 follows_any _ = tt
 
@@ -111,6 +112,7 @@ rules_orderly mark start = record {
   closes = λ ending session _. orderly_closing ending mark session start;
   follows = λ asked _. follows_any asked;
   waits = λ wish rest session _. (record { rest = rest; mark = mark }, refl, start);
+  raises = λ id key mode rest session _. (record { rest = rest; mark = mark }, refl, start);
 }
 
 orderly_going_on : (session : Session) → IsUnderway session → AllOrderly (playing.going_on session)

@@ -1,5 +1,7 @@
 -- What is so of each pause that a statement may come to, where what it asks for keeps a rule.
 use Rattle.std.proofs.Common.{ℕ, Ok, Err}
+use Rattle.mdl_key.specs.declared.mode.Mode.{Mode}
+use Rattle.mdl_key.specs.Keys.{KeyName}
 use Rattle.mdl_defs.specs.declared.standing.Standing.{Standing}
 use Rattle.mdl_calls.specs.declared.answers.Settled.{Settled}
 use Rattle.mdl_calls.specs.declared.space_error.SpaceError.{SpaceError}
@@ -15,6 +17,7 @@ use Rattle.mdl_context.specs.Contexts.{ContextView, mark_of}
 use Rattle.mdl_context.specs.Gains.{refusal_of}
 use Rattle.mdl_context.specs.Releases.{giving_up, releasing}
 use Rattle.mdl_context.specs.Requests.{Outcome, acquiring}
+use Rattle.mdl_context.specs.Upgrades.{upgrading, downgrading}
 use Rattle.mdl_context.specs.Waits.{giving_up_wait}
 use Rattle.mdl_context.specs.Wishes.{Wish}
 use Rattle.mdl_stmt.specs.declared.ending.Ending.{Ending}
@@ -38,6 +41,8 @@ Follows R E (row.Look rest) = (state : State) → R (rest state)
 Follows R E (row.Set change rest) = R rest
 Follows R E (row.Here rest) = (mark : Mark) → R (rest mark)
 Follows R E (row.Acquire wish rest) = (id : ℕ) → R (rest id)
+Follows R E (row.Upgrade id key mode rest) = (id : ℕ) → R (rest id)
+Follows R E (row.Downgrade id mode rest) = R rest
 Follows R E (row.Give_up which rest) = R rest
 Follows R E (row.Release id rest) = R rest
 Follows R E (row.Read id rest) = (standing : Standing) → R (rest standing)
@@ -65,6 +70,8 @@ pub record Rules (P : Pause → Type 0) (mark : Mark) (E : Ending → Type 0) (R
   pub follows : (asked : Row Reply) → R asked → Follows R E asked
   pub waits : (wish : Wish) (rest : ℕ → Row Reply) (session : Session) → R (row.Acquire wish rest)
       → P (Begins_to_wait wish.key wish.mode (with_left session (record { rest = rest; mark = mark })))
+  pub raises : (id : ℕ) (key : KeyName) (mode : Mode) (rest : ℕ → Row Reply) (session : Session) → R (row.Upgrade id key mode rest)
+      → P (Begins_to_wait key mode (with_left session (record { rest = rest; mark = mark })))
 
 module _ (P : Pause → Type 0) (mark : Mark) (E : Ending → Type 0) (R : Row Reply → Type 0) (rules : Rules P mark E R) where
   so-untold : (session : Session) (outcome : Outcome Resume) → Each P (playing.untold mark session outcome)
@@ -75,15 +82,16 @@ module _ (P : Pause → Type 0) (mark : Mark) (E : Ending → Type 0) (R : Row R
   so-untold session (Ok (resume.Lost how), context) = rules.closes Starves (with_context session context) rules.endings.starves
   so-untold session (Err error, context) = rules.closes Starves (with_context session context) rules.endings.starves
 
-  so-acquired : (wish : Wish) (rest : ℕ → Row Reply) (session : Session) (more : ℕ → Session → Program Pause) → R (row.Acquire wish rest)
+  so-acquired : (wish : Wish) (rest : ℕ → Row Reply) (session : Session) (more : ℕ → Session → Program Pause)
+      → ((after : Session) → P (Begins_to_wait wish.key wish.mode (with_left after (record { rest = rest; mark = mark }))))
       → ((id : ℕ) (after : Session) → Each P (more id after)) → (outcome : Outcome Acquire) → Each P (playing.acquired wish rest mark session more outcome)
-  so-acquired wish rest session more so made (Ok (acquire.Acquired id), context) = made id (with_context session context)
-  so-acquired wish rest session more so made (Ok (acquire.MustWait number), context) = (
+  so-acquired wish rest session more waits made (Ok (acquire.Acquired id), context) = made id (with_context session context)
+  so-acquired wish rest session more waits made (Ok (acquire.MustWait number), context) = (
     each_then {A = Outcome Resume} {B = Pause} P (giving_up_wait context) (playing.untold mark (with_context session context))
         (so-untold (with_context session context)),
-    rules.waits wish rest (with_context session context) so,
+    waits (with_context session context),
   )
-  so-acquired wish rest session more so made (Err error, context) =
+  so-acquired wish rest session more waits made (Err error, context) =
       rules.closes (ending_of_error error) (with_context session context) (rules.endings.erred error)
 
   so-read : (session : Session) (more : Standing → Program Pause) → ((standing : Standing) → Each P (more standing)) → (answer : Answer)
@@ -108,7 +116,16 @@ module _ (P : Pause → Type 0) (mark : Mark) (E : Ending → Type 0) (R : Row R
   so-play (row.Acquire wish rest) session so =
       let more = λ (id : ℕ) (after : Session). play (rest id) mark after in
       each_then {A = Outcome Acquire} {B = Pause} P (acquiring wish session.context) (playing.acquired wish rest mark session more)
-      (so-acquired wish rest session more so (λ id after. so-play (rest id) after (rules.follows (row.Acquire wish rest) so id)))
+      (so-acquired wish rest session more (λ after. rules.waits wish rest after so) (λ id after. so-play (rest id) after (rules.follows (row.Acquire wish rest) so id)))
+  so-play (row.Upgrade id key mode rest) session so =
+      let wish = playing.upgrade_wish key mode in
+      let more = λ (id : ℕ) (after : Session). play (rest id) mark after in
+      each_then {A = Outcome Acquire} {B = Pause} P (upgrading id mode session.context) (playing.acquired wish rest mark session more)
+      (so-acquired wish rest session more (λ after. rules.raises id key mode rest after so)
+      (λ new after. so-play (rest new) after (rules.follows (row.Upgrade id key mode rest) so new)))
+  so-play (row.Downgrade id mode rest) session so =
+      each_then {A = Outcome (Unit {0})} {B = Pause} P (downgrading id mode session.context) (λ outcome. play rest mark (with_context session outcome.1))
+      (λ outcome. so-play rest (with_context session outcome.1) (rules.follows (row.Downgrade id mode rest) so))
   so-play (row.Give_up which rest) session so =
       each_then {A = Outcome (Unit {0})} {B = Pause} P (giving_up (which session.context.kept) session.context)
       (λ outcome. play rest mark (with_context session outcome.1))

@@ -2,22 +2,30 @@
 use Rattle.std.proofs.Common.{◌≡◌, ℕ, Bool, true, false, List, [], ◌∷◌, refl}
 use Rattle.std.specs.Prelude.{if◌then◌else◌, is_some, map, not, ◌++◌, Option, Some, None}
 use Rattle.mdl_key.specs.Keys.{KeyName, global_key}
+use Rattle.mdl_key.specs.declared.mode.Mode.TheVariants.{X}
+use Rattle.mdl_defs.specs.declared.change.Change.{Change}
 use Rattle.mdl_defs.specs.declared.change.Change.TheVariants as change
+use Rattle.mdl_defs.specs.declared.def_error.DefError.{DefError}
+use Rattle.mdl_defs.specs.declared.def_error.DefError.TheVariants as fault
+use Rattle.mdl_defs.specs.Changes.{change_fault}
 use Rattle.mdl_defs.specs.Columns.{names_twice}
 use Rattle.mdl_defs.specs.declared.definition.Definition.{Definition}
 use Rattle.mdl_defs.specs.declared.definition.Definition.TheVariants.{Schema}
 use Rattle.mdl_defs.specs.declared.standing.Standing.{Standing}
+use Rattle.mdl_syntax.specs.declared.statement.Algorithm.{Algorithm}
+use Rattle.mdl_syntax.specs.declared.statement.Algorithm.TheVariants.{Copy, Inplace}
+use Rattle.mdl_syntax.specs.declared.statement.Alteration.{Alteration}
 use Rattle.mdl_context.specs.declared.request.Mark.{Mark}
 use Rattle.mdl_context.specs.Wishes.{Wish}
 use Rattle.mdl_stmt.specs.declared.error_number.ErrorNumber.{ErrorNumber}
-use Rattle.mdl_stmt.specs.declared.error_number.ErrorNumber.TheVariants.{SchemaExists, UnknownDatabase, TableExists, DuplicateColumn, NoSuchTable, VersionLimit}
+use Rattle.mdl_stmt.specs.declared.error_number.ErrorNumber.TheVariants.{SchemaExists, UnknownDatabase, TableExists, DuplicateColumn, CantDropColumn, NoSuchTable, LastColumn, TooManyColumns, VersionLimit}
 use Rattle.mdl_stmt.specs.declared.explicit.Locked.{Locked}
 use Rattle.mdl_stmt.specs.declared.explicit.ReadLock.{ReadLock}
 use Rattle.mdl_stmt.specs.declared.reply.Reply.{Reply}
 use Rattle.mdl_stmt.specs.declared.reply.Reply.TheVariants as reply
 use Rattle.mdl_stmt.specs.KeyOrder.{in_key_order}
 use Rattle.mdl_stmt.specs.LockLists.{ticket_of}
-use Rattle.mdl_stmt.specs.Rows.{Row, Act, Give, Fail, Room, Look, Set, Here, Acquire, Give_up, Release, Read, Redefine, Kill, ◌>>=◌, ◌>>◌, acquire_all, check, for_each, nothing, redefine, release, set}
+use Rattle.mdl_stmt.specs.Rows.{Row, Act, Give, Fail, Room, Look, Set, Here, Acquire, Give_up, Release, Read, Redefine, Kill, ◌>>=◌, ◌>>◌, acquire_all, check, for_each, nothing, redefine, release, set, Upgrade, Downgrade}
 use Rattle.mdl_stmt.specs.States.{State, has_locked, opened, unlocked, without_read_lock}
 use Rattle.mdl_stmt.specs.Statements as rows
 use Rattle.mdl_script_laws.specs.RefusalsFirst.{is_early}
@@ -35,6 +43,8 @@ KeepsTo F P (Look rest) = (state : State) → KeepsTo F P (rest state)
 KeepsTo F P (Set change rest) = LeavesUnlocked change × KeepsTo F P rest
 KeepsTo F P (Here rest) = (mark : Mark) → KeepsTo F P (rest mark)
 KeepsTo F P (Acquire wish rest) = (id : ℕ) → KeepsTo F P (rest id)
+KeepsTo F P (Upgrade id key mode rest) = (id : ℕ) → KeepsTo F P (rest id)
+KeepsTo F P (Downgrade id mode rest) = KeepsTo F P rest
 KeepsTo F P (Give_up which rest) = KeepsTo F P rest
 KeepsTo F P (Release id rest) = KeepsTo F P rest
 KeepsTo F P (Read id rest) = (standing : Standing) → KeepsTo F P (rest standing)
@@ -55,6 +65,8 @@ keeps-bind F P Q (Look rest) next so later = λ state. keeps-bind F P Q (rest st
 keeps-bind F P Q (Set change rest) next so later = (so.0, keeps-bind F P Q rest next so.1 later)
 keeps-bind F P Q (Here rest) next so later = λ mark. keeps-bind F P Q (rest mark) next (so mark) later
 keeps-bind F P Q (Acquire wish rest) next so later = λ id. keeps-bind F P Q (rest id) next (so id) later
+keeps-bind F P Q (Upgrade id key mode rest) next so later = λ id. keeps-bind F P Q (rest id) next (so id) later
+keeps-bind F P Q (Downgrade id mode rest) next so later = keeps-bind F P Q rest next so later
 keeps-bind F P Q (Give_up which rest) next so later = keeps-bind F P Q rest next so later
 keeps-bind F P Q (Release id rest) next so later = keeps-bind F P Q rest next so later
 keeps-bind F P Q (Read id rest) next so later = λ standing. keeps-bind F P Q (rest standing) next (so standing) later
@@ -138,6 +150,20 @@ module _ (F : ErrorNumber → Type 0) (late : (number : ErrorNumber) → is_earl
   keeps-definition : (found : Option Definition) → KeepsTo F Any (rows.has_definition found)
   keeps-definition (Some definition) = tt
   keeps-definition None = late NoSuchTable refl
+  keeps-fault : (fault : Option DefError) → KeepsTo F Any (rows.unless_fault fault)
+  keeps-fault None = tt
+  keeps-fault (Some fault) = by fault where
+    by : (one : DefError) → F (rows.fault_number one)
+    by fault.DuplicateColumn = late DuplicateColumn refl
+    by fault.NoColumn = late CantDropColumn refl
+    by fault.LastColumn = late LastColumn refl
+    by fault.ManyColumns = late TooManyColumns refl
+    by _ = late NoSuchTable refl
+
+  keeps-change : (change : Change) (table : ℕ) → KeepsTo F Any (rows.check_change change table)
+  keeps-change change table = λ standing.
+      let fault = change_fault standing.definition change in
+      keeps-then F Any (rows.unless_fault fault) (check (rows.has_version_left standing) VersionLimit) (keeps-fault fault) (keeps-version standing)
 
   -- those that are told that it is done
   module _ (P : Reply → Type 0) (ok : P reply.Ok) where
@@ -203,3 +229,14 @@ module _ (F : ErrorNumber → Type 0) (late : (number : ErrorNumber) → is_earl
         let scopes = rows.both_scopes from to in
         keeps-bind F Any P (acquire_all (map rows.ddl_lock scopes)) (λ tickets. rows.lock_and_rename from to (ticket_of (rows.schema_of to) scopes tickets))
         (keeps-locks F (map rows.ddl_lock scopes)) (λ tickets _. keeps-lock_and_rename from to (ticket_of (rows.schema_of to) scopes tickets))
+    keeps-alter_by : (how : Algorithm) (alteration : Alteration) (table : ℕ) → KeepsTo F P (rows.alter_by how alteration table)
+    keeps-alter_by Copy alteration table = λ copied alone. ok
+    keeps-alter_by Inplace alteration table = λ prepared alone. ok
+
+    pub keeps-alter : (alteration : Alteration) → KeepsTo F P (rows.alter_after_commit alteration)
+    keeps-alter alteration = λ global schema state.
+        keeps-either F P (has_locked state.locked) (rows.alter_locked alteration) (rows.alter_unlocked alteration)
+        (λ table. keeps-then F P (rows.check_change alteration.change table) (Upgrade table alteration.table X (rows.change_and_lower alteration))
+        (keeps-change alteration.change table) (λ alone. ok))
+        (λ table. keeps-then F P (rows.check_change alteration.change table) (rows.alter_by alteration.algorithm alteration table)
+        (keeps-change alteration.change table) (keeps-alter_by alteration.algorithm alteration table))

@@ -61,7 +61,7 @@ pub record IsGained (a : Core) (who id place : ℕ) (b : Core) : Type 0 where
   pub number : ticket.id ≡ id
   pub at : ticket.place ≡ place
 
-gained-by : (a b : Core) (who id place : ℕ) (mode : Mode) → Spares who none a b → own_at b who ≡ gaining id place mode (own_at a who)
+pub gained-by : (a b : Core) (who id place : ℕ) (mode : Mode) → Spares who none a b → own_at b who ≡ gaining id place mode (own_at a who)
     → IsGained a who id place b
 gained-by a b who id place mode spares own = record {
   spares = spares;
@@ -168,11 +168,11 @@ module _ (a : Core) (context : ContextView) (place : ℕ) (request : Wish) (fits
       → Followed a context b (requests.awaiting place request searched context)
   asked-waits b searched spares at =
       followed-waiting a b context (Some (wanted_of place request searched)) fits spares
-      (λ wanted w e f. (let g : wanted_of place request searched ≡ wanted = cc in at w f ∙ ap (λ (x : Wanted). x.place) g)) refl
+      (λ wanted w e f. (let g : wanted_of place request searched ≡ wanted = cc in at w f ∙ ap (λ (x : Wanted). x.place) g))
 
   -- there is none
   asked-refused : (b : Core) → Spares context.who none a b → Followed a context b context
-  asked-refused b spares = followed-waiting a b context context.wait fits spares (λ wanted w e f. cc) fits.gains
+  asked-refused b spares = followed-waiting a b context context.wait fits spares (λ wanted w e f. cc)
 
   asked-sought : (b : Core) (number : ℕ) (end : SearchEnd) → Spares context.who none a b → ((w : Wait) → (own_at b context.who).wait ≡ Some w → w.place ≡ place)
       → Leads (λ got c. Asked (requests.outcome_got place request context got) c) (gains.wish_sought context.who number end) b
@@ -276,7 +276,6 @@ fits-learnt a context key place fits knows = record {
     | inr new ↦ subst (λ k. Knows a context.who p k) (sym new.0) (subst (λ q. Knows a context.who q key) (sym new.1) knows)
   ];
   wait = fits.wait;
-  gains = fits.gains;
 }
 
 pub leads-map : {A : Type 0} (P Q : A → Core → Type 0) (program : Program A) (a : Core) → ((x : A) (b : Core) → P x b → Q x b) → Leads P program a

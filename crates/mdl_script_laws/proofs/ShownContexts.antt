@@ -50,14 +50,13 @@ gained-there id place mode own = Contains-append_right own.held (_ ∷ []) _ (Co
 -- ---- what a context keeps
 
 -- the space speaks for the context's session, each kept ticket is held at its place, and kept tickets of one number for as long;
--- the session knows the places of known keys, and waits where the context says, for a new ticket
+-- the session knows the places of known keys, and waits where the context says
 pub record Fits (a : Core) (context : ContextView) : Type 0 where
   pub speaks : SpeaksFor a context.who
   pub backed : (k : Kept) → Contains context.kept k → (t : Held) × Contains (own_at a context.who).held t × (t.id ≡ k.id) × (t.place ≡ k.place)
   pub alone : (k other : Kept) → Contains context.kept k → Contains context.kept other → k.id ≡ other.id → k.duration ≡ other.duration
   pub known : (key : KeyName) (place : ℕ) → place_known key context.known ≡ Some place → Knows a context.who place key
   pub wait : (wanted : Wanted) (w : Wait) → context.wait ≡ Some wanted → (own_at a context.who).wait ≡ Some w → w.place ≡ wanted.place
-  pub gains : upgrade_of context.wait ≡ None
 
 -- fewer tickets are kept
 pub fits-fewer : (a b : Core) (context : ContextView) (gone : ℕ → Type 0) (p : Kept → Bool) → ((k : Kept) → p k ≡ true → gone k.id → ⊥) → Fits a context
@@ -71,25 +70,23 @@ fits-fewer a b context gone p stay fits stays = record {
   alone = λ k other one two e. fits.alone k other (among-filter p context.kept k one).0 (among-filter p context.kept other two).0 e;
   known = λ key place e. stays.0.known place key (fits.known key place e);
   wait = λ wanted w e f. fits.wait wanted w e (stays.1 w f);
-  gains = fits.gains;
 }
 
 -- the same are, with a wait where the session waits
 pub fits-waiting : (a b : Core) (context : ContextView) (wait : Option Wanted) → Fits a context → Spares context.who none a b
     → ((wanted : Wanted) (w : Wait) → wait ≡ Some wanted → (own_at b context.who).wait ≡ Some w → w.place ≡ wanted.place)
-    → upgrade_of wait ≡ None → Fits b (record context { wait = wait })
-fits-waiting a b context wait fits spares at gains = record {
+    → Fits b (record context { wait = wait })
+fits-waiting a b context wait fits spares at = record {
   speaks = spares.speaks;
   backed = λ k among. (let t = fits.backed k among in (t.0, spares.held t.0 t.1 (λ g. g), t.2, t.3));
   alone = fits.alone;
   known = λ key place e. spares.known place key (fits.known key place e);
   wait = at;
-  gains = gains;
 }
 
 -- and with the wait that it has
 pub fits-same : (a b : Core) (context : ContextView) → Fits a context → Stays context.who none a b → Fits b context
-fits-same a b context fits stays = fits-waiting a b context context.wait fits stays.0 (λ wanted w e f. fits.wait wanted w e (stays.1 w f)) fits.gains
+fits-same a b context fits stays = fits-waiting a b context context.wait fits stays.0 (λ wanted w e f. fits.wait wanted w e (stays.1 w f))
 
 -- one more is, of a new number
 pub fits-more : (a b : Core) (context : ContextView) (new : Kept) (t : Held) → Fits a context → Spares context.who none a b → IsFresh a context.who new.id
@@ -104,7 +101,6 @@ fits-more a b context new t fits spares fresh there number place = record {
   alone = λ k other one two e. apart k other (last k one) (last other two) e;
   known = λ key p e. spares.known p key (fits.known key p e);
   wait = λ wanted w e f. cc;
-  gains = refl;
 }
   where
     last : (k : Kept) → Contains (context.kept ++ new ∷ []) k → Contains context.kept k ⊎ (k ≡ new)
@@ -135,9 +131,9 @@ followed-here a context fits = record { fits = fits; spares = spares-here contex
 
 pub followed-waiting : (a b : Core) (context : ContextView) (wait : Option Wanted) → Fits a context → Spares context.who none a b
     → ((wanted : Wanted) (w : Wait) → wait ≡ Some wanted → (own_at b context.who).wait ≡ Some w → w.place ≡ wanted.place)
-    → upgrade_of wait ≡ None → Followed a context b (record context { wait = wait })
-followed-waiting a b context wait fits spares at gains =
-    record { fits = fits-waiting a b context wait fits spares at gains; spares = spares; who = refl; grown = inl refl }
+    → Followed a context b (record context { wait = wait })
+followed-waiting a b context wait fits spares at =
+    record { fits = fits-waiting a b context wait fits spares at; spares = spares; who = refl; grown = inl refl }
 
 pub followed-same : (a b : Core) (context : ContextView) → Fits a context → Stays context.who none a b → Followed a context b context
 followed-same a b context fits stays = record { fits = fits-same a b context fits stays; spares = stays.0; who = refl; grown = inl refl }

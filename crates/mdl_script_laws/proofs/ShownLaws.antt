@@ -78,7 +78,8 @@ all-right P (x ∷ xs) ys all = all-right P xs ys (All-tail P x (xs ++ ys) all)
 stands-open : (old : TableShown → Type 0) (a : Core) (session : Session) (x : TableShown) → Keeps old a session → old x → session.state.is_open ≡ true
     → IsStanding a session.context x
 stands-open old a session x (inl rests) is opens = rests.kept x is opens
-stands-open old a session x (inr waiting) is opens = (waiting.point.kept x is (waiting.point.was opens)).0
+stands-open old a session x (inr (inl waiting)) is opens = (waiting.point.kept x is (waiting.point.was opens)).0
+stands-open old a session x (inr (inr raising)) is opens = absurd (raising.nothing x is (raising.point.was opens))
 
 -- under one key one thing stands
 one-standing : (a : Core) (context : ContextView) (one other : TableShown) → Fits a context → IsStanding a context one → IsStanding a context other
@@ -92,7 +93,8 @@ one-standing a context one other fits here there same =
 
 keeps-fits : (old : TableShown → Type 0) (a : Core) (session : Session) → Keeps old a session → Fits a session.context
 keeps-fits old a session (inl rests) = rests.fits
-keeps-fits old a session (inr waiting) = waiting.point.fits
+keeps-fits old a session (inr (inl waiting)) = waiting.point.fits
+keeps-fits old a session (inr (inr raising)) = raising.point.fits
 
 -- what stands under a ticket is what the system has under its key
 standing-defined : (a : Core) (context : ContextView) (table : TableShown) → Fits a context → IsStanding a context table

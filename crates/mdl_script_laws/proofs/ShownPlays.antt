@@ -33,8 +33,10 @@ use Rattle.mdl_context.specs.declared.request.Resume.{Resume}
 use Rattle.mdl_context.specs.declared.request.Resume.TheVariants as resume
 use Rattle.mdl_context.specs.Contexts.{ContextView, beyond, duration_rank, held_for, lasts, mark_of}
 use Rattle.mdl_context.specs.Gains.{refusal_of}
+use Rattle.mdl_context.specs.Holdings.{upgrade_of, wanted_of}
 use Rattle.mdl_context.specs.Releases.{giving_up, releasing}
 use Rattle.mdl_context.specs.Requests.{Outcome, acquiring}
+use Rattle.mdl_context.specs.Upgrades.{upgrading, downgrading}
 use Rattle.mdl_context.specs.Waits.{resuming}
 use Rattle.mdl_context.specs.WishLaws.{IsMet}
 use Rattle.mdl_context.specs.Wishes.{Wish}
@@ -56,6 +58,7 @@ use Rattle.mdl_script_laws.proofs.ListLemmas.{among-filter}
 use Rattle.mdl_script_laws.proofs.ShownCalls.{Leads, Stays, leads-bind, leads-each, none, stays-call, stays-other}
 use Rattle.mdl_script_laws.proofs.ShownContexts.{Fits, Followed, followed-same}
 use Rattle.mdl_script_laws.proofs.ShownAsking.{held-number, leads-acquiring}
+use Rattle.mdl_script_laws.proofs.ShownRaising.{IsUpgrading, Raised, Won, leads-downgrading, leads-upgrading, leads-winning}
 use Rattle.mdl_script_laws.proofs.ShownWaits.{GaveUp, IsAmong, Resumed, leads-giving_up, leads-releasing, leads-resuming}
 use Rattle.mdl_script_laws.proofs.ShownPoints.{IsFirm, IsLocked, IsOld, IsStanding, drop-within, lasts-longer, locked-followed, old-followed, shown_as, standing-followed, standing-left}
 
@@ -94,6 +97,8 @@ IsFair old live locks seen (row.Set change rest) =
     × IsFair old live locks seen rest
 IsFair old live locks seen (row.Here rest) = (mark : Mark) → IsFair old live locks seen (rest mark)
 IsFair old live locks seen (row.Acquire wish rest) = (id : ℕ) → IsFair old live (with_lock wish.duration id wish.key locks) seen (rest id)
+IsFair old live locks seen (row.Upgrade id key mode rest) = ((x : TableShown) → old x → live ≡ true → ⊥) × ((id : ℕ) → IsFair old live [] [] (rest id))
+IsFair old live locks seen (row.Downgrade id mode rest) = ((x : TableShown) → old x → live ≡ true → ⊥) × IsFair old live [] [] rest
 IsFair old live locks seen (row.Give_up which rest) = ((x : TableShown) → old x → live ≡ true → ⊥) × IsFair old live [] [] rest
 IsFair old live locks seen (row.Release id rest) = ((x : TableShown) → old x → live ≡ true → ⊥) × IsFair old live [] [] rest
 IsFair old live locks seen (row.Read id rest) = (standing : Standing) → IsFair old live locks (seen_under id standing locks ++ seen) (rest standing)
@@ -120,7 +125,7 @@ pub record Rests (old : TableShown → Type 0) (a : Core) (session : Session) : 
   pub unlocked : IsUnlocked session.state
   pub kept : (x : TableShown) → old x → session.state.is_open ≡ true → IsStanding a session.context x
 
--- while it waits
+-- while it waits for a lock
 pub record IsWaiting (old : TableShown → Type 0) (a : Core) (session : Session) : Type 0 where
   pub rest : Left
   pub left : session.left ≡ Some rest
@@ -130,20 +135,35 @@ pub record IsWaiting (old : TableShown → Type 0) (a : Core) (session : Session
   pub key : KeyName
   pub wanted : Wanted
   pub wait : session.context.wait ≡ Some wanted
+  pub gains : upgrade_of (Some wanted) ≡ None
   pub at : Knows a session.context.who wanted.place key
   pub point : Point old live locks seen rest.mark a session.context session.state
   pub fair : (id : ℕ) → IsFair old live (with_lock wanted.duration id key locks) seen (rest.rest id)
 
+-- while it waits to make a lock stronger, which it does only where nothing has to stay
+pub record IsRaising (old : TableShown → Type 0) (a : Core) (session : Session) : Type 0 where
+  pub rest : Left
+  pub left : session.left ≡ Some rest
+  pub live : Bool
+  pub nothing : (x : TableShown) → old x → live ≡ true → ⊥
+  pub upgrading : IsUpgrading session.context
+  pub point : Point old live [] [] rest.mark a session.context session.state
+  pub fair : (id : ℕ) → IsFair old live [] [] (rest.rest id)
+
+-- in one way or the other
+abbrev pub IsUnderway : (TableShown → Type 0) → Core → Session → Type 0
+IsUnderway old a session = IsWaiting old a session ⊎ IsRaising old a session
+
 -- a session of which this is so
 abbrev pub Keeps : (TableShown → Type 0) → Core → Session → Type 0
-Keeps old a session = Rests old a session ⊎ IsWaiting old a session
+Keeps old a session = Rests old a session ⊎ IsUnderway old a session
 
 -- however far a statement comes, it is so of its session; and what it shows in an open transaction stands
 abbrev pub Comes : (TableShown → Type 0) → Pause → Core → Type 0
 Comes old (Ends reply session) b =
     Rests old b session × ((x : TableShown) → Tells reply x → session.state.is_open ≡ true → IsStanding b session.context x)
-Comes old (Begins_to_wait key mode session) b = IsWaiting old b session
-Comes old (Waits_on session) b = IsWaiting old b session
+Comes old (Begins_to_wait key mode session) b = IsUnderway old b session
+Comes old (Waits_on session) b = IsUnderway old b session
 Comes old (Faults session) b = Rests old b session
 
 -- ---- from one point to the next
@@ -402,7 +422,6 @@ fits-changed a b context id change answer fits joins =
       known = λ key place e. core-remembers a b (Change_definition context.who id change) answer context.who place key fits.speaks (λ f done. cc) joins
           (fits.known key place e);
       wait = λ wanted w e f. fits.wait wanted w e (subst (λ (o : Own). o.wait ≡ Some w) same f);
-      gains = fits.gains;
     }
 
 -- ---- locks
@@ -440,22 +459,45 @@ module _ (old : TableShown → Type 0) (live : Bool) (locks : List (ℕ × KeyNa
       (met-lock wish a session.context b context id followed met))
   leads-acquired wish rest more a b session (Ok (acquire.MustWait number), context) fair later point followed met =
       let now = point-followed old live locks seen mark a session.context session.state point b context followed in
-      record {
+      inl (record {
         rest = record { rest = rest; mark = mark };
         left = refl;
         live = live;
         locks = locks;
         seen = seen;
         key = wish.key;
-        wanted = record { place = met.0; mode = wish.mode; duration = wish.duration; searched = met.1 };
+        wanted = wanted_of met.0 wish met.1;
         wait = met.3;
+        gains = refl;
         at = followed.fits.known wish.key met.0 met.2;
         point = now;
         fair = fair;
-      }
+      })
   leads-acquired wish rest more a b session (Err error, context) fair later point followed met =
       leads-closing old live locks seen mark b (with_context session context)
       (point-followed old live locks seen mark a session.context session.state point b context followed) (ending_of_error error)
+      (λ x tell. absurd (tells_no_error error x tell))
+
+  -- a lock was to be made stronger
+  leads-raised : (wish : Wish) (rest : ℕ → Row Reply) (more : ℕ → Session → Program Pause) (a b : Core) (session : Session) (outcome : Outcome Acquire)
+      → ((x : TableShown) → old x → live ≡ true → ⊥) → ((id : ℕ) → IsFair old live [] [] (rest id))
+      → ((id : ℕ) (c : Core) (after : Session) → Point old live [] [] mark c after.context after.state → Leads (Comes old) (more id after) c)
+      → At a session.context session.state → Raised session.context outcome b
+      → Leads (Comes old) (playing.acquired wish rest mark session more outcome) b
+  leads-raised wish rest more a b session (Ok (acquire.Acquired id), context) nothing fair later point raised =
+      later id b (with_context session context) (point-cleared old live locks seen mark a session.context session.state point b context raised.0 nothing)
+  leads-raised wish rest more a b session (Ok (acquire.MustWait number), context) nothing fair later point raised = inr (record {
+    rest = record { rest = rest; mark = mark };
+    left = refl;
+    live = live;
+    nothing = nothing;
+    upgrading = raised.2;
+    point = point-cleared old live locks seen mark a session.context session.state point b context raised.0 nothing;
+    fair = fair;
+  })
+  leads-raised wish rest more a b session (Err error, context) nothing fair later point raised =
+      leads-closing old live [] [] mark b (with_context session context)
+      (point-cleared old live locks seen mark a session.context session.state point b context raised.0 nothing) (ending_of_error error)
       (λ x tell. absurd (tells_no_error error x tell))
 
   -- what stands was asked for
@@ -554,6 +596,18 @@ leads-play old live locks seen (row.Acquire wish rest) mark a session fair point
     (met_acquiring wish session.context) (leads-acquiring a wish session.context point.fits))
     (λ outcome b h. leads-acquired old live locks seen mark wish rest more a b session outcome fair
     (λ id c after now. leads-play old live (with_lock wish.duration id wish.key locks) seen (rest id) mark c after (fair id) now) point h.1 h.0)
+leads-play old live locks seen (row.Upgrade id key mode rest) mark a session fair point =
+    let wish = playing.upgrade_wish key mode in
+    let more = λ (id : ℕ) (after : Session). play (rest id) mark after in
+    leads-bind (Raised session.context) (Comes old) (upgrading id mode session.context) (playing.acquired wish rest mark session more) a
+    (leads-upgrading a id mode session.context point.fits)
+    (λ outcome b raised. leads-raised old live locks seen mark wish rest more a b session outcome fair.0 fair.1
+    (λ new c after now. leads-play old live [] [] (rest new) mark c after (fair.1 new) now) point raised)
+leads-play old live locks seen (row.Downgrade id mode rest) mark a session fair point =
+    leads-bind (λ (outcome : Outcome (Unit {0})) b. Fits b outcome.1 × (outcome.1.who ≡ session.context.who)) (Comes old) (downgrading id mode session.context)
+    (λ outcome. play rest mark (with_context session outcome.1)) a (leads-downgrading a id mode session.context point.fits)
+    (λ outcome b left. leads-play old live [] [] rest mark b (with_context session outcome.1) fair.1
+    (point-cleared old live locks seen mark a session.context session.state point b outcome.1 left.0 fair.0))
 leads-play old live locks seen (row.Give_up which rest) mark a session fair point =
     let gone = which session.context.kept in
     leads-bind (λ (outcome : Outcome (Unit {0})) b. GaveUp a gone session.context b outcome.1) (Comes old) (giving_up gone session.context)
@@ -584,7 +638,7 @@ leads-resumed : (old : TableShown → Type 0) (a b : Core) (session : Session) (
 leads-resumed old a b session waiting (Ok resume.Waiting, context) resumed =
     let still = resumed.1 waiting.wanted waiting.wait in
     let now = point-followed old waiting.live waiting.locks waiting.seen waiting.rest.mark a session.context session.state waiting.point b context resumed.0 in
-    record {
+    inl (record {
       rest = waiting.rest;
       left = refl;
       live = waiting.live;
@@ -593,12 +647,13 @@ leads-resumed old a b session waiting (Ok resume.Waiting, context) resumed =
       key = waiting.key;
       wanted = still.0;
       wait = still.1;
+      gains = still.4 ∙ waiting.gains;
       at = subst (λ w. Knows b w still.0.place waiting.key) (sym resumed.0.who)
           (subst (λ p. Knows b session.context.who p waiting.key) (sym still.2) (resumed.0.spares.known waiting.wanted.place waiting.key waiting.at));
       point = now;
       fair = λ id. subst (λ d. IsFair old waiting.live (with_lock d id waiting.key waiting.locks) waiting.seen (waiting.rest.rest id)) (sym still.3)
           (waiting.fair id);
-    }
+    })
 leads-resumed old a b session waiting (Ok (resume.Acquired id), context) resumed =
     let now = point-followed old waiting.live waiting.locks waiting.seen waiting.rest.mark a session.context session.state waiting.point b context resumed.0 in
     let had = resumed.1 waiting.wanted waiting.wait in
@@ -625,6 +680,30 @@ leads-resumed old a b session waiting (Err error, context) resumed =
     (point-followed old waiting.live waiting.locks waiting.seen waiting.rest.mark a session.context session.state waiting.point b context resumed.0)
     (ending_of_error error) (λ x tell. absurd (tells_no_error error x tell))
 
+-- the same of one that waits to make a lock stronger
+leads-won : (old : TableShown → Type 0) (a b : Core) (session : Session) (raising : IsRaising old a session) (outcome : Outcome Resume)
+    → Won session.context outcome b → Leads (Comes old) (playing.resumed raising.rest (record session { left = None }) outcome) b
+leads-won old a b session raising (Ok resume.Waiting, context) won = inr (record {
+  rest = raising.rest;
+  left = refl;
+  live = raising.live;
+  nothing = raising.nothing;
+  upgrading = won.2;
+  point = point-cleared old raising.live [] [] raising.rest.mark a session.context session.state raising.point b context won.0 raising.nothing;
+  fair = raising.fair;
+})
+leads-won old a b session raising (Ok (resume.Acquired id), context) won =
+    leads-play old raising.live [] [] (raising.rest.rest id) raising.rest.mark b (record { context = context; state = session.state; left = None })
+    (raising.fair id) (point-cleared old raising.live [] [] raising.rest.mark a session.context session.state raising.point b context won.0 raising.nothing)
+leads-won old a b session raising (Ok (resume.Lost how), context) won =
+    leads-closing old raising.live [] [] raising.rest.mark b (record { context = context; state = session.state; left = None })
+    (point-cleared old raising.live [] [] raising.rest.mark a session.context session.state raising.point b context won.0 raising.nothing)
+    (ending_of_loss how) (λ x tell. absurd (tells_no_loss how x tell))
+leads-won old a b session raising (Err error, context) won =
+    leads-closing old raising.live [] [] raising.rest.mark b (record { context = context; state = session.state; left = None })
+    (point-cleared old raising.live [] [] raising.rest.mark a session.context session.state raising.point b context won.0 raising.nothing)
+    (ending_of_error error) (λ x tell. absurd (tells_no_error error x tell))
+
 -- a statement goes on
 pub leads-going : (old : TableShown → Type 0) (a : Core) (session : Session) → Keeps old a session → Leads (Comes old) (playing.going_on session) a
 leads-going old a session (inl rests) = go session.left rests.left
@@ -632,7 +711,11 @@ leads-going old a session (inl rests) = go session.left rests.left
     go : (o : Option Left) → o ≡ None → Leads (Comes old) (playing.going_on_with o (record session { left = None })) a
     go None e = record { left = refl; fits = rests.fits; unlocked = rests.unlocked; kept = rests.kept }
     go (Some left) e = cc
-leads-going old a session (inr waiting) =
+leads-going old a session (inr (inl waiting)) =
     subst (λ o. Leads (Comes old) (playing.going_on_with o (record session { left = None })) a) (sym waiting.left)
     (leads-bind (Resumed a session.context) (Comes old) (resuming session.context) (playing.resumed waiting.rest (record session { left = None })) a
-    (leads-resuming a session.context waiting.point.fits) (λ outcome b resumed. leads-resumed old a b session waiting outcome resumed))
+    (leads-resuming a session.context (ap upgrade_of waiting.wait ∙ waiting.gains) waiting.point.fits) (λ outcome b resumed. leads-resumed old a b session waiting outcome resumed))
+leads-going old a session (inr (inr raising)) =
+    subst (λ o. Leads (Comes old) (playing.going_on_with o (record session { left = None })) a) (sym raising.left)
+    (leads-bind (Won session.context) (Comes old) (resuming session.context) (playing.resumed raising.rest (record session { left = None })) a
+    (leads-winning a session.context raising.upgrading raising.point.fits) (λ outcome b won. leads-won old a b session raising outcome won))

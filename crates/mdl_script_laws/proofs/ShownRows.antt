@@ -1,10 +1,10 @@
 -- Which statements show what they have seen, and leave a transaction as it is.
 use Rattle.std.proofs.Common.{◌≡◌, ℕ, Bool, true, false, not, List, [], ◌∷◌, ◌++◌, Option, Some, None, Contains, is_some, refl, sym, subst, inl, inr, eq-eqb}
-use Rattle.std.specs.Prelude.{◌==◌, if◌then◌else◌}
+use Rattle.std.specs.Prelude.{◌==◌, find, if◌then◌else◌}
 use Rattle.std.proofs.lemmas.List.Elements.{Contains-append_left, Contains-append_right, Contains-append_cases}
 use Rattle.mdl_key.specs.declared.mode.Duration.TheVariants as for
 use Rattle.mdl_key.specs.declared.mode.Mode.TheVariants.{IX}
-use Rattle.mdl_key.specs.Keys.{KeyName, global_key}
+use Rattle.mdl_key.specs.Keys.{KeyName, global_key, key_eq}
 use Rattle.mdl_defs.specs.declared.standing.Standing.{Standing}
 use Rattle.mdl_system.proofs.MemberLemmas.{Contains-map}
 use Rattle.mdl_system.proofs.OrderLemmas.{Contains-here}
@@ -12,7 +12,8 @@ use Rattle.mdl_syntax.specs.declared.statement.Priority.{Priority}
 use Rattle.mdl_syntax.specs.declared.statement.Statement.{Statement}
 use Rattle.mdl_syntax.specs.declared.statement.Statement.TheVariants as statement
 use Rattle.mdl_context.specs.declared.request.Mark.{Mark}
-use Rattle.mdl_stmt.specs.declared.error_number.ErrorNumber.TheVariants.{NoSuchTable, ActiveLocks, ConflictingReadLock}
+use Rattle.mdl_stmt.specs.declared.error_number.ErrorNumber.TheVariants.{NoSuchTable, TableLockedForRead, ActiveLocks, ConflictingReadLock}
+use Rattle.mdl_stmt.specs.declared.explicit.Locked.{Locked}
 use Rattle.mdl_stmt.specs.declared.reply.Reply.{Reply}
 use Rattle.mdl_stmt.specs.declared.reply.Reply.TheVariants as reply
 use Rattle.mdl_stmt.specs.declared.reply.TableShown.{TableShown}
@@ -22,7 +23,7 @@ use Rattle.mdl_stmt.specs.States.{has_locked, savepoint_mark, written}
 use Rattle.mdl_stmt.specs.Statements as does
 use Rattle.mdl_script_laws.specs.Shown.{leaves_transaction}
 use Rattle.mdl_script_laws.proofs.ListLemmas.{filter-among, only-one}
-use Rattle.mdl_script_laws.proofs.RowRules.{Any, KeepsTo, keeps-begin, keeps-check, keeps-commit, keeps-create, keeps-create_schema, keeps-drop, keeps-rename, keeps-flush, keeps-rollback, keeps-then, keeps-unlock_all}
+use Rattle.mdl_script_laws.proofs.RowRules.{Any, KeepsTo, keeps-begin, keeps-check, keeps-commit, keeps-create, keeps-create_schema, keeps-drop, keeps-rename, keeps-flush, keeps-rollback, keeps-then, keeps-unlock_all, keeps-alter, keeps-either}
 use Rattle.mdl_script_laws.proofs.ShownPlays.{IsFair, Tells, seen_under}
 use Rattle.mdl_script_laws.proofs.ShownPoints.{shown_as}
 
@@ -130,6 +131,8 @@ fair-tidy old locks seen (row.Set change rest) empty tidy =
     (tidy.0, (λ state was e. refl), (λ x is lives state e. absurd (empty x is)), fair-tidy old locks seen rest empty tidy.1)
 fair-tidy old locks seen (row.Here rest) empty tidy = λ mark. fair-tidy old locks seen (rest mark) empty (tidy mark)
 fair-tidy old locks seen (row.Acquire wish rest) empty tidy = λ id. fair-tidy old _ seen (rest id) empty (tidy id)
+fair-tidy old locks seen (row.Upgrade id key mode rest) empty tidy = ((λ x is lives. empty x is), λ new. fair-tidy old [] [] (rest new) empty (tidy new))
+fair-tidy old locks seen (row.Downgrade id mode rest) empty tidy = ((λ x is lives. empty x is), fair-tidy old [] [] rest empty tidy)
 fair-tidy old locks seen (row.Give_up which rest) empty tidy = ((λ x is lives. empty x is), fair-tidy old [] [] rest empty tidy)
 fair-tidy old locks seen (row.Release id rest) empty tidy = ((λ x is lives. empty x is), fair-tidy old [] [] rest empty tidy)
 fair-tidy old locks seen (row.Read id rest) empty tidy = λ standing. fair-tidy old locks _ (rest standing) empty (tidy standing)
@@ -148,6 +151,12 @@ tidy-ddl =
 tidy-back : (name : List ℕ) (mark : Option Mark) → KeepsTo Any ShowsNone (does.go_back name mark)
 tidy-back name None = tt
 tidy-back name (Some mark) = ((λ s u. u), λ x tell. absurd tell)
+
+tidy-among : (found : Option Locked) (rest : Row Reply) → KeepsTo Any ShowsNone (does.commit_first rest)
+    → KeepsTo Any ShowsNone (does.among_locked found >>= (λ (locked : Locked). check locked.may_write TableLockedForRead >> does.commit_first rest))
+tidy-among None rest so = tt
+tidy-among (Some locked) rest so =
+    keeps-then Any ShowsNone (check locked.may_write TableLockedForRead) (does.commit_first rest) (keeps-check Any locked.may_write TableLockedForRead tt) so
 
 -- where nothing has to stay, every statement may be asked for
 pub fair-any : (old : TableShown → Type 0) (s : Statement) → ((x : TableShown) → old x → ⊥) → IsFair old true [] [] (does.row_of s)
@@ -182,6 +191,15 @@ fair-any old statement.FlushTablesWithReadLock none =
     (keeps-then Any ShowsNone does.no_locked_tables (does.commit_first does.flush_after_commit)
     (λ state. keeps-check Any (not (has_locked state.locked)) ActiveLocks tt)
     (keeps-then Any ShowsNone does.commit does.flush_after_commit tidy-commit (keeps-flush Any (λ _ _. tt) ShowsNone (λ x tell. absurd tell))))
+fair-any old (statement.AlterTable alteration) none =
+    let rest = does.alter_after_commit alteration in
+    let altering = keeps-alter Any (λ _ _. tt) ShowsNone (λ x tell. absurd tell) alteration in
+    let committing = keeps-then Any ShowsNone does.commit rest tidy-commit altering in
+    let looks : Row Reply = row.Look (λ state. if has_locked state.locked then does.alter_among_locked alteration.table rest else does.commit_first rest) in
+    fair-tidy old [] [] (does.row_of (statement.AlterTable alteration)) none
+    (keeps-then Any ShowsNone does.no_read_lock looks (λ state. keeps-check Any (not (is_some state.read_lock)) ConflictingReadLock tt)
+    (λ state. keeps-either Any ShowsNone (has_locked state.locked) (does.alter_among_locked alteration.table rest) (does.commit_first rest)
+    (λ kept. tidy-among (find (λ (locked : Locked). key_eq alteration.table locked.key) kept.locked) rest committing) committing))
 fair-any old (statement.Savepoint name) none = fair-leaving old true (statement.Savepoint name) refl
 fair-any old (statement.Select tables) none = fair-leaving old true (statement.Select tables) refl
 fair-any old (statement.Write table priority) none = fair-leaving old true (statement.Write table priority) refl

@@ -32,6 +32,7 @@ abbrev pub ComesTo : ContextView → Outcome Resume → Core → Type 0
 ComesTo before (Ok resume.Waiting, after) b =
     (wanted : Wanted) → before.wait ≡ Some wanted
     → (still : Wanted) × (after.wait ≡ Some still) × (still.place ≡ wanted.place) × (still.duration ≡ wanted.duration)
+    × (upgrade_of (Some still) ≡ upgrade_of (Some wanted))
 ComesTo before (Ok (resume.Acquired id), after) b =
     (wanted : Wanted) → before.wait ≡ Some wanted → (t : Held) × Contains (own_at b before.who).held t × (t.id ≡ id) × (t.place ≡ wanted.place)
     × ((new : Kept) × Contains after.kept new × (new.id ≡ id) × (new.duration ≡ wanted.duration))
@@ -47,7 +48,7 @@ taken-up : (a b : Core) (context : ContextView) (id : ℕ) (o : Option Wanted) �
     × ComesTo context (Ok (resume.Acquired id), waits.taking_up id (record context { wait = o })) b
 taken-up a b context id None e fits joins =
     let stays = stays-call context.who none a b (End_wait context.who) (Granted id) fits.speaks (refl, tt, refl) joins in
-    (followed-waiting a b context None fits stays.0 (λ wanted w f g. cc) refl, λ wanted f. cc)
+    (followed-waiting a b context None fits stays.0 (λ wanted w f g. cc), λ wanted f. cc)
 taken-up a b context id (Some wanted) e fits joins =
     let won = won-by a b context.who id fits.speaks joins in
     let place : won.0.place ≡ wanted.place = fits.wait wanted won.0 e won.1 in
@@ -72,16 +73,16 @@ taken-up a b context id (Some wanted) e fits joins =
 
 -- the context has no wait any more
 lost-so : (a b : Core) (context : ContextView) → Fits a context → Spares context.who none a b → Followed a context b (waits.without_wait context)
-lost-so a b context fits spares = followed-waiting a b context None fits spares (λ wanted w f g. cc) refl
+lost-so a b context fits spares = followed-waiting a b context None fits spares (λ wanted w f g. cc)
 
-ended-so : (a b : Core) (context : ContextView) (answer : Answer) → Fits a context → Joins a (End_wait context.who) answer b
+ended-so : (a b : Core) (context : ContextView) (answer : Answer) → upgrade_of context.wait ≡ None → Fits a context → Joins a (End_wait context.who) answer b
     → Leads (Resumed a context) (waits.end_answered context answer) b
-ended-so a b context (Granted id) fits joins =
-    subst (λ upgrade. Leads (Resumed a context) (waits.wait_won upgrade id context) b) (sym fits.gains) (taken-up a b context id context.wait refl fits joins)
-ended-so a b context (Lost how) fits joins =
+ended-so a b context (Granted id) gains fits joins =
+    subst (λ upgrade. Leads (Resumed a context) (waits.wait_won upgrade id context) b) (sym gains) (taken-up a b context id context.wait refl fits joins)
+ended-so a b context (Lost how) gains fits joins =
     let stays = stays-call context.who none a b (End_wait context.who) (Lost how) fits.speaks (refl, tt, refl) joins in
     (lost-so a b context fits stays.0, tt)
-ended-so a b context answer fits joins =
+ended-so a b context answer gains fits joins =
     (followed-same a b context fits (stays-call context.who none a b (End_wait context.who) answer fits.speaks (refl, tt, refl) joins), tt)
 
 -- after calls that change nothing of it
@@ -95,38 +96,38 @@ resumed-late a b context program spares leads =
       resumed.1,
     )) leads
 
-ending-so : (a : Core) (context : ContextView) → Fits a context → Leads (Resumed a context) (waits.ending context) a
-ending-so a context fits = λ answer b joins. ended-so a b context answer fits joins
+ending-so : (a : Core) (context : ContextView) → upgrade_of context.wait ≡ None → Fits a context → Leads (Resumed a context) (waits.ending context) a
+ending-so a context gains fits = λ answer b joins. ended-so a b context answer gains fits joins
 
-polled-so : (a b : Core) (context : ContextView) (answer : Answer) → Fits a context → Stays context.who none a b
+polled-so : (a b : Core) (context : ContextView) (answer : Answer) → upgrade_of context.wait ≡ None → Fits a context → Stays context.who none a b
     → Leads (Resumed a context) (waits.poll_answered context answer) b
-polled-so a b context Pending fits stays = (followed-same a b context fits stays, λ wanted e. (wanted, e, refl, refl))
-polled-so a b context (Is_settled how) fits stays = resumed-late a b context (waits.ending context) stays.0 (ending-so b context (fits-same a b context fits stays))
-polled-so a b context answer fits stays = (followed-same a b context fits stays, tt)
+polled-so a b context Pending gains fits stays = (followed-same a b context fits stays, λ wanted e. (wanted, e, refl, refl, refl))
+polled-so a b context (Is_settled how) gains fits stays = resumed-late a b context (waits.ending context) stays.0 (ending-so b context gains (fits-same a b context fits stays))
+polled-so a b context answer gains fits stays = (followed-same a b context fits stays, tt)
 
-looking-so : (a : Core) (context : ContextView) → Fits a context → Leads (Resumed a context) (waits.looking context) a
-looking-so a context fits = λ answer b joins.
-    polled-so a b context answer fits (stays-call context.who none a b (Poll_wait context.who) answer fits.speaks (refl, tt, refl) joins)
+looking-so : (a : Core) (context : ContextView) → upgrade_of context.wait ≡ None → Fits a context → Leads (Resumed a context) (waits.looking context) a
+looking-so a context gains fits = λ answer b joins.
+    polled-so a b context answer gains fits (stays-call context.who none a b (Poll_wait context.who) answer fits.speaks (refl, tt, refl) joins)
 
 -- its searches are over
-searched-fits : (a : Core) (context : ContextView) → Fits a context → Fits a (waits.searched context)
+pub searched-fits : (a : Core) (context : ContextView) → Fits a context → Fits a (waits.searched context)
 searched-fits a context fits = record {
   speaks = fits.speaks;
   backed = fits.backed;
   alone = fits.alone;
   known = fits.known;
   wait = λ wanted w e f. at context.wait refl wanted w e f;
-  gains = same context.wait ∙ fits.gains;
 }
   where
-    same : (o : Option Wanted) → upgrade_of (option_map search_over o) ≡ upgrade_of o
-    same None = refl
-    same (Some x) = refl
-
     at : (o : Option Wanted) → context.wait ≡ o → (wanted : Wanted) (w : Wait) → option_map search_over o ≡ Some wanted
         → (own_at a context.who).wait ≡ Some w → w.place ≡ wanted.place
     at None here wanted w e f = cc
     at (Some x) here wanted w e f = let g : search_over x ≡ wanted = cc in fits.wait x w here f ∙ ap (λ (y : Wanted). y.place) g
+
+-- and it waits for what it waited for
+pub searched-upgrades : (wait : Option Wanted) → upgrade_of (option_map search_over wait) ≡ upgrade_of wait
+searched-upgrades None = refl
+searched-upgrades (Some wanted) = refl
 
 searched-comes : (context : ContextView) (outcome : Outcome Resume) (b : Core) → ComesTo (waits.searched context) outcome b → ComesTo context outcome b
 searched-comes context (Ok resume.Waiting, after) b comes = λ wanted e. comes (search_over wanted) (ap (option_map search_over) e)
@@ -134,38 +135,39 @@ searched-comes context (Ok (resume.Acquired id), after) b comes = λ wanted e. c
 searched-comes context (Ok (resume.Lost how), after) b comes = tt
 searched-comes context (Err error, after) b comes = tt
 
-sought-so : (a b : Core) (context : ContextView) (end : SearchEnd) → Fits a context → Stays context.who none a b
+sought-so : (a b : Core) (context : ContextView) (end : SearchEnd) → upgrade_of context.wait ≡ None → Fits a context → Stays context.who none a b
     → Leads (Resumed a context) (waits.wait_sought context end) b
-sought-so a b context Over fits stays =
+sought-so a b context Over gains fits stays =
     leads-map (Resumed b (waits.searched context)) (Resumed a context) (waits.looking (waits.searched context)) b
     (λ outcome c resumed. (
       followed-late a b c context.who context.kept context.known context.known context.wait (option_map search_over context.wait) outcome.1 stays.0 resumed.0,
       searched-comes context outcome c resumed.1,
     ))
-    (looking-so b (waits.searched context) (searched-fits b context (fits-same a b context fits stays)))
-sought-so a b context Cut_off fits stays = resumed-late a b context (waits.looking context) stays.0 (looking-so b context (fits-same a b context fits stays))
-sought-so a b context (Failed refusal) fits stays =
+    (looking-so b (waits.searched context) (searched-upgrades context.wait ∙ gains) (searched-fits b context (fits-same a b context fits stays)))
+sought-so a b context Cut_off gains fits stays = resumed-late a b context (waits.looking context) stays.0 (looking-so b context gains (fits-same a b context fits stays))
+sought-so a b context (Failed refusal) gains fits stays =
     leads-bind (λ x c. Spares context.who none a c) (Resumed a context) (gains.abandoning context.who)
     (λ _. Give (Err (Space refusal), waits.without_wait context)) b
     (leads-abandoning a b context.who stays.0) (λ x c spares. (lost-so a c context fits spares, tt))
 
-cut_off-so : (a b : Core) (context : ContextView) (answer : Answer) → Fits a context → Stays context.who none a b
+cut_off-so : (a b : Core) (context : ContextView) (answer : Answer) → upgrade_of context.wait ≡ None → Fits a context → Stays context.who none a b
     → Leads (Resumed a context) (waits.cut_off_answered context answer) b
-cut_off-so a b context Pending fits stays =
+cut_off-so a b context Pending gains fits stays =
     leads-bind (λ x c. Stays context.who none a c) (Resumed a context) (seeking most_searches context.who) (waits.wait_sought context) b
     (leads-quiet (seeking most_searches context.who) a b context.who none stays (quiet-seeking context.who most_searches))
-    (λ end c later. sought-so a c context end fits later)
-cut_off-so a b context (Is_settled how) fits stays = polled-so a b context (Is_settled how) fits stays
-cut_off-so a b context answer fits stays = (followed-same a b context fits stays, tt)
+    (λ end c later. sought-so a c context end gains fits later)
+cut_off-so a b context (Is_settled how) gains fits stays = polled-so a b context (Is_settled how) gains fits stays
+cut_off-so a b context answer gains fits stays = (followed-same a b context fits stays, tt)
 
-going_on-so : (a : Core) (context : ContextView) (searched : Option Bool) → Fits a context → Leads (Resumed a context) (waits.going_on searched context) a
-going_on-so a context None fits = (followed-here a context fits, tt)
-going_on-so a context (Some true) fits = looking-so a context fits
-going_on-so a context (Some false) fits = λ answer b joins.
-    cut_off-so a b context answer fits (stays-call context.who none a b (Poll_wait context.who) answer fits.speaks (refl, tt, refl) joins)
+going_on-so : (a : Core) (context : ContextView) (searched : Option Bool) → upgrade_of context.wait ≡ None → Fits a context → Leads (Resumed a context) (waits.going_on searched context) a
+going_on-so a context None gains fits = (followed-here a context fits, tt)
+going_on-so a context (Some true) gains fits = looking-so a context gains fits
+going_on-so a context (Some false) gains fits = λ answer b joins.
+    cut_off-so a b context answer gains fits (stays-call context.who none a b (Poll_wait context.who) answer fits.speaks (refl, tt, refl) joins)
 
-pub leads-resuming : (a : Core) (context : ContextView) → Fits a context → Leads (Resumed a context) (waits.resuming context) a
-leads-resuming a context fits = going_on-so a context (waits.is_searched context.wait) fits
+-- a wait for a new ticket goes on
+pub leads-resuming : (a : Core) (context : ContextView) → upgrade_of context.wait ≡ None → Fits a context → Leads (Resumed a context) (waits.resuming context) a
+leads-resuming a context gains fits = going_on-so a context (waits.is_searched context.wait) gains fits
 
 -- ---- tickets that are given up
 

@@ -78,7 +78,7 @@ keeps-stays old a b session stays (inl rests) = inl (record {
   kept = λ x is opens. standing-followed a b session.context session.context rests.fits (followed-same a b session.context rests.fits stays) x
       (rests.kept x is opens);
 })
-keeps-stays old a b session stays (inr waiting) = inr (record {
+keeps-stays old a b session stays (inr (inl waiting)) = inr (inl (record {
   rest = waiting.rest;
   left = waiting.left;
   live = waiting.live;
@@ -87,14 +87,25 @@ keeps-stays old a b session stays (inr waiting) = inr (record {
   key = waiting.key;
   wanted = waiting.wanted;
   wait = waiting.wait;
+  gains = waiting.gains;
   at = stays.0.known waiting.wanted.place waiting.key waiting.at;
   point = point-same old waiting.live waiting.locks waiting.seen waiting.rest.mark a session.context session.state waiting.point b stays;
   fair = waiting.fair;
-})
+}))
+keeps-stays old a b session stays (inr (inr raising)) = inr (inr (record {
+  rest = raising.rest;
+  left = raising.left;
+  live = raising.live;
+  nothing = raising.nothing;
+  upgrading = raising.upgrading;
+  point = point-same old raising.live [] [] raising.rest.mark a session.context session.state raising.point b stays;
+  fair = raising.fair;
+}))
 
 keeps-speaks : (old : TableShown → Type 0) (a : Core) (session : Session) → Keeps old a session → SpeaksFor a session.context.who
 keeps-speaks old a session (inl rests) = rests.fits.speaks
-keeps-speaks old a session (inr waiting) = waiting.point.fits.speaks
+keeps-speaks old a session (inr (inl waiting)) = waiting.point.fits.speaks
+keeps-speaks old a session (inr (inr raising)) = raising.point.fits.speaks
 
 -- ---- worlds
 
@@ -248,7 +259,8 @@ module _ (who : ℕ) (old : TableShown → Type 0) (line s : ℕ) (program : Ses
 -- a session that doesn't wait
 rests-idle : (old : TableShown → Type 0) (a : Core) (session : Session) → Keeps old a session → is_some session.left ≡ false → Rests old a session
 rests-idle old a session (inl rests) idle = rests
-rests-idle old a session (inr waiting) idle = let e = ap is_some waiting.left in let f : true ≡ false = sym e ∙ idle in cc
+rests-idle old a session (inr (inl waiting)) idle = let e = ap is_some waiting.left in let f : true ≡ false = sym e ∙ idle in cc
+rests-idle old a session (inr (inr raising)) idle = let e = ap is_some raising.left in let f : true ≡ false = sym e ∙ idle in cc
 
 module _ (who : ℕ) (there : IsScriptSession who) where
   scene-going : (old : TableShown → Type 0) (s : ℕ) (world : World) → IsScriptSession s → IsGood who old world → IsGoodScene who old (going s world)
@@ -386,7 +398,6 @@ keeps-first w is = subst (λ (p : Player). Keeps Nothing first_core p.session) (
     alone = λ k other one two e. absurd (Contains-none k one);
     known = λ key place e. cc;
     wait = λ wanted w e f. cc;
-    gains = refl;
   };
   unlocked = refl;
   kept = λ x none opens. absurd none;

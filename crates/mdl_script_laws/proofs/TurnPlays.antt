@@ -82,6 +82,7 @@ follows-within : (most : ℕ) (asked : Row Reply) → AsksForAtMost most asked �
 follows-within most (row.Give reply) is = tt
 follows-within most (row.Fail number) is = tt
 follows-within most (row.Acquire wish rest) (fewer, same, is) = λ id. few-more fewer most (rest id) (omega (arith, same)) (is id)
+follows-within most (row.Upgrade id key mode rest) (fewer, same, is) = λ id. few-more fewer most (rest id) (omega (arith, same)) (is id)
 follows-within most _ is = is
 
 -- the bound may be greater than what is left, so that a lock that is had at once leaves it as it is
@@ -91,6 +92,7 @@ rules-within most mark = record {
   closes = λ ending session _. within-closing most ending mark session;
   follows = follows-within most;
   waits = λ wish rest session is. (let more = is.1 in omega (arith, more), is);
+  raises = λ id key mode rest session is. (let more = is.1 in omega (arith, more), is);
 }
 
 pub within-play : (most : ℕ) (asked : Row Reply) (mark : Mark) (session : Session) → AsksForAtMost most asked → Each (PausesWithin most) (play asked mark session)

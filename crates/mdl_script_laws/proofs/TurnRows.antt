@@ -5,11 +5,18 @@ use Rattle.std.proofs.lemmas.List.{length-map}
 use Rattle.std.specs.declared.cmp.Ordering.{Ordering}
 use Rattle.std.specs.declared.cmp.Ordering.TheVariants.{Less, Equal, Greater}
 use Rattle.mdl_key.specs.Keys.{KeyName, global_key, key_cmp, key_eq}
+use Rattle.mdl_key.specs.declared.mode.Mode.TheVariants.{X}
+use Rattle.mdl_defs.specs.declared.change.Change.{Change}
 use Rattle.mdl_defs.specs.declared.change.Change.TheVariants as change
 use Rattle.mdl_defs.specs.declared.definition.Definition.{Definition}
+use Rattle.mdl_defs.specs.declared.def_error.DefError.{DefError}
+use Rattle.mdl_defs.specs.Changes.{change_fault}
 use Rattle.mdl_defs.specs.Columns.{names_twice}
 use Rattle.mdl_context.specs.declared.request.Mark.{Mark}
 use Rattle.mdl_context.specs.Wishes.{Wish}
+use Rattle.mdl_syntax.specs.declared.statement.Algorithm.{Algorithm}
+use Rattle.mdl_syntax.specs.declared.statement.Algorithm.TheVariants.{Copy, Inplace}
+use Rattle.mdl_syntax.specs.declared.statement.Alteration.{Alteration}
 use Rattle.mdl_syntax.specs.declared.statement.Priority.{Priority}
 use Rattle.mdl_syntax.specs.declared.statement.Statement.{Statement}
 use Rattle.mdl_syntax.specs.declared.statement.Statement.TheVariants as statement
@@ -43,6 +50,11 @@ few-more n m (row.Acquire wish rest) less (fewer, same, is) =
     let at : m ≡ suc (m - 1) = omega (arith, less, same) in
     let below : fewer ≤ m - 1 = omega (arith, less, same) in
     (m - 1, at, λ id. few-more fewer (m - 1) (rest id) below (is id))
+few-more n m (row.Upgrade id key mode rest) less (fewer, same, is) =
+    let at : m ≡ suc (m - 1) = omega (arith, less, same) in
+    let below : fewer ≤ m - 1 = omega (arith, less, same) in
+    (m - 1, at, λ id. few-more fewer (m - 1) (rest id) below (is id))
+few-more n m (row.Downgrade id mode rest) less is = few-more n m rest less is
 few-more n m (row.Give_up which rest) less is = few-more n m rest less is
 few-more n m (row.Release id rest) less is = few-more n m rest less is
 few-more n m (row.Read id rest) less is = λ standing. few-more n m (rest standing) less (is standing)
@@ -62,6 +74,11 @@ few-then n m most (row.Acquire wish more) next less (fewer, same, is) rest =
     let at : most ≡ suc (most - 1) = omega (arith, less, same) in
     let below : fewer + m ≤ most - 1 = omega (arith, less, same) in
     (most - 1, at, λ id. few-then fewer m (most - 1) (more id) next below (is id) rest)
+few-then n m most (row.Upgrade id key mode more) next less (fewer, same, is) rest =
+    let at : most ≡ suc (most - 1) = omega (arith, less, same) in
+    let below : fewer + m ≤ most - 1 = omega (arith, less, same) in
+    (most - 1, at, λ id. few-then fewer m (most - 1) (more id) next below (is id) rest)
+few-then n m most (row.Downgrade id mode more) next less is rest = few-then n m most more next less is rest
 few-then n m most (row.Give_up which more) next less is rest = few-then n m most more next less is rest
 few-then n m most (row.Release id more) next less is rest = few-then n m most more next less is rest
 few-then n m most (row.Read id more) next less is rest = λ standing. few-then n m most (more standing) next less (is standing) rest
@@ -336,6 +353,49 @@ few-rename from to =
     (omega (arith, count, most)) (few-acquire_all wishes)
     (λ tickets. few-lock_and_rename from to (ticket_of (stm.schema_of to) scopes tickets))
 
+-- ---- ALTER TABLE
+
+few-fault : (fault : Option DefError) → AsksForAtMost 0 (stm.unless_fault fault)
+few-fault None = tt
+few-fault (Some fault) = tt
+
+few-check_change : (change : Change) (table : ℕ) → AsksForAtMost 0 (stm.check_change change table)
+few-check_change change table standing =
+    few-then 0 0 0 (stm.unless_fault (change_fault standing.definition change)) (λ _. check (stm.has_version_left standing) VersionLimit) (omega arith)
+    (few-fault (change_fault standing.definition change)) (λ _. few-checked (stm.has_version_left standing) VersionLimit)
+
+few-raise : (alteration : Alteration) (table : ℕ) → AsksForAtMost 1 (stm.raise_and_change alteration table)
+few-raise alteration table = (0, refl, λ alone. tt)
+
+few-alter_by : (how : Algorithm) (alteration : Alteration) (table : ℕ) → AsksForAtMost 2 (stm.alter_by how alteration table)
+few-alter_by Copy alteration table = (1, refl, λ copied. few-raise alteration copied)
+few-alter_by Inplace alteration table = (1, refl, λ prepared. few-raise alteration prepared)
+
+few-alter_unlocked : (alteration : Alteration) → AsksForAtMost 3 (stm.alter_unlocked alteration)
+few-alter_unlocked alteration =
+    (2, refl, λ table. few-then 0 2 2 (stm.check_change alteration.change table) (λ _. stm.alter_by alteration.algorithm alteration table) (omega arith)
+    (few-check_change alteration.change table) (λ _. few-alter_by alteration.algorithm alteration table))
+
+few-alter_locked : (alteration : Alteration) → AsksForAtMost 3 (stm.alter_locked alteration)
+few-alter_locked alteration =
+    (2, refl, λ table. few-then 0 2 2 (stm.check_change alteration.change table) (λ _. row.Upgrade table alteration.table X (stm.change_and_lower alteration))
+    (omega arith) (few-check_change alteration.change table) (λ _. (1, refl, λ alone. tt)))
+
+few-alter : (alteration : Alteration) → AsksForAtMost 5 (stm.alter_after_commit alteration)
+few-alter alteration =
+    (4, refl, λ global. (3, refl, λ schema state.
+    few-either 3 (has_locked state.locked) (stm.alter_locked alteration) (stm.alter_unlocked alteration) (few-alter_locked alteration) (few-alter_unlocked alteration)))
+
+few-alter_among_locked : (table : KeyName) (rest : Row Reply) → AsksForAtMost 5 rest → AsksForAtMost 6 (stm.alter_among_locked table rest)
+few-alter_among_locked table rest is =
+    few-then 0 6 6 (stm.held_lock table) (λ locked. check locked.may_write TableLockedForRead >> stm.commit_first rest) (omega arith) (few-held_lock 0 table)
+    (λ locked. few-check 6 locked.may_write TableLockedForRead (stm.commit_first rest) (few-commit_first 5 rest is))
+
+few-alter_first : (table : KeyName) (rest : Row Reply) → AsksForAtMost 5 rest → AsksForAtMost 6 (stm.alter_first table rest)
+few-alter_first table rest is state =
+    few-check 6 (not (is_some state.read_lock)) ConflictingReadLock _ (λ kept.
+    few-either 6 (has_locked kept.locked) (stm.alter_among_locked table rest) (stm.commit_first rest) (few-alter_among_locked table rest is) (few-commit_first 5 rest is))
+
 -- ---- the table
 
 few-begin : AsksForAtMost 0 stm.begin_after_commit
@@ -367,6 +427,7 @@ few-asked (statement.RenameTable from to) = few-ddl_first 5 (stm.rename_after_co
 few-asked statement.UnlockTables = few-unlock_all
 few-asked statement.FlushTablesWithReadLock =
     few-then 0 3 3 stm.no_locked_tables _ (omega arith) few-no_locked (λ _. few-commit_first 2 stm.flush_after_commit few-flush)
+few-asked (statement.AlterTable alteration) = few-alter_first alteration.table (stm.alter_after_commit alteration) (few-alter alteration)
 few-asked (statement.KillQuery target) = tt
 few-asked statement.Timeout = tt
 

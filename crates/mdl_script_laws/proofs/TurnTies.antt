@@ -1,22 +1,27 @@
 -- A statement waits exactly where its session has a wait in the space.
-use Rattle.std.proofs.Common.{◌≡◌, ℕ, zero, suc, Bool, true, false, List, [], ◌∷◌, Option, Some, None, Ok, Err, refl, subst, sym}
+use Rattle.std.proofs.Common.{◌≡◌, ℕ, zero, suc, Bool, true, false, List, [], ◌∷◌, Option, Some, None, Result, Ok, Err, refl, subst, sym, ◌∙◌}
 use Rattle.std.specs.Prelude.{if◌then◌else◌, is_some, ◌==◌}
 use Rattle.mdl_defs.specs.declared.standing.Standing.{Standing}
+use Rattle.mdl_key.specs.declared.mode.Mode.{Mode}
 use Rattle.mdl_calls.specs.declared.answers.Held.{Held}
-use Rattle.mdl_calls.specs.Words.{Answer, At_place, Changed, Granted, Has_wait, Reads, Refused, Victim_is, Waits, Would_wait, Begin_wait, Release, Search, Program, Give, Ask, ◌>>=◌, SearchEnd, Over, Cut_off, Failed, after_search, seeking, most_searches}
+use Rattle.mdl_calls.specs.declared.space_error.SpaceError.{SpaceError}
+use Rattle.mdl_calls.specs.Words.{Answer, At_place, Changed, Done, Granted, Has_wait, Reads, Refused, Upgraded, Victim_is, Waits, Would_wait, Begin_wait, Downgrade, Release, Search, Upgrade_now, Program, Give, Ask, ◌>>=◌, SearchEnd, Over, Cut_off, Failed, after_search, seeking, most_searches}
+use Rattle.mdl_context.specs.declared.asking.Got.{Got}
+use Rattle.mdl_context.specs.declared.asking.Got.TheVariants as got
 use Rattle.mdl_context.specs.declared.context_error.ContextError.{ContextError}
 use Rattle.mdl_context.specs.declared.context_error.ContextError.TheVariants.{Waiting}
 use Rattle.mdl_context.specs.declared.kept.Kept.{Kept}
 use Rattle.mdl_context.specs.declared.request.Acquire.{Acquire}
 use Rattle.mdl_context.specs.declared.request.Acquire.TheVariants as acquire
 use Rattle.mdl_context.specs.declared.request.Mark.{Mark}
-use Rattle.mdl_context.specs.Contexts.{ContextView, mark_of, place_known, without}
+use Rattle.mdl_context.specs.Contexts.{ContextView, mark_of, place_known, ticket_kept, without}
 use Rattle.mdl_context.specs.Gains as gains
 use Rattle.mdl_context.specs.Gains.{refusal_of}
 use Rattle.mdl_context.specs.Holdings.{earliest, without_number}
 use Rattle.mdl_context.specs.Releases as releases
 use Rattle.mdl_context.specs.Requests as requests
 use Rattle.mdl_context.specs.Requests.{Outcome}
+use Rattle.mdl_context.specs.Upgrades as upgrades
 use Rattle.mdl_context.specs.Wishes.{Wish}
 use Rattle.mdl_stmt.specs.declared.ending.Ending.{Ending}
 use Rattle.mdl_stmt.specs.declared.ending.Ending.TheVariants.{Answers, Misses, Falls, Starves}
@@ -172,6 +177,75 @@ tied-acquiring wish context =
       | false ↦ tied-finding (place_known wish.key context.known) wish context
     ]
 
+-- ---- other modes
+
+-- what a space was asked for is had or refused, or there is a wait
+abbrev IsGotTied : Result Got SpaceError → Bool → Type 0
+IsGotTied (Ok (got.Waits number searched)) waits = waits ≡ true
+IsGotTied _ waits = waits ≡ false
+
+got-sought : (who number : ℕ) (end : SearchEnd) (waits : Bool) → IsSought end waits → Tracks IsGotTied (gains.wish_sought who number end) waits
+got-sought who number Over waits is = is
+got-sought who number Cut_off waits is = is
+got-sought who number (Failed refusal) waits is = absurd is
+
+got-wished : (who place : ℕ) (mode : Mode) (answer : Answer)
+    → Tracks IsGotTied (gains.wish_answered who answer) (wait_after (Begin_wait who place mode) answer false)
+got-wished who place mode (Granted id) = refl
+got-wished who place mode (Waits number) =
+    tracks-then {A = SearchEnd} IsSought IsGotTied (seeking most_searches who) (gains.wish_sought who number) true
+    (sought-seeking most_searches who) (got-sought who number)
+got-wished who place mode _ = refl
+
+stays-merged : (who new : ℕ) (answer : Answer) (waits : Bool) → Tracks (Stays {A = Result (Unit {0}) SpaceError} waits) (upgrades.merge_answered who new answer) waits
+stays-merged who new Done waits = refl
+stays-merged who new answer waits = λ released is. refl
+
+tied-merged : (id : ℕ) (mode : Mode) (context : ContextView) (end : Result (Unit {0}) SpaceError) (waits : Bool) → waits ≡ false
+    → IsAskedTied (upgrades.merged (acquire.Acquired id) id mode context end) waits
+tied-merged id mode context (Ok done) waits none = none
+tied-merged id mode context (Err refusal) waits none = none
+
+tied-second : (ticket : Kept) (mode : Mode) (context : ContextView) (end : Result Got SpaceError) (waits : Bool) → IsGotTied end waits
+    → Tracks IsAskedTied (upgrades.second_got ticket mode context end) waits
+tied-second ticket mode context (Ok (got.Granted new)) waits none =
+    tracks-then {A = Result (Unit {0}) SpaceError} {B = Outcome Acquire} (Stays waits) IsAskedTied (upgrades.merging context.who ticket.id new)
+    (λ end. Give (upgrades.merged (acquire.Acquired ticket.id) ticket.id mode context end)) waits
+    (λ answer is. stays-merged context.who new answer waits) (λ end after same. tied-merged ticket.id mode context end after (same ∙ none))
+tied-second ticket mode context (Ok (got.Waits number searched)) waits is = (is, refl)
+tied-second ticket mode context (Err refusal) waits none = none
+
+tied-upgraded : (ticket : Kept) (mode : Mode) (context : ContextView) (answer : Answer)
+    → Tracks IsAskedTied (upgrades.upgrade_answered ticket mode context answer) false
+tied-upgraded ticket mode context Upgraded = refl
+tied-upgraded ticket mode context Would_wait =
+    tracks-then {A = Result Got SpaceError} {B = Outcome Acquire} IsGotTied IsAskedTied (gains.waiting_at context.who ticket.place mode)
+    (upgrades.second_got ticket mode context) false (λ answer is. got-wished context.who ticket.place mode answer) (tied-second ticket mode context)
+tied-upgraded ticket mode context _ = refl
+
+tied-upgrading : (id : ℕ) (mode : Mode) (context : ContextView) → Tracks IsAskedTied (upgrades.upgrading id mode context) false
+tied-upgrading id mode context = by (ticket_kept id context.kept) where
+  unless_waiting : (ticket : Kept) (fault : Option ContextError) → Tracks IsAskedTied
+      (releases.unless fault context (Ask (Upgrade_now context.who ticket.id mode) (upgrades.upgrade_answered ticket mode context))) false
+  unless_waiting ticket (Some fault) = refl
+  unless_waiting ticket None = λ answer is. tied-upgraded ticket mode context answer
+
+  by : (ticket : Option Kept) → Tracks IsAskedTied (upgrades.upgrading_ticket ticket mode context) false
+  by None = refl
+  by (Some ticket) = unless_waiting ticket (releases.waiting_fault context)
+
+stays-downgraded : (id : ℕ) (mode : Mode) (context : ContextView) (waits : Bool)
+    → Tracks (Stays {A = Outcome (Unit {0})} waits) (upgrades.downgrading id mode context) waits
+stays-downgraded id mode context waits = by (releases.release_fault id context) where
+  after : (answer : Answer) → Tracks (Stays {A = Outcome (Unit {0})} waits) (upgrades.downgrade_answered id mode context answer) waits
+  after Done = refl
+  after _ = refl
+
+  by : (fault : Option ContextError) → Tracks (Stays {A = Outcome (Unit {0})} waits)
+      (releases.unless fault context (Ask (Downgrade context.who id mode) (upgrades.downgrade_answered id mode context))) waits
+  by (Some fault) = refl
+  by None = λ answer is. after answer
+
 -- ---- all that may be asked for
 
 -- a wait that isn't there
@@ -215,6 +289,17 @@ tied-play (row.Acquire wish rest) mark session =
     tracks-then {A = Outcome Acquire} {B = Pause} IsAskedTied PausesTied (requests.acquiring wish session.context)
     (playing.acquired wish rest mark session more) false
     (tied-acquiring wish session.context) (tied-asked wish rest mark session more (λ id after. tied-play (rest id) mark after))
+tied-play (row.Upgrade id key mode rest) mark session =
+    let wish = playing.upgrade_wish key mode in
+    let more : ℕ → Session → Program Pause = λ id after. play (rest id) mark after in
+    tracks-then {A = Outcome Acquire} {B = Pause} IsAskedTied PausesTied (upgrades.upgrading id mode session.context)
+    (playing.acquired wish rest mark session more) false
+    (tied-upgrading id mode session.context) (tied-asked wish rest mark session more (λ id after. tied-play (rest id) mark after))
+tied-play (row.Downgrade id mode rest) mark session =
+    let more : Outcome (Unit {0}) → Program Pause = λ outcome. play rest mark (with_context session outcome.1) in
+    tracks-then {A = Outcome (Unit {0})} {B = Pause} (Stays false) PausesTied (upgrades.downgrading id mode session.context) more false
+    (stays-downgraded id mode session.context false)
+    (λ outcome waits none. tied-at (more outcome) waits none (tied-play rest mark (with_context session outcome.1)))
 tied-play (row.Give_up which rest) mark session =
     let more : Outcome (Unit {0}) → Program Pause = λ outcome. play rest mark (with_context session outcome.1) in
     tracks-then {A = Outcome (Unit {0})} {B = Pause} (Stays false) PausesTied (releases.giving_up (which session.context.kept) session.context) more false

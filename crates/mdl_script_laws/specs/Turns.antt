@@ -9,7 +9,7 @@ use Rattle.mdl_context.specs.declared.request.Mark.{Mark}
 use Rattle.mdl_defs.specs.declared.standing.Standing.{Standing}
 use Rattle.mdl_syntax.specs.declared.script.Line.{Line}
 use Rattle.mdl_syntax.specs.declared.statement.Statement.{Statement}
-use Rattle.mdl_syntax.specs.declared.statement.Statement.TheVariants.{Begin, Commit, Select, Write, CreateTable, CreateSchema, DropTables, RenameTable, FlushTablesWithReadLock}
+use Rattle.mdl_syntax.specs.declared.statement.Statement.TheVariants.{Begin, Commit, Select, Write, CreateTable, CreateSchema, DropTables, RenameTable, FlushTablesWithReadLock, AlterTable}
 use Rattle.mdl_syntax.specs.Laws.{IsWithinLimits}
 use Rattle.mdl_syntax.specs.Scripts.{parsed}
 use Rattle.mdl_stmt.specs.Rows.{Row}
@@ -21,7 +21,8 @@ use Rattle.mdl_script.specs.declared.told.News.TheVariants.{Waits}
 use Rattle.mdl_script.specs.declared.told.Told.{Told}
 use Rattle.mdl_script.specs.Worlds.{World, first_settled, is_waiting, script_played, settling, silent, waiting_in}
 
--- a statement asks for at most so many locks, one after the other, whatever it is told meanwhile
+-- a statement asks for at most so many locks, one after the other, whatever it is told meanwhile. To make one stronger is to ask for one
+-- more
 abbrev pub AsksForAtMost : {A : Type 0} → ℕ → Row A → Type 0
 AsksForAtMost most (row.Give x) = Unit {0}
 AsksForAtMost most (row.Fail number) = Unit {0}
@@ -30,6 +31,8 @@ AsksForAtMost most (row.Look rest) = (state : State) → AsksForAtMost most (res
 AsksForAtMost most (row.Set change rest) = AsksForAtMost most rest
 AsksForAtMost most (row.Here rest) = (mark : Mark) → AsksForAtMost most (rest mark)
 AsksForAtMost most (row.Acquire wish rest) = (fewer : ℕ) × (most ≡ suc fewer) × ((id : ℕ) → AsksForAtMost fewer (rest id))
+AsksForAtMost most (row.Upgrade id key mode rest) = (fewer : ℕ) × (most ≡ suc fewer) × ((id : ℕ) → AsksForAtMost fewer (rest id))
+AsksForAtMost most (row.Downgrade id mode rest) = AsksForAtMost most rest
 AsksForAtMost most (row.Give_up which rest) = AsksForAtMost most rest
 AsksForAtMost most (row.Release id rest) = AsksForAtMost most rest
 AsksForAtMost most (row.Read id rest) = (standing : Standing) → AsksForAtMost most (rest standing)
@@ -37,8 +40,9 @@ AsksForAtMost most (row.Redefine id change rest) = AsksForAtMost most rest
 AsksForAtMost most (row.Kill target rest) = AsksForAtMost most rest
 
 -- the most locks that a statement asks for: the COMMIT lock where it has to commit, the global lock where it writes or changes
--- definitions, and the tables or the schema that it names, with the tables' schemas where these are created, dropped or renamed; and
--- for the global read lock the global lock and once more the COMMIT lock
+-- definitions, and the tables or the schema that it names, with the tables' schemas where these are created, dropped, renamed or
+-- altered; and for the global read lock the global lock and once more the COMMIT lock. A table that is altered is locked up to three times,
+-- each time more strongly
 abbrev pub locks_of : Statement → ℕ
 locks_of Begin = 1
 locks_of Commit = 1
@@ -49,6 +53,7 @@ locks_of (CreateSchema name) = 3
 locks_of (DropTables tables) = 2 + 2 * length tables
 locks_of (RenameTable from to) = 6
 locks_of FlushTablesWithReadLock = 3
+locks_of (AlterTable alteration) = 6
 locks_of _ = 0
 
 -- that of a DROP TABLE of eight tables is the most that the language has

@@ -119,15 +119,16 @@ impl Drawn {
     fn line(&mut self) -> Result<(), AllocError> {
         let who = self.draw_below(self.sessions).wrapping_add(1);
         write!(self.text, "{who} ")?;
-        match self.chance.draw(32) {
-            0..=7 => self.alone()?,
-            8..=14 => self.some("SELECT", 3)?,
+        match self.chance.draw(35) {
+            0..=6 => self.alone()?,
+            7..=14 => self.some("SELECT", 3)?,
             15..=20 => self.write()?,
             21..=23 => self.some("DROP TABLE", 3)?,
             24..=25 => self.rename()?,
             26..=27 => self.create()?,
             28 => self.create_schema()?,
-            29 => self.kill()?,
+            29..=31 => self.alter()?,
+            32 => self.kill()?,
             _ => self.text.push_str("TIMEOUT")?,
         }
         self.text.push('\n')
@@ -179,6 +180,15 @@ impl Drawn {
             3 => write!(self.text, "CREATE TABLE {name} x y x"),
             _ => write!(self.text, "CREATE TABLE {name} x y"),
         }
+    }
+
+    // A column that a table gains or loses, which it may have or not.
+    fn alter(&mut self) -> Result<(), AllocError> {
+        let name = table_name(self.draw_below(self.tables));
+        let change = ["ADD", "DROP"][usize::from(self.chance.draw(2))];
+        let column = ["x", "y", "z"][usize::from(self.chance.draw(3))];
+        let algorithm = ["COPY", "INPLACE"][usize::from(self.chance.draw(2))];
+        write!(self.text, "ALTER TABLE {name} {change} {column} {algorithm}")
     }
 
     // A new schema, or at times one that is there from the start.

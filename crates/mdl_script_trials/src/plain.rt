@@ -9,7 +9,7 @@ mod plans;
 mod sessions;
 mod steps;
 
-use mdl_defs::{Columns, Definition};
+use mdl_defs::{Change, Columns, Definition};
 use mdl_key::{Duration, Key, KeyError, Mode};
 use mdl_lines::Fault;
 use mdl_syntax::{Line, Name, Script, Statement, parse};
@@ -109,6 +109,16 @@ enum Step {
     HaveReadLock,
     // All locks go that the session has kept until it gives them up.
     Unlock,
+    // Fails where a table isn't there, or its columns can't be changed so.
+    CheckChange(Key, Change),
+    // Asks for a stronger lock of a table beside the one that is had.
+    Raise(Key, Mode),
+    // Makes one lock of the two.
+    Merge,
+    // Makes the lock of a table weaker.
+    Lower(Key, Mode),
+    // Changes the columns of a table.
+    Alter(Key, Change),
 }
 
 // How it goes on behind a step.

@@ -1,3 +1,4 @@
+pub mod AlterLemmas
 pub mod CallLemmas
 pub mod DropLemmas
 pub mod EndLemmas

@@ -13,9 +13,10 @@ use Rattle.mdl_context.specs.Gains.{refusal_of}
 use Rattle.mdl_context.specs.MemoryLaws.{IsOwnCall}
 use Rattle.mdl_context.specs.Releases.{giving_up, releasing}
 use Rattle.mdl_context.specs.Requests.{Outcome, acquiring}
+use Rattle.mdl_context.specs.Upgrades.{upgrading, downgrading}
 use Rattle.mdl_context.specs.Waits.{giving_up_wait, resuming}
 use Rattle.mdl_context.specs.Wishes.{Wish}
-use Rattle.mdl_context.proofs.OwnCallLemmas.{own_made, own_acquiring, own_resuming, own_giving_up_wait, own_giving_up, own_releasing}
+use Rattle.mdl_context.proofs.OwnCallLemmas.{own_made, own_acquiring, own_resuming, own_giving_up_wait, own_giving_up, own_releasing, own_upgrading, own_downgrading}
 use Rattle.mdl_stmt.specs.declared.ending.Ending.{Ending}
 use Rattle.mdl_stmt.specs.declared.ending.Ending.TheVariants.{Answers, Misses, Falls, Starves}
 use Rattle.mdl_stmt.specs.declared.reply.Reply.{Reply}
@@ -29,7 +30,7 @@ use Rattle.mdl_stmt.specs.Rows as row
 use Rattle.mdl_stmt.specs.Sessions.{Left, Session}
 use Rattle.mdl_stmt.specs.States.{half_lock, without_read_lock}
 use Rattle.mdl_stmt.specs.Statements.{row_of}
-use Rattle.mdl_context.proofs.WhoLemmas.{StaysOf, of_acquiring, of_resuming, of_giving_up_wait, of_giving_up, of_releasing}
+use Rattle.mdl_context.proofs.WhoLemmas.{StaysOf, of_acquiring, of_resuming, of_giving_up_wait, of_giving_up, of_releasing, of_upgrading, of_downgrading}
 
 -- a program is a session's: all its calls are made for it or for nobody, and wherever it pauses, the session has its number
 record IsOwn (who : ℕ) (program : Program Pause) : Type 0 where
@@ -144,6 +145,15 @@ own_play (row.Acquire wish rest) mark session =
     own_bind {A = Acquire} session.context.who (acquiring wish session.context) (playing.acquired wish rest mark session more)
     (own_acquiring wish session.context) (of_acquiring wish session.context)
     (own_acquired wish rest mark session more (λ id after. own_play (rest id) mark after))
+own_play (row.Upgrade id key mode rest) mark session =
+    let wish = playing.upgrade_wish key mode in
+    let more = λ (id : ℕ) (after : Session). play (rest id) mark after in
+    own_bind {A = Acquire} session.context.who (upgrading id mode session.context) (playing.acquired wish rest mark session more)
+    (own_upgrading id mode session.context) (of_upgrading id mode session.context)
+    (own_acquired wish rest mark session more (λ id after. own_play (rest id) mark after))
+own_play (row.Downgrade id mode rest) mark session =
+    own_bind {A = Unit {0}} session.context.who (downgrading id mode session.context) (λ outcome. play rest mark (with_context session outcome.1))
+    (own_downgrading id mode session.context) (of_downgrading id mode session.context) (λ outcome. own_play rest mark (with_context session outcome.1))
 own_play (row.Give_up which rest) mark session =
     let gone = which session.context.kept in
     own_bind {A = Unit {0}} session.context.who (giving_up gone session.context) (λ outcome. play rest mark (with_context session outcome.1))

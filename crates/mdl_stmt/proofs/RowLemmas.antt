@@ -3,6 +3,7 @@ use Rattle.std.proofs.Common.{◌≡◌, ℕ, Bool, not, List, refl, sym, ap, if
 use mathlib.Core.Path.{fun_ext}
 use Rattle.std.specs.Prelude.{is_some}
 use Rattle.mdl_key.specs.Keys.{KeyName}
+use Rattle.mdl_syntax.specs.declared.statement.Alteration.{Alteration}
 use Rattle.mdl_syntax.specs.declared.statement.Priority.{Priority}
 use Rattle.mdl_context.specs.declared.request.Mark.{Mark}
 use Rattle.mdl_stmt.specs.declared.error_number.ErrorNumber.TheVariants.{ConflictingReadLock}
@@ -12,7 +13,7 @@ use Rattle.mdl_syntax.specs.declared.statement.Statement.{Statement}
 use Rattle.mdl_syntax.specs.declared.statement.Statement.TheVariants as statement
 use Rattle.mdl_stmt.specs.Gets.{at_rest}
 use Rattle.mdl_stmt.specs.Playing.{play}
-use Rattle.mdl_stmt.specs.Rows.{Row, Give, Fail, Room, Look, Set, Here, Acquire, Give_up, Release, Read, Redefine, Kill, ◌>>=◌, ◌>>◌, check}
+use Rattle.mdl_stmt.specs.Rows.{Row, Give, Fail, Room, Look, Set, Here, Acquire, Upgrade, Downgrade, Give_up, Release, Read, Redefine, Kill, ◌>>=◌, ◌>>◌, check}
 use Rattle.mdl_stmt.specs.Sessions.{PlayerView}
 use Rattle.mdl_stmt.specs.States.{has_locked}
 use Rattle.mdl_stmt.specs.Statements.{after_commit, no_read_lock, write, write_locked, write_unlocked}
@@ -26,6 +27,8 @@ bind-assoc (Look rest) f g = ap Look (fun_ext (λ x. bind-assoc (rest x) f g))
 bind-assoc (Set change rest) f g = ap (Set change) (bind-assoc rest f g)
 bind-assoc (Here rest) f g = ap Here (fun_ext (λ x. bind-assoc (rest x) f g))
 bind-assoc (Acquire wish rest) f g = ap (Acquire wish) (fun_ext (λ x. bind-assoc (rest x) f g))
+bind-assoc (Upgrade id key mode rest) f g = ap (Upgrade id key mode) (fun_ext (λ x. bind-assoc (rest x) f g))
+bind-assoc (Downgrade id mode rest) f g = ap (Downgrade id mode) (bind-assoc rest f g)
 bind-assoc (Give_up which rest) f g = ap (Give_up which) (bind-assoc rest f g)
 bind-assoc (Release id rest) f g = ap (Release id) (bind-assoc rest f g)
 bind-assoc (Read id rest) f g = ap (Read id) (fun_ext (λ x. bind-assoc (rest x) f g))
@@ -47,11 +50,13 @@ read_lock-so x rest test e mark = sym (ap (λ (t : Bool). play (check (not t) Co
 -- all others are done once the transaction is committed
 pub after-others : (st : Statement) → (st ≡ statement.Begin → ⊥) → ((table : KeyName) (columns : List (List ℕ)) → st ≡ statement.CreateTable table columns → ⊥) →
     ((name : List ℕ) → st ≡ statement.CreateSchema name → ⊥) → ((tables : List KeyName) → st ≡ statement.DropTables tables → ⊥) →
-    ((from to : KeyName) → st ≡ statement.RenameTable from to → ⊥) → (st ≡ statement.FlushTablesWithReadLock → ⊥) → after_commit st ≡ Give reply.Ok
-after-others statement.Begin a b c d e f = absurd (a refl)
-after-others (statement.CreateTable table columns) a b c d e f = absurd (b table columns refl)
-after-others (statement.CreateSchema name) a b c d e f = absurd (c name refl)
-after-others (statement.DropTables tables) a b c d e f = absurd (d tables refl)
-after-others (statement.RenameTable from to) a b c d e f = absurd (e from to refl)
-after-others statement.FlushTablesWithReadLock a b c d e f = absurd (f refl)
-after-others _ a b c d e f = refl
+    ((from to : KeyName) → st ≡ statement.RenameTable from to → ⊥) → ((alteration : Alteration) → st ≡ statement.AlterTable alteration → ⊥) →
+    (st ≡ statement.FlushTablesWithReadLock → ⊥) → after_commit st ≡ Give reply.Ok
+after-others statement.Begin a b c d e f g = absurd (a refl)
+after-others (statement.CreateTable table columns) a b c d e f g = absurd (b table columns refl)
+after-others (statement.CreateSchema name) a b c d e f g = absurd (c name refl)
+after-others (statement.DropTables tables) a b c d e f g = absurd (d tables refl)
+after-others (statement.RenameTable from to) a b c d e f g = absurd (e from to refl)
+after-others (statement.AlterTable alteration) a b c d e f g = absurd (f alteration refl)
+after-others statement.FlushTablesWithReadLock a b c d e f g = absurd (g refl)
+after-others _ a b c d e f g = refl

@@ -13,9 +13,10 @@ use Rattle.mdl_context.specs.Gains.{refusal_of}
 use Rattle.mdl_context.specs.MemoryLaws.{IsStarved}
 use Rattle.mdl_context.specs.Releases.{giving_up, releasing}
 use Rattle.mdl_context.specs.Requests.{Outcome, acquiring}
+use Rattle.mdl_context.specs.Upgrades.{upgrading, downgrading}
 use Rattle.mdl_context.specs.Waits.{giving_up_wait, resuming}
 use Rattle.mdl_context.specs.Wishes.{Wish}
-use Rattle.mdl_context.proofs.MemoryLemmas.{faithful_acquiring, faithful_resuming, frugal_giving_up, frugal_releasing}
+use Rattle.mdl_context.proofs.MemoryLemmas.{faithful_acquiring, faithful_resuming, faithful_upgrading, frugal_downgrading, frugal_giving_up, frugal_releasing}
 use Rattle.mdl_stmt.specs.declared.ending.Ending.{Ending}
 use Rattle.mdl_stmt.specs.declared.ending.Ending.TheVariants.{Answers, Starves}
 use Rattle.mdl_stmt.specs.declared.reply.Reply.{Reply}
@@ -136,6 +137,15 @@ faithful_play (row.Acquire wish rest) mark session =
     faithful_bind {A = Outcome Acquire} {B = Pause} IsStarved IsFault (acquiring wish session.context) (playing.acquired wish rest mark session more)
     (faithful_acquiring wish session.context) (each_acquired wish rest mark session more)
     (faithful_acquired wish rest mark session more (λ id after. faithful_play (rest id) mark after))
+faithful_play (row.Upgrade id key mode rest) mark session =
+    let wish = playing.upgrade_wish key mode in
+    let more = λ (id : ℕ) (after : Session). play (rest id) mark after in
+    faithful_bind {A = Outcome Acquire} {B = Pause} IsStarved IsFault (upgrading id mode session.context) (playing.acquired wish rest mark session more)
+    (faithful_upgrading id mode session.context) (each_acquired wish rest mark session more)
+    (faithful_acquired wish rest mark session more (λ id after. faithful_play (rest id) mark after))
+faithful_play (row.Downgrade id mode rest) mark session =
+    frugal_first {A = Outcome (Unit {0})} (downgrading id mode session.context) (λ outcome. play rest mark (with_context session outcome.1))
+    (frugal_downgrading id mode session.context) (λ outcome. faithful_play rest mark (with_context session outcome.1))
 faithful_play (row.Give_up which rest) mark session =
     let gone = which session.context.kept in
     frugal_first {A = Outcome (Unit {0})} (giving_up gone session.context) (λ outcome. play rest mark (with_context session outcome.1))

@@ -5,16 +5,19 @@ use Rattle.mdl_key.specs.declared.mode.Mode.TheVariants.{IX}
 use Rattle.mdl_key.specs.declared.mode.Duration.TheVariants.{Explicit}
 use Rattle.mdl_key.specs.Keys.{KeyName, commit_key}
 use Rattle.mdl_calls.specs.Words.{Answer, Call, Program, Runs}
+use Rattle.mdl_calls.specs.Words as call
 use Rattle.mdl_calls.proofs.RunLemmas.{runs_bind}
 use Rattle.mdl_context.specs.declared.context_error.ContextError.{ContextError}
 use Rattle.mdl_context.specs.declared.kept.Kept.{Kept}
+use Rattle.mdl_context.specs.declared.request.Acquire.{Acquire}
 use Rattle.mdl_context.specs.declared.request.Acquire.TheVariants as acquire
 use Rattle.mdl_context.specs.declared.request.Mark.{Mark}
 use Rattle.mdl_context.specs.declared.request.Resume.{Resume}
 use Rattle.mdl_context.specs.declared.request.Resume.TheVariants as resume
 use Rattle.mdl_context.specs.Contexts.{ContextView, of_transaction, beyond_mark}
 use Rattle.mdl_context.specs.Releases.{giving_up, releasing}
-use Rattle.mdl_context.specs.Requests.{acquiring}
+use Rattle.mdl_context.specs.Requests.{Outcome, acquiring}
+use Rattle.mdl_context.specs.Upgrades.{upgrading, downgrading}
 use Rattle.mdl_context.specs.Waits.{giving_up_wait}
 use Rattle.mdl_context.specs.Wishes.{Wish}
 use Rattle.mdl_stmt.specs.declared.ending.Ending.{Ending}
@@ -30,8 +33,8 @@ use Rattle.std.specs.Option.{option_map}
 use Rattle.mdl_stmt.specs.declared.ending.Ending.TheVariants.{Answers, Starves}
 use Rattle.mdl_stmt.specs.declared.error_number.ErrorNumber.TheVariants.{NoSuchSavepoint}
 use Rattle.mdl_stmt.specs.declared.savepoint.Savepoint.{Savepoint}
-use Rattle.mdl_stmt.specs.Gets.{Comes, Waits, IsDropped, IsGot, IsStep, IsTold, IsCommitted, IsPlayed, at_rest}
-use Rattle.mdl_stmt.specs.Playing.{play, acquired, untold, with_context, with_left}
+use Rattle.mdl_stmt.specs.Gets.{Comes, Waits, IsDropped, IsGot, IsRaised, IsStep, IsTold, IsCommitted, IsPlayed, at_rest}
+use Rattle.mdl_stmt.specs.Playing.{play, acquired, upgrade_wish, untold, with_context, with_left}
 use Rattle.mdl_stmt.specs.Rows.{Row, Act, Give, ◌>>◌, ◌>>=◌}
 use Rattle.mdl_stmt.specs.Rows as row
 use Rattle.mdl_stmt.specs.Sessions.{PlayerView, Session}
@@ -72,22 +75,50 @@ module _ {S : Type 0} (joins : S → Call → Answer → S → Type 0) where
   pub comes-same : (a : S) (x : PlayerView) (here : Mark → Session → Program Pause) → Comes joins a x here a x here
   comes-same a x here = record { so = λ mark pause c run. run }
 
+  -- a lock is asked for by such a program
+  abbrev asking : Program (Outcome Acquire) → Wish → (ℕ → Row Reply) → Mark → Session → Program Pause
+  asking asks wish rest mark session = call.◌>>=◌ asks (acquired wish rest mark session (λ id after. play (rest id) mark after))
+
+  -- it was had, or refused
+  asked-runs : (asks : Program (Outcome Acquire)) (wish : Wish) (rest : ℕ → Row Reply) (mark : Mark) (session : Session) (outcome : Outcome Acquire) (pause : Pause) (a b c : S) →
+      Runs joins a asks outcome b → Runs joins b (acquired wish rest mark session (λ id after. play (rest id) mark after) outcome) pause c →
+      Runs joins a (asking asks wish rest mark session) pause c
+  asked-runs asks wish rest mark session outcome pause a b c run after =
+      runs_bind joins asks (acquired wish rest mark session (λ id after. play (rest id) mark after)) a b c outcome pause run after
+
+  -- a wait has begun, and is told
+  told-waits : (asks : Program (Outcome Acquire)) (wish : Wish) (rest : ℕ → Row Reply) (mark : Mark) (before after : PlayerView) (number : ℕ) (context : ContextView) (key : KeyName) (a b c : S) →
+      Runs joins a asks (Ok (acquire.MustWait number), context) b → key ≡ wish.key → b ≡ c → after ≡ record before { context = context } →
+      Runs joins a (asking asks wish rest mark (at_rest before)) (Begins_to_wait key wish.mode (with_left (at_rest after) (record { rest = rest; mark = mark }))) c
+  told-waits asks wish rest mark before after number context key a b c run same here stays =
+      let begins : KeyName → PlayerView → Pause = λ k p. Begins_to_wait k wish.mode (with_left (at_rest p) (record { rest = rest; mark = mark })) in
+      let asked = asking asks wish rest mark (at_rest before) in
+      subst (λ k. Runs joins a asked (begins k after) c) (sym same)
+      (subst (λ s. Runs joins a asked (begins wish.key after) s) here
+      (subst (λ p. Runs joins a asked (begins wish.key p) b) (sym stays)
+      (asked-runs asks wish rest mark (at_rest before) (Ok (acquire.MustWait number), context) (begins wish.key (record before { context = context })) a b b run (inr (refl, refl)))))
+
+  -- or can't be told
+  told-ends : (asks : Program (Outcome Acquire)) (wish : Wish) (rest : ℕ → Row Reply) (mark : Mark) (before after : PlayerView) (number : ℕ) (context : ContextView) (ending : Ending) (pause : Pause) (a b c s : S) →
+      Runs joins a asks (Ok (acquire.MustWait number), context) b → ending ≡ Starves → IsDropped joins b (record before { context = context }) c after →
+      Runs joins c (closing ending mark (at_rest after)) pause s → Runs joins a (asking asks wish rest mark (at_rest before)) pause s
+  told-ends asks wish rest mark before after number context ending pause a b c s run starves dropped ended =
+      asked-runs asks wish rest mark (at_rest before) (Ok (acquire.MustWait number), context) pause a b s run
+      (inl (dropped.so mark pause s (subst (λ e. Runs joins c (closing e mark (at_rest after)) pause s) starves ended)))
+
   -- a lock was asked for
   pub got-had : (wish : Wish) (before : PlayerView) (id : ℕ) (context : ContextView) (a b : S) →
       Runs joins a (acquiring wish before.context) (Ok (acquire.Acquired id), context) b → IsGot joins wish a before (Had id) b (record before { context = context })
   got-had wish before id context a b run rest = record {
-    so = λ mark pause c after.
-        runs_bind joins (acquiring wish before.context) (acquired wish rest mark (at_rest before) (λ id after. play (rest id) mark after)) a b c _ pause run after;
+    so = λ mark pause c after. asked-runs (acquiring wish before.context) wish rest mark (at_rest before) _ pause a b c run after;
   }
 
   pub got-error : (wish : Wish) (before : PlayerView) (error : ContextError) (context : ContextView) (a b : S) →
       Runs joins a (acquiring wish before.context) (Err error, context) b → IsGot joins wish a before (got.Ends (ending_of_error error)) b (record before { context = context })
   got-error wish before error context a b run rest = record {
-    so = λ mark pause c after.
-        runs_bind joins (acquiring wish before.context) (acquired wish rest mark (at_rest before) (λ id after. play (rest id) mark after)) a b c _ pause run after;
+    so = λ mark pause c after. asked-runs (acquiring wish before.context) wish rest mark (at_rest before) _ pause a b c run after;
   }
 
-  -- a wait has begun
   -- a wait was given up: with its ticket, or without
   pub dropped-held : (before : PlayerView) (id : ℕ) (held released : ContextView) (result : Result (Unit {0}) ContextError) (a b c : S) →
       Runs joins a (giving_up_wait before.context) (Ok (resume.Acquired id), held) b → Runs joins b (releasing id held) (result, released) c →
@@ -120,17 +151,44 @@ module _ {S : Type 0} (joins : S → Call → Answer → S → Type 0) where
       IsTold joins wish.key b (record before { context = context }) told c after → IsGot joins wish a before told c after
   got-told wish before number context (Had id) after a b c run told = absurd told
   got-told wish before number context (got.Waits key) after a b c run (same, here, stays) = λ rest. record {
-    so = λ mark.
-        let begins : KeyName → PlayerView → Pause = λ k p. Begins_to_wait k wish.mode (with_left (at_rest p) (record { rest = rest; mark = mark })) in
-        subst (λ k. Runs joins a (play (row.Acquire wish rest) mark (at_rest before)) (begins k after) c) (sym same)
-        (subst (λ s. Runs joins a (play (row.Acquire wish rest) mark (at_rest before)) (begins wish.key after) s) here
-        (subst (λ p. Runs joins a (play (row.Acquire wish rest) mark (at_rest before)) (begins wish.key p) b) (sym stays)
-        (runs_bind joins (acquiring wish before.context) (acquired wish rest mark (at_rest before) (λ id after. play (rest id) mark after)) a b b _ _ run (inr (refl, refl)))));
+    so = λ mark. told-waits (acquiring wish before.context) wish rest mark before after number context key a b c run same here stays;
   }
   got-told wish before number context (got.Ends ending) after a b c run (starves, told) = λ rest. record {
+    so = λ mark pause s ended. told-ends (acquiring wish before.context) wish rest mark before after number context ending pause a b c s run starves told ended;
+  }
+
+  -- a ticket was to be upgraded
+  pub raised-had : (id : ℕ) (key : KeyName) (mode : Mode) (before : PlayerView) (new : ℕ) (context : ContextView) (a b : S) →
+      Runs joins a (upgrading id mode before.context) (Ok (acquire.Acquired new), context) b → IsRaised joins id key mode a before (Had new) b (record before { context = context })
+  raised-had id key mode before new context a b run rest = record {
+    so = λ mark pause c after. asked-runs (upgrading id mode before.context) (upgrade_wish key mode) rest mark (at_rest before) _ pause a b c run after;
+  }
+
+  pub raised-error : (id : ℕ) (key : KeyName) (mode : Mode) (before : PlayerView) (error : ContextError) (context : ContextView) (a b : S) →
+      Runs joins a (upgrading id mode before.context) (Err error, context) b →
+      IsRaised joins id key mode a before (got.Ends (ending_of_error error)) b (record before { context = context })
+  raised-error id key mode before error context a b run rest = record {
+    so = λ mark pause c after. asked-runs (upgrading id mode before.context) (upgrade_wish key mode) rest mark (at_rest before) _ pause a b c run after;
+  }
+
+  pub raised-told : (id : ℕ) (key : KeyName) (mode : Mode) (before : PlayerView) (number : ℕ) (context : ContextView) (told : Got ℕ) (after : PlayerView) (a b c : S) →
+      Runs joins a (upgrading id mode before.context) (Ok (acquire.MustWait number), context) b →
+      IsTold joins key b (record before { context = context }) told c after → IsRaised joins id key mode a before told c after
+  raised-told id key mode before number context (Had new) after a b c run told = absurd told
+  raised-told id key mode before number context (got.Waits told) after a b c run (same, here, stays) = λ rest. record {
+    so = λ mark. told-waits (upgrading id mode before.context) (upgrade_wish key mode) rest mark before after number context told a b c run same here stays;
+  }
+  raised-told id key mode before number context (got.Ends ending) after a b c run (starves, told) = λ rest. record {
     so = λ mark pause s ended.
-        runs_bind joins (acquiring wish before.context) (acquired wish rest mark (at_rest before) (λ id after. play (rest id) mark after)) a b s _ pause run
-        (inl (told.so mark pause s (subst (λ e. Runs joins c (closing e mark (at_rest after)) pause s) starves ended)));
+        told-ends (upgrading id mode before.context) (upgrade_wish key mode) rest mark before after number context ending pause a b c s run starves told ended;
+  }
+
+  pub lowered : (id : ℕ) (mode : Mode) (before : PlayerView) (result : Result (Unit {0}) ContextError) (context : ContextView) (rest : Row Reply) (a b : S) →
+      Runs joins a (downgrading id mode before.context) (result, context) b →
+      Comes joins a before (play (row.Downgrade id mode rest)) b (record before { context = context }) (play rest)
+  lowered id mode before result context rest a b run = record {
+    so = λ mark pause c after.
+        runs_bind joins (downgrading id mode before.context) (λ outcome. play rest mark (with_context (at_rest before) outcome.1)) a b c _ pause run after;
   }
 
   -- tickets go

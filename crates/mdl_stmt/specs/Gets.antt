@@ -24,7 +24,7 @@ use Rattle.mdl_stmt.specs.declared.reply.Reply.{Reply}
 use Rattle.mdl_stmt.specs.Endings.{Pause, Ends, Begins_to_wait, Waits_on, Faults, closing, letting_go}
 use Rattle.mdl_stmt.specs.LockLists.{LockList, with_ticket}
 use Rattle.mdl_stmt.specs.Playing.{play, untold, with_left}
-use Rattle.mdl_stmt.specs.Rows.{Row, Act, Acquire, ◌>>=◌, ◌>>◌}
+use Rattle.mdl_stmt.specs.Rows.{Row, Act, Acquire, Upgrade, ◌>>=◌, ◌>>◌}
 use Rattle.mdl_stmt.specs.Sessions.{PlayerView, Session}
 use Rattle.mdl_stmt.specs.Stages.{lock_rest, rest_of}
 use Rattle.mdl_stmt.specs.Statements.{end_under}
@@ -62,6 +62,12 @@ abbrev pub IsGot : {S : Type 0} → (S → Call → Answer → S → Type 0) →
 IsGot joins wish a before (Had id) b after = (rest : ℕ → Row Reply) → Comes joins a before (play (Acquire wish rest)) b after (play (rest id))
 IsGot joins wish a before (got.Waits key) b after = (rest : ℕ → Row Reply) → Waits joins a before (play (Acquire wish rest)) key wish.mode rest b after
 IsGot joins wish a before (got.Ends ending) b after = (rest : ℕ → Row Reply) → Comes joins a before (play (Acquire wish rest)) b after (closing ending)
+
+-- a ticket was to be upgraded: it is, that is waited for, or the statement is to end
+abbrev pub IsRaised : {S : Type 0} → (S → Call → Answer → S → Type 0) → ℕ → KeyName → Mode → S → PlayerView → Got ℕ → S → PlayerView → Type 0
+IsRaised joins id key mode a before (Had new) b after = (rest : ℕ → Row Reply) → Comes joins a before (play (Upgrade id key mode rest)) b after (play (rest new))
+IsRaised joins id key mode a before (got.Waits told) b after = (rest : ℕ → Row Reply) → Waits joins a before (play (Upgrade id key mode rest)) told mode rest b after
+IsRaised joins id key mode a before (got.Ends ending) b after = (rest : ℕ → Row Reply) → Comes joins a before (play (Upgrade id key mode rest)) b after (closing ending)
 
 -- a row was played to its end, or until it waits
 abbrev pub IsPlayed : {S : Type 0} → (S → Call → Answer → S → Type 0) → Row Reply → S → PlayerView → Played → S → PlayerView → Type 0

@@ -1,5 +1,8 @@
 -- How a session plays what its statements ask: as a program of calls of a lock space.
 use Rattle.std.specs.Prelude.{ℕ, Option, Some, None, Ok, Err}
+use Rattle.mdl_key.specs.declared.mode.Mode.{Mode}
+use Rattle.mdl_key.specs.declared.mode.Duration.TheVariants.{Transaction}
+use Rattle.mdl_key.specs.Keys.{KeyName}
 use Rattle.mdl_defs.specs.declared.standing.Standing.{Standing}
 use Rattle.mdl_calls.specs.Words.{Answer, Has_wait, Reads, Changed, Read_definition, Change_definition, Wait_of, Program, Give, Ask, Grow, ◌>>=◌, ◌>>◌}
 use Rattle.mdl_calls.specs.Words as call
@@ -12,6 +15,7 @@ use Rattle.mdl_context.specs.Contexts.{ContextView, mark_of}
 use Rattle.mdl_context.specs.Gains.{refusal_of}
 use Rattle.mdl_context.specs.Releases.{giving_up, releasing}
 use Rattle.mdl_context.specs.Requests.{Outcome, acquiring}
+use Rattle.mdl_context.specs.Upgrades.{upgrading, downgrading}
 use Rattle.mdl_context.specs.Waits.{giving_up_wait, resuming}
 use Rattle.mdl_context.specs.Wishes.{Wish}
 use Rattle.mdl_syntax.specs.declared.statement.Statement.{Statement}
@@ -32,7 +36,8 @@ with_context session context = record session { context = context }
 abbrev pub with_left : Session → Left → Session
 with_left session left = record session { left = Some left }
 
--- a wait that can't be told was given up: a ticket that it had gained is released, and the statement ends
+-- a wait that can't be told was given up: a ticket that it had gained or upgraded is released, and the statement ends. An upgraded one
+-- would go with the statement
 abbrev pub untold : Mark → Session → Outcome Resume → Program Pause
 untold mark session (Ok (resume.Acquired id), context) =
     releasing id context >>= (λ outcome. closing Starves mark (with_context session outcome.1))
@@ -53,6 +58,10 @@ acquired wish rest mark session more (Ok (acquire.Acquired id), context) = more 
 acquired wish rest mark session more (Ok (acquire.MustWait number), context) =
     beginning_to_wait wish (record { rest = rest; mark = mark }) (with_context session context)
 acquired wish rest mark session more (Err error, context) = closing (ending_of_error error) mark (with_context session context)
+
+-- an upgrade is waited for as a lock of this key in the stronger mode is
+abbrev pub upgrade_wish : KeyName → Mode → Wish
+upgrade_wish key mode = record { key = key; mode = mode; duration = Transaction }
 
 -- what stands was asked for
 abbrev pub read_answered : Mark → Session → (Standing → Program Pause) → Answer → Program Pause
@@ -83,6 +92,10 @@ play (row.Set change rest) mark session = play rest mark (record session { state
 play (row.Here rest) mark session = play (rest (mark_of session.context.kept)) mark session
 play (row.Acquire wish rest) mark session =
     acquiring wish session.context >>= acquired wish rest mark session (λ id after. play (rest id) mark after)
+play (row.Upgrade id key mode rest) mark session =
+    upgrading id mode session.context >>= acquired (upgrade_wish key mode) rest mark session (λ id after. play (rest id) mark after)
+play (row.Downgrade id mode rest) mark session =
+    downgrading id mode session.context >>= (λ outcome. play rest mark (with_context session outcome.1))
 play (row.Give_up which rest) mark session =
     giving_up (which session.context.kept) session.context >>= (λ outcome. play rest mark (with_context session outcome.1))
 play (row.Release id rest) mark session = releasing id session.context >>= (λ outcome. play rest mark (with_context session outcome.1))

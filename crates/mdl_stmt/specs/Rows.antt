@@ -27,6 +27,10 @@ pub data Row (A : Type 0) : Type 0 where
   Here : (Mark → Row A) → Row A
   -- a lock, however long that takes; and what its ticket leads to
   Acquire : Wish → (ℕ → Row A) → Row A
+  -- a stronger mode for a ticket of this key, however long that takes; and what the ticket leads to then
+  Upgrade : (id : ℕ) → KeyName → Mode → (ℕ → Row A) → Row A
+  -- a weaker mode for a ticket
+  Downgrade : (id : ℕ) → Mode → Row A → Row A
   -- that some of the session's tickets go
   Give_up : (List Kept → List Kept) → Row A → Row A
   -- that one goes
@@ -48,6 +52,8 @@ Look rest >>= next = Look (λ state. rest state >>= next)
 Set change rest >>= next = Set change (rest >>= next)
 Here rest >>= next = Here (λ mark. rest mark >>= next)
 Acquire wish rest >>= next = Acquire wish (λ id. rest id >>= next)
+Upgrade id key mode rest >>= next = Upgrade id key mode (λ id. rest id >>= next)
+Downgrade id mode rest >>= next = Downgrade id mode (rest >>= next)
 Give_up which rest >>= next = Give_up which (rest >>= next)
 Release id rest >>= next = Release id (rest >>= next)
 Read id rest >>= next = Read id (λ standing. rest standing >>= next)
@@ -82,6 +88,12 @@ here = Here Give
 
 abbrev pub acquire : KeyName → Mode → Duration → Row ℕ
 acquire key mode duration = Acquire (record { key = key; mode = mode; duration = duration }) Give
+
+abbrev pub upgrade : ℕ → KeyName → Mode → Row ℕ
+upgrade id key mode = Upgrade id key mode Give
+
+abbrev pub downgrade : ℕ → Mode → Act
+downgrade id mode = Downgrade id mode nothing
 
 abbrev pub give_up : (List Kept → List Kept) → Act
 give_up which = Give_up which nothing

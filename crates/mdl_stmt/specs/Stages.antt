@@ -7,11 +7,11 @@ use Rattle.mdl_stmt.specs.declared.reply.Reply.TheVariants as reply
 use Rattle.mdl_stmt.specs.declared.reply.TableShown.{TableShown}
 use Rattle.mdl_stmt.specs.declared.runner.Work.{Work}
 use Rattle.mdl_stmt.specs.declared.stage.Stage.{Stage}
-use Rattle.mdl_stmt.specs.declared.stage.Stage.TheVariants.{Commit, Show, WriteGlobal, WriteTable, CommitWrite, CreateGlobal, CreateSchema, CreateTable, SchemaGlobal, NewSchema, DropScopes, DropTables, RenameScopes, RenameTables, FlushGlobal, FlushCommit}
+use Rattle.mdl_stmt.specs.declared.stage.Stage.TheVariants.{Commit, Show, WriteGlobal, WriteTable, CommitWrite, CreateGlobal, CreateSchema, CreateTable, SchemaGlobal, NewSchema, DropScopes, DropTables, RenameScopes, RenameTables, FlushGlobal, FlushCommit, AlterGlobal, AlterSchema, AlterTable, AlterByCopy, AlterInPlace, ChangeTable, AlterLocked, ChangeLocked}
 use Rattle.mdl_stmt.specs.LockLists.{LockList, ticket_of, with_ticket}
 use Rattle.mdl_stmt.specs.Rows.{Row, Give, ◌>>=◌, ◌>>◌, acquire_all}
 use Rattle.mdl_stmt.specs.Sessions.{Left, RunnerView, Session}
-use Rattle.mdl_stmt.specs.Statements.{after_commit, end_under, show, show_all, lock_to_read, lock_and_write, write_under, ddl_lock, lock_schema_and_create, lock_and_create, create_under, lock_and_create_schema, create_schema_under, lock_and_drop, drop_under, lock_and_rename, rename_under, schema_of, lock_commits, read_lock_under}
+use Rattle.mdl_stmt.specs.Statements.{after_commit, end_under, show, show_all, lock_to_read, lock_and_write, write_under, ddl_lock, lock_schema_and_create, lock_and_create, create_under, lock_and_create_schema, create_schema_under, lock_and_drop, drop_under, lock_and_rename, rename_under, schema_of, lock_commits, read_lock_under, lock_schema_and_alter, alter_in_schema, alter_under, raise_and_change, reopen_and_change, change_table, alter_locked_under, change_and_lower}
 
 -- the first of these tables is locked
 abbrev pub show_next : List TableShown → List KeyName → ℕ → Row Reply
@@ -51,6 +51,14 @@ rest_of (RenameScopes from to locks) ticket = rename_scopes from.now to.now (wit
 rest_of (RenameTables from to schema locks) ticket = rename_names from.now to.now schema (with_ticket ticket locks) locks.keys
 rest_of FlushGlobal global = lock_commits global
 rest_of FlushCommit commit = read_lock_under commit
+rest_of (AlterGlobal alteration) global = lock_schema_and_alter alteration.now
+rest_of (AlterSchema alteration) schema = alter_in_schema alteration.now
+rest_of (AlterTable alteration) ticket = alter_under alteration.now ticket
+rest_of (AlterByCopy alteration) ticket = raise_and_change alteration.now ticket
+rest_of (AlterInPlace alteration) ticket = reopen_and_change alteration.now ticket
+rest_of (ChangeTable alteration) ticket = change_table alteration.now ticket
+rest_of (AlterLocked alteration) ticket = alter_locked_under alteration.now ticket
+rest_of (ChangeLocked alteration) ticket = change_and_lower alteration.now ticket
 
 -- the same with where the session stood as the statement began
 abbrev pub left_of : Work → Left

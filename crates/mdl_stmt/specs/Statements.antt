@@ -7,16 +7,23 @@
 -- written, and leaves the transaction one that wrote, and that KILL QUERY is always done.
 use Rattle.std.specs.Prelude.{ℕ, Bool, not, nat_lt, List, [], ◌∷◌, ◌++◌, map, find, is_some, Option, Some, None, if◌then◌else◌}
 use Rattle.mdl_key.specs.declared.mode.Mode.{Mode}
-use Rattle.mdl_key.specs.declared.mode.Mode.TheVariants.{IX, S, SR, SW, SWLP, X}
+use Rattle.mdl_key.specs.declared.mode.Mode.TheVariants.{IX, S, SR, SW, SWLP, X, SU, SNW, SNRW}
 use Rattle.mdl_key.specs.declared.mode.Duration.TheVariants as for
 use Rattle.mdl_key.specs.declared.namespace.Namespace.{Namespace}
 use Rattle.mdl_key.specs.declared.namespace.Namespace.TheVariants as of
 use Rattle.mdl_key.specs.Keys.{KeyName, global_key, commit_key, schema_key, key_eq}
+use Rattle.mdl_defs.specs.declared.change.Change.{Change}
 use Rattle.mdl_defs.specs.declared.change.Change.TheVariants as change
+use Rattle.mdl_defs.specs.declared.def_error.DefError.{DefError}
+use Rattle.mdl_defs.specs.declared.def_error.DefError.TheVariants as fault
 use Rattle.mdl_defs.specs.declared.definition.Definition.{Definition}
 use Rattle.mdl_defs.specs.declared.definition.Definition.TheVariants.{Schema, Table}
 use Rattle.mdl_defs.specs.declared.standing.Standing.{Standing}
+use Rattle.mdl_defs.specs.Changes.{change_fault}
 use Rattle.mdl_defs.specs.Columns.{names_twice}
+use Rattle.mdl_syntax.specs.declared.statement.Algorithm.{Algorithm}
+use Rattle.mdl_syntax.specs.declared.statement.Algorithm.TheVariants.{Copy, Inplace}
+use Rattle.mdl_syntax.specs.declared.statement.Alteration.{Alteration}
 use Rattle.mdl_syntax.specs.declared.statement.Priority.{Priority}
 use Rattle.mdl_syntax.specs.declared.statement.Priority.TheVariants.{Normal, Low}
 use Rattle.mdl_syntax.specs.declared.statement.Statement.{Statement}
@@ -24,7 +31,8 @@ use Rattle.mdl_syntax.specs.declared.statement.Statement.TheVariants as statemen
 use Rattle.mdl_context.specs.declared.request.Mark.{Mark}
 use Rattle.mdl_context.specs.Contexts.{beyond_mark, of_transaction}
 use Rattle.mdl_context.specs.Wishes.{Wish}
-use Rattle.mdl_stmt.specs.declared.error_number.ErrorNumber.TheVariants.{SchemaExists, UnknownDatabase, TableExists, DuplicateColumn, TableLockedForRead, TableNotLocked, NoSuchTable, ActiveLocks, ConflictingReadLock, NoSuchSavepoint, VersionLimit}
+use Rattle.mdl_stmt.specs.declared.error_number.ErrorNumber.{ErrorNumber}
+use Rattle.mdl_stmt.specs.declared.error_number.ErrorNumber.TheVariants.{SchemaExists, UnknownDatabase, TableExists, DuplicateColumn, CantDropColumn, TableLockedForRead, TableNotLocked, NoSuchTable, ActiveLocks, ConflictingReadLock, NoSuchSavepoint, LastColumn, TooManyColumns, VersionLimit}
 use Rattle.mdl_stmt.specs.declared.explicit.Locked.{Locked}
 use Rattle.mdl_stmt.specs.declared.explicit.ReadLock.{ReadLock}
 use Rattle.mdl_stmt.specs.declared.reply.Reply.{Reply}
@@ -32,7 +40,7 @@ use Rattle.mdl_stmt.specs.declared.reply.Reply.TheVariants as reply
 use Rattle.mdl_stmt.specs.declared.reply.TableShown.{TableShown}
 use Rattle.mdl_stmt.specs.KeyOrder.{in_key_order}
 use Rattle.mdl_stmt.specs.LockLists.{ticket_of}
-use Rattle.mdl_stmt.specs.Rows.{Row, Act, Give, Fail, Acquire, ◌>>=◌, ◌>>◌, nothing, room, look, set, here, acquire, give_up, release, read, redefine, kill, check, acquire_all, for_each}
+use Rattle.mdl_stmt.specs.Rows.{Row, Act, Give, Fail, Acquire, ◌>>=◌, ◌>>◌, nothing, room, look, set, here, acquire, give_up, release, read, redefine, kill, check, acquire_all, for_each, upgrade, downgrade}
 use Rattle.mdl_stmt.specs.States.{has_locked, opened, closed, written, unlocked, with_commits_locked, with_savepoint, with_writes_locked, without_read_lock, savepoint_mark, up_to}
 
 -- ---- transactions
@@ -490,6 +498,116 @@ flush_after_commit = do
   state ← look
   if is_some state.read_lock then Give reply.Ok else get_read_lock
 
+-- ---- ALTER TABLE
+
+-- the error of a change that can't be made. What is no table can't be altered
+abbrev pub fault_number : DefError → ErrorNumber
+fault_number fault.DuplicateColumn = DuplicateColumn
+fault_number fault.NoColumn = CantDropColumn
+fault_number fault.LastColumn = LastColumn
+fault_number fault.ManyColumns = TooManyColumns
+fault_number _ = NoSuchTable
+
+-- a change that can be made
+abbrev pub unless_fault : Option DefError → Act
+unless_fault None = nothing
+unless_fault (Some fault) = Fail (fault_number fault)
+
+-- there is a table that can be changed so, and it can be changed once more
+abbrev pub check_change : Change → ℕ → Act
+check_change change table = do
+  standing ← read table
+  room
+  unless_fault (change_fault standing.definition change)
+  check (has_version_left standing) VersionLimit
+
+-- a table is changed under a lock that nobody shares
+abbrev pub change_table : Alteration → ℕ → Row Reply
+change_table alteration table = do
+  redefine table alteration.change
+  Give reply.Ok
+
+-- its lock is raised so far, and it is changed
+abbrev pub raise_and_change : Alteration → ℕ → Row Reply
+raise_and_change alteration table = do
+  alone ← upgrade table alteration.table X
+  change_table alteration alone
+
+-- it is copied while nobody writes, and then changed
+abbrev pub alter_by_copy : Alteration → ℕ → Row Reply
+alter_by_copy alteration table = do
+  copied ← upgrade table alteration.table SNW
+  raise_and_change alteration copied
+
+-- all others may use it again while it is altered where it stands, and then it is changed
+abbrev pub reopen_and_change : Alteration → ℕ → Row Reply
+reopen_and_change alteration table = do
+  downgrade table SU
+  raise_and_change alteration table
+
+-- nobody uses it as that is prepared
+abbrev pub alter_in_place : Alteration → ℕ → Row Reply
+alter_in_place alteration table = do
+  prepared ← upgrade table alteration.table X
+  reopen_and_change alteration prepared
+
+-- a table is altered by an algorithm
+abbrev pub alter_by : Algorithm → Alteration → ℕ → Row Reply
+alter_by Copy = alter_by_copy
+alter_by Inplace = alter_in_place
+
+-- a table is altered under its lock, if it can be
+abbrev pub alter_under : Alteration → ℕ → Row Reply
+alter_under alteration table = do
+  check_change alteration.change table
+  alter_by alteration.algorithm alteration table
+
+-- a table of those that the session has locked is changed, and its lock is what it was
+abbrev pub change_and_lower : Alteration → ℕ → Row Reply
+change_and_lower alteration table = do
+  redefine table alteration.change
+  downgrade table SNRW
+  Give reply.Ok
+
+-- it is altered so, whatever the algorithm
+abbrev pub alter_locked_under : Alteration → ℕ → Row Reply
+alter_locked_under alteration table = do
+  check_change alteration.change table
+  alone ← upgrade table alteration.table X
+  change_and_lower alteration alone
+
+-- the lock that the session has is cloned for the transaction, and the clone is raised: it goes however the statement ends, and the
+-- table stays locked as it was also where memory runs out in the midst
+abbrev pub alter_locked : Alteration → Row Reply
+alter_locked alteration = do
+  table ← acquire alteration.table SNRW for.Transaction
+  alter_locked_under alteration table
+
+-- a table of a session that has locked none is locked against other changes, and altered
+abbrev pub alter_unlocked : Alteration → Row Reply
+alter_unlocked alteration = do
+  table ← acquire alteration.table SU for.Transaction
+  alter_under alteration table
+
+-- a table is altered under the lock of its schema
+abbrev pub alter_in_schema : Alteration → Row Reply
+alter_in_schema alteration = do
+  state ← look
+  if has_locked state.locked then alter_locked alteration else alter_unlocked alteration
+
+-- its schema is locked under the lock of all writes, and then the table is altered
+abbrev pub lock_schema_and_alter : Alteration → Row Reply
+lock_schema_and_alter alteration = do
+  room
+  schema ← Acquire (ddl_lock (schema_of alteration.table)) Give
+  alter_in_schema alteration
+
+-- ALTER TABLE, once no transaction is open
+abbrev pub alter_after_commit : Alteration → Row Reply
+alter_after_commit alteration = do
+  global ← Acquire (ddl_lock global_key) Give
+  lock_schema_and_alter alteration
+
 -- ---- the table
 
 -- an open transaction is committed first
@@ -504,6 +622,20 @@ ddl_first rest = ddl >> rest
 abbrev pub flush_first : Row Reply → Row Reply
 flush_first rest = no_locked_tables >> commit_first rest
 
+-- a session that has locked tables alters only one of them, which it has locked to be written
+abbrev pub alter_among_locked : KeyName → Row Reply → Row Reply
+alter_among_locked table rest = do
+  locked ← held_lock table
+  check locked.may_write TableLockedForRead
+  commit_first rest
+
+-- ALTER TABLE is refused under the global read lock of its session, but not under locked tables
+abbrev pub alter_first : KeyName → Row Reply → Row Reply
+alter_first table rest = do
+  no_read_lock
+  state ← look
+  if has_locked state.locked then alter_among_locked table rest else commit_first rest
+
 -- what is left of a statement once no transaction is open that it has to commit
 abbrev pub after_commit : Statement → Row Reply
 after_commit statement.Begin = begin_after_commit
@@ -512,6 +644,7 @@ after_commit (statement.CreateSchema name) = create_schema_after_commit name
 after_commit (statement.DropTables tables) = drop_after_commit tables
 after_commit (statement.RenameTable from to) = rename_after_commit from to
 after_commit statement.FlushTablesWithReadLock = flush_after_commit
+after_commit (statement.AlterTable alteration) = alter_after_commit alteration
 after_commit _ = Give reply.Ok
 
 -- what a statement does
@@ -529,5 +662,6 @@ row_of (statement.DropTables tables) = ddl_first (drop_after_commit tables)
 row_of (statement.RenameTable from to) = ddl_first (rename_after_commit from to)
 row_of statement.UnlockTables = unlock
 row_of statement.FlushTablesWithReadLock = flush_first flush_after_commit
+row_of (statement.AlterTable alteration) = alter_first alteration.table (alter_after_commit alteration)
 row_of (statement.KillQuery target) = kill target >> Give reply.Ok
 row_of statement.Timeout = Give reply.Ok

@@ -13,6 +13,8 @@ pub enum ErrorNumber {
     TableExists,
     /// 1060: a column is named twice.
     DuplicateColumn,
+    /// 1091: the table hasn't the column that is to be dropped.
+    CantDropColumn,
     /// 1099: the table is locked, but only to be read.
     TableLockedForRead,
     /// 1100: tables are locked, and this one isn't among them.
@@ -31,6 +33,10 @@ pub enum ErrorNumber {
     NoSuchSavepoint,
     /// 1317: the wait was killed.
     Interrupted,
+    /// 9001: the column that is to be dropped is the table's last one.
+    LastColumn,
+    /// 9002: the table has as many columns as it can have.
+    TooManyColumns,
     /// 9003: the table or the schema had all the versions that it can have.
     VersionLimit,
     /// 9004: there is no place for one more key.
@@ -49,6 +55,7 @@ impl ErrorNumber {
             ErrorNumber::UnknownDatabase => 1049,
             ErrorNumber::TableExists => 1050,
             ErrorNumber::DuplicateColumn => 1060,
+            ErrorNumber::CantDropColumn => 1091,
             ErrorNumber::TableLockedForRead => 1099,
             ErrorNumber::TableNotLocked => 1100,
             ErrorNumber::NoSuchTable => 1146,
@@ -58,6 +65,8 @@ impl ErrorNumber {
             ErrorNumber::ConflictingReadLock => 1223,
             ErrorNumber::NoSuchSavepoint => 1305,
             ErrorNumber::Interrupted => 1317,
+            ErrorNumber::LastColumn => 9001,
+            ErrorNumber::TooManyColumns => 9002,
             ErrorNumber::VersionLimit => 9003,
             ErrorNumber::NoPlace => 9004,
             ErrorNumber::Full => 9005,

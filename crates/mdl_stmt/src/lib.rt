@@ -1,6 +1,7 @@
 //! The statements of a session, over any lock space.
 #![tactic(auto)]
 
+mod altering;
 mod creating;
 mod creating_schemas;
 mod dropping;

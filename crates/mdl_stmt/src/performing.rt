@@ -35,6 +35,9 @@ impl<S: LockSpace> Player<S> {
             Statement::CreateSchema(_) => self.define(space, statement),
             Statement::DropTables(_) => self.define(space, statement),
             Statement::RenameTable { .. } => self.define(space, statement),
+            Statement::AlterTable(alteration) => {
+                self.alter_first(space, &alteration.table, statement)
+            }
             Statement::Rollback => {
                 self.rollback(space);
                 Played::Ends(Ending::Answers(Reply::Ok))
@@ -122,6 +125,14 @@ impl<S: LockSpace> Player<S> {
             }
             Stage::FlushGlobal => self.lock_commits(space, ticket),
             Stage::FlushCommit => Played::Ends(self.read_lock_under(space, ticket)),
+            Stage::AlterGlobal(alteration) => self.lock_schema_and_alter(space, alteration),
+            Stage::AlterSchema(alteration) => self.alter_in_schema(space, alteration),
+            Stage::AlterTable(alteration) => self.alter_under(space, alteration, ticket),
+            Stage::AlterByCopy(alteration) => self.raise_and_change(space, alteration, ticket),
+            Stage::AlterInPlace(alteration) => self.reopen_and_change(space, alteration, ticket),
+            Stage::ChangeTable(alteration) => self.change_table(space, alteration, ticket),
+            Stage::AlterLocked(alteration) => self.alter_locked_under(space, alteration, ticket),
+            Stage::ChangeLocked(alteration) => self.change_and_lower(space, alteration, ticket),
         }
     }
 

@@ -68,7 +68,7 @@ impl<S: LockSpace> Player<S> {
     }
 
     /// Tells that a wait has begun, or gives it up where there is no memory for that.
-    fn tell_wait(&mut self, space: &mut S, key: &Key) -> Got<TicketId>
+    pub(crate) fn tell_wait(&mut self, space: &mut S, key: &Key) -> Got<TicketId>
         requires attends { Attends S.speaks_for S.own S.knows space.old self.old.context }
         ensures run { IsTold S.joins key.now space.old self.old result space.new self.new }
         ensures attends { Attends S.speaks_for S.own S.knows space.new self.new.context }

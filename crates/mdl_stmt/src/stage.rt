@@ -8,7 +8,7 @@ use crate::TablesShown;
 use mdl_defs::Columns;
 use mdl_key::Key;
 use mdl_space::TicketId;
-use mdl_syntax::{Name, Priority, Statement, Tables};
+use mdl_syntax::{Alteration, Name, Priority, Statement, Tables};
 use std::alloc::{AllocError, Global};
 use std::marker::Model;
 
@@ -121,4 +121,20 @@ pub enum Stage<'s> {
     FlushGlobal,
     /// The COMMIT lock beside it.
     FlushCommit,
+    /// The lock of all writes, for a table to be altered.
+    AlterGlobal(&'s Alteration),
+    /// The lock of its schema.
+    AlterSchema(&'s Alteration),
+    /// Its own lock.
+    AlterTable(&'s Alteration),
+    /// Its lock raised against writes, so that it can be copied.
+    AlterByCopy(&'s Alteration),
+    /// Its lock raised against all others, before it is altered where it stands.
+    AlterInPlace(&'s Alteration),
+    /// Its lock raised against all others, for the change.
+    ChangeTable(&'s Alteration),
+    /// The clone of its lock, which the session has.
+    AlterLocked(&'s Alteration),
+    /// The clone raised against all others, for the change.
+    ChangeLocked(&'s Alteration),
 }

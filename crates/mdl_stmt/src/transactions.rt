@@ -125,6 +125,7 @@ impl<S: LockSpace> Player<S> {
             Statement::DropTables(tables) => self.drop_tables(space, tables),
             Statement::RenameTable { from, to } => self.rename(space, from, to),
             Statement::FlushTablesWithReadLock => self.flush_after_commit(space),
+            Statement::AlterTable(alteration) => self.alter(space, alteration),
             _ => Played::Ends(Ending::Answers(Reply::Ok)),
         }
     }

@@ -11,6 +11,8 @@ use Rattle.std.proofs.lemmas.List.Elements.{All-append, All-cons, All-nil}
 use Rattle.std.proofs.lemmas.Map.Keys.{IsDistinct-push}
 use Rattle.mdl_key.specs.declared.key_error.KeyError.{KeyError}
 use Rattle.mdl_key.specs.Keys.{KeyName, key_eq, name_fault, table_key}
+use Rattle.mdl_defs.specs.declared.change.Change.{Change}
+use Rattle.mdl_defs.specs.declared.change.Change.TheVariants.{AddColumn, DropColumn}
 use Rattle.mdl_lines.specs.declared.fault.LineError.{LineError}
 use Rattle.mdl_lines.specs.declared.fault.LineError.TheVariants.{BadName, BadSession, BadWord}
 use Rattle.mdl_lines.specs.ScriptLines.{said_before}
@@ -19,14 +21,15 @@ use Rattle.mdl_lines.proofs.ScriptLemmas.{said_by-holds}
 use Rattle.mdl_lines.proofs.Sessions.{session_of-IsScriptSession}
 use Rattle.mdl_syntax.specs.declared.script.Line.{Line}
 use Rattle.mdl_syntax.specs.declared.statement.Statement.{Statement}
+use Rattle.mdl_syntax.specs.declared.statement.Alteration.{Alteration}
 use Rattle.mdl_syntax.specs.declared.statement.Priority.{Priority}
 use Rattle.mdl_syntax.specs.declared.statement.Priority.TheVariants.{Normal, Low}
-use Rattle.mdl_syntax.specs.declared.statement.Statement.TheVariants.{Begin, Commit, Rollback, Savepoint, RollbackTo, Select, Write, CreateTable, CreateSchema, DropTables, RenameTable, UnlockTables, FlushTablesWithReadLock, KillQuery, Timeout}
+use Rattle.mdl_syntax.specs.declared.statement.Statement.TheVariants.{Begin, Commit, Rollback, Savepoint, RollbackTo, Select, Write, CreateTable, CreateSchema, DropTables, RenameTable, UnlockTables, FlushTablesWithReadLock, KillQuery, Timeout, AlterTable}
 use Rattle.mdl_syntax.specs.KeyWords.{behind}
-use Rattle.mdl_syntax.specs.Laws.{AreColumns, AreTables, IsName, IsTable, IsWithinLimits, RiseFrom}
+use Rattle.mdl_syntax.specs.Laws.{AreColumns, AreTables, IsColumnChange, IsName, IsTable, IsWithinLimits, RiseFrom}
 use Rattle.mdl_syntax.specs.Names.{is_dot, name_of, table_in, table_of, unless_fault}
 use Rattle.mdl_syntax.specs.Scripts.{line_says, lines_say, words_say}
-use Rattle.mdl_syntax.specs.Forms.{and_then, each_word, Form, forms, listed, makes, more_columns, more_tables, no_more, one_name, one_session, one_table, one_word, or_refuse, other_table, read_by, says_in, some_columns, some_tables, statement_of, table_and_columns, table_to_table, writes}
+use Rattle.mdl_syntax.specs.Forms.{altered_by, alteration, and_then, column_and_algorithm, column_change, each_word, Form, forms, listed, makes, more_columns, more_tables, no_more, one_algorithm, one_name, one_session, one_table, one_word, or_refuse, other_table, read_behind, read_by, says_in, some_columns, some_tables, statement_of, table_and_columns, table_to_table, writes}
 
 -- a line that says something says it with its number
 abbrev Numbered : ℕ → Line → Type 0
@@ -177,6 +180,34 @@ table_to_table-hold (word ∷ words) =
     and_then-holds AreTwo (or_refuse BadWord (behind (codes "TO" ∷ []) words)) _ (λ words_behind.
     and_then-with (IsOther from) AreTwo (one_word BadName (other_table from) words_behind) (λ to. Ok (from, to))
     (one_word-holds (IsOther from) BadName (other_table from) (other_table-IsOther from) words_behind) (λ to other. (is, other.0, other.1))))
+column_and_algorithm-hold : (words : List (List ℕ)) → IfOk (column_and_algorithm words) (λ said. IsName said.0)
+column_and_algorithm-hold [] = tt
+column_and_algorithm-hold (word ∷ words) =
+    and_then-with IsName (λ said. IsName said.0) (or_refuse BadName (name_of word)) _ (or_refuse-holds IsName BadName (name_of word) (name_of-IsName word)) (λ column is.
+    and_then-holds (λ said. IsName said.0) (one_algorithm words) (λ algorithm. Ok (column, algorithm)) (λ algorithm. is))
+
+altered_by-holds : (change : List ℕ → Change) → ((column : List ℕ) → IsName column → IsColumnChange (change column)) → (words : List (List ℕ)) → IfOk (altered_by change words) (λ said. IsColumnChange said.0)
+altered_by-holds change h words =
+    and_then-with (λ said. IsName said.0) (λ said. IsColumnChange said.0) (column_and_algorithm words) _ (column_and_algorithm-hold words) (λ said is. h said.0 is)
+
+read_behind-holds : {A : Type 0} (P : A → Type 0) (reads : List (List ℕ) → Result A LineError) (rest : Option (List (List ℕ))) (others : Result A LineError) →
+    ((words : List (List ℕ)) → IfOk (reads words) P) → IfOk others P → IfOk (read_behind reads rest others) P
+read_behind-holds P reads (Some words) others h k = h words
+read_behind-holds P reads None others h k = k
+
+column_change-holds : (words : List (List ℕ)) → IfOk (column_change words) (λ said. IsColumnChange said.0)
+column_change-holds words =
+    read_behind-holds (λ said. IsColumnChange said.0) (altered_by AddColumn) (behind (codes "ADD" ∷ []) words) _ (altered_by-holds AddColumn (λ column is. is))
+    (read_behind-holds (λ said. IsColumnChange said.0) (altered_by DropColumn) (behind (codes "DROP" ∷ []) words) (Err BadWord) (altered_by-holds DropColumn (λ column is. is)) tt)
+
+abbrev IsAlteration : Alteration → Type 0
+IsAlteration alteration = IsTable alteration.table × IsColumnChange alteration.change
+
+alteration-holds : (words : List (List ℕ)) → IfOk (alteration words) IsAlteration
+alteration-holds [] = tt
+alteration-holds (word ∷ words) =
+    and_then-with IsTable IsAlteration (or_refuse BadName (table_of word)) _ (or_refuse-holds IsTable BadName (table_of word) (table_of-IsTable word)) (λ table is.
+    and_then-with (λ said. IsColumnChange said.0) IsAlteration (column_change words) _ (column_change-holds words) (λ said changes. (is, changes)))
 
 -- the forms, each by itself
 abbrev Reads : (List (List ℕ) → Result Statement LineError) → Type 0

@@ -4,14 +4,19 @@ use Rattle.std.specs.Prelude.{ℕ, nat_le, List, [], ◌∷◌, ◌++◌, length
 use Rattle.std.specs.Option.{option_and_then}
 use Rattle.std.specs.List.{list_any}
 use Rattle.mdl_key.specs.Keys.{KeyName, key_eq}
+use Rattle.mdl_defs.specs.declared.change.Change.{Change}
+use Rattle.mdl_defs.specs.declared.change.Change.TheVariants.{AddColumn, DropColumn}
 use Rattle.mdl_lines.specs.declared.fault.LineError.{LineError}
 use Rattle.mdl_lines.specs.declared.fault.LineError.TheVariants.{BadName, BadSession, BadWord}
-use Rattle.mdl_lines.specs.Lines.{words_of}
+use Rattle.mdl_lines.specs.Lines.{same_text, words_of}
 use Rattle.mdl_lines.specs.Sessions.{session_of}
+use Rattle.mdl_syntax.specs.declared.statement.Algorithm.{Algorithm}
+use Rattle.mdl_syntax.specs.declared.statement.Algorithm.TheVariants.{Copy, Inplace}
+use Rattle.mdl_syntax.specs.declared.statement.Alteration.{Alteration}
 use Rattle.mdl_syntax.specs.declared.statement.Priority.{Priority}
 use Rattle.mdl_syntax.specs.declared.statement.Priority.TheVariants.{Normal, Low}
 use Rattle.mdl_syntax.specs.declared.statement.Statement.{Statement}
-use Rattle.mdl_syntax.specs.declared.statement.Statement.TheVariants.{Begin, Commit, Rollback, Savepoint, RollbackTo, Select, Write, CreateTable, CreateSchema, DropTables, RenameTable, UnlockTables, FlushTablesWithReadLock, KillQuery, Timeout}
+use Rattle.mdl_syntax.specs.declared.statement.Statement.TheVariants.{Begin, Commit, Rollback, Savepoint, RollbackTo, Select, Write, CreateTable, CreateSchema, DropTables, RenameTable, UnlockTables, FlushTablesWithReadLock, KillQuery, Timeout, AlterTable}
 use Rattle.mdl_syntax.specs.KeyWords.{behind}
 use Rattle.mdl_syntax.specs.Names.{name_of, table_of}
 
@@ -94,6 +99,40 @@ table_to_table (word ∷ words) =
     and_then (or_refuse BadName (table_of word)) (λ from.
     and_then (or_refuse BadWord (behind (codes "TO" ∷ []) words)) (λ words_behind.
     and_then (one_word BadName (other_table from) words_behind) (λ to. Ok (from, to))))
+-- the algorithm of a name
+abbrev pub algorithm_of : List ℕ → Option Algorithm
+algorithm_of word = if same_text word (codes "COPY") then Some Copy else (if same_text word (codes "INPLACE") then Some Inplace else None)
+
+-- how a table is altered
+abbrev pub one_algorithm : List (List ℕ) → Result Algorithm LineError
+one_algorithm = one_word BadWord algorithm_of
+
+-- a column, and how its table is altered
+abbrev pub column_and_algorithm : List (List ℕ) → Result (List ℕ × Algorithm) LineError
+column_and_algorithm [] = Err BadWord
+column_and_algorithm (word ∷ words) =
+    and_then (or_refuse BadName (name_of word)) (λ column. and_then (one_algorithm words) (λ algorithm. Ok (column, algorithm)))
+
+-- the words behind a key word, as they are read there, or else what comes of all words
+abbrev pub read_behind : {A : Type 0} → (List (List ℕ) → Result A LineError) → Option (List (List ℕ)) → Result A LineError → Result A LineError
+read_behind reads (Some words) others = reads words
+read_behind reads None others = others
+
+-- this change of a column, and how its table is altered
+abbrev pub altered_by : (List ℕ → Change) → List (List ℕ) → Result (Change × Algorithm) LineError
+altered_by change words = and_then (column_and_algorithm words) (λ said. Ok (change said.0, said.1))
+
+-- a column to be added or dropped, and how its table is altered
+abbrev pub column_change : List (List ℕ) → Result (Change × Algorithm) LineError
+column_change words =
+    read_behind (altered_by AddColumn) (behind (codes "ADD" ∷ []) words)
+    (read_behind (altered_by DropColumn) (behind (codes "DROP" ∷ []) words) (Err BadWord))
+
+-- a table and then a change of its columns
+abbrev pub alteration : List (List ℕ) → Result Alteration LineError
+alteration [] = Err BadWord
+alteration (word ∷ words) =
+    and_then (or_refuse BadName (table_of word)) (λ table. and_then (column_change words) (λ said. Ok (record { table = table; change = said.0; algorithm = said.1 })))
 
 -- the statement that is made of what words say
 abbrev pub makes : {A : Type 0} → (A → Statement) → (List (List ℕ) → Result A LineError) → List (List ℕ) → Result Statement LineError
@@ -138,6 +177,7 @@ forms =
     ∷ form (codes "RENAME TABLE") (makes (λ named. RenameTable named.0 named.1) table_to_table)
     ∷ form (codes "UNLOCK TABLES") (no_more UnlockTables)
     ∷ form (codes "FLUSH TABLES WITH READ LOCK") (no_more FlushTablesWithReadLock)
+    ∷ form (codes "ALTER TABLE") (makes AlterTable alteration)
     ∷ form (codes "KILL QUERY") (makes KillQuery one_session)
     ∷ form (codes "TIMEOUT") (no_more Timeout)
     ∷ []

@@ -3,10 +3,12 @@ use Rattle.std.specs.Prelude.{◌≡◌, ℕ, ◌+◌, ◌≤◌, false, List, [
 use Rattle.std.specs.List.{All, IsDistinct}
 use Rattle.mdl_key.specs.declared.namespace.Namespace.TheVariants.{Table}
 use Rattle.mdl_key.specs.Keys.{KeyName, key_eq, name_fault}
+use Rattle.mdl_defs.specs.declared.change.Change.{Change}
+use Rattle.mdl_defs.specs.declared.change.Change.TheVariants.{AddColumn, DropColumn}
 use Rattle.mdl_lines.specs.Sessions.{IsScriptSession}
 use Rattle.mdl_syntax.specs.declared.script.Line.{Line}
 use Rattle.mdl_syntax.specs.declared.statement.Statement.{Statement}
-use Rattle.mdl_syntax.specs.declared.statement.Statement.TheVariants.{Begin, Commit, Rollback, Savepoint, RollbackTo, Select, Write, CreateTable, CreateSchema, DropTables, RenameTable, UnlockTables, FlushTablesWithReadLock, KillQuery, Timeout}
+use Rattle.mdl_syntax.specs.declared.statement.Statement.TheVariants.{Begin, Commit, Rollback, Savepoint, RollbackTo, Select, Write, CreateTable, CreateSchema, DropTables, RenameTable, UnlockTables, FlushTablesWithReadLock, KillQuery, Timeout, AlterTable}
 use Rattle.mdl_syntax.specs.Scripts.{parsed}
 
 -- a name of 1 to 64 bytes of a-z, 0-9 and _
@@ -25,6 +27,12 @@ AreTables tables = (1 ≤ length tables) × (length tables ≤ 8) × IsDistinct 
 abbrev pub AreColumns : List (List ℕ) → Type 0
 AreColumns columns = (1 ≤ length columns) × (length columns ≤ 64) × All IsName columns
 
+-- a column that a table gains or loses
+abbrev pub IsColumnChange : Change → Type 0
+IsColumnChange (AddColumn column) = IsName column
+IsColumnChange (DropColumn column) = IsName column
+IsColumnChange _ = ⊥
+
 -- a statement within the limits of the language
 abbrev pub IsWithinLimits : Statement → Type 0
 IsWithinLimits Begin = Unit {0}
@@ -40,6 +48,7 @@ IsWithinLimits (DropTables tables) = AreTables tables
 IsWithinLimits (RenameTable from to) = IsTable from × IsTable to × (key_eq from to ≡ false)
 IsWithinLimits UnlockTables = Unit {0}
 IsWithinLimits FlushTablesWithReadLock = Unit {0}
+IsWithinLimits (AlterTable alteration) = IsTable alteration.table × IsColumnChange alteration.change
 IsWithinLimits (KillQuery session) = IsScriptSession session
 IsWithinLimits Timeout = Unit {0}
 

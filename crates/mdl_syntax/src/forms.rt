@@ -2,7 +2,7 @@
 ghost use Rattle.std.specs.Prelude.{◌≡◌, ◌++◌, ◌∷◌, [], Err, map, IfOk};
 ghost use Rattle.mdl_key.specs.Keys.{table_key};
 ghost use Rattle.mdl_lines.specs.Lines.{words_of};
-ghost use Rattle.mdl_syntax.specs.declared.statement.Statement.TheVariants.{Savepoint, RollbackTo, CreateTable, RenameTable, KillQuery};
+ghost use Rattle.mdl_syntax.specs.declared.statement.Statement.TheVariants.{Savepoint, RollbackTo, CreateTable, RenameTable, AlterTable, KillQuery};
 ghost use Rattle.mdl_syntax.specs.Forms as forms;
 ghost use Rattle.mdl_syntax.specs.Reading.{ReadsAs, create_of, rename_of, flush_of, unlock_of, write_of};
 
@@ -10,8 +10,8 @@ use crate::key_words::behind;
 use crate::no_statement::NoStatement;
 use crate::table_names::{TableName, TableNames, name_of, other_table, table_of};
 use crate::words::split_word;
-use crate::{Name, Priority, Statement, Tables};
-use mdl_defs::{Column, Columns};
+use crate::{Algorithm, Alteration, Name, Priority, Statement, Tables};
+use mdl_defs::{Change, Column, Columns};
 use mdl_key::Key;
 use mdl_lines::{LineError, session_of};
 use std::alloc::{AllocError, Global};
@@ -52,6 +52,10 @@ pub(crate) fn statement_of(alloc: Global, words: &[u8]) -> Result<Statement, NoS
         "RENAME" => rename(alloc, rest),
         "UNLOCK" => unlock(rest),
         "FLUSH" => flush(rest),
+        "ALTER" => match behind("TABLE", rest) {
+            Some(rest) => alter_table(alloc, rest),
+            None => bad_word(),
+        },
         "KILL" => match behind("QUERY", rest) {
             Some(rest) => kill_query(rest),
             None => bad_word(),
@@ -283,6 +287,82 @@ fn flush(words: &[u8]) -> Result<Statement, NoStatement>
         Some(words) => no_more(Statement::FlushTablesWithReadLock, words),
         None => bad_word(),
     }
+}
+
+// A table, a change of its columns, and how it is altered.
+fn alter_table(alloc: Global, words: &[u8]) -> Result<Statement, NoStatement>
+    ensures { ReadsAs (forms.makes AlterTable forms.alteration (words_of words.now)) result }
+{
+    let Some((word, rest)) = split_word(words) else {
+        return bad_word();
+    };
+    let Some(name) = table_of(word) else {
+        return Err(NoStatement::Refused(LineError::BadName));
+    };
+    let (change, algorithm) = column_change(alloc, rest)?;
+    Ok(Statement::AlterTable(Alteration {
+        table: key_of(alloc, &name)?,
+        change,
+        algorithm,
+    }))
+}
+
+// A column to be added or dropped, and how the table is altered.
+fn column_change(alloc: Global, words: &[u8]) -> Result<(Change, Algorithm), NoStatement>
+    ensures { ReadsAs (forms.column_change (words_of words.now)) result }
+{
+    if let Some(rest) = behind("ADD", words) {
+        let (column, algorithm) = column_and_algorithm(alloc, rest)?;
+        return Ok((Change::AddColumn(column), algorithm));
+    }
+    let Some(rest) = behind("DROP", words) else {
+        return Err(NoStatement::Refused(LineError::BadWord));
+    };
+    let (column, algorithm) = column_and_algorithm(alloc, rest)?;
+    Ok((Change::DropColumn(column), algorithm))
+}
+
+// A column, and how its table is altered.
+fn column_and_algorithm(alloc: Global, words: &[u8]) -> Result<(Column, Algorithm), NoStatement>
+    ensures { ReadsAs (forms.column_and_algorithm (words_of words.now)) result }
+{
+    let Some((word, rest)) = split_word(words) else {
+        return Err(NoStatement::Refused(LineError::BadWord));
+    };
+    let Some(name) = name_of(word) else {
+        return Err(NoStatement::Refused(LineError::BadName));
+    };
+    let algorithm = one_algorithm(rest)?;
+    match Column::new(alloc, name) {
+        Ok(column) => Ok((column, algorithm)),
+        Err(_) => Err(NoStatement::Memory),
+    }
+}
+
+// How a table is altered.
+fn one_algorithm(words: &[u8]) -> Result<Algorithm, NoStatement>
+    ensures { ReadsAs (forms.one_algorithm (words_of words.now)) result }
+{
+    let Some((word, rest)) = split_word(words) else {
+        return Err(NoStatement::Refused(LineError::BadWord));
+    };
+    let Some(algorithm) = algorithm_of(word) else {
+        return Err(NoStatement::Refused(LineError::BadWord));
+    };
+    if split_word(rest).is_some() {
+        return Err(NoStatement::Refused(LineError::BadWord));
+    }
+    Ok(algorithm)
+}
+
+// The algorithm of a name.
+fn algorithm_of(word: &[u8]) -> Option<Algorithm>
+    ensures { result ≡ forms.algorithm_of word.now }
+{
+    if word == b"COPY".as_slice() {
+        return Some(Algorithm::Copy);
+    }
+    (word == b"INPLACE".as_slice()).then_some(Algorithm::Inplace)
 }
 
 // A session to kill.

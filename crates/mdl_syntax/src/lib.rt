@@ -21,5 +21,5 @@ pub use laws::{line_numbers_rise, statements_are_within_limits};
 pub use lines::parse;
 pub use name::Name;
 pub use script::{Line, Script};
-pub use statement::{Priority, Statement};
+pub use statement::{Algorithm, Alteration, Priority, Statement};
 pub use tables::Tables;

@@ -1,6 +1,6 @@
 //! Statements.
 use crate::{Name, Tables};
-use mdl_defs::Columns;
+use mdl_defs::{Change, Columns};
 use mdl_key::Key;
 
 /// What a line asks a session to do.
@@ -47,10 +47,32 @@ pub enum Statement {
     UnlockTables,
     /// `FLUSH TABLES WITH READ LOCK`: the session gets the global read lock.
     FlushTablesWithReadLock,
+    /// `ALTER TABLE`.
+    AlterTable(Alteration),
     /// `KILL QUERY` of a session, from 1 to 64.
     KillQuery(u16),
     /// `TIMEOUT`: the session gives up its own wait.
     Timeout,
+}
+
+/// What `ALTER TABLE` asks for.
+#[derive(Drop)]
+pub struct Alteration {
+    /// The table.
+    pub table: Key,
+    /// The column that it gains or loses.
+    pub change: Change,
+    /// How it is altered.
+    pub algorithm: Algorithm,
+}
+
+/// How a table is altered: MySQL's `ALGORITHM`.
+#[derive(Clone, Copy, Debug, PartialEq, Eq)]
+pub enum Algorithm {
+    /// Its rows are copied to a new table, while it can be read.
+    Copy,
+    /// It is altered where it stands, while it can be read and written.
+    Inplace,
 }
 
 /// How a write stands behind reads that wait.

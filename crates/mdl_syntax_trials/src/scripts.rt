@@ -22,6 +22,10 @@ const ROWS: &str = "\
     test.t to TABLE test.u / 2 1 rename TABLE test.t to TABLE s.t / 3 1 rename TABLE s.a to TABLE test.a / 4 1 rename \
     TABLE test.to to TABLE test.table
 1 UNLOCK TABLES / 2 FLUSH TABLES WITH READ LOCK => 1 1 unlock tables / 2 2 flush tables with read lock
+1 ALTER TABLE t ADD c COPY / 1 ALTER TABLE s.t ADD copy INPLACE => 1 1 alter TABLE test.t add c by copying / 2 1 alter \
+    TABLE s.t add copy in place
+1 ALTER TABLE t DROP c COPY / 1 ALTER TABLE add DROP drop INPLACE => 1 1 alter TABLE test.t drop c by copying / 2 1 \
+    alter TABLE test.add drop drop in place
 1 KILL QUERY 64 / 9 KILL QUERY 1 / 9 TIMEOUT => 1 1 kill 64 / 2 9 kill 1 / 3 9 time out
 1 SELECT a b c d e f g h => 1 1 read TABLE test.a TABLE test.b TABLE test.c TABLE test.d TABLE test.e TABLE test.f \
     TABLE test.g TABLE test.h
@@ -128,6 +132,24 @@ BEGIN => line 1: BadSession
 1 RENAME TABLES a TO b => line 1: BadWord
 1 RENAME a TO b => line 1: BadWord
 1 ALTER TABLE t ADD c COPY => line 1: BadWord
+1 ALTER => line 1: BadWord
+1 ALTER t ADD c COPY => line 1: BadWord
+1 ALTER TABLE => line 1: BadWord
+1 ALTER TABLE T => line 1: BadName
+1 ALTER TABLE t => line 1: BadWord
+1 ALTER TABLE t c COPY => line 1: BadWord
+1 ALTER TABLE t add c COPY => line 1: BadWord
+1 ALTER TABLE t ADD => line 1: BadWord
+1 ALTER TABLE t ADD C => line 1: BadName
+1 ALTER TABLE t ADD s.c COPY => line 1: BadName
+1 ALTER TABLE t ADD COPY => line 1: BadName
+1 ALTER TABLE t ADD c => line 1: BadWord
+1 ALTER TABLE t DROP C copy => line 1: BadName
+1 ALTER TABLE t DROP c copy => line 1: BadWord
+1 ALTER TABLE t DROP c => line 1: BadWord
+1 ALTER TABLE t ADD c d COPY => line 1: BadWord
+1 ALTER TABLE t DROP c INPLACE COPY => line 1: BadWord
+1 ALTER TABLE t DROP c COPY t => line 1: BadWord
 1 CREATE SCHEMA => line 1: BadWord
 1 CREATE SCHEMA s t => line 1: BadWord
 1 CREATE SCHEMA S => line 1: BadName

@@ -1,7 +1,7 @@
 //! What was read of a script, in words.
-use mdl_defs::Columns;
+use mdl_defs::{Change, Columns};
 use mdl_key::Key;
-use mdl_syntax::{Line, Priority, Script, Statement, Tables, parse};
+use mdl_syntax::{Algorithm, Alteration, Line, Priority, Script, Statement, Tables, parse};
 use std::alloc::Global;
 use std::test::Fail;
 
@@ -59,6 +59,7 @@ fn statement_text(alloc: Global, statement: &Statement) -> Result<String, Fail> 
         Statement::FlushTablesWithReadLock => {
             Ok(String::from_str(alloc, "flush tables with read lock")?)
         }
+        Statement::AlterTable(alteration) => alter_text(alloc, alteration),
         Statement::KillQuery(session) => Ok(format!(in alloc; "kill {session}")?),
         Statement::Timeout => Ok(String::from_str(alloc, "time out")?),
     }
@@ -81,6 +82,21 @@ fn create_text(alloc: Global, table: &Key, columns: &Columns) -> Result<String, 
         text.push_str(column.name())?;
     }
     Ok(text)
+}
+
+// A table to alter: its column, and how.
+fn alter_text(alloc: Global, alteration: &Alteration) -> Result<String, Fail> {
+    let (what, column) = match &alteration.change {
+        Change::AddColumn(column) => ("add", column.name()),
+        Change::DropColumn(column) => ("drop", column.name()),
+        _ => ("neither", ""),
+    };
+    let how = match alteration.algorithm {
+        Algorithm::Copy => "by copying",
+        Algorithm::Inplace => "in place",
+    };
+    let table = &alteration.table;
+    Ok(format!(in alloc; "alter {table} {what} {column} {how}")?)
 }
 
 // What is done to tables.

@@ -1,8 +1,11 @@
 //! What stands under keys.
 use super::{MOST_PLACES, MOST_VERSIONS, Place, Plain, Taken, made};
-use mdl_defs::{Columns, Definition};
+use mdl_defs::{Change, Column, Columns, Definition};
 use mdl_key::Key;
-use std::alloc::AllocError;
+use std::alloc::{AllocError, Global};
+
+// The most columns of a table.
+const MOST_COLUMNS: usize = 64;
 
 impl Plain {
     // Where a key stands among those that were locked.
@@ -152,6 +155,36 @@ impl Plain {
         None
     }
 
+    // Fails where a table isn't there, or can't gain or lose a column.
+    pub(super) fn check_change(&self, table: &Key, change: &Change) -> Taken {
+        for place in &self.places {
+            if place.key == *table {
+                if let Some(Definition::Table(columns)) = &place.definition {
+                    return match change {
+                        Change::AddColumn(column) => can_gain(columns, column),
+                        Change::DropColumn(column) => can_lose(columns, column),
+                        _ => Taken::Done,
+                    };
+                }
+            }
+        }
+        Taken::Failed(1146)
+    }
+
+    // Changes the columns of a table.
+    pub(super) fn alter(&mut self, table: &Key, change: &Change) -> Result<Taken, AllocError> {
+        let mut columns = Columns::new(self.alloc);
+        for place in &self.places {
+            if place.key == *table {
+                if let Some(Definition::Table(before)) = &place.definition {
+                    columns = altered(self.alloc, before, change)?;
+                }
+            }
+        }
+        self.change(table, Some(Definition::Table(columns)));
+        Ok(Taken::Done)
+    }
+
     // Lets something stand under a key, or nothing, in a new version.
     fn change(&mut self, key: &Key, definition: Option<Definition>) {
         let mut definition = Some(definition);
@@ -164,6 +197,43 @@ impl Plain {
             }
         }
     }
+}
+
+// Whether columns have room for one of a new name.
+fn can_gain(columns: &Columns, column: &Column) -> Taken {
+    if columns.as_slice().contains(column) {
+        return Taken::Failed(1060);
+    }
+    if columns.as_slice().len() >= MOST_COLUMNS {
+        return Taken::Failed(9002);
+    }
+    Taken::Done
+}
+
+// Whether one of them can go, and others stay.
+fn can_lose(columns: &Columns, column: &Column) -> Taken {
+    if !columns.as_slice().contains(column) {
+        return Taken::Failed(1091);
+    }
+    if columns.as_slice().len() <= 1 {
+        return Taken::Failed(9001);
+    }
+    Taken::Done
+}
+
+// Columns with one more, or without one.
+fn altered(alloc: Global, before: &Columns, change: &Change) -> Result<Columns, AllocError> {
+    let mut columns = Columns::new(alloc);
+    for other in before.as_slice() {
+        match change {
+            Change::DropColumn(column) if other == column => {}
+            _ => columns.push(other.clone()?)?,
+        }
+    }
+    if let Change::AddColumn(column) = change {
+        columns.push(column.clone()?)?;
+    }
+    Ok(columns)
 }
 
 // Columns in parentheses.

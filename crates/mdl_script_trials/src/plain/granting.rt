@@ -28,8 +28,13 @@ impl Plain {
     // isn't settled and whose wish can be granted, until there is none.
     pub(super) fn let_go(&mut self, gone: Ticket) {
         self.tickets.retain(|ticket| ticket.number != gone.number);
+        self.grant_waiters(gone.place);
+    }
+
+    // Grants waiters of a place.
+    pub(super) fn grant_waiters(&mut self, place: usize) {
         for _grant in 0..self.tickets.len() {
-            match self.next_waiter(gone.place) {
+            match self.next_waiter(place) {
                 Some(ticket) => self.grant(ticket),
                 None => return,
             }

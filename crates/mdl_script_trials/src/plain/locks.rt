@@ -37,6 +37,58 @@ impl Plain {
         Ok(Taken::MustWait)
     }
 
+    // Asks for a stronger lock of a table beside the one that is had, which doesn't stand in its way.
+    pub(super) fn raise(&mut self, who: u16, table: &Key, mode: Mode) -> Result<Taken, AllocError> {
+        let Some(place) = self.place_of(table) else {
+            return Ok(Taken::NotGot(9004));
+        };
+        let is_granted = self.is_grantable(who, place, mode);
+        self.drawn = self.drawn.wrapping_add(1);
+        self.tickets.push(Ticket {
+            number: self.drawn,
+            session: who,
+            place,
+            mode,
+            duration: Duration::Transaction,
+            is_granted,
+        })?;
+        if is_granted {
+            return Ok(Taken::Done);
+        }
+        self.begin_wait(who)?;
+        self.tell_wait(who, table, mode)?;
+        Ok(Taken::MustWait)
+    }
+
+    // Makes one ticket of the newest and the first of its table.
+    pub(super) fn merge(&mut self, who: u16) {
+        if let Some(newest) = self.newest(who) {
+            self.tickets.retain(|ticket| ticket.number != newest.number);
+            self.set_mode(who, newest.place, newest.mode);
+        }
+    }
+
+    // Makes the ticket of a table weaker, and grants what stood behind it.
+    pub(super) fn lower(&mut self, who: u16, table: &Key, mode: Mode) -> Taken {
+        if let Some(place) = self.place_of(table) {
+            self.set_mode(who, place, mode);
+            self.grant_waiters(place);
+        }
+        Taken::Done
+    }
+
+    // Gives the ticket that a session has of a place for its transaction another mode.
+    fn set_mode(&mut self, who: u16, place: usize, mode: Mode) {
+        for ticket in &mut self.tickets {
+            if ticket.session == who
+                && ticket.place == place
+                && ticket.duration == Duration::Transaction
+            {
+                ticket.mode = mode;
+            }
+        }
+    }
+
     // Whether the session has a ticket of a key that lasts so long and is so strong.
     fn has_for(&self, who: u16, key: &Key, mode: Mode, duration: Duration) -> bool {
         let place = self.place_of(key);

@@ -2,7 +2,7 @@
 use super::{Plain, Step, made};
 use mdl_defs::Columns;
 use mdl_key::{Duration, Key, Mode};
-use mdl_syntax::{Name, Priority, Statement, Tables};
+use mdl_syntax::{Algorithm, Alteration, Name, Priority, Statement, Tables};
 use std::alloc::{AllocError, Global};
 
 // A list of steps that grows.
@@ -50,6 +50,7 @@ impl Plan {
             Statement::RenameTable { from, to } => self.rename(from, to),
             Statement::UnlockTables => self.push(Step::Unlock),
             Statement::FlushTablesWithReadLock => self.flush(),
+            Statement::AlterTable(alteration) => self.alter(alteration),
             Statement::KillQuery(_) | Statement::Timeout => Ok(()),
         }
     }
@@ -205,6 +206,34 @@ impl Plan {
         self.begin_change(&keys)?;
         self.push(Step::Rename(from.clone()?, to.clone()?))?;
         self.push(Step::End)
+    }
+
+    // A table whose columns change: nobody else uses it while they do.
+    fn alter(&mut self, alteration: &Alteration) -> Result<(), AllocError> {
+        let table = &alteration.table;
+        let schema = made(Key::schema(self.alloc, table.schema_name()))?;
+        self.commit()?;
+        self.ask_global()?;
+        self.ask(schema, Mode::IX, Duration::Transaction)?;
+        self.ask_table(table, Mode::SU)?;
+        self.push(Step::CheckChange(table.clone()?, alteration.change.clone()?))?;
+        self.push(Step::CheckVersion(table.clone()?))?;
+        match alteration.algorithm {
+            Algorithm::Copy => self.raise(table, Mode::SNW)?,
+            Algorithm::Inplace => {
+                self.raise(table, Mode::X)?;
+                self.push(Step::Lower(table.clone()?, Mode::SU))?;
+            }
+        }
+        self.raise(table, Mode::X)?;
+        self.push(Step::Alter(table.clone()?, alteration.change.clone()?))?;
+        self.push(Step::End)
+    }
+
+    // A stronger lock in place of one that is had.
+    fn raise(&mut self, table: &Key, mode: Mode) -> Result<(), AllocError> {
+        self.push(Step::Raise(table.clone()?, mode))?;
+        self.push(Step::Merge)
     }
 
     // Tables in the order of their keys.

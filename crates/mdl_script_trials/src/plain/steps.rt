@@ -16,6 +16,10 @@ impl Plain {
             Step::CheckVersion(table) => Ok(self.check_version(&table)),
             Step::Drop(table) => Ok(self.drop_table(&table)),
             Step::Rename(from, to) => self.rename(&from, &to),
+            Step::CheckChange(table, change) => Ok(self.check_change(&table, &change)),
+            Step::Raise(table, mode) => self.raise(who, &table, mode),
+            Step::Lower(table, mode) => Ok(self.lower(who, &table, mode)),
+            Step::Alter(table, change) => self.alter(&table, &change),
             Step::Save(name) => self.save(who, name),
             Step::GoBack(name) => self.go_back(who, &name),
             Step::Refuse(number) => Ok(Taken::Failed(number)),
@@ -34,6 +38,7 @@ impl Plain {
             Step::HalfLock => self.set_half_lock(who, false),
             Step::HaveReadLock => self.set_half_lock(who, true),
             Step::Unlock => self.unlock(who)?,
+            Step::Merge => self.merge(who),
             _ => {}
         }
         Ok(Taken::Done)

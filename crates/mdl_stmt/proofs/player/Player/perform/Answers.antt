@@ -8,7 +8,7 @@ use Rattle.mdl_stmt.specs.Endings.{closing}
 use Rattle.mdl_stmt.specs.Gets.{Comes, IsPlayed}
 use Rattle.mdl_stmt.specs.Playing.{play}
 use Rattle.mdl_stmt.specs.Rows.{Row, Give}
-use Rattle.mdl_stmt.specs.Statements.{after_commit, flush_first, row_of}
+use Rattle.mdl_stmt.specs.Statements.{after_commit, flush_first, row_of, alter_first}
 use Rattle.mdl_stmt.proofs.player.Player.perform.Goals as goal
 
 pub returns-in-Rollback-clause-run : goal.returns-in-Rollback-clause-run
@@ -30,3 +30,10 @@ returns-in-FlushTablesWithReadLock-clause-run g c =
     let is = c.in-FlushTablesWithReadLock.is in
     subst (λ (r : Row Reply). IsPlayed g.S.LockSpace.joins r c.args.space.now c.args.self.now c.flush.result c.flush.new.space c.flush.new.self)
     (ap (λ (s : Statement). flush_first (after_commit s)) is ∙ sym (ap row_of is)) c.flush.ensures.run
+
+pub returns-in-AlterTable-clause-run : goal.returns-in-AlterTable-clause-run
+returns-in-AlterTable-clause-run g c =
+    let table = c.in-AlterTable.alteration.table in
+    subst (λ (s : Statement). IsPlayed g.S.LockSpace.joins (row_of s) c.args.space.now c.args.self.now c.alter_first.result c.alter_first.new.space c.alter_first.new.self) (sym c.in-AlterTable.is)
+    (subst (λ (s : Statement). IsPlayed g.S.LockSpace.joins (alter_first table (after_commit s)) c.args.space.now c.args.self.now c.alter_first.result c.alter_first.new.space c.alter_first.new.self) c.in-AlterTable.is
+    c.alter_first.ensures.run)

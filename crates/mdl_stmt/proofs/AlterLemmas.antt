@@ -1,0 +1,70 @@
+-- ALTER TABLE: whether it may begin, what it checks, and what a session that has locked tables does.
+use Rattle.std.proofs.Common.{◌≡◌, ◌⊎◌, ℕ, Bool, true, false, not, Option, Some, None, refl, sym, ap, ◌∙◌, subst, inl, inr, if◌then◌else◌}
+use Rattle.std.specs.Prelude.{find, is_some}
+use Rattle.mdl_key.specs.Keys.{KeyName, key_eq}
+use Rattle.mdl_defs.specs.declared.def_error.DefError.{DefError}
+use Rattle.mdl_calls.specs.Words.{Answer, Call, Runs}
+use Rattle.mdl_syntax.specs.declared.statement.Alteration.{Alteration}
+use Rattle.mdl_context.specs.declared.request.Mark.{Mark}
+use Rattle.mdl_stmt.specs.declared.ending.Ending.{Ending}
+use Rattle.mdl_stmt.specs.declared.ending.Ending.TheVariants.{Answers, Starves}
+use Rattle.mdl_stmt.specs.declared.error_number.ErrorNumber.TheVariants.{TableLockedForRead, VersionLimit}
+use Rattle.mdl_stmt.specs.declared.explicit.Locked.{Locked}
+use Rattle.mdl_stmt.specs.declared.reply.Reply.{Reply}
+use Rattle.mdl_stmt.specs.declared.reply.Reply.TheVariants as reply
+use Rattle.mdl_stmt.specs.Endings.{closing}
+use Rattle.mdl_stmt.specs.Gets.{Comes, at_rest}
+use Rattle.mdl_stmt.specs.Playing.{play}
+use Rattle.mdl_stmt.specs.Rows.{Row, check, look, room, ◌>>=◌, ◌>>◌}
+use Rattle.mdl_stmt.specs.Sessions.{PlayerView}
+use Rattle.mdl_stmt.specs.States.{State, has_locked}
+use Rattle.mdl_stmt.specs.Statements.{alter_among_locked, alter_first, alter_in_schema, alter_locked, alter_unlocked, among_locked, commit_first, fault_number, unless_fault}
+use Rattle.mdl_stmt.proofs.RowLemmas.{read_lock-so}
+
+-- ---- locked tables
+
+-- whether any is locked is looked at where the table is to be locked
+pub in_schema-so : (x : PlayerView) (alteration : Alteration) (test : Bool) → has_locked x.state.locked ≡ test → (mark : Mark) →
+    play (if test then alter_locked alteration else alter_unlocked alteration) mark (at_rest x) ≡ play (alter_in_schema alteration) mark (at_rest x)
+in_schema-so x alteration test e mark = sym (ap (λ (t : Bool). play (if t then alter_locked alteration else alter_unlocked alteration) mark (at_rest x)) e)
+
+-- and before the first lock
+pub first-so : (x : PlayerView) (table : KeyName) (rest : Row Reply) (test : Bool) → is_some x.state.read_lock ≡ false → has_locked x.state.locked ≡ test → (mark : Mark) →
+    play (if test then alter_among_locked table rest else commit_first rest) mark (at_rest x) ≡ play (alter_first table rest) mark (at_rest x)
+first-so x table rest test free e mark =
+    let looks : Row Reply = look >>= (λ (state : State). if has_locked state.locked then alter_among_locked table rest else commit_first rest) in
+    sym (ap (λ (t : Bool). play (if t then alter_among_locked table rest else commit_first rest) mark (at_rest x)) e) ∙ read_lock-so x looks false free mark
+
+-- the table is among the locked ones, and may be written
+pub among-so : (x : PlayerView) (table : KeyName) (locked : Locked) (rest : Row Reply) → find (λ (l : Locked). key_eq table l.key) x.state.locked ≡ Some locked →
+    locked.may_write ≡ true → (mark : Mark) → play (commit_first rest) mark (at_rest x) ≡ play (alter_among_locked table rest) mark (at_rest x)
+among-so x table locked rest found may mark =
+    sym (ap (λ (f : Option Locked). play (among_locked f >>= (λ (l : Locked). check l.may_write TableLockedForRead >> commit_first rest)) mark (at_rest x)) found
+    ∙ ap (λ (t : Bool). play (check t TableLockedForRead >> commit_first rest) mark (at_rest x)) may)
+
+-- ---- checks
+
+-- the checks of a change
+abbrev pub checks : Option DefError → Bool → (Unit {0} → Row Reply) → Row Reply
+checks fault last rest = (room >> (unless_fault fault >> check last VersionLimit)) >>= rest
+
+-- why a change isn't made
+abbrev pub IsRefusal : Option DefError → Ending → Type 0
+IsRefusal fault ending = (ending ≡ Starves) ⊎ ((one : DefError) × (fault ≡ Some one) × (ending ≡ Answers (reply.Error (fault_number one))))
+
+pub refused-change : {S : Type 0} (joins : S → Call → Answer → S → Type 0) (a : S) (x : PlayerView) (fault : Option DefError) (last : Bool) (rest : Unit {0} → Row Reply) (ending : Ending) →
+    IsRefusal fault ending → Comes joins a x (play (checks fault last rest)) a x (closing ending)
+refused-change joins a x fault last rest ending (inl starves) = record {
+  so = λ mark pause c run. inl (subst (λ (e : Ending). Runs joins a (closing e mark (at_rest x)) pause c) starves run);
+}
+refused-change joins a x fault last rest ending (inr (one, is, fails)) = record {
+  so = λ mark pause c run.
+      inr (subst (λ (f : Option DefError). Runs joins a (play ((unless_fault f >> check last VersionLimit) >>= rest) mark (at_rest x)) pause c) (sym is)
+      (subst (λ (e : Ending). Runs joins a (closing e mark (at_rest x)) pause c) fails run));
+}
+
+-- what comes of a change that can be made: only its number of versions is left to look at
+pub passed-change : (fault : Option DefError) (last test : Bool) (rest : Unit {0} → Row Reply) → fault ≡ None → last ≡ test →
+    (unless_fault fault >> check last VersionLimit) >>= rest ≡ check test VersionLimit >>= rest
+passed-change fault last test rest none is =
+    ap (λ (f : Option DefError). (unless_fault f >> check last VersionLimit) >>= rest) none ∙ ap (λ (t : Bool). check t VersionLimit >>= rest) is

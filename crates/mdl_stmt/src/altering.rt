@@ -1,0 +1,456 @@
+//! ALTER TABLE.
+ghost use Rattle.std.specs.Prelude.{◌≡◌, ◌⊎◌, None, Some, Ok, MatchResult};
+ghost use Rattle.mdl_defs.specs.declared.def_error.DefError.{DefError};
+ghost use Rattle.mdl_context.specs.Contexts.{Attends, LeavesOthers};
+ghost use Rattle.mdl_defs.specs.Changes.{change_fault};
+ghost use Rattle.mdl_stmt.specs.Gets.{IsPlayed, IsRaised, IsStep, IdleUnlessGot, IdleUnlessPlayed};
+ghost use Rattle.mdl_stmt.specs.Rows.{downgrade};
+ghost use Rattle.mdl_stmt.specs.Statements.{after_commit, alter_after_commit, alter_among_locked, alter_by_copy, alter_first, alter_in_place, alter_in_schema, alter_locked, alter_locked_under, alter_under, alter_unlocked, change_and_lower, change_table, check_change, fault_number, lock_schema_and_alter, raise_and_change, reopen_and_change};
+ghost use Rattle.mdl_stmt.specs.declared.ending.Ending.TheVariants.{Answers, Starves};
+ghost use Rattle.mdl_stmt.specs.declared.reply.Reply.TheVariants.{Error};
+
+use crate::creating::{MOST_VERSIONS, schema_of};
+use crate::ending::{Ending, Got, Played};
+use crate::player::{Player, ending_of_error};
+use crate::reading::failing;
+use crate::stage::Stage;
+use crate::{ErrorNumber, Reply};
+use mdl_context::{Acquire, Request};
+use mdl_defs::{Change, DefError, Definition, apply};
+use mdl_key::{Duration, Key, Mode};
+use mdl_space::{LockSpace, TicketId};
+use mdl_syntax::{Algorithm, Alteration, Statement};
+use std::alloc::Global;
+
+impl<S: LockSpace> Player<S> {
+    /// Performs an ALTER TABLE of a table. No transaction is open when it begins to alter it.
+    pub(crate) fn alter_first<'s>(
+        &mut self,
+        space: &mut S,
+        table: &Key,
+        statement: &'s Statement,
+    ) -> Played<'s>
+        requires attends { Attends S.speaks_for S.own S.knows space.old self.old.context }
+        requires idle { self.old.context.wait ≡ None }
+        ensures run { IsPlayed S.joins (alter_first table.now (after_commit statement.now)) space.old self.old result space.new self.new }
+        ensures attends { Attends S.speaks_for S.own S.knows space.new self.new.context }
+        ensures others { LeavesOthers S.speaks_for S.own S.knows self.old.context.who space.old space.new }
+        ensures who { self.new.context.who ≡ self.old.context.who }
+        ensures idle { IdleUnlessPlayed result self.new }
+    {
+        if self.explicit.has_read_lock() {
+            return Played::Ends(failing(ErrorNumber::ConflictingReadLock));
+        }
+        if self.explicit.has_locked() {
+            return self.alter_among_locked(space, table, statement);
+        }
+        self.commit_first(space, statement)
+    }
+
+    /// Performs one where the session has locked tables.
+    fn alter_among_locked<'s>(
+        &mut self,
+        space: &mut S,
+        table: &Key,
+        statement: &'s Statement,
+    ) -> Played<'s>
+        requires attends { Attends S.speaks_for S.own S.knows space.old self.old.context }
+        requires idle { self.old.context.wait ≡ None }
+        ensures run { IsPlayed S.joins (alter_among_locked table.now (after_commit statement.now)) space.old self.old result space.new self.new }
+        ensures attends { Attends S.speaks_for S.own S.knows space.new self.new.context }
+        ensures others { LeavesOthers S.speaks_for S.own S.knows self.old.context.who space.old space.new }
+        ensures who { self.new.context.who ≡ self.old.context.who }
+        ensures idle { IdleUnlessPlayed result self.new }
+    {
+        let Some(locked) = self.explicit.find(table) else {
+            return Played::Ends(failing(ErrorNumber::TableNotLocked));
+        };
+        if !locked.may_write {
+            return Played::Ends(failing(ErrorNumber::TableLockedForRead));
+        }
+        self.commit_first(space, statement)
+    }
+
+    /// Alters a table, once no transaction is open.
+    pub(crate) fn alter<'s>(&mut self, space: &mut S, alteration: &'s Alteration) -> Played<'s>
+        requires attends { Attends S.speaks_for S.own S.knows space.old self.old.context }
+        requires idle { self.old.context.wait ≡ None }
+        ensures run { IsPlayed S.joins (alter_after_commit alteration.now) space.old self.old result space.new self.new }
+        ensures attends { Attends S.speaks_for S.own S.knows space.new self.new.context }
+        ensures others { LeavesOthers S.speaks_for S.own S.knows self.old.context.who space.old space.new }
+        ensures who { self.new.context.who ≡ self.old.context.who }
+        ensures idle { IdleUnlessPlayed result self.new }
+    {
+        let writes = Key::global(self.alloc);
+        let request = Request {
+            key: &writes,
+            mode: Mode::IX,
+            duration: Duration::Statement,
+        };
+        match self.get(space, request) {
+            Got::Had(_) => self.lock_schema_and_alter(space, alteration),
+            Got::Waits(key) => Played::Waits(key, Mode::IX, Stage::AlterGlobal(alteration)),
+            Got::Ends(ending) => Played::Ends(ending),
+        }
+    }
+
+    /// Locks a table's schema, under the lock of all writes, and alters the table.
+    pub(crate) fn lock_schema_and_alter<'s>(
+        &mut self,
+        space: &mut S,
+        alteration: &'s Alteration,
+    ) -> Played<'s>
+        requires attends { Attends S.speaks_for S.own S.knows space.old self.old.context }
+        requires idle { self.old.context.wait ≡ None }
+        ensures run { IsPlayed S.joins (lock_schema_and_alter alteration.now) space.old self.old result space.new self.new }
+        ensures attends { Attends S.speaks_for S.own S.knows space.new self.new.context }
+        ensures others { LeavesOthers S.speaks_for S.own S.knows self.old.context.who space.old space.new }
+        ensures who { self.new.context.who ≡ self.old.context.who }
+        ensures idle { IdleUnlessPlayed result self.new }
+    {
+        let Ok(schema) = schema_of(self.alloc, &alteration.table) else {
+            return Played::Ends(Ending::Starves);
+        };
+        let request = Request {
+            key: &schema,
+            mode: Mode::IX,
+            duration: Duration::Transaction,
+        };
+        match self.get(space, request) {
+            Got::Had(_) => self.alter_in_schema(space, alteration),
+            Got::Waits(key) => Played::Waits(key, Mode::IX, Stage::AlterSchema(alteration)),
+            Got::Ends(ending) => Played::Ends(ending),
+        }
+    }
+
+    /// Alters a table under its schema's lock.
+    pub(crate) fn alter_in_schema<'s>(
+        &mut self,
+        space: &mut S,
+        alteration: &'s Alteration,
+    ) -> Played<'s>
+        requires attends { Attends S.speaks_for S.own S.knows space.old self.old.context }
+        requires idle { self.old.context.wait ≡ None }
+        ensures run { IsPlayed S.joins (alter_in_schema alteration.now) space.old self.old result space.new self.new }
+        ensures attends { Attends S.speaks_for S.own S.knows space.new self.new.context }
+        ensures others { LeavesOthers S.speaks_for S.own S.knows self.old.context.who space.old space.new }
+        ensures who { self.new.context.who ≡ self.old.context.who }
+        ensures idle { IdleUnlessPlayed result self.new }
+    {
+        if self.explicit.has_locked() {
+            return self.alter_locked(space, alteration);
+        }
+        self.alter_unlocked(space, alteration)
+    }
+
+    /// Locks a table against other changes, and alters it.
+    fn alter_unlocked<'s>(&mut self, space: &mut S, alteration: &'s Alteration) -> Played<'s>
+        requires attends { Attends S.speaks_for S.own S.knows space.old self.old.context }
+        requires idle { self.old.context.wait ≡ None }
+        ensures run { IsPlayed S.joins (alter_unlocked alteration.now) space.old self.old result space.new self.new }
+        ensures attends { Attends S.speaks_for S.own S.knows space.new self.new.context }
+        ensures others { LeavesOthers S.speaks_for S.own S.knows self.old.context.who space.old space.new }
+        ensures who { self.new.context.who ≡ self.old.context.who }
+        ensures idle { IdleUnlessPlayed result self.new }
+    {
+        let request = Request {
+            key: &alteration.table,
+            mode: Mode::SU,
+            duration: Duration::Transaction,
+        };
+        match self.get(space, request) {
+            Got::Had(ticket) => self.alter_under(space, alteration, ticket),
+            Got::Waits(key) => Played::Waits(key, Mode::SU, Stage::AlterTable(alteration)),
+            Got::Ends(ending) => Played::Ends(ending),
+        }
+    }
+
+    /// Alters a table under its lock, if it can be altered so.
+    pub(crate) fn alter_under<'s>(
+        &mut self,
+        space: &mut S,
+        alteration: &'s Alteration,
+        ticket: TicketId,
+    ) -> Played<'s>
+        requires attends { Attends S.speaks_for S.own S.knows space.old self.old.context }
+        requires idle { self.old.context.wait ≡ None }
+        ensures run { IsPlayed S.joins (alter_under alteration.now ticket) space.old self.old result space.new self.new }
+        ensures attends { Attends S.speaks_for S.own S.knows space.new self.new.context }
+        ensures others { LeavesOthers S.speaks_for S.own S.knows self.old.context.who space.old space.new }
+        ensures who { self.new.context.who ≡ self.old.context.who }
+        ensures idle { IdleUnlessPlayed result self.new }
+    {
+        if let Err(ending) = self.check_change(space, &alteration.change, ticket) {
+            return Played::Ends(ending);
+        }
+        match alteration.algorithm {
+            Algorithm::Copy => self.alter_by_copy(space, alteration, ticket),
+            Algorithm::Inplace => self.alter_in_place(space, alteration, ticket),
+        }
+    }
+
+    /// Raises a table's lock so that nobody writes while it is copied, and changes it then.
+    fn alter_by_copy<'s>(
+        &mut self,
+        space: &mut S,
+        alteration: &'s Alteration,
+        ticket: TicketId,
+    ) -> Played<'s>
+        requires attends { Attends S.speaks_for S.own S.knows space.old self.old.context }
+        requires idle { self.old.context.wait ≡ None }
+        ensures run { IsPlayed S.joins (alter_by_copy alteration.now ticket) space.old self.old result space.new self.new }
+        ensures attends { Attends S.speaks_for S.own S.knows space.new self.new.context }
+        ensures others { LeavesOthers S.speaks_for S.own S.knows self.old.context.who space.old space.new }
+        ensures who { self.new.context.who ≡ self.old.context.who }
+        ensures idle { IdleUnlessPlayed result self.new }
+    {
+        match self.raise(space, ticket, &alteration.table, Mode::SNW) {
+            Got::Had(copied) => self.raise_and_change(space, alteration, copied),
+            Got::Waits(key) => Played::Waits(key, Mode::SNW, Stage::AlterByCopy(alteration)),
+            Got::Ends(ending) => Played::Ends(ending),
+        }
+    }
+
+    /// Raises a table's lock so that nobody uses it, opens it again while it is altered, and changes it then.
+    fn alter_in_place<'s>(
+        &mut self,
+        space: &mut S,
+        alteration: &'s Alteration,
+        ticket: TicketId,
+    ) -> Played<'s>
+        requires attends { Attends S.speaks_for S.own S.knows space.old self.old.context }
+        requires idle { self.old.context.wait ≡ None }
+        ensures run { IsPlayed S.joins (alter_in_place alteration.now ticket) space.old self.old result space.new self.new }
+        ensures attends { Attends S.speaks_for S.own S.knows space.new self.new.context }
+        ensures others { LeavesOthers S.speaks_for S.own S.knows self.old.context.who space.old space.new }
+        ensures who { self.new.context.who ≡ self.old.context.who }
+        ensures idle { IdleUnlessPlayed result self.new }
+    {
+        match self.raise(space, ticket, &alteration.table, Mode::X) {
+            Got::Had(prepared) => self.reopen_and_change(space, alteration, prepared),
+            Got::Waits(key) => Played::Waits(key, Mode::X, Stage::AlterInPlace(alteration)),
+            Got::Ends(ending) => Played::Ends(ending),
+        }
+    }
+
+    /// Opens a table again whose lock was raised, and changes it then.
+    pub(crate) fn reopen_and_change<'s>(
+        &mut self,
+        space: &mut S,
+        alteration: &'s Alteration,
+        ticket: TicketId,
+    ) -> Played<'s>
+        requires attends { Attends S.speaks_for S.own S.knows space.old self.old.context }
+        requires idle { self.old.context.wait ≡ None }
+        ensures run { IsPlayed S.joins (reopen_and_change alteration.now ticket) space.old self.old result space.new self.new }
+        ensures attends { Attends S.speaks_for S.own S.knows space.new self.new.context }
+        ensures others { LeavesOthers S.speaks_for S.own S.knows self.old.context.who space.old space.new }
+        ensures who { self.new.context.who ≡ self.old.context.who }
+        ensures idle { IdleUnlessPlayed result self.new }
+    {
+        self.lower(space, ticket, Mode::SU);
+        self.raise_and_change(space, alteration, ticket)
+    }
+
+    /// Raises a table's lock so that nobody uses it, and changes it.
+    pub(crate) fn raise_and_change<'s>(
+        &mut self,
+        space: &mut S,
+        alteration: &'s Alteration,
+        ticket: TicketId,
+    ) -> Played<'s>
+        requires attends { Attends S.speaks_for S.own S.knows space.old self.old.context }
+        requires idle { self.old.context.wait ≡ None }
+        ensures run { IsPlayed S.joins (raise_and_change alteration.now ticket) space.old self.old result space.new self.new }
+        ensures attends { Attends S.speaks_for S.own S.knows space.new self.new.context }
+        ensures others { LeavesOthers S.speaks_for S.own S.knows self.old.context.who space.old space.new }
+        ensures who { self.new.context.who ≡ self.old.context.who }
+        ensures idle { IdleUnlessPlayed result self.new }
+    {
+        match self.raise(space, ticket, &alteration.table, Mode::X) {
+            Got::Had(alone) => self.change_table(space, alteration, alone),
+            Got::Waits(key) => Played::Waits(key, Mode::X, Stage::ChangeTable(alteration)),
+            Got::Ends(ending) => Played::Ends(ending),
+        }
+    }
+
+    /// Changes a table that nobody else uses.
+    pub(crate) fn change_table<'s>(
+        &mut self,
+        space: &mut S,
+        alteration: &'s Alteration,
+        ticket: TicketId,
+    ) -> Played<'s>
+        requires attends { Attends S.speaks_for S.own S.knows space.old self.old.context }
+        requires idle { self.old.context.wait ≡ None }
+        ensures run { IsPlayed S.joins (change_table alteration.now ticket) space.old self.old result space.new self.new }
+        ensures attends { Attends S.speaks_for S.own S.knows space.new self.new.context }
+        ensures others { LeavesOthers S.speaks_for S.own S.knows self.old.context.who space.old space.new }
+        ensures who { self.new.context.who ≡ self.old.context.who }
+        ensures idle { IdleUnlessPlayed result self.new }
+    {
+        match self.redefine(space, ticket, &alteration.change) {
+            Ok(()) => Played::Ends(Ending::Answers(Reply::Ok)),
+            Err(ending) => Played::Ends(ending),
+        }
+    }
+
+    /// Clones the lock that the session has of a table, and alters the table.
+    fn alter_locked<'s>(&mut self, space: &mut S, alteration: &'s Alteration) -> Played<'s>
+        requires attends { Attends S.speaks_for S.own S.knows space.old self.old.context }
+        requires idle { self.old.context.wait ≡ None }
+        ensures run { IsPlayed S.joins (alter_locked alteration.now) space.old self.old result space.new self.new }
+        ensures attends { Attends S.speaks_for S.own S.knows space.new self.new.context }
+        ensures others { LeavesOthers S.speaks_for S.own S.knows self.old.context.who space.old space.new }
+        ensures who { self.new.context.who ≡ self.old.context.who }
+        ensures idle { IdleUnlessPlayed result self.new }
+    {
+        let request = Request {
+            key: &alteration.table,
+            mode: Mode::SNRW,
+            duration: Duration::Transaction,
+        };
+        match self.get(space, request) {
+            Got::Had(ticket) => self.alter_locked_under(space, alteration, ticket),
+            Got::Waits(key) => Played::Waits(key, Mode::SNRW, Stage::AlterLocked(alteration)),
+            Got::Ends(ending) => Played::Ends(ending),
+        }
+    }
+
+    /// Alters a table of those that the session has locked, if it can be altered so.
+    pub(crate) fn alter_locked_under<'s>(
+        &mut self,
+        space: &mut S,
+        alteration: &'s Alteration,
+        ticket: TicketId,
+    ) -> Played<'s>
+        requires attends { Attends S.speaks_for S.own S.knows space.old self.old.context }
+        requires idle { self.old.context.wait ≡ None }
+        ensures run { IsPlayed S.joins (alter_locked_under alteration.now ticket) space.old self.old result space.new self.new }
+        ensures attends { Attends S.speaks_for S.own S.knows space.new self.new.context }
+        ensures others { LeavesOthers S.speaks_for S.own S.knows self.old.context.who space.old space.new }
+        ensures who { self.new.context.who ≡ self.old.context.who }
+        ensures idle { IdleUnlessPlayed result self.new }
+    {
+        if let Err(ending) = self.check_change(space, &alteration.change, ticket) {
+            return Played::Ends(ending);
+        }
+        match self.raise(space, ticket, &alteration.table, Mode::X) {
+            Got::Had(alone) => self.change_and_lower(space, alteration, alone),
+            Got::Waits(key) => Played::Waits(key, Mode::X, Stage::ChangeLocked(alteration)),
+            Got::Ends(ending) => Played::Ends(ending),
+        }
+    }
+
+    /// Changes a table that nobody else uses, and lets its lock be what it was.
+    pub(crate) fn change_and_lower<'s>(
+        &mut self,
+        space: &mut S,
+        alteration: &'s Alteration,
+        ticket: TicketId,
+    ) -> Played<'s>
+        requires attends { Attends S.speaks_for S.own S.knows space.old self.old.context }
+        requires idle { self.old.context.wait ≡ None }
+        ensures run { IsPlayed S.joins (change_and_lower alteration.now ticket) space.old self.old result space.new self.new }
+        ensures attends { Attends S.speaks_for S.own S.knows space.new self.new.context }
+        ensures others { LeavesOthers S.speaks_for S.own S.knows self.old.context.who space.old space.new }
+        ensures who { self.new.context.who ≡ self.old.context.who }
+        ensures idle { IdleUnlessPlayed result self.new }
+    {
+        match self.redefine(space, ticket, &alteration.change) {
+            Ok(()) => {
+                self.lower(space, ticket, Mode::SNRW);
+                Played::Ends(Ending::Answers(Reply::Ok))
+            }
+            Err(ending) => Played::Ends(ending),
+        }
+    }
+
+    /// Looks whether a table is there, and can be changed so.
+    fn check_change(
+        &mut self,
+        space: &mut S,
+        change: &Change,
+        ticket: TicketId,
+    ) -> Result<(), Ending>
+        requires attends { Attends S.speaks_for S.own S.knows space.old self.old.context }
+        requires idle { self.old.context.wait ≡ None }
+        ensures run { IsStep S.joins (check_change change.now ticket) space.old self.old result space.new self.new }
+        ensures attends { Attends S.speaks_for S.own S.knows space.new self.new.context }
+        ensures others { LeavesOthers S.speaks_for S.own S.knows self.old.context.who space.old space.new }
+        ensures who { self.new.context.who ≡ self.old.context.who }
+        ensures idle { self.new.context.wait ≡ None }
+    {
+        let standing = match self.read(space, ticket) {
+            Ok(standing) => standing,
+            Err(ending) => return Err(ending),
+        };
+        if let Err(ending) = can_become(self.alloc, &standing.definition, change) {
+            return Err(ending);
+        }
+        if standing.version >= MOST_VERSIONS {
+            return Err(failing(ErrorNumber::VersionLimit));
+        }
+        Ok(())
+    }
+
+    /// Asks for a stronger mode of a ticket of this key.
+    fn raise(&mut self, space: &mut S, ticket: TicketId, key: &Key, mode: Mode) -> Got<TicketId>
+        requires attends { Attends S.speaks_for S.own S.knows space.old self.old.context }
+        requires idle { self.old.context.wait ≡ None }
+        ensures run { IsRaised S.joins ticket key.now mode space.old self.old result space.new self.new }
+        ensures attends { Attends S.speaks_for S.own S.knows space.new self.new.context }
+        ensures others { LeavesOthers S.speaks_for S.own S.knows self.old.context.who space.old space.new }
+        ensures who { self.new.context.who ≡ self.old.context.who }
+        ensures idle { IdleUnlessGot result self.new }
+    {
+        match self.context.upgrade(space, ticket, mode) {
+            Ok(Acquire::Acquired(id)) => Got::Had(id),
+            Ok(Acquire::MustWait(_)) => self.tell_wait(space, key),
+            Err(error) => Got::Ends(ending_of_error(error)),
+        }
+    }
+
+    /// Gives a ticket a weaker mode.
+    fn lower(&mut self, space: &mut S, ticket: TicketId, mode: Mode)
+        requires attends { Attends S.speaks_for S.own S.knows space.old self.old.context }
+        requires idle { self.old.context.wait ≡ None }
+        ensures run { IsStep S.joins (downgrade ticket mode) space.old self.old (Ok tt) space.new self.new }
+        ensures attends { Attends S.speaks_for S.own S.knows space.new self.new.context }
+        ensures others { LeavesOthers S.speaks_for S.own S.knows self.old.context.who space.old space.new }
+        ensures who { self.new.context.who ≡ self.old.context.who }
+        ensures idle { self.new.context.wait ≡ None }
+    {
+        let _lowered = self.context.downgrade(space, ticket, mode);
+    }
+}
+
+/// Looks whether what stands can be changed so.
+fn can_become(
+    alloc: Global,
+    definition: &Option<Definition>,
+    change: &Change,
+) -> Result<(), Ending>
+    ensures { MatchResult result
+        (λ _. change_fault definition.now change.now ≡ None)
+        (λ ending. (ending ≡ Starves) ⊎ ((fault : DefError) × (change_fault definition.now change.now ≡ Some fault) × (ending ≡ Answers (Error (fault_number fault))))) }
+{
+    match apply(alloc, definition, change) {
+        Ok(_) => Ok(()),
+        Err(DefError::OutOfMemory) => Err(Ending::Starves),
+        Err(fault) => Err(failing(fault_number(fault))),
+    }
+}
+
+/// The error of a change that can't be made.
+fn fault_number(fault: DefError) -> ErrorNumber
+    ensures { result ≡ fault_number fault }
+{
+    match fault {
+        DefError::DuplicateColumn => ErrorNumber::DuplicateColumn,
+        DefError::NoColumn => ErrorNumber::CantDropColumn,
+        DefError::LastColumn => ErrorNumber::LastColumn,
+        DefError::ManyColumns => ErrorNumber::TooManyColumns,
+        _ => ErrorNumber::NoSuchTable,
+    }
+}
