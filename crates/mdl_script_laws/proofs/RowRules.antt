@@ -13,7 +13,7 @@ use Rattle.mdl_stmt.specs.declared.error_number.ErrorNumber.TheVariants.{SchemaE
 use Rattle.mdl_stmt.specs.declared.reply.Reply.{Reply}
 use Rattle.mdl_stmt.specs.declared.reply.Reply.TheVariants as reply
 use Rattle.mdl_stmt.specs.KeyOrder.{in_key_order}
-use Rattle.mdl_stmt.specs.Rows.{Row, Act, Give, Fail, Room, Look, Set, Here, Acquire, Give_up, Release, Read, Redefine, Kill, ◌>>=◌, ◌>>◌, acquire_all, check, for_each, nothing, redefine, release, set}
+use Rattle.mdl_stmt.specs.Rows.{Row, Act, Give, Fail, Room, Look, Set, Here, Acquire, Give_up, Release, Keep, Read, Redefine, Kill, ◌>>=◌, ◌>>◌, acquire_all, check, for_each, nothing, redefine, release, set}
 use Rattle.mdl_stmt.specs.States.{Locked, State, has_locked, opened, unlocked}
 use Rattle.mdl_stmt.specs.Statements as rows
 use Rattle.mdl_script_laws.specs.RefusalsFirst.{is_early}
@@ -33,6 +33,7 @@ KeepsTo F P (Here rest) = (mark : Mark) → KeepsTo F P (rest mark)
 KeepsTo F P (Acquire wish rest) = (id : ℕ) → KeepsTo F P (rest id)
 KeepsTo F P (Give_up which rest) = KeepsTo F P rest
 KeepsTo F P (Release id rest) = KeepsTo F P rest
+KeepsTo F P (Keep rest) = KeepsTo F P rest
 KeepsTo F P (Read id rest) = (standing : Standing) → KeepsTo F P (rest standing)
 KeepsTo F P (Redefine id change rest) = KeepsTo F P rest
 KeepsTo F P (Kill target rest) = KeepsTo F P rest
@@ -53,6 +54,7 @@ keeps-bind F P Q (Here rest) next so later = λ mark. keeps-bind F P Q (rest mar
 keeps-bind F P Q (Acquire wish rest) next so later = λ id. keeps-bind F P Q (rest id) next (so id) later
 keeps-bind F P Q (Give_up which rest) next so later = keeps-bind F P Q rest next so later
 keeps-bind F P Q (Release id rest) next so later = keeps-bind F P Q rest next so later
+keeps-bind F P Q (Keep rest) next so later = keeps-bind F P Q rest next so later
 keeps-bind F P Q (Read id rest) next so later = λ standing. keeps-bind F P Q (rest standing) next (so standing) later
 keeps-bind F P Q (Redefine id change rest) next so later = keeps-bind F P Q rest next so later
 keeps-bind F P Q (Kill target rest) next so later = keeps-bind F P Q rest next so later

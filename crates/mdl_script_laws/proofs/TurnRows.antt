@@ -41,6 +41,7 @@ few-more n m (row.Acquire wish rest) less (fewer, same, is) =
     (m - 1, at, λ id. few-more fewer (m - 1) (rest id) below (is id))
 few-more n m (row.Give_up which rest) less is = few-more n m rest less is
 few-more n m (row.Release id rest) less is = few-more n m rest less is
+few-more n m (row.Keep rest) less is = few-more n m rest less is
 few-more n m (row.Read id rest) less is = λ standing. few-more n m (rest standing) less (is standing)
 few-more n m (row.Redefine id change rest) less is = few-more n m rest less is
 few-more n m (row.Kill target rest) less is = few-more n m rest less is
@@ -60,6 +61,7 @@ few-then n m most (row.Acquire wish more) next less (fewer, same, is) rest =
     (most - 1, at, λ id. few-then fewer m (most - 1) (more id) next below (is id) rest)
 few-then n m most (row.Give_up which more) next less is rest = few-then n m most more next less is rest
 few-then n m most (row.Release id more) next less is rest = few-then n m most more next less is rest
+few-then n m most (row.Keep more) next less is rest = few-then n m most more next less is rest
 few-then n m most (row.Read id more) next less is rest = λ standing. few-then n m most (more standing) next less (is standing) rest
 few-then n m most (row.Redefine id change more) next less is rest = few-then n m most more next less is rest
 few-then n m most (row.Kill target more) next less is rest = few-then n m most more next less is rest

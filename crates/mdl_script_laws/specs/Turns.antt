@@ -32,6 +32,7 @@ AsksForAtMost most (row.Here rest) = (mark : Mark) → AsksForAtMost most (rest 
 AsksForAtMost most (row.Acquire wish rest) = (fewer : ℕ) × (most ≡ suc fewer) × ((id : ℕ) → AsksForAtMost fewer (rest id))
 AsksForAtMost most (row.Give_up which rest) = AsksForAtMost most rest
 AsksForAtMost most (row.Release id rest) = AsksForAtMost most rest
+AsksForAtMost most (row.Keep rest) = AsksForAtMost most rest
 AsksForAtMost most (row.Read id rest) = (standing : Standing) → AsksForAtMost most (rest standing)
 AsksForAtMost most (row.Redefine id change rest) = AsksForAtMost most rest
 AsksForAtMost most (row.Kill target rest) = AsksForAtMost most rest

@@ -14,7 +14,7 @@ use Rattle.mdl_syntax.specs.declared.statement.Statement.{Statement}
 use Rattle.mdl_syntax.specs.declared.statement.Statement.TheVariants as statement
 use Rattle.mdl_stmt.specs.Gets.{at_rest}
 use Rattle.mdl_stmt.specs.Playing.{play}
-use Rattle.mdl_stmt.specs.Rows.{Row, Give, Fail, Room, Look, Set, Here, Acquire, Give_up, Release, Read, Redefine, Kill, ◌>>=◌, ◌>>◌, acquire, check, nothing}
+use Rattle.mdl_stmt.specs.Rows.{Row, Give, Fail, Room, Look, Set, Here, Acquire, Give_up, Release, Keep, Read, Redefine, Kill, ◌>>=◌, ◌>>◌, acquire, check, nothing}
 use Rattle.mdl_stmt.specs.Sessions.{PlayerView}
 use Rattle.mdl_stmt.specs.States.{Locked, has_locked}
 use Rattle.mdl_stmt.specs.Statements.{after_commit, commit, commit_first, commit_writes, ddl_first, end_transaction, no_locked_tables, lock_and_write, lock_held, lock_to_read, select, show_all, write, write_locked, write_unlocked}
@@ -30,6 +30,7 @@ bind-assoc (Here rest) f g = ap Here (fun_ext (λ x. bind-assoc (rest x) f g))
 bind-assoc (Acquire wish rest) f g = ap (Acquire wish) (fun_ext (λ x. bind-assoc (rest x) f g))
 bind-assoc (Give_up which rest) f g = ap (Give_up which) (bind-assoc rest f g)
 bind-assoc (Release id rest) f g = ap (Release id) (bind-assoc rest f g)
+bind-assoc (Keep rest) f g = ap Keep (bind-assoc rest f g)
 bind-assoc (Read id rest) f g = ap (Read id) (fun_ext (λ x. bind-assoc (rest x) f g))
 bind-assoc (Redefine id change rest) f g = ap (Redefine id change) (bind-assoc rest f g)
 bind-assoc (Kill target rest) f g = ap (Kill target) (bind-assoc rest f g)

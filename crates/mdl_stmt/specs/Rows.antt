@@ -31,6 +31,8 @@ pub data Row (A : Type 0) : Type 0 where
   Give_up : (List Kept → List Kept) → Row A → Row A
   -- that one goes
   Release : (id : ℕ) → Row A → Row A
+  -- that all stay until the session gives them up
+  Keep : Row A → Row A
   -- what stands under the key of a ticket
   Read : (id : ℕ) → (Standing → Row A) → Row A
   -- a change of it
@@ -50,6 +52,7 @@ Here rest >>= next = Here (λ mark. rest mark >>= next)
 Acquire wish rest >>= next = Acquire wish (λ id. rest id >>= next)
 Give_up which rest >>= next = Give_up which (rest >>= next)
 Release id rest >>= next = Release id (rest >>= next)
+Keep rest >>= next = Keep (rest >>= next)
 Read id rest >>= next = Read id (λ standing. rest standing >>= next)
 Redefine id change rest >>= next = Redefine id change (rest >>= next)
 Kill target rest >>= next = Kill target (rest >>= next)
@@ -88,6 +91,9 @@ give_up which = Give_up which nothing
 
 abbrev pub release : ℕ → Act
 release id = Release id nothing
+
+abbrev pub keep : Act
+keep = Keep nothing
 
 abbrev pub read : ℕ → Row Standing
 read id = Read id Give

@@ -1,5 +1,5 @@
 //! Statements.
-use crate::{Name, Tables};
+use crate::{Name, TableLocks, Tables};
 use mdl_defs::Columns;
 use mdl_key::Key;
 
@@ -36,10 +36,21 @@ pub enum Statement {
     CreateSchema(Name),
     /// `DROP TABLE` of 1 to 8 tables.
     DropTables(Tables),
+    /// `LOCK TABLES` of 1 to 8 tables.
+    LockTables(TableLocks),
     /// `KILL QUERY` of a session, from 1 to 64.
     KillQuery(u16),
     /// `TIMEOUT`: the session gives up its own wait.
     Timeout,
+}
+
+/// What a table is locked for.
+#[derive(Clone, Copy, Debug, PartialEq, Eq)]
+pub enum LockType {
+    /// To be read: `READ`.
+    Read,
+    /// To be read and written: `WRITE`.
+    Write,
 }
 
 /// How a write stands behind reads that wait.

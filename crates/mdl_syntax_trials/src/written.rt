@@ -1,7 +1,7 @@
 //! What was read of a script, in words.
 use mdl_defs::Columns;
 use mdl_key::Key;
-use mdl_syntax::{Line, Priority, Script, Statement, Tables, parse};
+use mdl_syntax::{Line, LockType, Priority, Script, Statement, TableLocks, Tables, parse};
 use std::alloc::Global;
 use std::test::Fail;
 
@@ -54,6 +54,7 @@ fn statement_text(alloc: Global, statement: &Statement) -> Result<String, Fail> 
             Ok(format!(in alloc; "create schema {name}")?)
         }
         Statement::DropTables(tables) => named(alloc, "drop", tables),
+        Statement::LockTables(locks) => lock_text(alloc, locks),
         Statement::KillQuery(session) => Ok(format!(in alloc; "kill {session}")?),
         Statement::Timeout => Ok(String::from_str(alloc, "time out")?),
     }
@@ -74,6 +75,20 @@ fn create_text(alloc: Global, table: &Key, columns: &Columns) -> Result<String, 
     for column in columns.as_slice() {
         text.push_str(" ")?;
         text.push_str(column.name())?;
+    }
+    Ok(text)
+}
+
+// Tables to lock, and what for.
+fn lock_text(alloc: Global, locks: &TableLocks) -> Result<String, Fail> {
+    let mut text = String::from_str(alloc, "lock")?;
+    for lock in locks.as_slice() {
+        let table = &lock.table;
+        let lock_type = match lock.lock_type {
+            LockType::Read => "read",
+            LockType::Write => "write",
+        };
+        text.push_str(format!(in alloc; " {table} to {lock_type}")?.as_str())?;
     }
     Ok(text)
 }
