@@ -12,6 +12,7 @@ use Rattle.mdl_stmt.specs.declared.reply.Reply.{Reply}
 use Rattle.mdl_stmt.specs.declared.reply.Reply.TheVariants as reply
 use Rattle.mdl_syntax.specs.declared.statement.Statement.{Statement}
 use Rattle.mdl_syntax.specs.declared.statement.Statement.TheVariants as statement
+use Rattle.mdl_syntax.specs.declared.table_locks.TableLock.{TableLock}
 use Rattle.mdl_stmt.specs.Gets.{at_rest}
 use Rattle.mdl_stmt.specs.Playing.{play}
 use Rattle.mdl_stmt.specs.Rows.{Row, Give, Fail, Room, Look, Set, Here, Acquire, Give_up, Release, Keep, Read, Redefine, Kill, ◌>>=◌, ◌>>◌, acquire, check, nothing}
@@ -62,16 +63,18 @@ closed-so x rest shut mark =
 
 -- all others are done once the transaction is committed
 pub after-others : (st : Statement) → (st ≡ statement.Begin → ⊥) → ((table : KeyName) (columns : List (List ℕ)) → st ≡ statement.CreateTable table columns → ⊥) →
-    ((name : List ℕ) → st ≡ statement.CreateSchema name → ⊥) → ((tables : List KeyName) → st ≡ statement.DropTables tables → ⊥) → after_commit st ≡ Give reply.Ok
-after-others statement.Begin a b c d = absurd (a refl)
-after-others statement.Commit a b c d = refl
-after-others statement.Rollback a b c d = refl
-after-others (statement.Savepoint name) a b c d = refl
-after-others (statement.RollbackTo name) a b c d = refl
-after-others (statement.Select tables) a b c d = refl
-after-others (statement.Write table priority) a b c d = refl
-after-others (statement.CreateTable table columns) a b c d = absurd (b table columns refl)
-after-others (statement.CreateSchema name) a b c d = absurd (c name refl)
-after-others (statement.DropTables tables) a b c d = absurd (d tables refl)
-after-others (statement.KillQuery target) a b c d = refl
-after-others statement.Timeout a b c d = refl
+    ((name : List ℕ) → st ≡ statement.CreateSchema name → ⊥) → ((tables : List KeyName) → st ≡ statement.DropTables tables → ⊥) →
+    ((locks : List TableLock) → st ≡ statement.LockTables locks → ⊥) → after_commit st ≡ Give reply.Ok
+after-others statement.Begin a b c d e = absurd (a refl)
+after-others statement.Commit a b c d e = refl
+after-others statement.Rollback a b c d e = refl
+after-others (statement.Savepoint name) a b c d e = refl
+after-others (statement.RollbackTo name) a b c d e = refl
+after-others (statement.Select tables) a b c d e = refl
+after-others (statement.Write table priority) a b c d e = refl
+after-others (statement.CreateTable table columns) a b c d e = absurd (b table columns refl)
+after-others (statement.CreateSchema name) a b c d e = absurd (c name refl)
+after-others (statement.DropTables tables) a b c d e = absurd (d tables refl)
+after-others (statement.LockTables locks) a b c d e = absurd (e locks refl)
+after-others (statement.KillQuery target) a b c d e = refl
+after-others statement.Timeout a b c d e = refl

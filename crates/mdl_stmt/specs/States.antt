@@ -33,9 +33,9 @@ has_locked (table ∷ tables) = true
 abbrev pub at_first : State
 at_first = record { is_open = false; has_written = false; savepoints = []; locked = []; scopes = []; read_lock = None }
 
--- with a transaction that did nothing yet
+-- with a transaction that did nothing yet, and without locked tables
 abbrev pub opened : State → State
-opened state = record state { is_open = true }
+opened state = record state { is_open = true; locked = []; scopes = [] }
 
 -- without one
 abbrev pub closed : State → State
@@ -48,6 +48,10 @@ written state = record state { has_written = true }
 -- without locked tables
 abbrev pub unlocked : State → State
 unlocked state = record state { locked = []; scopes = [] }
+
+-- with these tables locked, and these tickets of their scopes, and without a transaction
+abbrev pub locking : List Locked → List ℕ → State → State
+locking locked scopes state = record (closed state) { locked = locked; scopes = scopes }
 
 -- whether a savepoint has this name
 abbrev pub is_named : List ℕ → Savepoint → Bool

@@ -7,6 +7,8 @@ mod dropping;
 mod ending;
 mod error_number;
 mod key_lists;
+mod lock_loops;
+mod locking;
 mod memory_laws;
 mod out_of_memory;
 mod performing;
