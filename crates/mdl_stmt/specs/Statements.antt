@@ -29,12 +29,13 @@ use Rattle.mdl_context.specs.declared.request.Mark.{Mark}
 use Rattle.mdl_context.specs.Contexts.{beyond_mark, of_transaction}
 use Rattle.mdl_context.specs.Wishes.{Wish}
 use Rattle.mdl_stmt.specs.declared.error_number.ErrorNumber.TheVariants.{SchemaExists, UnknownDatabase, TableExists, DuplicateColumn, TableLockedForRead, TableNotLocked, NoSuchTable, ActiveLocks, ConflictingReadLock, NoSuchSavepoint, VersionLimit}
+use Rattle.mdl_stmt.specs.declared.explicit.Locked.{Locked}
 use Rattle.mdl_stmt.specs.declared.reply.Reply.{Reply}
 use Rattle.mdl_stmt.specs.declared.reply.Reply.TheVariants as reply
 use Rattle.mdl_stmt.specs.declared.reply.TableShown.{TableShown}
 use Rattle.mdl_stmt.specs.KeyOrder.{in_key_order}
 use Rattle.mdl_stmt.specs.Rows.{Row, Act, Give, Fail, Acquire, ◌>>=◌, ◌>>◌, nothing, room, look, set, here, acquire, give_up, release, keep, read, redefine, kill, check, acquire_all, for_each}
-use Rattle.mdl_stmt.specs.States.{Locked, has_locked, opened, closed, written, unlocked, locking, with_savepoint, savepoint_mark, up_to}
+use Rattle.mdl_stmt.specs.States.{has_locked, opened, closed, written, unlocked, locking, with_savepoint, savepoint_mark, up_to}
 
 -- ---- transactions
 
@@ -186,6 +187,12 @@ lock_held table = do
   locked ← held_lock table
   Give locked.ticket
 
+-- a table is shown under the lock that is held
+abbrev pub show_held : List TableShown → KeyName → Row (List TableShown)
+show_held shown table = do
+  ticket ← lock_held table
+  show shown table ticket
+
 -- SELECT
 abbrev pub select : List KeyName → Row Reply
 select tables = do
@@ -218,12 +225,17 @@ lock_and_write table priority = do
   ticket ← acquire table (write_mode priority) for.Transaction
   write_under ticket
 
+-- all writes are locked, against whoever would keep the data still, and then the table
+abbrev pub lock_writes : KeyName → Priority → Row Reply
+lock_writes table priority = do
+  global ← acquire global_key IX for.Statement
+  lock_and_write table priority
+
 -- a write of a session that has locked no tables
 abbrev pub write_unlocked : KeyName → Priority → Row Reply
 write_unlocked table priority = do
   no_read_lock
-  global ← acquire global_key IX for.Statement
-  lock_and_write table priority
+  lock_writes table priority
 
 -- a write of one that has
 abbrev pub write_locked : KeyName → Row Reply

@@ -6,6 +6,7 @@ mod creating_schemas;
 mod dropping;
 mod ending;
 mod error_number;
+mod explicit;
 mod key_lists;
 mod lock_loops;
 mod locking;
@@ -20,6 +21,7 @@ mod runner;
 mod savepoint;
 mod stage;
 mod transactions;
+mod unlocking;
 
 pub use error_number::ErrorNumber;
 pub use memory_laws::{

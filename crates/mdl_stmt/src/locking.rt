@@ -1,6 +1,8 @@
 //! LOCK TABLES.
 ghost use Rattle.std.specs.Prelude.{◌≡◌, None, IfOk};
+ghost use Rattle.std.specs.List.{list_any};
 ghost use Rattle.mdl_context.specs.Contexts.{Attends, LeavesOthers};
+ghost use Rattle.mdl_stmt.specs.declared.ending.Played.TheVariants as played;
 ghost use Rattle.mdl_stmt.specs.Gets.{IsPlayed, IdleUnlessPlayed};
 ghost use Rattle.mdl_stmt.specs.Rows.{◌>>◌};
 ghost use Rattle.mdl_stmt.specs.Stages.{lock_rest, lock_rest_by};
@@ -40,7 +42,7 @@ impl<S: LockSpace> Player<S> {
     }
 
     /// Gives up tables that were locked before, and locks these, once no transaction is open.
-    pub(crate) fn lock_tables<'s>(&mut self, space: &mut S, tables: &'s TableLocks) -> Played<'s>
+    pub(crate) fn lock_these<'s>(&mut self, space: &mut S, tables: &'s TableLocks) -> Played<'s>
         requires attends { Attends S.speaks_for S.own S.knows space.old self.old.context }
         requires idle { self.old.context.wait ≡ None }
         ensures run { IsPlayed S.joins (lock_tables_after_commit tables.now) space.old self.old result space.new self.new }
@@ -149,7 +151,9 @@ impl<S: LockSpace> Player<S> {
             return Ending::Starves;
         };
         let _kept = self.context.make_explicit();
-        self.close_transaction();
+        self.is_open = false;
+        self.has_written = false;
+        self.savepoints.clear();
         self.explicit.lock(locked, scopes);
         Ending::Answers(Reply::Ok)
     }
