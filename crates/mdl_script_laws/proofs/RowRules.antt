@@ -1,4 +1,5 @@
--- Rows that keep to a rule, whatever they are told: how they fail, what they give, and that they lock no tables for their session.
+-- Rows that keep to a rule, whatever they are told: how they fail, what they give, and that they lock no tables while a transaction is
+-- open.
 use Rattle.std.proofs.Common.{◌≡◌, ℕ, Bool, true, false, List, [], ◌∷◌, refl}
 use Rattle.std.specs.Prelude.{if◌then◌else◌, map, not, ◌++◌}
 use Rattle.mdl_key.specs.Keys.{KeyName, global_key}
@@ -6,6 +7,8 @@ use Rattle.mdl_defs.specs.declared.change.Change.TheVariants as change
 use Rattle.mdl_defs.specs.Columns.{names_twice}
 use Rattle.mdl_defs.specs.declared.definition.Definition.TheVariants.{Schema}
 use Rattle.mdl_defs.specs.declared.standing.Standing.{Standing}
+use Rattle.mdl_syntax.specs.declared.table_locks.TableLock.{TableLock}
+use Rattle.mdl_syntax.specs.Forms.{tables_of}
 use Rattle.mdl_context.specs.declared.request.Mark.{Mark}
 use Rattle.mdl_context.specs.Wishes.{Wish}
 use Rattle.mdl_stmt.specs.declared.error_number.ErrorNumber.{ErrorNumber}
@@ -14,16 +17,20 @@ use Rattle.mdl_stmt.specs.declared.explicit.Locked.{Locked}
 use Rattle.mdl_stmt.specs.declared.reply.Reply.{Reply}
 use Rattle.mdl_stmt.specs.declared.reply.Reply.TheVariants as reply
 use Rattle.mdl_stmt.specs.KeyOrder.{in_key_order}
-use Rattle.mdl_stmt.specs.Rows.{Row, Act, Give, Fail, Room, Look, Set, Here, Acquire, Give_up, Release, Keep, Read, Redefine, Kill, ◌>>=◌, ◌>>◌, acquire_all, check, for_each, nothing, redefine, release, set}
-use Rattle.mdl_stmt.specs.States.{State, has_locked, opened, unlocked}
+use Rattle.mdl_stmt.specs.Rows.{Row, Act, Give, Fail, Room, Look, Set, Here, Acquire, Give_up, Release, Keep, Read, Redefine, Kill, ◌>>=◌, ◌>>◌, acquire_all, check, for_each, keep, nothing, redefine, release, room, set}
+use Rattle.mdl_stmt.specs.States.{State, has_locked, locking, opened, unlocked}
 use Rattle.mdl_stmt.specs.Statements as rows
 use Rattle.mdl_script_laws.specs.RefusalsFirst.{is_early}
 
--- a change after which a session has no locked tables, if it had none before
-abbrev pub LeavesUnlocked : (State → State) → Type 0
-LeavesUnlocked change = (state : State) → has_locked state.locked ≡ false → has_locked (change state).locked ≡ false
+-- a session has locked no tables while its transaction is open
+abbrev pub IsUnlocked : State → Type 0
+IsUnlocked state = state.is_open ≡ true → has_locked state.locked ≡ false
 
--- its failures are of these, what it gives is so, and it locks no tables for its session
+-- a change after which that is so, if it was before
+abbrev pub LeavesUnlocked : (State → State) → Type 0
+LeavesUnlocked change = (state : State) → IsUnlocked state → IsUnlocked (change state)
+
+-- its failures are of these, what it gives is so, and it locks no tables while a transaction is open
 abbrev pub KeepsTo : {A : Type 0} → (ErrorNumber → Type 0) → (A → Type 0) → Row A → Type 0
 KeepsTo F P (Give x) = P x
 KeepsTo F P (Fail number) = F number
@@ -88,15 +95,15 @@ module _ (F : ErrorNumber → Type 0) (late : (number : ErrorNumber) → is_earl
   pub keeps-commit : KeepsTo F Any rows.commit
   keeps-commit = λ state.
       keeps-either F Any state.is_open (if state.has_written then rows.commit_writes else rows.end_transaction) nothing
-      (keeps-either F Any state.has_written rows.commit_writes rows.end_transaction (λ _. ((λ s u. u), tt)) ((λ s u. u), tt)) tt
+      (keeps-either F Any state.has_written rows.commit_writes rows.end_transaction (λ _. ((λ s u e. cc), tt)) ((λ s u e. cc), tt)) tt
 
   pub keeps-rollback : KeepsTo F Any rows.rollback
-  keeps-rollback = λ state. keeps-either F Any state.is_open rows.end_transaction nothing ((λ s u. u), tt) tt
+  keeps-rollback = λ state. keeps-either F Any state.is_open rows.end_transaction nothing ((λ s u e. cc), tt) tt
 
   keeps-unlock : KeepsTo F Any rows.unlock_tables
   keeps-unlock = λ state.
       let tickets = map (λ (table : Locked). table.ticket) state.locked ++ state.scopes in
-      keeps-then F Any (for_each release tickets) (set unlocked) (keeps-each F release (λ _. tt) tickets) ((λ s u. refl), tt)
+      keeps-then F Any (for_each release tickets) (set unlocked) (keeps-each F release (λ _. tt) tickets) ((λ s u e. refl), tt)
 
   pub keeps-exists : (ticket : ℕ) → KeepsTo F Any (rows.exists ticket)
   keeps-exists ticket = λ standing.
@@ -122,7 +129,7 @@ module _ (F : ErrorNumber → Type 0) (late : (number : ErrorNumber) → is_earl
   -- those that are told that it is done
   module _ (P : Reply → Type 0) (ok : P reply.Ok) where
     pub keeps-begin : KeepsTo F P rows.begin_after_commit
-    keeps-begin = keeps-then F P rows.unlock_tables (set opened >> Give reply.Ok) keeps-unlock ((λ s u. u), ok)
+    keeps-begin = keeps-then F P rows.unlock_tables (set opened >> Give reply.Ok) keeps-unlock ((λ s u e. refl), ok)
 
     pub keeps-create : (table : KeyName) (columns : List (List ℕ)) → KeepsTo F P (rows.create_after_commit table columns)
     keeps-create table columns = λ global schema ticket.
@@ -149,3 +156,19 @@ module _ (F : ErrorNumber → Type 0) (late : (number : ErrorNumber) → is_earl
         let wishes = map rows.ddl_lock (in_key_order tables) in
         keeps-bind F Any P (acquire_all scopes) (λ _. rows.lock_and_drop tables) (keeps-locks F scopes)
         (λ _ _. keeps-bind F Any P (acquire_all wishes) rows.drop_under (keeps-locks F wishes) (λ tickets _. keeps-drop_under tickets))
+
+    keeps-keep_locked : (locks : List TableLock) (tables : List KeyName) (scopes tickets : List ℕ) → KeepsTo F P (rows.keep_locked locks tables scopes tickets)
+    keeps-keep_locked locks tables scopes tickets =
+        keeps-then F P (for_each rows.stands tickets) (room >> (keep >> (set (locking (rows.locked_by locks tables tickets) scopes) >> Give reply.Ok)))
+        (keeps-each F rows.stands (λ ticket. keeps-bind F Any Any (rows.exists ticket) (λ _. nothing) (keeps-exists ticket) (λ _ _. tt)) tickets)
+        ((λ s u e. cc), ok)
+
+    pub keeps-lock_tables : (locks : List TableLock) → KeepsTo F P (rows.lock_tables_after_commit locks)
+    keeps-lock_tables locks =
+        let scopes = map rows.ddl_lock (rows.scopes_around (rows.written_tables locks)) in
+        let tables = in_key_order (tables_of locks) in
+        let wishes = map (rows.table_lock locks) tables in
+        keeps-then F P rows.unlock_tables (room >> (acquire_all scopes >>= rows.lock_named locks)) keeps-unlock
+        (keeps-bind F Any P (acquire_all scopes) (rows.lock_named locks) (keeps-locks F scopes)
+        (λ ids _. keeps-bind F Any P (acquire_all wishes) (rows.keep_locked locks tables ids) (keeps-locks F wishes)
+        (λ tickets _. keeps-keep_locked locks tables ids tickets)))

@@ -8,6 +8,7 @@ mod locks;
 mod plans;
 mod sessions;
 mod steps;
+mod unlocking;
 
 use mdl_defs::{Columns, Definition};
 use mdl_key::{Duration, Key, KeyError, Mode};
@@ -81,6 +82,12 @@ enum Step {
     EndCommitted,
     // A transaction is open from now on.
     Open,
+    // Tables that are locked are given up, and what was locked around them.
+    Unlock,
+    // All that is locked stays locked until it is given up.
+    Keep,
+    // The statement fails.
+    Fail(u32),
     // Sets a savepoint.
     Save(Name),
     // Goes back to a savepoint.

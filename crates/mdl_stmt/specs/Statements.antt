@@ -400,10 +400,14 @@ may_write locks table = list_any (λ (lock : TableLock). is_write lock.lock_type
 abbrev pub table_lock : List TableLock → KeyName → Wish
 table_lock locks table = record { key = table; mode = if may_write locks table then SNRW else SRO; duration = for.Transaction }
 
--- whose global read lock is its own locks no table for writing
-abbrev pub check_writes : List KeyName → Act
-check_writes [] = nothing
-check_writes (table ∷ tables) = no_read_lock
+-- whether any table is locked for writing
+abbrev pub writes_any : List TableLock → Bool
+writes_any locks = list_any (λ (lock : TableLock). is_write lock.lock_type) locks
+
+-- a session that has the global read lock locks no table for writing
+abbrev pub check_writes : Bool → Act
+check_writes true = no_read_lock
+check_writes false = nothing
 
 -- schemas behind the lock of all writes, where there are any
 abbrev pub with_global : List KeyName → List KeyName
@@ -454,6 +458,10 @@ commit_first rest = commit >> rest
 abbrev pub ddl_first : Row Reply → Row Reply
 ddl_first rest = ddl >> rest
 
+-- and before tables are locked
+abbrev pub lock_first : List TableLock → Row Reply → Row Reply
+lock_first locks rest = check_writes (writes_any locks) >> commit_first rest
+
 -- what is left of a statement once no transaction is open that it has to commit
 abbrev pub after_commit : Statement → Row Reply
 after_commit statement.Begin = begin_after_commit
@@ -475,6 +483,6 @@ row_of (statement.Write table priority) = write table priority
 row_of (statement.CreateTable table columns) = ddl_first (create_after_commit table columns)
 row_of (statement.CreateSchema name) = ddl_first (create_schema_after_commit name)
 row_of (statement.DropTables tables) = ddl_first (drop_after_commit tables)
-row_of (statement.LockTables locks) = check_writes (written_tables locks) >> commit_first (lock_tables_after_commit locks)
+row_of (statement.LockTables locks) = lock_first locks (lock_tables_after_commit locks)
 row_of (statement.KillQuery target) = kill target >> Give reply.Ok
 row_of statement.Timeout = Give reply.Ok

@@ -1,12 +1,10 @@
 //! LOCK TABLES.
-ghost use Rattle.std.specs.Prelude.{◌≡◌, None, IfOk};
-ghost use Rattle.std.specs.List.{list_any};
+ghost use Rattle.std.specs.Prelude.{◌≡◌, ◌&&◌, None, IfOk, is_some};
 ghost use Rattle.mdl_context.specs.Contexts.{Attends, LeavesOthers};
 ghost use Rattle.mdl_stmt.specs.declared.ending.Played.TheVariants as played;
 ghost use Rattle.mdl_stmt.specs.Gets.{IsPlayed, IdleUnlessPlayed};
-ghost use Rattle.mdl_stmt.specs.Rows.{◌>>◌};
 ghost use Rattle.mdl_stmt.specs.Stages.{lock_rest, lock_rest_by};
-ghost use Rattle.mdl_stmt.specs.Statements.{after_commit, check_writes, commit_first, is_write, keep_locked, lock_named, lock_tables_after_commit, locked_by, table_lock, written_tables};
+ghost use Rattle.mdl_stmt.specs.Statements.{after_commit, keep_locked, lock_first, lock_named, lock_tables_after_commit, locked_by, table_lock, writes_any};
 
 use crate::ending::{Ending, Listed, Played};
 use crate::explicit::Locked;
@@ -29,16 +27,23 @@ impl<S: LockSpace> Player<S> {
     ) -> Played<'s>
         requires attends { Attends S.speaks_for S.own S.knows space.old self.old.context }
         requires idle { self.old.context.wait ≡ None }
-        ensures run { IsPlayed S.joins (check_writes (written_tables tables.now) >> commit_first (after_commit statement.now)) space.old self.old result space.new self.new }
+        ensures run { IsPlayed S.joins (lock_first tables.now (after_commit statement.now)) space.old self.old result space.new self.new }
         ensures attends { Attends S.speaks_for S.own S.knows space.new self.new.context }
         ensures others { LeavesOthers S.speaks_for S.own S.knows self.old.context.who space.old space.new }
         ensures who { self.new.context.who ≡ self.old.context.who }
         ensures idle { IdleUnlessPlayed result self.new }
     {
-        if writes_any(tables.as_slice()) && self.explicit.has_read_lock() {
+        if self.locks_out(tables) {
             return Played::Ends(failing(ErrorNumber::ConflictingReadLock));
         }
         self.commit_first(space, statement)
+    }
+
+    /// Whether the session's own global read lock keeps these from being locked.
+    fn locks_out(&self, tables: &TableLocks) -> bool
+        ensures { result ≡ (writes_any tables.now && is_some self.now.state.read_lock) }
+    {
+        writes_any(tables.as_slice()) && self.explicit.has_read_lock()
     }
 
     /// Gives up tables that were locked before, and locks these, once no transaction is open.
@@ -120,7 +125,7 @@ impl<S: LockSpace> Player<S> {
         ensures idle { IdleUnlessPlayed result self.new }
     {
         match self.lock_each(space, Locking::Tables(tables), locks) {
-            Listed::Had(locks) => Played::Ends(self.keep_locked(space, tables, scopes, &locks)),
+            Listed::Had(locks) => Played::Ends(self.keep_locked(space, tables, scopes, locks)),
             Listed::Waits(key, mode, locks) => {
                 Played::Waits(key, mode, Stage::LockTables(tables, scopes, locks))
             }
@@ -134,11 +139,11 @@ impl<S: LockSpace> Player<S> {
         space: &mut S,
         tables: &TableLocks,
         scopes: Vec<TicketId>,
-        locks: &LockList,
+        locks: LockList,
     ) -> Ending
         requires attends { Attends S.speaks_for S.own S.knows space.old self.old.context }
         requires idle { self.old.context.wait ≡ None }
-        ensures run { IsPlayed S.joins (keep_locked tables.now locks.now.keys scopes.items locks.now.tickets) space.old self.old (played.Ends result) space.new self.new }
+        ensures run { IsPlayed S.joins (keep_locked tables.now locks.keys scopes.items locks.tickets) space.old self.old (played.Ends result) space.new self.new }
         ensures attends { Attends S.speaks_for S.own S.knows space.new self.new.context }
         ensures others { LeavesOthers S.speaks_for S.own S.knows self.old.context.who space.old space.new }
         ensures who { self.new.context.who ≡ self.old.context.who }
@@ -147,7 +152,7 @@ impl<S: LockSpace> Player<S> {
         if let Err(ending) = self.all_stand(space, locks.tickets()) {
             return ending;
         }
-        let Ok(locked) = locked_by(self.alloc, tables.as_slice(), locks) else {
+        let Ok(locked) = locked_by(self.alloc, tables.as_slice(), &locks) else {
             return Ending::Starves;
         };
         let _kept = self.context.make_explicit();
@@ -161,7 +166,7 @@ impl<S: LockSpace> Player<S> {
 
 /// Whether any table is locked for writing.
 fn writes_any(tables: &[TableLock]) -> bool
-    ensures { result ≡ list_any (λ lock. is_write lock.lock_type) tables.now }
+    ensures { result ≡ writes_any tables.now }
 {
     tables.iter().any(|lock| is_write(lock.lock_type))
 }

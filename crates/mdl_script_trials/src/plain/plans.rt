@@ -2,12 +2,14 @@
 use super::{Plain, Step, made};
 use mdl_defs::Columns;
 use mdl_key::{Duration, Key, Mode};
-use mdl_syntax::{Name, Priority, Statement, Tables};
+use mdl_syntax::{LockType, Name, Priority, Statement, TableLocks, Tables};
 use std::alloc::{AllocError, Global};
 
 // A list of steps that grows.
 #[derive(Drop)]
-struct Plan {
+struct Plan<'p> {
+    plain: &'p Plain,
+    who: u16,
     alloc: Global,
     is_open: bool,
     has_written: bool,
@@ -18,6 +20,8 @@ impl Plain {
     // The steps of a session's statement, in order.
     pub(super) fn plan(&self, who: u16, statement: &Statement) -> Result<Vec<Step>, AllocError> {
         let mut plan = Plan {
+            plain: self,
+            who,
             alloc: self.alloc,
             is_open: self.is_open(who),
             has_written: self.has_written(who),
@@ -28,12 +32,13 @@ impl Plain {
     }
 }
 
-impl Plan {
+impl Plan<'_> {
     // The steps of a statement.
     fn add(&mut self, statement: &Statement) -> Result<(), AllocError> {
         match statement {
             Statement::Begin => {
                 self.commit()?;
+                self.push(Step::Unlock)?;
                 self.push(Step::Open)
             }
             Statement::Commit => self.commit(),
@@ -45,6 +50,7 @@ impl Plan {
             Statement::CreateTable { table, columns } => self.create(table, columns),
             Statement::CreateSchema(name) => self.create_schema(name),
             Statement::DropTables(tables) => self.drop_tables(tables),
+            Statement::LockTables(tables) => self.lock_tables(tables),
             Statement::KillQuery(_) | Statement::Timeout => Ok(()),
         }
     }
@@ -85,10 +91,16 @@ impl Plan {
         self.push(Step::EndCommitted)
     }
 
-    // Each table is looked at under its lock before the next one is asked for.
+    // Each table is looked at under its lock before the next one is asked for. Where tables are locked it has to be one of
+    // them.
     fn select(&mut self, tables: &Tables) -> Result<(), AllocError> {
+        let has_locked = self.plain.has_locked(self.who);
         for table in tables.as_slice() {
-            self.ask_table(table, Mode::SR)?;
+            if !has_locked {
+                self.ask_table(table, Mode::SR)?;
+            } else if self.plain.locked_mode(self.who, table).is_none() {
+                self.push(Step::Fail(1100))?;
+            }
             self.push(Step::Look(table.clone()?))?;
         }
         for table in tables.as_slice() {
@@ -107,9 +119,14 @@ impl Plan {
             Priority::Normal => Mode::SW,
             Priority::Low => Mode::SWLP,
         };
-        self.ask_global()?;
-        self.ask_table(table, mode)?;
-        self.push(Step::Look(table.clone()?))?;
+        if self.plain.has_locked(self.who) {
+            self.check_locked(table)?;
+        } else {
+            self.refuse_read_lock()?;
+            self.ask_global()?;
+            self.ask_table(table, mode)?;
+            self.push(Step::Look(table.clone()?))?;
+        }
         self.push(Step::Write)?;
         if self.is_open {
             self.push(Step::EndStatement)
@@ -118,9 +135,36 @@ impl Plan {
         }
     }
 
+    // Fails where a table isn't locked for writing.
+    fn check_locked(&mut self, table: &Key) -> Result<(), AllocError> {
+        match self.plain.locked_mode(self.who, table) {
+            None => self.push(Step::Fail(1100)),
+            Some(Mode::SRO) => self.push(Step::Fail(1099)),
+            Some(_) => Ok(()),
+        }
+    }
+
+    // Fails where the session has the global read lock.
+    fn refuse_read_lock(&mut self) -> Result<(), AllocError> {
+        if self.plain.has_read_lock(self.who) {
+            self.push(Step::Fail(1223))?;
+        }
+        Ok(())
+    }
+
+    // Fails where it has that, or has locked tables.
+    fn refuse_locks(&mut self) -> Result<(), AllocError> {
+        self.refuse_read_lock()?;
+        if self.plain.has_locked(self.who) {
+            self.push(Step::Fail(1192))?;
+        }
+        Ok(())
+    }
+
     // What begins each change of definitions: it commits, and then asks for the global lock, the schemas and the
     // tables, both in the order of keys. A schema that is asked for again is had already.
     fn begin_change(&mut self, keys: &Vec<Key>) -> Result<(), AllocError> {
+        self.refuse_locks()?;
         self.commit()?;
         self.ask_global()?;
         for key in keys {
@@ -145,6 +189,7 @@ impl Plan {
     // A new schema, which nobody else is in.
     fn create_schema(&mut self, name: &Name) -> Result<(), AllocError> {
         let schema = made(Key::schema(self.alloc, name.as_str()))?;
+        self.refuse_locks()?;
         self.commit()?;
         self.ask_global()?;
         self.ask(schema.clone()?, Mode::X, Duration::Transaction)?;
@@ -166,6 +211,41 @@ impl Plan {
             self.push(Step::Drop(key.clone()?))?;
         }
         self.push(Step::End)
+    }
+
+    // Tables that stay locked, the earlier ones given up: what is around those that are to be written is locked first. All
+    // are looked at under all locks.
+    fn lock_tables(&mut self, tables: &TableLocks) -> Result<(), AllocError> {
+        let mut keys = Vec::new(self.alloc);
+        let mut written = Vec::new(self.alloc);
+        for lock in tables.as_slice() {
+            keys.push(lock.table.clone()?)?;
+            if lock.lock_type == LockType::Write {
+                written.push(lock.table.clone()?)?;
+            }
+        }
+        keys.sort()?;
+        written.sort()?;
+        if !written.is_empty() {
+            self.refuse_read_lock()?;
+        }
+        self.commit()?;
+        self.push(Step::Unlock)?;
+        if !written.is_empty() {
+            self.ask_global()?;
+        }
+        for key in &written {
+            let schema = made(Key::schema(self.alloc, key.schema_name()))?;
+            self.ask(schema, Mode::IX, Duration::Transaction)?;
+        }
+        for key in &keys {
+            let mode = if written.contains(key) { Mode::SNRW } else { Mode::SRO };
+            self.ask_table(key, mode)?;
+        }
+        for key in &keys {
+            self.push(Step::Look(key.clone()?))?;
+        }
+        self.push(Step::Keep)
     }
 
     // Tables in the order of their keys.

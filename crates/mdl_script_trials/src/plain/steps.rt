@@ -15,6 +15,7 @@ impl Plain {
             Step::CreateSchema(schema) => Ok(self.create_schema(&schema)),
             Step::CheckVersion(table) => Ok(self.check_version(&table)),
             Step::Drop(table) => Ok(self.drop_table(&table)),
+            Step::Fail(number) => Ok(Taken::Failed(number)),
             Step::Save(name) => self.save(who, name),
             Step::GoBack(name) => self.go_back(who, &name),
             other => self.take_plain(who, other),
@@ -28,6 +29,8 @@ impl Plain {
             Step::End => self.end_transaction(who)?,
             Step::EndCommitted => self.end_committed(who)?,
             Step::Open => self.set_open(who, true),
+            Step::Unlock => self.unlock(who)?,
+            Step::Keep => self.keep(who),
             Step::Write => self.set_written(who),
             _ => {}
         }

@@ -7,7 +7,7 @@ use Rattle.mdl_stmt.specs.Endings.{closing}
 use Rattle.mdl_stmt.specs.Gets.{Comes, IsPlayed}
 use Rattle.mdl_stmt.specs.Playing.{play}
 use Rattle.mdl_stmt.specs.Rows.{Give}
-use Rattle.mdl_stmt.specs.Statements.{row_of}
+use Rattle.mdl_stmt.specs.Statements.{after_commit, lock_first, row_of}
 use Rattle.mdl_stmt.proofs.player.Player.perform.Goals as goal
 
 pub returns-in-Rollback-clause-run : goal.returns-in-Rollback-clause-run
@@ -23,3 +23,8 @@ pub returns-in-KillQuery-clause-run : goal.returns-in-KillQuery-clause-run
 returns-in-KillQuery-clause-run g c =
     subst (λ (s : Statement). Comes g.S.LockSpace.joins c.args.space.now c.args.self.now (play (row_of s)) c.kill.new.space c.kill.new.self (closing (Answers reply.Ok))) (sym c.in-KillQuery.is)
     (c.kill.ensures.run (λ _. Give reply.Ok))
+
+pub returns-in-LockTables-clause-run : goal.returns-in-LockTables-clause-run
+returns-in-LockTables-clause-run g c =
+    subst (λ (s : Statement). IsPlayed g.S.LockSpace.joins (row_of s) c.args.space.now c.args.self.now c.lock_first.result c.lock_first.new.space c.lock_first.new.self) (sym c.in-LockTables.is)
+    (subst (λ (s : Statement). IsPlayed g.S.LockSpace.joins (lock_first c.in-LockTables.tables (after_commit s)) c.args.space.now c.args.self.now c.lock_first.result c.lock_first.new.space c.lock_first.new.self) c.in-LockTables.is c.lock_first.ensures.run)
