@@ -24,8 +24,8 @@ use Rattle.mdl_stmt.specs.States.{State, has_locked, savepoint_mark, written}
 use Rattle.mdl_stmt.specs.Statements as does
 use Rattle.mdl_script_laws.specs.Shown.{leaves_transaction}
 use Rattle.mdl_script_laws.proofs.ListLemmas.{filter-among, only-one}
-use Rattle.mdl_script_laws.proofs.RowRules.{Any, IsUnlocked, KeepsTo, keeps-begin, keeps-check, keeps-commit, keeps-create, keeps-create_schema, keeps-drop, keeps-lock_tables, keeps-rollback, keeps-then}
-use Rattle.mdl_script_laws.proofs.ShownPlays.{IsFair, Tells, begun, seen_under}
+use Rattle.mdl_script_laws.proofs.RowRules.{Any, KeepsTo, keeps-begin, keeps-check, keeps-commit, keeps-create, keeps-create_schema, keeps-drop, keeps-rename, keeps-rollback, keeps-then, IsUnlocked, keeps-lock_tables}
+use Rattle.mdl_script_laws.proofs.ShownPlays.{IsFair, Tells, seen_under, begun}
 use Rattle.mdl_script_laws.proofs.ShownPoints.{shown_as}
 
 -- ---- SELECT
@@ -221,6 +221,9 @@ fair-any old (statement.CreateSchema name) other none =
 fair-any old (statement.DropTables tables) other none =
     fair-tidy old [] [] (does.row_of (statement.DropTables tables)) none
     (keeps-then Any ShowsNone does.ddl (does.drop_after_commit tables) tidy-ddl (keeps-drop Any (λ _ _. tt) ShowsNone (λ x tell. absurd tell) tables))
+fair-any old (statement.RenameTable from to) other none =
+    fair-tidy old [] [] (does.row_of (statement.RenameTable from to)) none
+    (keeps-then Any ShowsNone does.ddl (does.rename_after_commit from to) tidy-ddl (keeps-rename Any (λ _ _. tt) ShowsNone (λ x tell. absurd tell) from to))
 fair-any old (statement.LockTables locks) other none =
     fair-tidy old [] [] (does.row_of (statement.LockTables locks)) none
     (keeps-then Any ShowsNone (does.check_writes (does.writes_any locks)) (does.commit_first (does.lock_tables_after_commit locks))

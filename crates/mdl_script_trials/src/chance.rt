@@ -115,15 +115,17 @@ impl Drawn {
     fn line(&mut self) -> Result<(), AllocError> {
         let who = self.draw_below(self.sessions).wrapping_add(1);
         write!(self.text, "{who} ")?;
-        match self.chance.draw(32) {
+        match self.chance.draw(35) {
             0..=6 => self.alone()?,
             7..=14 => self.some("SELECT", 3)?,
             15..=20 => self.write()?,
-            21..=25 => self.some("DROP TABLE", 3)?,
+            21..=23 => self.some("DROP TABLE", 3)?,
+            24..=25 => self.rename()?,
             26..=27 => self.create()?,
             28 => self.create_schema()?,
             29 => self.kill()?,
-            _ => self.text.push_str("TIMEOUT")?,
+            30..=31 => self.text.push_str("TIMEOUT")?,
+            _ => self.lock()?,
         }
         self.text.push('\n')
     }
@@ -159,6 +161,23 @@ impl Drawn {
         Ok(())
     }
 
+    // One to three tables to lock, some of them for writing.
+    fn lock(&mut self) -> Result<(), AllocError> {
+        self.text.push_str("LOCK TABLES")?;
+        let count = self.draw_below(3).wrapping_add(1);
+        let first = self.draw_below(self.tables);
+        for step in 0..count {
+            let at = first.wrapping_add(step);
+            let name = table_name(at.checked_rem(self.tables).unwrap_or(0));
+            let lock_type = match self.chance.draw(5) {
+                0..=2 => "READ",
+                _ => "WRITE",
+            };
+            write!(self.text, " {name} {lock_type}")?;
+        }
+        Ok(())
+    }
+
     // A write.
     fn write(&mut self) -> Result<(), AllocError> {
         let word = WRITES[usize::from(self.chance.draw(6))];
@@ -184,6 +203,26 @@ impl Drawn {
             _ => "s",
         };
         write!(self.text, "CREATE SCHEMA {name}")
+    }
+
+    // A table renamed, mostly as another one of those that were there at first, and at times from or into a schema that
+    // may not be there.
+    fn rename(&mut self) -> Result<(), AllocError> {
+        let first = self.draw_below(self.tables);
+        let step = self.draw_below(self.tables.wrapping_sub(1)).wrapping_add(1);
+        let from = table_name(first);
+        let to = table_name(
+            first
+                .wrapping_add(step)
+                .checked_rem(self.tables)
+                .unwrap_or(0),
+        );
+        match self.chance.draw(8) {
+            0 => write!(self.text, "RENAME TABLE s.{from} TO {to}"),
+            1 => write!(self.text, "RENAME TABLE {from} TO s.{to}"),
+            2 => write!(self.text, "RENAME TABLE {from} TO s.{from}"),
+            _ => write!(self.text, "RENAME TABLE {from} TO {to}"),
+        }
     }
 
     // A kill of some session.

@@ -4,3 +4,4 @@ pub mod KnownKeyLemmas
 pub mod SearchLemmas
 pub mod ServingLemmas
 pub mod SpeakingLemmas
+pub mod TableLemmas

@@ -425,3 +425,4 @@ mod calls;
 mod deadlocks;
 mod definitions;
 mod serving;
+mod tables;

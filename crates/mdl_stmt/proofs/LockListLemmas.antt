@@ -55,9 +55,9 @@ wish-so Ddl key mode duration e f = ddl-so key mode duration e f
 wish-so (Tables locks) key mode duration e f =
     ap (λ m. record { key = key; mode = m; duration = duration }) e ∙ ap (λ d. record { key = key; mode = (table_lock locks.now key).mode; duration = d }) f
 
--- with the ticket of the next one it is of the same keys
-pub keys-with : (ticket : ℕ) (locks : LockList) → (with_ticket ticket locks).keys ≡ locks.keys
-keys-with ticket locks = by (nat_lt (length locks.tickets) (length locks.keys)) where
+-- its keys stay
+pub keys-stay : (ticket : ℕ) (locks : LockList) → (with_ticket ticket locks).keys ≡ locks.keys
+keys-stay ticket locks = by (nat_lt (length locks.tickets) (length locks.keys)) where
   by : (left : Bool) → (if left then record locks { tickets = locks.tickets ++ ticket ∷ [] } else locks).keys ≡ locks.keys
   by true = refl
   by false = refl

@@ -109,11 +109,11 @@ IsListedBy joins wish locks a before (listed.Ends ending) b after =
 abbrev pub IsListed : {S : Type 0} → (S → Call → Answer → S → Type 0) → LockList → S → PlayerView → Listed → S → PlayerView → Type 0
 IsListed joins = IsListedBy joins ddl_lock
 
--- what a list is of doesn't change as its locks are asked for
-abbrev pub HasKeys : List KeyName → Listed → Type 0
-HasKeys keys (listed.Had all) = all.keys ≡ keys
-HasKeys keys (listed.Waits key mode had) = had.keys ≡ keys
-HasKeys keys (listed.Ends ending) = Unit {0}
+-- its keys stay
+abbrev pub KeepsKeys : LockList → Listed → Type 0
+KeepsKeys locks (listed.Had all) = all.keys ≡ locks.keys
+KeepsKeys locks (listed.Waits key mode had) = had.keys ≡ locks.keys
+KeepsKeys locks (listed.Ends ending) = Unit {0}
 
 -- there is a wait only where one has begun
 abbrev pub IdleUnlessListed : Listed → PlayerView → Type 0

@@ -149,7 +149,11 @@ impl<S: LockSpace> Player<S> {
     }
 
     /// Looks whether all these tables can be changed once more.
-    fn all_can_change(&mut self, space: &mut S, tickets: &[TicketId]) -> Result<(), Ending>
+    pub(crate) fn all_can_change(
+        &mut self,
+        space: &mut S,
+        tickets: &[TicketId],
+    ) -> Result<(), Ending>
         requires attends { Attends S.speaks_for S.own S.knows space.old self.old.context }
         requires idle { self.old.context.wait ≡ None }
         ensures run { IsStep S.joins (for_each can_change tickets.now) space.old self.old result space.new self.new }

@@ -15,6 +15,7 @@ mod out_of_memory;
 mod performing;
 mod player;
 mod reading;
+mod renaming;
 mod reply;
 mod rows;
 mod runner;

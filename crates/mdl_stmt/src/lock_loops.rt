@@ -1,7 +1,7 @@
 //! Locks of a list, one after the other.
 ghost use Rattle.std.specs.Prelude.{◌≡◌, None};
 ghost use Rattle.mdl_context.specs.Contexts.{Attends, LeavesOthers};
-ghost use Rattle.mdl_stmt.specs.Gets.{IsListed, IsListedBy, IdleUnlessListed, HasKeys};
+ghost use Rattle.mdl_stmt.specs.Gets.{IsListed, IsListedBy, IdleUnlessListed, KeepsKeys};
 ghost use Rattle.mdl_stmt.specs.Stages.{wish_by};
 ghost use Rattle.mdl_stmt.specs.Statements.{ddl_lock};
 
@@ -23,6 +23,7 @@ impl<S: LockSpace> Player<S> {
         ensures others { LeavesOthers S.speaks_for S.own S.knows self.old.context.who space.old space.new }
         ensures who { self.new.context.who ≡ self.old.context.who }
         ensures idle { IdleUnlessListed result self.new }
+        ensures keys { KeepsKeys locks result }
     {
         self.lock_each(space, Locking::Ddl, locks)
     }
@@ -41,7 +42,7 @@ impl<S: LockSpace> Player<S> {
         ensures others { LeavesOthers S.speaks_for S.own S.knows self.old.context.who space.old space.new }
         ensures who { self.new.context.who ≡ self.old.context.who }
         ensures idle { IdleUnlessListed result self.new }
-        ensures keys { HasKeys locks.keys result }
+        ensures keys { KeepsKeys locks result }
     {
         let mut locks = locks;
         while let Some(key) = locks.next() {

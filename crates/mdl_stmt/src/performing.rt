@@ -34,6 +34,7 @@ impl<S: LockSpace> Player<S> {
             Statement::CreateTable { .. } => self.define(space, statement),
             Statement::CreateSchema(_) => self.define(space, statement),
             Statement::DropTables(_) => self.define(space, statement),
+            Statement::RenameTable { .. } => self.define(space, statement),
             Statement::LockTables(tables) => self.lock_first(space, statement, tables),
             Statement::Rollback => {
                 self.rollback(space);
@@ -112,6 +113,12 @@ impl<S: LockSpace> Player<S> {
                 self.lock_scopes(space, tables, locks.with(ticket))
             }
             Stage::DropTables(locks) => self.lock_tables(space, locks.with(ticket)),
+            Stage::RenameScopes(from, to, locks) => {
+                self.lock_rename_scopes(space, from, to, locks.with(ticket))
+            }
+            Stage::RenameTables(from, to, schema, locks) => {
+                self.lock_names(space, from, to, schema, locks.with(ticket))
+            }
             Stage::LockScopes(tables, locks) => {
                 self.lock_around(space, tables, locks.with(ticket))
             }

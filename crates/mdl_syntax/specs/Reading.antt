@@ -7,8 +7,8 @@ use Rattle.mdl_syntax.specs.declared.no_statement.NoStatement.{NoStatement}
 use Rattle.mdl_syntax.specs.declared.no_statement.NoStatement.TheVariants.{Refused, Memory}
 use Rattle.mdl_syntax.specs.declared.statement.Priority.TheVariants.{Normal, Low}
 use Rattle.mdl_syntax.specs.declared.statement.Statement.{Statement}
-use Rattle.mdl_syntax.specs.declared.statement.Statement.TheVariants.{CreateTable, CreateSchema, LockTables}
-use Rattle.mdl_syntax.specs.Forms.{and_then, form, lock_type_of, makes, one_name, or_refuse, read_by, some_locks, table_and_columns, writes}
+use Rattle.mdl_syntax.specs.declared.statement.Statement.TheVariants.{CreateTable, CreateSchema, RenameTable, LockTables}
+use Rattle.mdl_syntax.specs.Forms.{form, makes, one_name, read_by, table_and_columns, table_to_table, writes, and_then, lock_type_of, or_refuse, some_locks}
 use Rattle.mdl_syntax.specs.KeyWords.{behind}
 
 -- words that say this are read so: what is refused is told as refused, whether or not there is memory
@@ -27,6 +27,10 @@ create_of words =
     read_by (form (codes "TABLE") (makes (λ named. CreateTable named.0 named.1) table_and_columns)) (behind (codes "TABLE" ∷ []) words)
     (read_by (form (codes "SCHEMA") (makes CreateSchema one_name)) (behind (codes "SCHEMA" ∷ []) words) (Err BadWord))
 
+-- what the words behind RENAME say
+abbrev pub rename_of : List (List ℕ) → Result Statement LineError
+rename_of words =
+    read_by (form (codes "TABLE") (makes (λ named. RenameTable named.0 named.1) table_to_table)) (behind (codes "TABLE" ∷ []) words) (Err BadWord)
 -- what the words behind LOCK say
 abbrev pub lock_of : List (List ℕ) → Result Statement LineError
 lock_of words = read_by (form (codes "TABLES") (makes LockTables some_locks)) (behind (codes "TABLES" ∷ []) words) (Err BadWord)

@@ -36,6 +36,13 @@ pub enum Statement {
     CreateSchema(Name),
     /// `DROP TABLE` of 1 to 8 tables.
     DropTables(Tables),
+    /// `RENAME TABLE` of one table to another name.
+    RenameTable {
+        /// The table, by the name that it has.
+        from: Key,
+        /// The name that it gets.
+        to: Key,
+    },
     /// `LOCK TABLES` of 1 to 8 tables.
     LockTables(TableLocks),
     /// `KILL QUERY` of a session, from 1 to 64.
