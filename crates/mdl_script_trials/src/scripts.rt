@@ -131,6 +131,9 @@ const ROWS: &str = "\
 1 CREATE TABLE t x / 1 BEGIN / 1 SAVEPOINT p / 1 LOCK TABLES t READ / 1 ROLLBACK TO p / 2 LOCK TABLES t READ / 2 SELECT t / \
     3 INSERT t / 3 KILL QUERY 3 / 1 KILL QUERY 3 => 1 1 OK / 2 1 OK / 3 1 OK / 4 1 OK / 5 1 ERR 1305 / 6 2 OK / 7 2 OK \
     test.t@1(x) / 8 3 WAIT TABLE test.t SW / 9 3 BUSY / 10 1 OK / 8 3 ERR 1317
+1 CREATE TABLE t x / 1 BEGIN / 1 INSERT t / 2 LOCK TABLES t READ / 3 INSERT LOW_PRIORITY t / 4 INSERT t / 1 COMMIT / 2 BEGIN \
+    => 1 1 OK / 2 1 OK / 3 1 OK / 4 2 WAIT TABLE test.t SRO / 5 3 WAIT TABLE test.t SWLP / 6 4 OK / 7 1 OK / 4 2 OK / 8 2 OK / \
+    5 3 OK
 1 CREATE SCHEMA S => line 1: BadName
 1 CREATE SCHEMA s t => line 1: BadWord
 1 SELECT a b c d e f g h T => line 1: BadWord
