@@ -265,7 +265,7 @@ module _ (old : TableShown → Type 0) (live : Bool) (locks : List (ℕ × KeyNa
   unlocked_still (Answers reply) e = e
   unlocked_still (Misses number) e = e
   unlocked_still Starves e = e
-  unlocked_still Falls e = λ open. cc
+  unlocked_still Falls e = λ opens. cc
 
   -- how it ended
   came-to : (ending : Ending) (b : Core) (after : ContextView) → (live ≡ true → (x : TableShown) → TellsAt ending x → Contains seen x)

@@ -66,21 +66,24 @@ module _ (old : TableShown → Type 0) (live : Bool) where
   fair-held : (live ≡ true → ⊥) → (locks : List (ℕ × KeyName)) (seen shown : List TableShown) (tables : List KeyName)
       → IsFair old live locks seen (does.show_all does.lock_held shown tables)
   fair-held none locks seen shown [] = λ lives. absurd (none lives)
-  fair-held none locks seen shown (table ∷ tables) = λ state unlocked opens. by (find (λ (locked : Locked). key_eq table locked.key) state.locked)
+  fair-held none locks seen shown (table ∷ tables) = λ state unlocked opens.
+      by (find (λ (locked : Locked). key_eq table locked.key) state.locked) (λ more_seen more. fair-held none locks more_seen more tables)
     where
-      rest : Locked → Row Reply
-      rest locked = does.show shown table locked.ticket >>= (λ more. does.show_all does.lock_held more tables)
+      Rest : Type 0
+      Rest = (more_seen more : List TableShown) → IsFair old live locks more_seen (does.show_all does.lock_held more tables)
 
-      by : (found : Option Locked) → IsFair old live locks seen (does.among_locked found >>= rest)
-      by None = tt
-      by (Some locked) = λ standing. at standing (does.is_defined standing)
-        where
-          at : (standing : Standing) (there : Bool)
-              → IsFair old live locks (seen_under locked.ticket standing locks ++ seen)
-              (((check there NoSuchTable >> row.Give standing) >>= (λ now. row.room >> row.Give (shown ++ shown_as table now ∷ [])))
-              >>= (λ more. does.show_all does.lock_held more tables))
-          at standing true = fair-held none locks (seen_under locked.ticket standing locks ++ seen) (shown ++ shown_as table standing ∷ []) tables
-          at standing false = tt
+      at : (ticket : ℕ) (standing : Standing) (there : Bool) → Rest
+          → IsFair old live locks (seen_under ticket standing locks ++ seen)
+          (((check there NoSuchTable >> row.Give standing) >>= (λ now. row.room >> row.Give (shown ++ shown_as table now ∷ [])))
+          >>= (λ more. does.show_all does.lock_held more tables))
+      at ticket standing true rest = rest (seen_under ticket standing locks ++ seen) (shown ++ shown_as table standing ∷ [])
+      at ticket standing false rest = tt
+
+      by : (found : Option Locked) → Rest
+          → IsFair old live locks seen ((does.among_locked found >>= (λ (locked : Locked). row.Give locked.ticket))
+          >>= (λ ticket. does.show shown table ticket >>= (λ more. does.show_all does.lock_held more tables)))
+      by None rest = tt
+      by (Some locked) rest = λ standing. at locked.ticket standing (does.is_defined standing) rest
 
   fair-select : (tables : List KeyName) (state : State) → IsUnlocked state → (live ≡ true → state.is_open ≡ true)
       → IsFair old live [] [] (begun (does.select tables) state)

@@ -398,7 +398,7 @@ keeps-first w is = subst (λ (p : Player). Keeps Nothing first_core p.session) (
     known = λ key place e. cc;
     wait = λ wanted w e f. cc;
   };
-  unlocked = λ open. refl;
+  unlocked = λ opens. refl;
   kept = λ x none opens. absurd none;
 }))
 
