@@ -20,7 +20,7 @@ use Rattle.mdl_stmt.specs.States.{State, has_locked, savepoint_mark, written}
 use Rattle.mdl_stmt.specs.Statements as rows
 use Rattle.mdl_stmt.specs.Statements.{row_of}
 use Rattle.mdl_script_laws.specs.RefusalsFirst.{is_early}
-use Rattle.mdl_script_laws.proofs.RowRules.{Any, KeepsTo, keeps-begin, keeps-bind, keeps-commit, keeps-create, keeps-create_schema, keeps-drop, keeps-either, keeps-exists, keeps-rename, keeps-flush, keeps-rollback, keeps-unlock_all, keeps-alter}
+use Rattle.mdl_script_laws.proofs.RowRules.{Any, KeepsTo, keeps-begin, keeps-bind, keeps-commit, keeps-create, keeps-create_schema, keeps-drop, keeps-either, keeps-exists, keeps-rename, keeps-flush, keeps-rollback, keeps-unlock_all, keeps-alter, keeps-lock_tables}
 
 -- a failure by another error
 abbrev pub IsOther : ErrorNumber → Type 0
@@ -151,7 +151,7 @@ checks_select false tables = late_first IsLate (rows.show_all rows.lock_to_read 
 late_wrote : FailsLate IsLate rows.wrote
 late_wrote = λ state.
     keeps-bind IsOther Any IsLate (if state.is_open then set written else rows.commit_writes) (λ _. Give reply.Ok)
-    (keeps-either IsOther Any state.is_open (set written) rows.commit_writes ((λ s u. u), tt) (λ _. ((λ s u. u), tt))) (λ _ _. tt)
+    (keeps-either IsOther Any state.is_open (set written) rows.commit_writes ((λ s u. u), tt) (λ _. ((λ s u e. cc), tt))) (λ _ _. tt)
 
 late_write : (table : KeyName) (priority : Priority) → FailsLate IsLate (rows.lock_and_write table priority)
 late_write table priority = λ ticket. keeps-bind IsOther Any IsLate (rows.exists ticket) (λ _. rows.wrote) (late_exists ticket) (λ _ _. late_wrote)
@@ -200,6 +200,12 @@ checks_ddl =
 checks_ddl_first : (rest : Row Reply) → FailsLate IsLate rest → ChecksFirst IsLate IsLate (rows.ddl_first rest)
 checks_ddl_first rest so = checks_bind Any Any IsLate IsLate rows.ddl (λ _. rest) checks_ddl (λ _ _. late_first IsLate rest so) (λ _ _. so)
 
+-- ---- LOCK TABLES
+
+checks_writes : (writes : Bool) → ChecksFirst Any Never (rows.check_writes writes)
+checks_writes true = checks_no_read_lock
+checks_writes false = tt
+
 -- ---- all statements
 
 late_commit_first : (rest : Row Reply) → FailsLate IsLate rest → FailsLate IsLate (rows.commit_first rest)
@@ -247,5 +253,9 @@ statements_check (statement.AlterTable alteration) =
     let looks : Row Reply = Look (λ (state : State). if has_locked state.locked then rows.alter_among_locked alteration.table rest else rows.commit_first rest) in
     checks_then rows.no_read_lock looks checks_no_read_lock
     (λ state. checks_alter (has_locked state.locked) alteration.table rest (keeps-alter IsOther (λ number other. other) IsLate tt alteration))
+statements_check (statement.LockTables locks) =
+    let rest = rows.commit_first (rows.lock_tables_after_commit locks) in
+    checks_then (rows.check_writes (rows.writes_any locks)) rest (checks_writes (rows.writes_any locks))
+    (late_first IsLate rest (late_commit_first (rows.lock_tables_after_commit locks) (keeps-lock_tables IsOther (λ number other. other) IsLate tt locks)))
 statements_check (statement.KillQuery target) = tt
 statements_check statement.Timeout = tt

@@ -111,6 +111,7 @@ calm-play (row.Give_up which rest) mark session =
 calm-play (row.Release id rest) mark session =
     calm-then {A = Unit {0}} {B = Pause} session.context.who (releasing id session.context) (λ outcome. play rest mark (with_context session outcome.1))
     (calm-releasing id session.context) (of_releasing id session.context) (λ outcome. calm-play rest mark (with_context session outcome.1))
+calm-play (row.Keep rest) mark session = calm-play rest mark (playing.all_kept session)
 calm-play (row.Read id rest) mark session =
     let more = λ (standing : Standing). play (rest standing) mark session in
     calm-ask {A = Pause} session.context.who (Read_definition session.context.who id) (playing.read_answered mark session more) (refl, refl)

@@ -45,6 +45,7 @@ Follows R E (row.Upgrade id key mode rest) = (id : ℕ) → R (rest id)
 Follows R E (row.Downgrade id mode rest) = R rest
 Follows R E (row.Give_up which rest) = R rest
 Follows R E (row.Release id rest) = R rest
+Follows R E (row.Keep rest) = R rest
 Follows R E (row.Read id rest) = (standing : Standing) → R (rest standing)
 Follows R E (row.Redefine id change rest) = R rest
 Follows R E (row.Kill target rest) = R rest
@@ -133,6 +134,7 @@ module _ (P : Pause → Type 0) (mark : Mark) (E : Ending → Type 0) (R : Row R
   so-play (row.Release id rest) session so =
       each_then {A = Outcome (Unit {0})} {B = Pause} P (releasing id session.context) (λ outcome. play rest mark (with_context session outcome.1))
       (λ outcome. so-play rest (with_context session outcome.1) (rules.follows (row.Release id rest) so))
+  so-play (row.Keep rest) session so = so-play rest (playing.all_kept session) (rules.follows (row.Keep rest) so)
   so-play (row.Read id rest) session so =
       so-read session (λ standing. play (rest standing) mark session)
       (λ standing. so-play (rest standing) session (rules.follows (row.Read id rest) so standing))

@@ -1,4 +1,5 @@
--- Rows that keep to a rule, whatever they are told: how they fail, what they give, and that they lock no tables for their session.
+-- Rows that keep to a rule, whatever they are told: how they fail, what they give, and that they lock no tables while a transaction is
+-- open.
 use Rattle.std.proofs.Common.{◌≡◌, ℕ, Bool, true, false, List, [], ◌∷◌, refl}
 use Rattle.std.specs.Prelude.{if◌then◌else◌, is_some, map, not, ◌++◌, Option, Some, None}
 use Rattle.mdl_key.specs.Keys.{KeyName, global_key}
@@ -15,6 +16,8 @@ use Rattle.mdl_defs.specs.declared.standing.Standing.{Standing}
 use Rattle.mdl_syntax.specs.declared.statement.Algorithm.{Algorithm}
 use Rattle.mdl_syntax.specs.declared.statement.Algorithm.TheVariants.{Copy, Inplace}
 use Rattle.mdl_syntax.specs.declared.statement.Alteration.{Alteration}
+use Rattle.mdl_syntax.specs.declared.table_locks.TableLock.{TableLock}
+use Rattle.mdl_syntax.specs.Forms.{tables_of}
 use Rattle.mdl_context.specs.declared.request.Mark.{Mark}
 use Rattle.mdl_context.specs.Wishes.{Wish}
 use Rattle.mdl_stmt.specs.declared.error_number.ErrorNumber.{ErrorNumber}
@@ -25,16 +28,20 @@ use Rattle.mdl_stmt.specs.declared.reply.Reply.{Reply}
 use Rattle.mdl_stmt.specs.declared.reply.Reply.TheVariants as reply
 use Rattle.mdl_stmt.specs.KeyOrder.{in_key_order}
 use Rattle.mdl_stmt.specs.LockLists.{ticket_of}
-use Rattle.mdl_stmt.specs.Rows.{Row, Act, Give, Fail, Room, Look, Set, Here, Acquire, Give_up, Release, Read, Redefine, Kill, ◌>>=◌, ◌>>◌, acquire_all, check, for_each, nothing, redefine, release, set, Upgrade, Downgrade}
-use Rattle.mdl_stmt.specs.States.{State, has_locked, opened, unlocked, without_read_lock}
+use Rattle.mdl_stmt.specs.Rows.{Row, Act, Give, Fail, Room, Look, Set, Here, Acquire, Give_up, Release, Read, Redefine, Kill, ◌>>=◌, ◌>>◌, acquire_all, check, for_each, nothing, redefine, release, set, Upgrade, Downgrade, Keep, keep, room}
+use Rattle.mdl_stmt.specs.States.{State, has_locked, opened, unlocked, without_read_lock, locking}
 use Rattle.mdl_stmt.specs.Statements as rows
 use Rattle.mdl_script_laws.specs.RefusalsFirst.{is_early}
 
--- a change after which a session has no locked tables, if it had none before
-abbrev pub LeavesUnlocked : (State → State) → Type 0
-LeavesUnlocked change = (state : State) → has_locked state.locked ≡ false → has_locked (change state).locked ≡ false
+-- a session has locked no tables while its transaction is open
+abbrev pub IsUnlocked : State → Type 0
+IsUnlocked state = state.is_open ≡ true → has_locked state.locked ≡ false
 
--- its failures are of these, what it gives is so, and it locks no tables for its session
+-- a change after which that is so, if it was before
+abbrev pub LeavesUnlocked : (State → State) → Type 0
+LeavesUnlocked change = (state : State) → IsUnlocked state → IsUnlocked (change state)
+
+-- its failures are of these, what it gives is so, and it locks no tables while a transaction is open
 abbrev pub KeepsTo : {A : Type 0} → (ErrorNumber → Type 0) → (A → Type 0) → Row A → Type 0
 KeepsTo F P (Give x) = P x
 KeepsTo F P (Fail number) = F number
@@ -47,6 +54,7 @@ KeepsTo F P (Upgrade id key mode rest) = (id : ℕ) → KeepsTo F P (rest id)
 KeepsTo F P (Downgrade id mode rest) = KeepsTo F P rest
 KeepsTo F P (Give_up which rest) = KeepsTo F P rest
 KeepsTo F P (Release id rest) = KeepsTo F P rest
+KeepsTo F P (Keep rest) = KeepsTo F P rest
 KeepsTo F P (Read id rest) = (standing : Standing) → KeepsTo F P (rest standing)
 KeepsTo F P (Redefine id change rest) = KeepsTo F P rest
 KeepsTo F P (Kill target rest) = KeepsTo F P rest
@@ -69,6 +77,7 @@ keeps-bind F P Q (Upgrade id key mode rest) next so later = λ id. keeps-bind F 
 keeps-bind F P Q (Downgrade id mode rest) next so later = keeps-bind F P Q rest next so later
 keeps-bind F P Q (Give_up which rest) next so later = keeps-bind F P Q rest next so later
 keeps-bind F P Q (Release id rest) next so later = keeps-bind F P Q rest next so later
+keeps-bind F P Q (Keep rest) next so later = keeps-bind F P Q rest next so later
 keeps-bind F P Q (Read id rest) next so later = λ standing. keeps-bind F P Q (rest standing) next (so standing) later
 keeps-bind F P Q (Redefine id change rest) next so later = keeps-bind F P Q rest next so later
 keeps-bind F P Q (Kill target rest) next so later = keeps-bind F P Q rest next so later
@@ -101,15 +110,15 @@ module _ (F : ErrorNumber → Type 0) (late : (number : ErrorNumber) → is_earl
   pub keeps-commit : KeepsTo F Any rows.commit
   keeps-commit = λ state.
       keeps-either F Any state.is_open (if state.has_written then rows.commit_writes else rows.end_transaction) nothing
-      (keeps-either F Any state.has_written rows.commit_writes rows.end_transaction (λ _. ((λ s u. u), tt)) ((λ s u. u), tt)) tt
+      (keeps-either F Any state.has_written rows.commit_writes rows.end_transaction (λ _. ((λ s u e. cc), tt)) ((λ s u e. cc), tt)) tt
 
   pub keeps-rollback : KeepsTo F Any rows.rollback
-  keeps-rollback = λ state. keeps-either F Any state.is_open rows.end_transaction nothing ((λ s u. u), tt) tt
+  keeps-rollback = λ state. keeps-either F Any state.is_open rows.end_transaction nothing ((λ s u e. cc), tt) tt
 
   keeps-unlock : KeepsTo F Any rows.unlock_tables
   keeps-unlock = λ state.
       let tickets = map (λ (table : Locked). table.ticket) state.locked ++ state.scopes in
-      keeps-then F Any (for_each release tickets) (set unlocked) (keeps-each F release (λ _. tt) tickets) ((λ s u. refl), tt)
+      keeps-then F Any (for_each release tickets) (set unlocked) (keeps-each F release (λ _. tt) tickets) ((λ s u e. refl), tt)
 
   keeps-release_commits : (commit : Option ℕ) → KeepsTo F Any (rows.release_commits commit)
   keeps-release_commits None = tt
@@ -168,7 +177,7 @@ module _ (F : ErrorNumber → Type 0) (late : (number : ErrorNumber) → is_earl
   -- those that are told that it is done
   module _ (P : Reply → Type 0) (ok : P reply.Ok) where
     pub keeps-begin : KeepsTo F P rows.begin_after_commit
-    keeps-begin = keeps-then F P rows.unlock_tables (set opened >> Give reply.Ok) keeps-unlock ((λ s u. u), ok)
+    keeps-begin = keeps-then F P rows.unlock_tables (set opened >> Give reply.Ok) keeps-unlock ((λ s u e. refl), ok)
 
     pub keeps-unlock_all : KeepsTo F P rows.unlock
     keeps-unlock_all =
@@ -240,3 +249,19 @@ module _ (F : ErrorNumber → Type 0) (late : (number : ErrorNumber) → is_earl
         (keeps-change alteration.change table) (λ alone. ok))
         (λ table. keeps-then F P (rows.check_change alteration.change table) (rows.alter_by alteration.algorithm alteration table)
         (keeps-change alteration.change table) (keeps-alter_by alteration.algorithm alteration table))
+
+    keeps-keep_locked : (locks : List TableLock) (tables : List KeyName) (scopes tickets : List ℕ) → KeepsTo F P (rows.keep_locked locks tables scopes tickets)
+    keeps-keep_locked locks tables scopes tickets =
+        keeps-then F P (for_each rows.stands tickets) (room >> (keep >> (set (locking (rows.locked_by locks tables tickets) scopes) >> Give reply.Ok)))
+        (keeps-each F rows.stands (λ ticket. keeps-bind F Any Any (rows.exists ticket) (λ _. nothing) (keeps-exists ticket) (λ _ _. tt)) tickets)
+        ((λ s u e. cc), ok)
+
+    pub keeps-lock_tables : (locks : List TableLock) → KeepsTo F P (rows.lock_tables_after_commit locks)
+    keeps-lock_tables locks =
+        let scopes = map rows.ddl_lock (rows.scopes_around (rows.written_tables locks)) in
+        let tables = in_key_order (tables_of locks) in
+        let wishes = map (rows.table_lock locks) tables in
+        keeps-then F P rows.unlock_tables (room >> (acquire_all scopes >>= rows.lock_named locks)) keeps-unlock
+        (keeps-bind F Any P (acquire_all scopes) (rows.lock_named locks) (keeps-locks F scopes)
+        (λ ids _. keeps-bind F Any P (acquire_all wishes) (rows.keep_locked locks tables ids) (keeps-locks F wishes)
+        (λ tickets _. keeps-keep_locked locks tables ids tickets)))

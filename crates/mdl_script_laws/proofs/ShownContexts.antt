@@ -1,12 +1,13 @@
 -- What a session's context keeps is held in the space, and what it holds stays, over all that a context asks for.
-use Rattle.std.proofs.Common.{◌≡◌, ◌≢◌, ◌⊎◌, inl, inr, ℕ, ◌<◌, Bool, true, List, [], ◌∷◌, ◌++◌, Option, Some, None, Contains, filter, refl, sym, ap, ◌∙◌, subst, arith}
+use Rattle.std.proofs.Common.{◌≡◌, ◌≢◌, ◌⊎◌, inl, inr, ℕ, ◌<◌, Bool, true, List, [], ◌∷◌, ◌++◌, Option, Some, None, Contains, filter, map, refl, sym, ap, ◌∙◌, subst, arith}
 use Rattle.std.specs.Prelude.{nat_lt, IsTrue}
 use Rattle.std.specs.List.{list_all}
 use Rattle.std.proofs.lemmas.Bool.Decides.{nat_tests}
 use Rattle.std.proofs.lemmas.List.Elements.{Contains-append_right, Contains-append_cases}
+use Rattle.mdl_key.specs.declared.mode.Duration.TheVariants.{Explicit}
 use Rattle.mdl_key.specs.declared.mode.Mode.{Mode}
 use Rattle.mdl_key.specs.Keys.{KeyName}
-use Rattle.mdl_system.proofs.MemberLemmas.{Contains-none}
+use Rattle.mdl_system.proofs.MemberLemmas.{Contains-map_from, Contains-none}
 use Rattle.mdl_system.proofs.OrderLemmas.{Contains-cons_cases, Contains-here}
 use Rattle.mdl_calls.specs.declared.answers.Held.{Held}
 use Rattle.mdl_calls.specs.Own.{Wait}
@@ -17,6 +18,7 @@ use Rattle.mdl_context.specs.declared.kept.Kept.{Kept}
 use Rattle.mdl_context.specs.declared.kept.Wanted.{Wanted}
 use Rattle.mdl_context.specs.Contexts.{ContextView, place_known}
 use Rattle.mdl_context.specs.Holdings.{upgrade_of}
+use Rattle.mdl_context.specs.Holdings.{kept_for}
 use Rattle.mdl_script_laws.proofs.ListLemmas.{among-filter, only-one}
 use Rattle.mdl_script_laws.proofs.ShownCalls.{Spares, Stays, none, spares-here, spares-then}
 
@@ -70,6 +72,22 @@ fits-fewer a b context gone p stay fits stays = record {
   alone = λ k other one two e. fits.alone k other (among-filter p context.kept k one).0 (among-filter p context.kept other two).0 e;
   known = λ key place e. stays.0.known place key (fits.known key place e);
   wait = λ wanted w e f. fits.wait wanted w e (stays.1 w f);
+}
+
+-- the same are, and all for as long
+pub fits-kept : (a : Core) (context : ContextView) → Fits a context → Fits a (record context { kept = map (kept_for Explicit) context.kept })
+fits-kept a context fits = record {
+  speaks = fits.speaks;
+  backed = λ k among. (
+      let from = Contains-map_from (kept_for Explicit) context.kept k among in
+      let t = fits.backed from.0 from.1 in
+      (t.0, t.1, t.2 ∙ sym (ap (λ (x : Kept). x.id) from.2), t.3 ∙ sym (ap (λ (x : Kept). x.place) from.2)));
+  alone = λ k other one two e. (
+      let first = Contains-map_from (kept_for Explicit) context.kept k one in
+      let second = Contains-map_from (kept_for Explicit) context.kept other two in
+      ap (λ (x : Kept). x.duration) first.2 ∙ sym (ap (λ (x : Kept). x.duration) second.2));
+  known = fits.known;
+  wait = fits.wait;
 }
 
 -- the same are, with a wait where the session waits

@@ -53,10 +53,11 @@ use Rattle.mdl_stmt.specs.Playing.{play, with_context}
 use Rattle.mdl_stmt.specs.Rows.{Row}
 use Rattle.mdl_stmt.specs.Rows as row
 use Rattle.mdl_stmt.specs.Sessions.{Left, Session}
-use Rattle.mdl_stmt.specs.States.{State, half_lock, has_locked, lone_ticket, without_read_lock}
+use Rattle.mdl_stmt.specs.States.{State, half_lock, lone_ticket, without_read_lock}
 use Rattle.mdl_script_laws.proofs.ListLemmas.{among-filter}
 use Rattle.mdl_script_laws.proofs.ShownCalls.{Leads, Stays, leads-bind, leads-each, none, stays-call, stays-other}
-use Rattle.mdl_script_laws.proofs.ShownContexts.{Fits, Followed, followed-same}
+use Rattle.mdl_script_laws.proofs.RowRules.{IsUnlocked}
+use Rattle.mdl_script_laws.proofs.ShownContexts.{Fits, Followed, fits-kept, followed-same}
 use Rattle.mdl_script_laws.proofs.ShownAsking.{held-number, leads-acquiring}
 use Rattle.mdl_script_laws.proofs.ShownRaising.{IsUpgrading, Raised, Won, leads-downgrading, leads-upgrading, leads-winning}
 use Rattle.mdl_script_laws.proofs.ShownWaits.{GaveUp, IsAmong, Resumed, leads-giving_up, leads-releasing, leads-resuming}
@@ -78,14 +79,10 @@ abbrev pub Tells : Reply → TableShown → Type 0
 Tells (reply.Columns shown) x = Contains shown x
 Tells _ x = ⊥
 
--- a session has locked no tables
-abbrev pub IsUnlocked : State → Type 0
-IsUnlocked state = has_locked state.locked ≡ false
-
--- a row shows what it has seen, and nothing else; and where something is to stay that was shown before, in a transaction that was
+-- where the transaction was open as the statement began, a row shows what it has seen, and nothing else; and where something is to stay that was shown before, in a transaction that was
 -- open as the statement began, it gives up nothing, changes nothing, and neither ends the transaction nor opens one
 abbrev pub IsFair : (TableShown → Type 0) → Bool → List (ℕ × KeyName) → List TableShown → Row Reply → Type 0
-IsFair old live locks seen (row.Give reply) = (x : TableShown) → Tells reply x → Contains seen x
+IsFair old live locks seen (row.Give reply) = live ≡ true → (x : TableShown) → Tells reply x → Contains seen x
 IsFair old live locks seen (row.Fail number) = Unit {0}
 IsFair old live locks seen (row.Room rest) = IsFair old live locks seen rest
 IsFair old live locks seen (row.Look rest) =
@@ -101,6 +98,7 @@ IsFair old live locks seen (row.Upgrade id key mode rest) = ((x : TableShown) �
 IsFair old live locks seen (row.Downgrade id mode rest) = ((x : TableShown) → old x → live ≡ true → ⊥) × IsFair old live [] [] rest
 IsFair old live locks seen (row.Give_up which rest) = ((x : TableShown) → old x → live ≡ true → ⊥) × IsFair old live [] [] rest
 IsFair old live locks seen (row.Release id rest) = ((x : TableShown) → old x → live ≡ true → ⊥) × IsFair old live [] [] rest
+IsFair old live locks seen (row.Keep rest) = ((x : TableShown) → old x → live ≡ true → ⊥) × IsFair old live [] [] rest
 IsFair old live locks seen (row.Read id rest) = (standing : Standing) → IsFair old live locks (seen_under id standing locks ++ seen) (rest standing)
 IsFair old live locks seen (row.Redefine id change rest) = ((x : TableShown) → old x → live ≡ true → ⊥) × IsFair old live [] [] rest
 IsFair old live locks seen (row.Kill target rest) = IsFair old live locks seen rest
@@ -288,13 +286,13 @@ module _ (old : TableShown → Type 0) (live : Bool) (locks : List (ℕ × KeyNa
   unlocked_still (Answers reply) e = e
   unlocked_still (Misses number) e = e
   unlocked_still Starves e = e
-  unlocked_still Falls e = e
+  unlocked_still Falls e = λ opens. cc
 
   -- how it ended
-  came-to : (ending : Ending) (b : Core) (after : ContextView) → ((x : TableShown) → TellsAt ending x → Contains seen x)
+  came-to : (ending : Ending) (b : Core) (after : ContextView) → (live ≡ true → (x : TableShown) → TellsAt ending x → Contains seen x)
       → GaveUp a (gone_at ending session.state.is_open mark kept_before) session.context b after
       → Comes old (ended ending (record { context = after; state = state_after ending session.state; left = None })) b
-  came-to ending b after told gave = by ending told rests tells
+  came-to ending b after told gave = by ending rests tells
     where
       there : session.state.is_open ≡ true → GaveUp a (gone_at ending true mark kept_before) session.context b after
       there opens = subst (λ o. GaveUp a (gone_at ending o mark kept_before) session.context b after) opens gave
@@ -311,7 +309,7 @@ module _ (old : TableShown → Type 0) (live : Bool) (locks : List (ℕ × KeyNa
       }
 
       tells : (x : TableShown) → TellsAt ending x → (state_after ending session.state).is_open ≡ true → IsStanding b after x
-      tells x tell opens = at ending told (there (still_open ending opens)) tell
+      tells x tell opens = at ending (told (point.was (still_open ending opens))) (there (still_open ending opens)) tell
         where
           at : (e : Ending) → ((y : TableShown) → TellsAt e y → Contains seen y) → GaveUp a (gone_at e true mark kept_before) session.context b after
               → TellsAt e x → IsStanding b after x
@@ -323,16 +321,16 @@ module _ (old : TableShown → Type 0) (live : Bool) (locks : List (ℕ × KeyNa
           at Starves told gave tell = absurd tell
           at Falls told gave tell = absurd tell
 
-      by : (e : Ending) → ((x : TableShown) → TellsAt e x → Contains seen x)
+      by : (e : Ending)
           → Rests old b (record { context = after; state = state_after e session.state; left = None })
           → ((x : TableShown) → TellsAt e x → (state_after e session.state).is_open ≡ true → IsStanding b after x)
           → Comes old (ended e (record { context = after; state = state_after e session.state; left = None })) b
-      by (Answers reply) told rests tells = (rests, tells)
-      by (Misses number) told rests tells = (rests, tells)
-      by Falls told rests tells = (rests, tells)
-      by Starves told rests tells = rests
+      by (Answers reply) rests tells = (rests, tells)
+      by (Misses number) rests tells = (rests, tells)
+      by Falls rests tells = (rests, tells)
+      by Starves rests tells = rests
 
-  leads-letting_go : (ending : Ending) → ((x : TableShown) → TellsAt ending x → Contains seen x) → Leads (Comes old) (letting_go ending mark session) a
+  leads-letting_go : (ending : Ending) → (live ≡ true → (x : TableShown) → TellsAt ending x → Contains seen x) → Leads (Comes old) (letting_go ending mark session) a
   leads-letting_go ending told =
       let gone = gone_at ending session.state.is_open mark kept_before in
       leads-bind (λ (outcome : Outcome (Unit {0})) b. GaveUp a gone session.context b outcome.1) (Comes old) (giving_up gone session.context)
@@ -370,12 +368,12 @@ opens-same Starves state = refl
 unlocked-same : (ending : Ending) (state : State) → IsUnlocked state → IsUnlocked (state_after ending (without_read_lock state))
 unlocked-same (Answers reply) state e = e
 unlocked-same (Misses number) state e = e
-unlocked-same Falls state e = e
+unlocked-same Falls state e = λ opens. cc
 unlocked-same Starves state e = e
 
 pub leads-closing : (old : TableShown → Type 0) (live : Bool) (locks : List (ℕ × KeyName)) (seen : List TableShown) (mark : Mark) (a : Core) (session : Session)
     → Point old live locks seen mark a session.context session.state
-    → (ending : Ending) → ((x : TableShown) → TellsAt ending x → Contains seen x) → Leads (Comes old) (closing ending mark session) a
+    → (ending : Ending) → (live ≡ true → (x : TableShown) → TellsAt ending x → Contains seen x) → Leads (Comes old) (closing ending mark session) a
 leads-closing old live locks seen mark a session point ending told = by (half_lock (state_after ending session.state)) refl
   where
     by : (half : Option ℕ) → half_lock (state_after ending session.state) ≡ half
@@ -476,7 +474,7 @@ module _ (old : TableShown → Type 0) (live : Bool) (locks : List (ℕ × KeyNa
   leads-acquired wish rest more a b session (Err error, context) fair later point followed met =
       leads-closing old live locks seen mark b (with_context session context)
       (point-followed old live locks seen mark a session.context session.state point b context followed) (ending_of_error error)
-      (λ x tell. absurd (tells_no_error error x tell))
+      (λ lives x tell. absurd (tells_no_error error x tell))
 
   -- a lock was to be made stronger
   leads-raised : (wish : Wish) (rest : ℕ → Row Reply) (more : ℕ → Session → Program Pause) (a b : Core) (session : Session) (outcome : Outcome Acquire)
@@ -498,7 +496,7 @@ module _ (old : TableShown → Type 0) (live : Bool) (locks : List (ℕ × KeyNa
   leads-raised wish rest more a b session (Err error, context) nothing fair later point raised =
       leads-closing old live [] [] mark b (with_context session context)
       (point-cleared old live locks seen mark a session.context session.state point b context raised.0 nothing) (ending_of_error error)
-      (λ x tell. absurd (tells_no_error error x tell))
+      (λ lives x tell. absurd (tells_no_error error x tell))
 
   -- what stands was asked for
   seen-read : (a b : Core) (context : ContextView) (state : State) (id version : ℕ) (definition : Option Definition) → At a context state
@@ -542,7 +540,7 @@ module _ (old : TableShown → Type 0) (live : Bool) (locks : List (ℕ × KeyNa
       leads-closing old live locks seen mark b session
       (point-same old live locks seen mark a session.context session.state point b
       (stays-call session.context.who none a b (Read_definition session.context.who id) answer point.fits.speaks (refl, tt, refl) joins))
-      (ending_of_refusal (refusal_of answer)) (λ x tell. absurd (tells_no_refusal (refusal_of answer) x tell))
+      (ending_of_refusal (refusal_of answer)) (λ lives x tell. absurd (tells_no_refusal (refusal_of answer) x tell))
 
   -- a change of it
   leads-change : (id : ℕ) (change : Change) (more : Program Pause) (a b : Core) (session : Session) (answer : Answer) → At a session.context session.state
@@ -560,7 +558,7 @@ module _ (old : TableShown → Type 0) (live : Bool) (locks : List (ℕ × KeyNa
 
       by : (r : Answer) → Leads (Comes old) (playing.change_answered mark session more r) b
       by (Changed version) = later now
-      by r = leads-closing old live [] [] mark b session now (ending_of_refusal (refusal_of r)) (λ x tell. absurd (tells_no_refusal (refusal_of r) x tell))
+      by r = leads-closing old live [] [] mark b session now (ending_of_refusal (refusal_of r)) (λ lives x tell. absurd (tells_no_refusal (refusal_of r) x tell))
 
   -- a wait that another session has is killed
   leads-told : (target : ℕ) (more : Program Pause) (a b : Core) (session : Session) (answer : Answer) → At b session.context session.state
@@ -573,12 +571,17 @@ module _ (old : TableShown → Type 0) (live : Bool) (locks : List (ℕ × KeyNa
 
 -- ---- all that may be asked for
 
+-- what is asked for once the session was looked at
+abbrev pub begun : Row Reply → State → Row Reply
+begun (row.Look rest) state = rest state
+begun asked state = asked
+
 pub leads-play : (old : TableShown → Type 0) (live : Bool) (locks : List (ℕ × KeyName)) (seen : List TableShown) (asked : Row Reply) (mark : Mark)
     (a : Core) (session : Session)
     → IsFair old live locks seen asked → Point old live locks seen mark a session.context session.state → Leads (Comes old) (play asked mark session) a
 leads-play old live locks seen (row.Give reply) mark a session fair point = leads-closing old live locks seen mark a session point (Answers reply) fair
 leads-play old live locks seen (row.Fail number) mark a session fair point =
-    leads-closing old live locks seen mark a session point (Answers (reply.Error number)) (λ x tell. absurd tell)
+    leads-closing old live locks seen mark a session point (Answers (reply.Error number)) (λ lives x tell. absurd tell)
 leads-play old live locks seen (row.Room rest) mark a session fair point = leads-play old live locks seen rest mark a session fair point
 leads-play old live locks seen (row.Look rest) mark a session fair point =
     leads-play old live locks seen (rest session.state) mark a session (fair session.state point.unlocked point.opens) point
@@ -619,6 +622,10 @@ leads-play old live locks seen (row.Release id rest) mark a session fair point =
     (λ outcome. play rest mark (with_context session outcome.1)) a (leads-releasing a id session.context point.fits)
     (λ outcome b left. leads-play old live [] [] rest mark b (with_context session outcome.1) fair.1
     (point-cleared old live locks seen mark a session.context session.state point b outcome.1 left.0 fair.0))
+leads-play old live locks seen (row.Keep rest) mark a session fair point =
+    leads-play old live [] [] rest mark a (playing.all_kept session) fair.1
+    (point-cleared old live locks seen mark a session.context session.state point a (playing.all_kept session).context
+    (fits-kept a session.context point.fits) fair.0)
 leads-play old live locks seen (row.Read id rest) mark a session fair point = λ answer b joins.
     leads-read old live locks seen mark id (λ standing. play (rest standing) mark session) a b session answer point joins
     (λ standing now. leads-play old live locks (seen_under id standing locks ++ seen) (rest standing) mark b session (fair standing) now)
@@ -630,6 +637,25 @@ leads-play old live locks seen (row.Kill target rest) mark a session fair point 
     (point-same old live locks seen mark a session.context session.state point b
     (stays-other session.context.who a b (Wait_of target) answer point.fits.speaks (λ e. cc) joins))
     (λ c now. leads-play old live locks seen rest mark c session fair now)
+
+-- to look at the session comes to nothing
+pub leads-begun : (old : TableShown → Type 0) (asked : Row Reply) (mark : Mark) (a : Core) (session : Session)
+    → Leads (Comes old) (play (begun asked session.state) mark session) a → Leads (Comes old) (play asked mark session) a
+leads-begun old (row.Give reply) mark a session leads = leads
+leads-begun old (row.Fail number) mark a session leads = leads
+leads-begun old (row.Room rest) mark a session leads = leads
+leads-begun old (row.Look rest) mark a session leads = leads
+leads-begun old (row.Set change rest) mark a session leads = leads
+leads-begun old (row.Here rest) mark a session leads = leads
+leads-begun old (row.Acquire wish rest) mark a session leads = leads
+leads-begun old (row.Give_up which rest) mark a session leads = leads
+leads-begun old (row.Release id rest) mark a session leads = leads
+leads-begun old (row.Keep rest) mark a session leads = leads
+leads-begun old (row.Upgrade id key mode rest) mark a session leads = leads
+leads-begun old (row.Downgrade id mode rest) mark a session leads = leads
+leads-begun old (row.Read id rest) mark a session leads = leads
+leads-begun old (row.Redefine id change rest) mark a session leads = leads
+leads-begun old (row.Kill target rest) mark a session leads = leads
 
 -- ---- what is left of a statement
 
@@ -674,11 +700,11 @@ leads-resumed old a b session waiting (Ok (resume.Acquired id), context) resumed
 leads-resumed old a b session waiting (Ok (resume.Lost how), context) resumed =
     leads-closing old waiting.live waiting.locks waiting.seen waiting.rest.mark b (record { context = context; state = session.state; left = None })
     (point-followed old waiting.live waiting.locks waiting.seen waiting.rest.mark a session.context session.state waiting.point b context resumed.0)
-    (ending_of_loss how) (λ x tell. absurd (tells_no_loss how x tell))
+    (ending_of_loss how) (λ lives x tell. absurd (tells_no_loss how x tell))
 leads-resumed old a b session waiting (Err error, context) resumed =
     leads-closing old waiting.live waiting.locks waiting.seen waiting.rest.mark b (record { context = context; state = session.state; left = None })
     (point-followed old waiting.live waiting.locks waiting.seen waiting.rest.mark a session.context session.state waiting.point b context resumed.0)
-    (ending_of_error error) (λ x tell. absurd (tells_no_error error x tell))
+    (ending_of_error error) (λ lives x tell. absurd (tells_no_error error x tell))
 
 -- the same of one that waits to make a lock stronger
 leads-won : (old : TableShown → Type 0) (a b : Core) (session : Session) (raising : IsRaising old a session) (outcome : Outcome Resume)
@@ -698,11 +724,11 @@ leads-won old a b session raising (Ok (resume.Acquired id), context) won =
 leads-won old a b session raising (Ok (resume.Lost how), context) won =
     leads-closing old raising.live [] [] raising.rest.mark b (record { context = context; state = session.state; left = None })
     (point-cleared old raising.live [] [] raising.rest.mark a session.context session.state raising.point b context won.0 raising.nothing)
-    (ending_of_loss how) (λ x tell. absurd (tells_no_loss how x tell))
+    (ending_of_loss how) (λ lives x tell. absurd (tells_no_loss how x tell))
 leads-won old a b session raising (Err error, context) won =
     leads-closing old raising.live [] [] raising.rest.mark b (record { context = context; state = session.state; left = None })
     (point-cleared old raising.live [] [] raising.rest.mark a session.context session.state raising.point b context won.0 raising.nothing)
-    (ending_of_error error) (λ x tell. absurd (tells_no_error error x tell))
+    (ending_of_error error) (λ lives x tell. absurd (tells_no_error error x tell))
 
 -- a statement goes on
 pub leads-going : (old : TableShown → Type 0) (a : Core) (session : Session) → Keeps old a session → Leads (Comes old) (playing.going_on session) a

@@ -1,6 +1,7 @@
 -- Which statements show what they have seen, and leave a transaction as it is.
-use Rattle.std.proofs.Common.{◌≡◌, ℕ, Bool, true, false, not, List, [], ◌∷◌, ◌++◌, Option, Some, None, Contains, is_some, refl, sym, subst, inl, inr, eq-eqb}
+use Rattle.std.proofs.Common.{◌≡◌, ℕ, Bool, true, false, not, List, [], ◌∷◌, ◌++◌, Option, Some, None, Contains, is_some, refl, sym, subst, inl, inr, eq-eqb, ◌∙◌}
 use Rattle.std.specs.Prelude.{◌==◌, find, if◌then◌else◌}
+use Rattle.std.proofs.lemmas.Bool.{false≢true, true≢false}
 use Rattle.std.proofs.lemmas.List.Elements.{Contains-append_left, Contains-append_right, Contains-append_cases}
 use Rattle.mdl_key.specs.declared.mode.Duration.TheVariants as for
 use Rattle.mdl_key.specs.declared.mode.Mode.TheVariants.{IX}
@@ -19,12 +20,12 @@ use Rattle.mdl_stmt.specs.declared.reply.Reply.TheVariants as reply
 use Rattle.mdl_stmt.specs.declared.reply.TableShown.{TableShown}
 use Rattle.mdl_stmt.specs.Rows.{Row, Act, nothing, set, check, acquire_all, for_each, ◌>>=◌, ◌>>◌}
 use Rattle.mdl_stmt.specs.Rows as row
-use Rattle.mdl_stmt.specs.States.{has_locked, savepoint_mark, written}
+use Rattle.mdl_stmt.specs.States.{State, has_locked, savepoint_mark, written}
 use Rattle.mdl_stmt.specs.Statements as does
 use Rattle.mdl_script_laws.specs.Shown.{leaves_transaction}
 use Rattle.mdl_script_laws.proofs.ListLemmas.{filter-among, only-one}
-use Rattle.mdl_script_laws.proofs.RowRules.{Any, KeepsTo, keeps-begin, keeps-check, keeps-commit, keeps-create, keeps-create_schema, keeps-drop, keeps-rename, keeps-flush, keeps-rollback, keeps-then, keeps-unlock_all, keeps-alter, keeps-either}
-use Rattle.mdl_script_laws.proofs.ShownPlays.{IsFair, Tells, seen_under}
+use Rattle.mdl_script_laws.proofs.RowRules.{Any, KeepsTo, keeps-begin, keeps-check, keeps-commit, keeps-create, keeps-create_schema, keeps-drop, keeps-rename, keeps-flush, keeps-rollback, keeps-then, keeps-unlock_all, keeps-alter, keeps-either, IsUnlocked, keeps-lock_tables}
+use Rattle.mdl_script_laws.proofs.ShownPlays.{IsFair, Tells, seen_under, begun}
 use Rattle.mdl_script_laws.proofs.ShownPoints.{shown_as}
 
 -- ---- SELECT
@@ -38,7 +39,7 @@ module _ (old : TableShown → Type 0) (live : Bool) where
 
   fair-show : (locks : List (ℕ × KeyName)) (seen shown : List TableShown) (tables : List KeyName) → ((x : TableShown) → Contains shown x → Contains seen x)
       → IsFair old live locks seen (does.show_all does.lock_to_read shown tables)
-  fair-show locks seen shown [] all = all
+  fair-show locks seen shown [] all = λ lives. all
   fair-show locks seen shown (table ∷ tables) all = λ id standing.
       by id standing (does.is_defined standing)
       (fair-show ((id, table) ∷ locks) (seen_under id standing ((id, table) ∷ locks) ++ seen) (shown ++ shown_as table standing ∷ []) tables (more id standing))
@@ -61,10 +62,37 @@ module _ (old : TableShown → Type 0) (live : Bool) where
       by id standing true rest = rest
       by id standing false rest = tt
 
-  fair-select : (tables : List KeyName) → IsFair old live [] [] (does.select tables)
-  fair-select tables = λ state unlocked opens.
-      subst (λ b. IsFair old live [] [] (does.show_all (if b then does.lock_held else does.lock_to_read) [] tables)) (sym unlocked)
-      (fair-show [] [] [] tables (λ x among. among))
+  -- without a transaction it may show any table, such as one that is locked already
+  fair-held : (live ≡ true → ⊥) → (locks : List (ℕ × KeyName)) (seen shown : List TableShown) (tables : List KeyName)
+      → IsFair old live locks seen (does.show_all does.lock_held shown tables)
+  fair-held none locks seen shown [] = λ lives. absurd (none lives)
+  fair-held none locks seen shown (table ∷ tables) = λ state unlocked opens.
+      by (find (λ (locked : Locked). key_eq table locked.key) state.locked) (λ more_seen more. fair-held none locks more_seen more tables)
+    where
+      Rest : Type 0
+      Rest = (more_seen more : List TableShown) → IsFair old live locks more_seen (does.show_all does.lock_held more tables)
+
+      at : (ticket : ℕ) (standing : Standing) (there : Bool) → Rest
+          → IsFair old live locks (seen_under ticket standing locks ++ seen)
+          (((check there NoSuchTable >> row.Give standing) >>= (λ now. row.room >> row.Give (shown ++ shown_as table now ∷ [])))
+          >>= (λ more. does.show_all does.lock_held more tables))
+      at ticket standing true rest = rest (seen_under ticket standing locks ++ seen) (shown ++ shown_as table standing ∷ [])
+      at ticket standing false rest = tt
+
+      by : (found : Option Locked) → Rest
+          → IsFair old live locks seen ((does.among_locked found >>= (λ (locked : Locked). row.Give locked.ticket))
+          >>= (λ ticket. does.show shown table ticket >>= (λ more. does.show_all does.lock_held more tables)))
+      by None rest = tt
+      by (Some locked) rest = λ standing. at locked.ticket standing (does.is_defined standing) rest
+
+  fair-select : (tables : List KeyName) (state : State) → IsUnlocked state → (live ≡ true → state.is_open ≡ true)
+      → IsFair old live [] [] (begun (does.select tables) state)
+  fair-select tables state unlocked opens = by (has_locked state.locked) refl
+    where
+      by : (locked : Bool) → has_locked state.locked ≡ locked
+          → IsFair old live [] [] (does.show_all (if locked then does.lock_held else does.lock_to_read) [] tables)
+      by true is = fair-held (λ lives. (let free = unlocked (opens lives) in true≢false (sym is ∙ free))) [] [] [] tables
+      by false is = fair-show [] [] [] tables (λ x among. among)
 
   -- ---- INSERT, UPDATE, DELETE
 
@@ -73,10 +101,10 @@ module _ (old : TableShown → Type 0) (live : Bool) where
     where
       by : (opened : Bool) → ((x : TableShown) → old x → live ≡ true → opened ≡ true)
           → IsFair old live locks seen ((if opened then set written else does.commit_writes) >>= (λ _. row.Give reply.Ok))
-      by true opens = ((λ s u. u), (λ s was e. was e), (λ x is lives s e. e), λ x tell. absurd tell)
+      by true opens = ((λ s u. u), (λ s was e. was e), (λ x is lives s e. e), λ lives x tell. absurd tell)
       by false opens = λ id.
           let closed : (x : TableShown) → old x → live ≡ true → ⊥ = λ x is lives. (let e = opens x is lives in cc) in
-          (closed, ((λ s u. u), (λ s was e. cc), (λ x is lives s e. absurd (closed x is lives)), (closed, λ x tell. absurd tell)))
+          (closed, ((λ s u e. cc), (λ s was e. cc), (λ x is lives s e. absurd (closed x is lives)), (closed, λ lives x tell. absurd tell)))
 
   fair-under : (locks : List (ℕ × KeyName)) (seen : List TableShown) (id : ℕ) → IsFair old live locks seen (does.write_under id)
   fair-under locks seen id = λ standing. by standing (does.is_defined standing)
@@ -86,33 +114,51 @@ module _ (old : TableShown → Type 0) (live : Bool) where
       by standing true = fair-wrote locks (seen_under id standing locks ++ seen)
       by standing false = tt
 
-  fair-write : (table : KeyName) (priority : Priority) → IsFair old live [] [] (does.write table priority)
-  fair-write table priority = λ state unlocked opens.
-      subst (λ b. IsFair old live [] [] (if b then does.write_locked table else does.write_unlocked table priority)) (sym unlocked)
-      (λ now still stays. by (not (is_some now.read_lock)))
+  fair-unlocked : (table : KeyName) (priority : Priority) → IsFair old live [] [] (does.write_unlocked table priority)
+  fair-unlocked table priority = λ now still stays. by (not (is_some now.read_lock))
     where
       by : (free : Bool) → IsFair old live [] [] (check free ConflictingReadLock >>=
           (λ _. (row.acquire global_key IX for.Statement >>= (λ _. does.lock_and_write table priority))))
       by true = λ global id. fair-under _ [] id
       by false = tt
 
+  -- a table that is locked already is written as it is
+  fair-locked : (table : KeyName) → IsFair old live [] [] (does.write_locked table)
+  fair-locked table = λ state unlocked opens. by (find (λ (locked : Locked). key_eq table locked.key) state.locked)
+    where
+      at : (may : Bool) → IsFair old live [] [] (check may TableLockedForRead >> does.wrote)
+      at true = fair-wrote [] []
+      at false = tt
+
+      by : (found : Option Locked) → IsFair old live [] [] (does.among_locked found >>= (λ (locked : Locked). check locked.may_write TableLockedForRead >> does.wrote))
+      by None = tt
+      by (Some locked) = at locked.may_write
+
+  fair-write : (table : KeyName) (priority : Priority) (state : State) → IsFair old live [] [] (begun (does.write table priority) state)
+  fair-write table priority state = by (has_locked state.locked)
+    where
+      by : (locked : Bool) → IsFair old live [] [] (if locked then does.write_locked table else does.write_unlocked table priority)
+      by true = fair-locked table
+      by false = fair-unlocked table priority
+
   -- ---- SAVEPOINT
 
-  fair-save : (name : List ℕ) → IsFair old live [] [] (does.save name)
-  fair-save name = λ state unlocked opens. by state.is_open
+  fair-save : (name : List ℕ) (state : State) → IsFair old live [] [] (begun (does.save name) state)
+  fair-save name state = by state.is_open
     where
       by : (opened : Bool) → IsFair old live [] [] ((if opened then does.save_here name else nothing) >>= (λ _. row.Give reply.Ok))
-      by true = λ mark. ((λ s u. u), (λ s was e. was e), (λ x is lives s e. e), λ x tell. absurd tell)
-      by false = λ x tell. absurd tell
+      by true = λ mark. ((λ s u. u), (λ s was e. was e), (λ x is lives s e. e), λ lives x tell. absurd tell)
+      by false = λ lives x tell. absurd tell
 
-  -- whatever is to stay, such a statement leaves it
-  pub fair-leaving : (s : Statement) → leaves_transaction s ≡ true → IsFair old live [] [] (does.row_of s)
-  fair-leaving (statement.Savepoint name) leaves = fair-save name
-  fair-leaving (statement.Select tables) leaves = fair-select tables
-  fair-leaving (statement.Write table priority) leaves = fair-write table priority
-  fair-leaving (statement.KillQuery target) leaves = λ x tell. absurd tell
-  fair-leaving statement.Timeout leaves = λ x tell. absurd tell
-  fair-leaving _ leaves = cc
+  -- whatever is to stay, such a statement leaves it, in a session that has locked no tables while its transaction is open
+  pub fair-leaving : (s : Statement) (state : State) → leaves_transaction s ≡ true → IsUnlocked state → (live ≡ true → state.is_open ≡ true)
+      → IsFair old live [] [] (begun (does.row_of s) state)
+  fair-leaving (statement.Savepoint name) state leaves unlocked opens = fair-save name state
+  fair-leaving (statement.Select tables) state leaves unlocked opens = fair-select tables state unlocked opens
+  fair-leaving (statement.Write table priority) state leaves unlocked opens = fair-write table priority state
+  fair-leaving (statement.KillQuery target) state leaves unlocked opens = λ lives x tell. absurd tell
+  fair-leaving statement.Timeout state leaves unlocked opens = λ lives x tell. absurd tell
+  fair-leaving _ state leaves unlocked opens = absurd (false≢true leaves)
 
 -- ---- all other statements
 
@@ -123,7 +169,7 @@ ShowsNone reply = (x : TableShown) → Tells reply x → ⊥
 -- where nothing has to stay, a row that shows no table may ask for anything
 fair-tidy : (old : TableShown → Type 0) (locks : List (ℕ × KeyName)) (seen : List TableShown) (asked : Row Reply) → ((x : TableShown) → old x → ⊥)
     → KeepsTo Any ShowsNone asked → IsFair old true locks seen asked
-fair-tidy old locks seen (row.Give reply) empty tidy = λ x tell. absurd (tidy x tell)
+fair-tidy old locks seen (row.Give reply) empty tidy = λ lives x tell. absurd (tidy x tell)
 fair-tidy old locks seen (row.Fail number) empty tidy = tt
 fair-tidy old locks seen (row.Room rest) empty tidy = fair-tidy old locks seen rest empty tidy
 fair-tidy old locks seen (row.Look rest) empty tidy = λ state unlocked opens. fair-tidy old locks seen (rest state) empty (tidy state)
@@ -135,6 +181,7 @@ fair-tidy old locks seen (row.Upgrade id key mode rest) empty tidy = ((λ x is l
 fair-tidy old locks seen (row.Downgrade id mode rest) empty tidy = ((λ x is lives. empty x is), fair-tidy old [] [] rest empty tidy)
 fair-tidy old locks seen (row.Give_up which rest) empty tidy = ((λ x is lives. empty x is), fair-tidy old [] [] rest empty tidy)
 fair-tidy old locks seen (row.Release id rest) empty tidy = ((λ x is lives. empty x is), fair-tidy old [] [] rest empty tidy)
+fair-tidy old locks seen (row.Keep rest) empty tidy = ((λ x is lives. empty x is), fair-tidy old [] [] rest empty tidy)
 fair-tidy old locks seen (row.Read id rest) empty tidy = λ standing. fair-tidy old locks _ (rest standing) empty (tidy standing)
 fair-tidy old locks seen (row.Redefine id change rest) empty tidy = ((λ x is lives. empty x is), fair-tidy old [] [] rest empty tidy)
 fair-tidy old locks seen (row.Kill target rest) empty tidy = fair-tidy old locks seen rest empty tidy
@@ -148,6 +195,10 @@ tidy-ddl =
     (λ state. keeps-check Any (not (is_some state.read_lock)) ConflictingReadLock tt)
     (keeps-then Any Any does.no_locked_tables does.commit (λ state. keeps-check Any (not (has_locked state.locked)) ActiveLocks tt) tidy-commit)
 
+tidy-writes : (writes : Bool) → KeepsTo Any Any (does.check_writes writes)
+tidy-writes true = λ state. keeps-check Any (not (is_some state.read_lock)) ConflictingReadLock tt
+tidy-writes false = tt
+
 tidy-back : (name : List ℕ) (mark : Option Mark) → KeepsTo Any ShowsNone (does.go_back name mark)
 tidy-back name None = tt
 tidy-back name (Some mark) = ((λ s u. u), λ x tell. absurd tell)
@@ -158,40 +209,40 @@ tidy-among None rest so = tt
 tidy-among (Some locked) rest so =
     keeps-then Any ShowsNone (check locked.may_write TableLockedForRead) (does.commit_first rest) (keeps-check Any locked.may_write TableLockedForRead tt) so
 
--- where nothing has to stay, every statement may be asked for
-pub fair-any : (old : TableShown → Type 0) (s : Statement) → ((x : TableShown) → old x → ⊥) → IsFair old true [] [] (does.row_of s)
-fair-any old statement.Begin none =
+-- where nothing has to stay, every other statement may be asked for
+pub fair-any : (old : TableShown → Type 0) (s : Statement) → leaves_transaction s ≡ false → ((x : TableShown) → old x → ⊥) → IsFair old true [] [] (does.row_of s)
+fair-any old statement.Begin other none =
     fair-tidy old [] [] (does.row_of statement.Begin) none
     (keeps-then Any ShowsNone does.commit does.begin_after_commit tidy-commit (keeps-begin Any (λ _ _. tt) ShowsNone (λ x tell. absurd tell)))
-fair-any old statement.Commit none =
+fair-any old statement.Commit other none =
     fair-tidy old [] [] (does.row_of statement.Commit) none (keeps-then Any ShowsNone does.commit (row.Give reply.Ok) tidy-commit (λ x tell. absurd tell))
-fair-any old statement.Rollback none =
+fair-any old statement.Rollback other none =
     fair-tidy old [] [] (does.row_of statement.Rollback) none (keeps-then Any ShowsNone does.rollback (row.Give reply.Ok)
     (keeps-rollback Any (λ _ _. tt)) (λ x tell. absurd tell))
-fair-any old (statement.RollbackTo name) none = fair-tidy old [] [] (does.row_of (statement.RollbackTo name)) none
+fair-any old (statement.RollbackTo name) other none = fair-tidy old [] [] (does.row_of (statement.RollbackTo name)) none
     (λ state. tidy-back name (savepoint_mark name state.savepoints))
-fair-any old (statement.CreateTable table columns) none =
+fair-any old (statement.CreateTable table columns) other none =
     fair-tidy old [] [] (does.row_of (statement.CreateTable table columns)) none
     (keeps-then Any ShowsNone does.ddl (does.create_after_commit table columns) tidy-ddl
     (keeps-create Any (λ _ _. tt) ShowsNone (λ x tell. absurd tell) table columns))
-fair-any old (statement.CreateSchema name) none =
+fair-any old (statement.CreateSchema name) other none =
     fair-tidy old [] [] (does.row_of (statement.CreateSchema name)) none
     (keeps-then Any ShowsNone does.ddl (does.create_schema_after_commit name) tidy-ddl
     (keeps-create_schema Any (λ _ _. tt) ShowsNone (λ x tell. absurd tell) name))
-fair-any old (statement.DropTables tables) none =
+fair-any old (statement.DropTables tables) other none =
     fair-tidy old [] [] (does.row_of (statement.DropTables tables)) none
     (keeps-then Any ShowsNone does.ddl (does.drop_after_commit tables) tidy-ddl (keeps-drop Any (λ _ _. tt) ShowsNone (λ x tell. absurd tell) tables))
-fair-any old (statement.RenameTable from to) none =
+fair-any old (statement.RenameTable from to) other none =
     fair-tidy old [] [] (does.row_of (statement.RenameTable from to)) none
     (keeps-then Any ShowsNone does.ddl (does.rename_after_commit from to) tidy-ddl (keeps-rename Any (λ _ _. tt) ShowsNone (λ x tell. absurd tell) from to))
-fair-any old statement.UnlockTables none =
+fair-any old statement.UnlockTables other none =
     fair-tidy old [] [] (does.row_of statement.UnlockTables) none (keeps-unlock_all Any (λ _ _. tt) ShowsNone (λ x tell. absurd tell))
-fair-any old statement.FlushTablesWithReadLock none =
+fair-any old statement.FlushTablesWithReadLock other none =
     fair-tidy old [] [] (does.row_of statement.FlushTablesWithReadLock) none
     (keeps-then Any ShowsNone does.no_locked_tables (does.commit_first does.flush_after_commit)
     (λ state. keeps-check Any (not (has_locked state.locked)) ActiveLocks tt)
     (keeps-then Any ShowsNone does.commit does.flush_after_commit tidy-commit (keeps-flush Any (λ _ _. tt) ShowsNone (λ x tell. absurd tell))))
-fair-any old (statement.AlterTable alteration) none =
+fair-any old (statement.AlterTable alteration) other none =
     let rest = does.alter_after_commit alteration in
     let altering = keeps-alter Any (λ _ _. tt) ShowsNone (λ x tell. absurd tell) alteration in
     let committing = keeps-then Any ShowsNone does.commit rest tidy-commit altering in
@@ -200,8 +251,10 @@ fair-any old (statement.AlterTable alteration) none =
     (keeps-then Any ShowsNone does.no_read_lock looks (λ state. keeps-check Any (not (is_some state.read_lock)) ConflictingReadLock tt)
     (λ state. keeps-either Any ShowsNone (has_locked state.locked) (does.alter_among_locked alteration.table rest) (does.commit_first rest)
     (λ kept. tidy-among (find (λ (locked : Locked). key_eq alteration.table locked.key) kept.locked) rest committing) committing))
-fair-any old (statement.Savepoint name) none = fair-leaving old true (statement.Savepoint name) refl
-fair-any old (statement.Select tables) none = fair-leaving old true (statement.Select tables) refl
-fair-any old (statement.Write table priority) none = fair-leaving old true (statement.Write table priority) refl
-fair-any old (statement.KillQuery target) none = fair-leaving old true (statement.KillQuery target) refl
-fair-any old statement.Timeout none = fair-leaving old true statement.Timeout refl
+fair-any old (statement.LockTables locks) other none =
+    fair-tidy old [] [] (does.row_of (statement.LockTables locks)) none
+    (keeps-then Any ShowsNone (does.check_writes (does.writes_any locks)) (does.commit_first (does.lock_tables_after_commit locks))
+    (tidy-writes (does.writes_any locks))
+    (keeps-then Any ShowsNone does.commit (does.lock_tables_after_commit locks) tidy-commit
+    (keeps-lock_tables Any (λ _ _. tt) ShowsNone (λ x tell. absurd tell) locks)))
+fair-any old _ other none = absurd (false≢true (sym other))

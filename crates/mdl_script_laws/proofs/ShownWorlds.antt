@@ -1,5 +1,6 @@
 -- Line by line, what a session was shown in its transaction stands on, and so what it is shown again is the same.
-use Rattle.std.proofs.Common.{◌≡◌, ◌≢◌, ◌⊎◌, inl, inr, ℕ, zero, suc, true, false, List, [], ◌∷◌, Option, Some, None, is_some, refl, sym, ap, ◌∙◌, subst}
+use Rattle.std.proofs.Common.{◌≡◌, ◌≢◌, ◌⊎◌, inl, inr, ℕ, zero, suc, Bool, true, false, List, [], ◌∷◌, Option, Some, None, is_some, refl, sym, ap, ◌∙◌, subst}
+use Rattle.std.proofs.lemmas.Bool.{false≢true}
 use Rattle.std.proofs.lemmas.Bool.Decides.{eqb_tells}
 use Rattle.std.proofs.lemmas.List.Elements.{All-head, All-tail, Contains-append_cases}
 use Rattle.mdl_key.specs.declared.mode.Mode.{Mode}
@@ -35,7 +36,7 @@ use Rattle.mdl_script_laws.proofs.ScriptLemmas.{asked-by, lines-by, new-session,
 use Rattle.mdl_script_laws.proofs.ShownCalls.{Leads, Stays, leads-outcome, none, stays-call, stays-other, stays-outcome}
 use Rattle.mdl_script_laws.proofs.ShownContexts.{followed-same, fits-same}
 use Rattle.mdl_script_laws.proofs.ShownPoints.{IsStanding, old-now, standing-followed}
-use Rattle.mdl_script_laws.proofs.ShownPlays.{Comes, Keeps, Rests, Tells, leads-going, leads-play, point-same}
+use Rattle.mdl_script_laws.proofs.ShownPlays.{Comes, Keeps, Rests, Tells, begun, leads-begun, leads-going, leads-play, point-same}
 use Rattle.mdl_script_laws.proofs.ShownRows.{fair-any, fair-leaving}
 
 -- ---- a statement that starts
@@ -46,27 +47,37 @@ MayStart old statement = (leaves_transaction statement ≡ true) ⊎ ((x : Table
 
 leads-starting : (old : TableShown → Type 0) (statement : Statement) (a : Core) (session : Session) → MayStart old statement → Rests old a session
     → Leads (Comes old) (starting statement session) a
-leads-starting old statement a session (inl leaves) rests =
-    leads-play old session.state.is_open [] [] (row_of statement) (mark_of session.context.kept) a session
-    (fair-leaving old session.state.is_open statement leaves) (record {
-      fits = rests.fits;
-      unlocked = rests.unlocked;
-      was = λ e. e;
-      opens = λ x is lives. lives;
-      kept = λ x is lives. (let stands = rests.kept x is lives in (stands, old-now session.context.kept stands.ticket.id));
-      locked = λ id key among. absurd (Contains-none (id, key) among);
-      stands = λ x among. absurd (Contains-none x among);
-    })
-leads-starting old statement a session (inr nothing_old) rests =
-    leads-play old true [] [] (row_of statement) (mark_of session.context.kept) a session (fair-any old statement nothing_old) (record {
-      fits = rests.fits;
-      unlocked = rests.unlocked;
-      was = λ e. refl;
-      opens = λ x is lives. absurd (nothing_old x is);
-      kept = λ x is lives. absurd (nothing_old x is);
-      locked = λ id key among. absurd (Contains-none (id, key) among);
-      stands = λ x among. absurd (Contains-none x among);
-    })
+leads-starting old statement a session may rests = by (leaves_transaction statement) refl
+  where
+    live : Bool
+    live = session.state.is_open
+
+    by : (leaves : Bool) → leaves_transaction statement ≡ leaves → Leads (Comes old) (starting statement session) a
+    by true leaves =
+        leads-begun old (row_of statement) (mark_of session.context.kept) a session
+        (leads-play old live [] [] (begun (row_of statement) session.state) (mark_of session.context.kept) a session
+        (fair-leaving old live statement session.state leaves rests.unlocked (λ lives. lives)) (record {
+          fits = rests.fits;
+          unlocked = rests.unlocked;
+          was = λ e. e;
+          opens = λ x is lives. lives;
+          kept = λ x is lives. (let stands = rests.kept x is lives in (stands, old-now session.context.kept stands.ticket.id));
+          locked = λ id key among. absurd (Contains-none (id, key) among);
+          stands = λ x among. absurd (Contains-none x among);
+        }))
+    by false other =
+        leads-play old true [] [] (row_of statement) (mark_of session.context.kept) a session (fair-any old statement other nothing_old) (record {
+          fits = rests.fits;
+          unlocked = rests.unlocked;
+          was = λ e. refl;
+          opens = λ x is lives. absurd (nothing_old x is);
+          kept = λ x is lives. absurd (nothing_old x is);
+          locked = λ id key among. absurd (Contains-none (id, key) among);
+          stands = λ x among. absurd (Contains-none x among);
+        })
+      where
+        nothing_old : (x : TableShown) → old x → ⊥
+        nothing_old x is = elim may [ | inl leaves ↦ false≢true (sym other ∙ leaves) | inr nothing ↦ nothing x is ]
 
 -- ---- a session that others leave alone
 
@@ -399,7 +410,7 @@ keeps-first w is = subst (λ (p : Player). Keeps Nothing first_core p.session) (
     known = λ key place e. cc;
     wait = λ wanted w e f. cc;
   };
-  unlocked = refl;
+  unlocked = λ opens. refl;
   kept = λ x none opens. absurd none;
 }))
 

@@ -1,5 +1,5 @@
 -- How many locks each statement asks for.
-use Rattle.std.proofs.Common.{◌≡◌, ℕ, suc, ◌+◌, ◌-◌, ◌*◌, ◌≤◌, Bool, true, false, List, [], ◌∷◌, ◌++◌, length, map, Option, Some, None, refl, arith}
+use Rattle.std.proofs.Common.{◌≡◌, ℕ, suc, ◌+◌, ◌-◌, ◌*◌, ◌≤◌, Bool, true, false, List, [], ◌∷◌, ◌++◌, length, map, filter, Option, Some, None, refl, arith}
 use Rattle.std.specs.Prelude.{find, if◌then◌else◌, is_some, not}
 use Rattle.std.proofs.lemmas.List.{length-map}
 use Rattle.std.specs.declared.cmp.Ordering.{Ordering}
@@ -20,6 +20,8 @@ use Rattle.mdl_syntax.specs.declared.statement.Alteration.{Alteration}
 use Rattle.mdl_syntax.specs.declared.statement.Priority.{Priority}
 use Rattle.mdl_syntax.specs.declared.statement.Statement.{Statement}
 use Rattle.mdl_syntax.specs.declared.statement.Statement.TheVariants as statement
+use Rattle.mdl_syntax.specs.declared.table_locks.TableLock.{TableLock}
+use Rattle.mdl_syntax.specs.Forms.{tables_of}
 use Rattle.mdl_syntax.specs.Laws.{IsWithinLimits}
 use Rattle.mdl_stmt.specs.declared.error_number.ErrorNumber.{ErrorNumber}
 use Rattle.mdl_stmt.specs.declared.error_number.ErrorNumber.TheVariants.{NoSuchTable, ConflictingReadLock, ActiveLocks, SchemaExists, UnknownDatabase, TableExists, DuplicateColumn, VersionLimit, TableLockedForRead}
@@ -57,6 +59,7 @@ few-more n m (row.Upgrade id key mode rest) less (fewer, same, is) =
 few-more n m (row.Downgrade id mode rest) less is = few-more n m rest less is
 few-more n m (row.Give_up which rest) less is = few-more n m rest less is
 few-more n m (row.Release id rest) less is = few-more n m rest less is
+few-more n m (row.Keep rest) less is = few-more n m rest less is
 few-more n m (row.Read id rest) less is = λ standing. few-more n m (rest standing) less (is standing)
 few-more n m (row.Redefine id change rest) less is = few-more n m rest less is
 few-more n m (row.Kill target rest) less is = few-more n m rest less is
@@ -81,6 +84,7 @@ few-then n m most (row.Upgrade id key mode more) next less (fewer, same, is) res
 few-then n m most (row.Downgrade id mode more) next less is rest = few-then n m most more next less is rest
 few-then n m most (row.Give_up which more) next less is rest = few-then n m most more next less is rest
 few-then n m most (row.Release id more) next less is rest = few-then n m most more next less is rest
+few-then n m most (row.Keep more) next less is rest = few-then n m most more next less is rest
 few-then n m most (row.Read id more) next less is rest = λ standing. few-then n m most (more standing) next less (is standing) rest
 few-then n m most (row.Redefine id change more) next less is rest = few-then n m most more next less is rest
 few-then n m most (row.Kill target more) next less is rest = few-then n m most more next less is rest
@@ -396,6 +400,55 @@ few-alter_first table rest is state =
     few-check 6 (not (is_some state.read_lock)) ConflictingReadLock _ (λ kept.
     few-either 6 (has_locked kept.locked) (stm.alter_among_locked table rest) (stm.commit_first rest) (few-alter_among_locked table rest is) (few-commit_first 5 rest is))
 
+-- ---- LOCK TABLES
+
+few-check_writes : (writes : Bool) → AsksForAtMost 0 (stm.check_writes writes)
+few-check_writes true = few-no_read_lock
+few-check_writes false = tt
+
+few-keep : (locks : List TableLock) (tables : List KeyName) (scopes tickets : List ℕ) → AsksForAtMost 0 (stm.keep_locked locks tables scopes tickets)
+few-keep locks tables scopes tickets =
+    few-then 0 0 0 (for_each stm.stands tickets) _ (omega arith)
+    (few-for_each stm.stands tickets (λ id. few-then 0 0 0 (stm.exists id) (λ _. nothing) (omega arith) (few-exists id) (λ _. tt))) (λ _. tt)
+
+few-lock_named : (locks : List TableLock) (scopes : List ℕ) → AsksForAtMost (length locks) (stm.lock_named locks scopes)
+few-lock_named locks scopes =
+    let tables = in_key_order (tables_of locks) in
+    let wishes = map (stm.table_lock locks) tables in
+    let count = length-map tables (stm.table_lock locks) in
+    let most = length-in_order (tables_of locks) in
+    let all = length-map locks (λ (lock : TableLock). lock.table) in
+    few-then (length wishes) 0 (length locks) (acquire_all wishes) (stm.keep_locked locks tables scopes) (omega (arith, count, most, all)) (few-acquire_all wishes)
+    (few-keep locks tables scopes)
+
+-- the lock of all writes is one more
+length-global : (schemas : List KeyName) → length (stm.with_global schemas) ≤ suc (length schemas)
+length-global [] = omega arith
+length-global (schema ∷ schemas) = omega arith
+
+length-written : (locks : List TableLock) → length (stm.written_tables locks) ≤ length locks
+length-written [] = omega arith
+length-written (lock ∷ locks) = by (stm.is_write lock.lock_type) (length-written locks) where
+  by : (writes : Bool) → length (stm.written_tables locks) ≤ length locks
+      → length (tables_of (if writes then lock ∷ filter (λ (l : TableLock). stm.is_write l.lock_type) locks else filter (λ (l : TableLock). stm.is_write l.lock_type) locks)) ≤ suc (length locks)
+  by true less = omega (arith, less)
+  by false less = omega (arith, less)
+
+few-lock_tables : (locks : List TableLock) → AsksForAtMost (1 + length locks + length locks) (stm.lock_tables_after_commit locks)
+few-lock_tables locks =
+    let written = stm.written_tables locks in
+    let schemas = in_key_order (map stm.schema_of written) in
+    let wishes = map stm.ddl_lock (stm.scopes_around written) in
+    let n = length locks in
+    let count = length-map (stm.scopes_around written) stm.ddl_lock in
+    let global = length-global schemas in
+    let most = length-in_order (map stm.schema_of written) in
+    let all = length-map written stm.schema_of in
+    let few = length-written locks in
+    few-then 0 (1 + n + n) (1 + n + n) stm.unlock_tables _ (omega arith) few-unlock
+    (λ _. few-then (length wishes) n (1 + n + n) (acquire_all wishes) (stm.lock_named locks) (omega (arith, count, global, most, all, few)) (few-acquire_all wishes)
+    (few-lock_named locks))
+
 -- ---- the table
 
 few-begin : AsksForAtMost 0 stm.begin_after_commit
@@ -428,6 +481,11 @@ few-asked statement.UnlockTables = few-unlock_all
 few-asked statement.FlushTablesWithReadLock =
     few-then 0 3 3 stm.no_locked_tables _ (omega arith) few-no_locked (λ _. few-commit_first 2 stm.flush_after_commit few-flush)
 few-asked (statement.AlterTable alteration) = few-alter_first alteration.table (stm.alter_after_commit alteration) (few-alter alteration)
+few-asked (statement.LockTables locks) =
+    let n = length locks in
+    few-more (suc (1 + n + n)) (2 + 2 * n) (stm.row_of (statement.LockTables locks)) (omega arith)
+    (few-then 0 (suc (1 + n + n)) (suc (1 + n + n)) (stm.check_writes (stm.writes_any locks)) (λ _. stm.commit_first (stm.lock_tables_after_commit locks)) (omega arith)
+    (few-check_writes (stm.writes_any locks)) (λ _. few-commit_first (1 + n + n) (stm.lock_tables_after_commit locks) (few-lock_tables locks)))
 few-asked (statement.KillQuery target) = tt
 few-asked statement.Timeout = tt
 
@@ -435,6 +493,10 @@ few-asked statement.Timeout = tt
 few-named : (asked : Statement) → IsWithinLimits asked → locks_of asked ≤ most_locks
 few-named (statement.Select tables) within = let n = within.1 in omega (arith, n)
 few-named (statement.DropTables tables) within = let n = within.1 in omega (arith, n)
+few-named (statement.LockTables locks) within =
+    let n = within.1 in
+    let same = length-map locks (λ (lock : TableLock). lock.table) in
+    omega (arith, n, same)
 few-named _ within = omega arith
 
 pub few-locks : StatementsAskForFewLocks

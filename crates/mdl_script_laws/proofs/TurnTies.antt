@@ -310,6 +310,7 @@ tied-play (row.Release id rest) mark session =
     tracks-then {A = Outcome (Unit {0})} {B = Pause} (Stays false) PausesTied (releases.releasing id session.context) more false
     (stays-released id session.context false)
     (λ outcome waits none. tied-at (more outcome) waits none (tied-play rest mark (with_context session outcome.1)))
+tied-play (row.Keep rest) mark session = tied-play rest mark (playing.all_kept session)
 tied-play (row.Read id rest) mark session =
     λ answer is. tied-read mark session (λ standing. play (rest standing) mark session) (λ standing. tied-play (rest standing) mark session) answer
 tied-play (row.Redefine id change rest) mark session = λ answer is. tied-change mark session (play rest mark session) (tied-play rest mark session) answer

@@ -9,7 +9,7 @@ use Rattle.mdl_context.specs.declared.request.Mark.{Mark}
 use Rattle.mdl_defs.specs.declared.standing.Standing.{Standing}
 use Rattle.mdl_syntax.specs.declared.script.Line.{Line}
 use Rattle.mdl_syntax.specs.declared.statement.Statement.{Statement}
-use Rattle.mdl_syntax.specs.declared.statement.Statement.TheVariants.{Begin, Commit, Select, Write, CreateTable, CreateSchema, DropTables, RenameTable, FlushTablesWithReadLock, AlterTable}
+use Rattle.mdl_syntax.specs.declared.statement.Statement.TheVariants.{Begin, Commit, Select, Write, CreateTable, CreateSchema, DropTables, RenameTable, FlushTablesWithReadLock, AlterTable, LockTables}
 use Rattle.mdl_syntax.specs.Laws.{IsWithinLimits}
 use Rattle.mdl_syntax.specs.Scripts.{parsed}
 use Rattle.mdl_stmt.specs.Rows.{Row}
@@ -35,14 +35,15 @@ AsksForAtMost most (row.Upgrade id key mode rest) = (fewer : ℕ) × (most ≡ s
 AsksForAtMost most (row.Downgrade id mode rest) = AsksForAtMost most rest
 AsksForAtMost most (row.Give_up which rest) = AsksForAtMost most rest
 AsksForAtMost most (row.Release id rest) = AsksForAtMost most rest
+AsksForAtMost most (row.Keep rest) = AsksForAtMost most rest
 AsksForAtMost most (row.Read id rest) = (standing : Standing) → AsksForAtMost most (rest standing)
 AsksForAtMost most (row.Redefine id change rest) = AsksForAtMost most rest
 AsksForAtMost most (row.Kill target rest) = AsksForAtMost most rest
 
 -- the most locks that a statement asks for: the COMMIT lock where it has to commit, the global lock where it writes or changes
--- definitions, and the tables or the schema that it names, with the tables' schemas where these are created, dropped, renamed or
--- altered; and for the global read lock the global lock and once more the COMMIT lock. A table that is altered is locked up to three times,
--- each time more strongly
+-- definitions, and the tables or the schema that it names, with the tables' schemas where these are created, dropped, renamed, altered or
+-- locked for writing; and for the global read lock the global lock and once more the COMMIT lock. A table that is altered is locked up to
+-- three times, each time more strongly
 abbrev pub locks_of : Statement → ℕ
 locks_of Begin = 1
 locks_of Commit = 1
@@ -54,9 +55,10 @@ locks_of (DropTables tables) = 2 + 2 * length tables
 locks_of (RenameTable from to) = 6
 locks_of FlushTablesWithReadLock = 3
 locks_of (AlterTable alteration) = 6
+locks_of (LockTables locks) = 2 + 2 * length locks
 locks_of _ = 0
 
--- that of a DROP TABLE of eight tables is the most that the language has
+-- that of eight tables that are dropped or locked is the most that the language has
 abbrev pub most_locks : ℕ
 most_locks = 2 + 2 * 8
 

@@ -129,6 +129,7 @@ impl Drawn {
             28 => self.create_schema()?,
             29..=31 => self.alter()?,
             32 => self.kill()?,
+            33..=35 => self.lock()?,
             _ => self.text.push_str("TIMEOUT")?,
         }
         self.text.push('\n')
@@ -161,6 +162,23 @@ impl Drawn {
             };
             let name = table_name(at.checked_rem(self.tables).unwrap_or(0));
             write!(self.text, " {name}")?;
+        }
+        Ok(())
+    }
+
+    // One to three tables to lock, some of them for writing.
+    fn lock(&mut self) -> Result<(), AllocError> {
+        self.text.push_str("LOCK TABLES")?;
+        let count = self.draw_below(3).wrapping_add(1);
+        let first = self.draw_below(self.tables);
+        for step in 0..count {
+            let at = first.wrapping_add(step);
+            let name = table_name(at.checked_rem(self.tables).unwrap_or(0));
+            let lock_type = match self.chance.draw(5) {
+                0..=2 => "READ",
+                _ => "WRITE",
+            };
+            write!(self.text, " {name} {lock_type}")?;
         }
         Ok(())
     }

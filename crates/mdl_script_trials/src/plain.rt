@@ -8,6 +8,7 @@ mod locks;
 mod plans;
 mod sessions;
 mod steps;
+mod unlocking;
 
 use mdl_defs::{Change, Columns, Definition};
 use mdl_key::{Duration, Key, KeyError, Mode};
@@ -81,6 +82,12 @@ enum Step {
     EndCommitted,
     // A transaction is open from now on.
     Open,
+    // Tables that are locked are given up, and what was locked around them.
+    Unlock,
+    // All that is locked stays locked until it is given up.
+    Keep,
+    // The statement fails.
+    Fail(u32),
     // Sets a savepoint.
     Save(Name),
     // Goes back to a savepoint.
@@ -101,14 +108,12 @@ enum Step {
     Drop(Key),
     // Gives a table another name, if it can get it.
     Rename(Key, Key),
-    // Fails with this error.
-    Refuse(u32),
     // The lock that was asked for last goes unless the session gets the global read lock.
     HalfLock,
     // The session has the global read lock from now on.
     HaveReadLock,
     // All locks go that the session has kept until it gives them up.
-    Unlock,
+    UnlockAll,
     // Fails where a table isn't there, or its columns can't be changed so.
     CheckChange(Key, Change),
     // Asks for a stronger lock of a table beside the one that is had.

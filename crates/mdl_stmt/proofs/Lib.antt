@@ -4,6 +4,7 @@ pub mod DropLemmas
 pub mod EndLemmas
 pub mod ListLemmas
 pub mod LockListLemmas
+pub mod LockTableLemmas
 pub mod OrderLemmas
 pub mod RowCalls
 pub mod RowLemmas

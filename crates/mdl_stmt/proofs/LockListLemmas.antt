@@ -18,13 +18,15 @@ use Rattle.mdl_stmt.specs.declared.ending.Got.TheVariants.{Had}
 use Rattle.mdl_stmt.specs.declared.ending.Got.TheVariants as got
 use Rattle.mdl_stmt.specs.declared.ending.Listed.TheVariants as listed
 use Rattle.mdl_stmt.specs.declared.reply.Reply.{Reply}
-use Rattle.mdl_stmt.specs.Gets.{Comes, IsGot, IsListed}
+use Rattle.mdl_stmt.specs.declared.stage.Locking.{Locking}
+use Rattle.mdl_stmt.specs.declared.stage.Locking.TheVariants.{Ddl, Tables}
+use Rattle.mdl_stmt.specs.Gets.{Comes, IsGot, IsListedBy}
 use Rattle.mdl_stmt.specs.LockLists.{LockList, with_ticket}
 use Rattle.mdl_stmt.specs.Playing.{play}
 use Rattle.mdl_stmt.specs.Rows.{Row, Give, Acquire, acquire_all, ◌>>=◌}
 use Rattle.mdl_stmt.specs.Sessions.{PlayerView}
-use Rattle.mdl_stmt.specs.Stages.{lock_rest}
-use Rattle.mdl_stmt.specs.Statements.{ddl_lock}
+use Rattle.mdl_stmt.specs.Stages.{lock_rest_by, wish_by}
+use Rattle.mdl_stmt.specs.Statements.{ddl_lock, table_lock}
 use Rattle.mdl_stmt.proofs.CallLemmas.{comes-row}
 use Rattle.mdl_stmt.proofs.OrderLemmas.{from-element, slice-past}
 use Rattle.mdl_stmt.proofs.RowLemmas.{bind-assoc}
@@ -39,12 +41,19 @@ ddl-key key = in-namespace key.namespace key.schema key.table where
   in-namespace of.Table s t = refl
   in-namespace of.Commit s t = refl
 
-pub ddl-so : (key : KeyName) (mode : Mode) (duration : Duration) → mode ≡ (ddl_lock key).mode → duration ≡ (ddl_lock key).duration →
+ddl-so : (key : KeyName) (mode : Mode) (duration : Duration) → mode ≡ (ddl_lock key).mode → duration ≡ (ddl_lock key).duration →
     record { key = key; mode = mode; duration = duration } ≡ ddl_lock key
 ddl-so key mode duration e f =
     ap (λ k. record { key = k; mode = mode; duration = duration }) (sym (ddl-key key))
     ∙ ap (λ m. record { key = (ddl_lock key).key; mode = m; duration = duration }) e
     ∙ ap (λ d. record { key = (ddl_lock key).key; mode = (ddl_lock key).mode; duration = d }) f
+
+-- what a list's locks are asked for
+pub wish-so : (locking : Locking) (key : KeyName) (mode : Mode) (duration : Duration) → mode ≡ (wish_by locking key).mode → duration ≡ (wish_by locking key).duration →
+    record { key = key; mode = mode; duration = duration } ≡ wish_by locking key
+wish-so Ddl key mode duration e f = ddl-so key mode duration e f
+wish-so (Tables locks) key mode duration e f =
+    ap (λ m. record { key = key; mode = m; duration = duration }) e ∙ ap (λ d. record { key = key; mode = (table_lock locks.now key).mode; duration = d }) f
 
 -- its keys stay
 pub keys-stay : (ticket : ℕ) (locks : LockList) → (with_ticket ticket locks).keys ≡ locks.keys
@@ -54,62 +63,62 @@ keys-stay ticket locks = by (nat_lt (length locks.tickets) (length locks.keys)) 
   by false = refl
 
 -- the ticket of the next lock is among the tickets
-pub lock-had : (locks : LockList) (ticket : ℕ) (rest : List ℕ → Row Reply) → nat_lt (length locks.tickets) (length locks.keys) ≡ true →
-    lock_rest (with_ticket ticket locks) rest
-    ≡ acquire_all (map ddl_lock (drop (suc (length locks.tickets)) locks.keys)) >>= (λ more. rest (locks.tickets ++ ticket ∷ more))
-lock-had locks ticket rest e =
+pub lock-had : (wish : KeyName → Wish) (locks : LockList) (ticket : ℕ) (rest : List ℕ → Row Reply) → nat_lt (length locks.tickets) (length locks.keys) ≡ true →
+    lock_rest_by wish (with_ticket ticket locks) rest
+    ≡ acquire_all (map wish (drop (suc (length locks.tickets)) locks.keys)) >>= (λ more. rest (locks.tickets ++ ticket ∷ more))
+lock-had wish locks ticket rest e =
     let longer : LockList = record locks { tickets = locks.tickets ++ ticket ∷ [] } in
     let len : length (locks.tickets ++ ticket ∷ []) ≡ suc (length locks.tickets) = length-append locks.tickets (ticket ∷ []) ∙ grind (arith) in
-    ap (λ (t : Bool). lock_rest (if t then longer else locks) rest) e
-    ∙ ap (λ n. acquire_all (map ddl_lock (drop n locks.keys)) >>= (λ more. rest ((locks.tickets ++ ticket ∷ []) ++ more))) len
-    ∙ ap (λ (f : List ℕ → Row Reply). acquire_all (map ddl_lock (drop (suc (length locks.tickets)) locks.keys)) >>= f)
+    ap (λ (t : Bool). lock_rest_by wish (if t then longer else locks) rest) e
+    ∙ ap (λ n. acquire_all (map wish (drop n locks.keys)) >>= (λ more. rest ((locks.tickets ++ ticket ∷ []) ++ more))) len
+    ∙ ap (λ (f : List ℕ → Row Reply). acquire_all (map wish (drop (suc (length locks.tickets)) locks.keys)) >>= f)
     (fun_ext (λ more. ap rest (append_assoc locks.tickets (ticket ∷ []) more)))
 
 -- the next lock
-pub lock-next : (locks : LockList) (key : KeyName) (rest : List ℕ → Row Reply) → slice_get locks.keys (length locks.tickets) ≡ Some key →
-    lock_rest locks rest ≡ Acquire (ddl_lock key) (λ ticket. lock_rest (with_ticket ticket locks) rest)
-lock-next locks key rest e =
+pub lock-next : (wish : KeyName → Wish) (locks : LockList) (key : KeyName) (rest : List ℕ → Row Reply) → slice_get locks.keys (length locks.tickets) ≡ Some key →
+    lock_rest_by wish locks rest ≡ Acquire (wish key) (λ ticket. lock_rest_by wish (with_ticket ticket locks) rest)
+lock-next wish locks key rest e =
     let within = slice_get_within locks.keys (length locks.tickets) key e in
     let left : nat_lt (length locks.tickets) (length locks.keys) ≡ true = grind (arith, nat_tests) in
     let behind : List KeyName = drop (suc (length locks.tickets)) locks.keys in
-    ap (λ (keys : List KeyName). acquire_all (map ddl_lock keys) >>= (λ more. rest (locks.tickets ++ more))) (from-element locks.keys (length locks.tickets) key e)
-    ∙ ap (Acquire (ddl_lock key)) (fun_ext (λ ticket.
-    bind-assoc (acquire_all (map ddl_lock behind)) (λ tickets. Give (ticket ∷ tickets)) (λ more. rest (locks.tickets ++ more)) ∙ sym (lock-had locks ticket rest left)))
+    ap (λ (keys : List KeyName). acquire_all (map wish keys) >>= (λ more. rest (locks.tickets ++ more))) (from-element locks.keys (length locks.tickets) key e)
+    ∙ ap (Acquire (wish key)) (fun_ext (λ ticket.
+    bind-assoc (acquire_all (map wish behind)) (λ tickets. Give (ticket ∷ tickets)) (λ more. rest (locks.tickets ++ more)) ∙ sym (lock-had wish locks ticket rest left)))
 
 -- no lock is left
-pub lock-over : (locks : LockList) (rest : List ℕ → Row Reply) → slice_get locks.keys (length locks.tickets) ≡ None → lock_rest locks rest ≡ rest locks.tickets
-lock-over locks rest e =
-    ap (λ (keys : List KeyName). acquire_all (map ddl_lock keys) >>= (λ more. rest (locks.tickets ++ more))) (drop_of_length-le locks.keys (slice-past locks.keys (length locks.tickets) e))
+pub lock-over : (wish : KeyName → Wish) (locks : LockList) (rest : List ℕ → Row Reply) → slice_get locks.keys (length locks.tickets) ≡ None → lock_rest_by wish locks rest ≡ rest locks.tickets
+lock-over wish locks rest e =
+    ap (λ (keys : List KeyName). acquire_all (map wish keys) >>= (λ more. rest (locks.tickets ++ more))) (drop_of_length-le locks.keys (slice-past locks.keys (length locks.tickets) e))
     ∙ ap rest (append-nil locks.tickets)
 
-module _ {S : Type 0} (joins : S → Call → Answer → S → Type 0) (first : LockList) (a : S) (x : PlayerView) where
+module _ {S : Type 0} (joins : S → Call → Answer → S → Type 0) (wish : KeyName → Wish) (first : LockList) (a : S) (x : PlayerView) where
   -- some were had
   abbrev pub HadSo : LockList → S → PlayerView → Type 0
-  HadSo locks b y = (rest : List ℕ → Row Reply) → Comes joins a x (play (lock_rest first rest)) b y (play (lock_rest locks rest))
+  HadSo locks b y = (rest : List ℕ → Row Reply) → Comes joins a x (play (lock_rest_by wish first rest)) b y (play (lock_rest_by wish locks rest))
 
   -- the next one is asked for
   pub list-next : (locks : LockList) (key : KeyName) (b : S) (y : PlayerView) → slice_get locks.keys (length locks.tickets) ≡ Some key → HadSo locks b y → (rest : List ℕ → Row Reply) →
-      Comes joins a x (play (lock_rest first rest)) b y (play (Acquire (ddl_lock key) (λ ticket. lock_rest (with_ticket ticket locks) rest)))
-  list-next locks key b y e so rest = comes-then (so rest) (comes-row _ _ (lock-next locks key rest e))
+      Comes joins a x (play (lock_rest_by wish first rest)) b y (play (Acquire (wish key) (λ ticket. lock_rest_by wish (with_ticket ticket locks) rest)))
+  list-next locks key b y e so rest = comes-then (so rest) (comes-row _ _ (lock-next wish locks key rest e))
 
   -- it is had
-  pub list-had : (locks all : LockList) (key : KeyName) (wish : Wish) (ticket : ℕ) (b c : S) (y z : PlayerView) → slice_get locks.keys (length locks.tickets) ≡ Some key → wish ≡ ddl_lock key →
-      all ≡ with_ticket ticket locks → HadSo locks b y → IsGot joins wish b y (Had ticket) c z → HadSo all c z
-  list-had locks all key wish ticket b c y z e same more so made = subst (λ l. HadSo l c z) (sym more)
-      (λ rest. comes-then (list-next locks key b y e so rest) (subst (λ w. IsGot joins w b y (Had ticket) c z) same made (λ ticket. lock_rest (with_ticket ticket locks) rest)))
+  pub list-had : (locks all : LockList) (key : KeyName) (made_by : Wish) (ticket : ℕ) (b c : S) (y z : PlayerView) → slice_get locks.keys (length locks.tickets) ≡ Some key → made_by ≡ wish key →
+      all ≡ with_ticket ticket locks → HadSo locks b y → IsGot joins made_by b y (Had ticket) c z → HadSo all c z
+  list-had locks all key made_by ticket b c y z e same more so made = subst (λ l. HadSo l c z) (sym more)
+      (λ rest. comes-then (list-next locks key b y e so rest) (subst (λ w. IsGot joins w b y (Had ticket) c z) same made (λ ticket. lock_rest_by wish (with_ticket ticket locks) rest)))
 
   -- it is waited for
-  pub list-waits : (locks : LockList) (key told : KeyName) (wish : Wish) (b c : S) (y z : PlayerView) → slice_get locks.keys (length locks.tickets) ≡ Some key → wish ≡ ddl_lock key →
-      HadSo locks b y → IsGot joins wish b y (got.Waits told) c z → IsListed joins first a x (listed.Waits told wish.mode locks) c z
-  list-waits locks key told wish b c y z e same so made = subst (λ (w : Wish). IsListed joins first a x (listed.Waits told w.mode locks) c z) (sym same)
-      (λ rest. comes-waits (list-next locks key b y e so rest) (subst (λ w. IsGot joins w b y (got.Waits told) c z) same made (λ ticket. lock_rest (with_ticket ticket locks) rest)))
+  pub list-waits : (locks : LockList) (key told : KeyName) (made_by : Wish) (b c : S) (y z : PlayerView) → slice_get locks.keys (length locks.tickets) ≡ Some key → made_by ≡ wish key →
+      HadSo locks b y → IsGot joins made_by b y (got.Waits told) c z → IsListedBy joins wish first a x (listed.Waits told made_by.mode locks) c z
+  list-waits locks key told made_by b c y z e same so made = subst (λ (w : Wish). IsListedBy joins wish first a x (listed.Waits told w.mode locks) c z) (sym same)
+      (λ rest. comes-waits (list-next locks key b y e so rest) (subst (λ w. IsGot joins w b y (got.Waits told) c z) same made (λ ticket. lock_rest_by wish (with_ticket ticket locks) rest)))
 
   -- it ends the statement
-  pub list-ends : (locks : LockList) (key : KeyName) (wish : Wish) (ending : Ending) (b c : S) (y z : PlayerView) → slice_get locks.keys (length locks.tickets) ≡ Some key → wish ≡ ddl_lock key →
-      HadSo locks b y → IsGot joins wish b y (got.Ends ending) c z → IsListed joins first a x (listed.Ends ending) c z
-  list-ends locks key wish ending b c y z e same so made = λ rest.
-      comes-then (list-next locks key b y e so rest) (subst (λ w. IsGot joins w b y (got.Ends ending) c z) same made (λ ticket. lock_rest (with_ticket ticket locks) rest))
+  pub list-ends : (locks : LockList) (key : KeyName) (made_by : Wish) (ending : Ending) (b c : S) (y z : PlayerView) → slice_get locks.keys (length locks.tickets) ≡ Some key → made_by ≡ wish key →
+      HadSo locks b y → IsGot joins made_by b y (got.Ends ending) c z → IsListedBy joins wish first a x (listed.Ends ending) c z
+  list-ends locks key made_by ending b c y z e same so made = λ rest.
+      comes-then (list-next locks key b y e so rest) (subst (λ w. IsGot joins w b y (got.Ends ending) c z) same made (λ ticket. lock_rest_by wish (with_ticket ticket locks) rest))
 
   -- all are had
-  pub list-over : (locks : LockList) (b : S) (y : PlayerView) → slice_get locks.keys (length locks.tickets) ≡ None → HadSo locks b y → IsListed joins first a x (listed.Had locks) b y
-  list-over locks b y e so = λ rest. comes-then (so rest) (comes-row _ _ (lock-over locks rest e))
+  pub list-over : (locks : LockList) (b : S) (y : PlayerView) → slice_get locks.keys (length locks.tickets) ≡ None → HadSo locks b y → IsListedBy joins wish first a x (listed.Had locks) b y
+  list-over locks b y e so = λ rest. comes-then (so rest) (comes-row _ _ (lock-over wish locks rest e))

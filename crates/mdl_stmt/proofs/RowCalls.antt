@@ -161,6 +161,7 @@ own_play (row.Give_up which rest) mark session =
 own_play (row.Release id rest) mark session =
     own_bind {A = Unit {0}} session.context.who (releasing id session.context) (λ outcome. play rest mark (with_context session outcome.1))
     (own_releasing id session.context) (of_releasing id session.context) (λ outcome. own_play rest mark (with_context session outcome.1))
+own_play (row.Keep rest) mark session = own_play rest mark (playing.all_kept session)
 own_play (row.Read id rest) mark session =
     let more = λ (standing : Standing). play (rest standing) mark session in
     own_ask session.context.who (Read_definition session.context.who id) (playing.read_answered mark session more) (refl, refl)

@@ -153,6 +153,7 @@ faithful_play (row.Give_up which rest) mark session =
 faithful_play (row.Release id rest) mark session =
     frugal_first {A = Outcome (Unit {0})} (releasing id session.context) (λ outcome. play rest mark (with_context session outcome.1))
     (frugal_releasing id session.context) (λ outcome. faithful_play rest mark (with_context session outcome.1))
+faithful_play (row.Keep rest) mark session = faithful_play rest mark (playing.all_kept session)
 faithful_play (row.Read id rest) mark session =
     let more = λ (standing : Standing). play (rest standing) mark session in
     (λ takes. each_starves mark session, faithful_read mark session more (λ standing. faithful_play (rest standing) mark session))

@@ -26,8 +26,8 @@ use Rattle.mdl_stmt.specs.LockLists.{LockList, with_ticket}
 use Rattle.mdl_stmt.specs.Playing.{play, untold, with_left}
 use Rattle.mdl_stmt.specs.Rows.{Row, Act, Acquire, Upgrade, ◌>>=◌, ◌>>◌}
 use Rattle.mdl_stmt.specs.Sessions.{PlayerView, Session}
-use Rattle.mdl_stmt.specs.Stages.{lock_rest, rest_of}
-use Rattle.mdl_stmt.specs.Statements.{end_under}
+use Rattle.mdl_stmt.specs.Stages.{lock_rest_by, rest_of}
+use Rattle.mdl_stmt.specs.Statements.{ddl_lock, end_under}
 
 -- how far a statement has come, as its runner tells it
 abbrev pub paused : Progress → Session → Pause
@@ -107,12 +107,18 @@ IsCommitted joins act a before (got.Waits key) b after =
     (rest : Row Reply) → Waits joins a before (play (act >> rest)) key IX (λ lock. end_under lock >> rest) b after
 IsCommitted joins act a before (got.Ends ending) b after = (rest : Row Reply) → Comes joins a before (play (act >> rest)) b after (closing ending)
 
--- locks of a list were asked for: all are had, one is waited for, or the statement is to end
+-- locks of a list were asked for, each by this wish: all are had, one is waited for, or the statement is to end
+abbrev pub IsListedBy : {S : Type 0} → (S → Call → Answer → S → Type 0) → (KeyName → Wish) → LockList → S → PlayerView → Listed → S → PlayerView → Type 0
+IsListedBy joins wish locks a before (listed.Had all) b after =
+    (rest : List ℕ → Row Reply) → Comes joins a before (play (lock_rest_by wish locks rest)) b after (play (rest all.tickets))
+IsListedBy joins wish locks a before (listed.Waits key mode had) b after =
+    (rest : List ℕ → Row Reply) → Waits joins a before (play (lock_rest_by wish locks rest)) key mode (λ ticket. lock_rest_by wish (with_ticket ticket had) rest) b after
+IsListedBy joins wish locks a before (listed.Ends ending) b after =
+    (rest : List ℕ → Row Reply) → Comes joins a before (play (lock_rest_by wish locks rest)) b after (closing ending)
+
+-- so it was with locks of DDL
 abbrev pub IsListed : {S : Type 0} → (S → Call → Answer → S → Type 0) → LockList → S → PlayerView → Listed → S → PlayerView → Type 0
-IsListed joins locks a before (listed.Had all) b after = (rest : List ℕ → Row Reply) → Comes joins a before (play (lock_rest locks rest)) b after (play (rest all.tickets))
-IsListed joins locks a before (listed.Waits key mode had) b after =
-    (rest : List ℕ → Row Reply) → Waits joins a before (play (lock_rest locks rest)) key mode (λ ticket. lock_rest (with_ticket ticket had) rest) b after
-IsListed joins locks a before (listed.Ends ending) b after = (rest : List ℕ → Row Reply) → Comes joins a before (play (lock_rest locks rest)) b after (closing ending)
+IsListed joins = IsListedBy joins ddl_lock
 
 -- its keys stay
 abbrev pub KeepsKeys : LockList → Listed → Type 0

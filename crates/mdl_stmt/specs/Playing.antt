@@ -1,7 +1,7 @@
 -- How a session plays what its statements ask: as a program of calls of a lock space.
-use Rattle.std.specs.Prelude.{ℕ, Option, Some, None, Ok, Err}
+use Rattle.std.specs.Prelude.{ℕ, Option, Some, None, Ok, Err, map}
 use Rattle.mdl_key.specs.declared.mode.Mode.{Mode}
-use Rattle.mdl_key.specs.declared.mode.Duration.TheVariants.{Transaction}
+use Rattle.mdl_key.specs.declared.mode.Duration.TheVariants.{Transaction, Explicit}
 use Rattle.mdl_key.specs.Keys.{KeyName}
 use Rattle.mdl_defs.specs.declared.standing.Standing.{Standing}
 use Rattle.mdl_calls.specs.Words.{Answer, Has_wait, Reads, Changed, Read_definition, Change_definition, Wait_of, Program, Give, Ask, Grow, ◌>>=◌, ◌>>◌}
@@ -13,6 +13,7 @@ use Rattle.mdl_context.specs.declared.request.Resume.{Resume}
 use Rattle.mdl_context.specs.declared.request.Resume.TheVariants as resume
 use Rattle.mdl_context.specs.Contexts.{ContextView, mark_of}
 use Rattle.mdl_context.specs.Gains.{refusal_of}
+use Rattle.mdl_context.specs.Holdings.{kept_for}
 use Rattle.mdl_context.specs.Releases.{giving_up, releasing}
 use Rattle.mdl_context.specs.Requests.{Outcome, acquiring}
 use Rattle.mdl_context.specs.Upgrades.{upgrading, downgrading}
@@ -82,6 +83,10 @@ wait_told target _ = Give tt
 abbrev pub killing : ℕ → Program (Unit {0})
 killing target = Ask (Wait_of target) (wait_told target)
 
+-- a session all of whose tickets stay until it gives them up
+abbrev pub all_kept : Session → Session
+all_kept session = with_context session (record session.context { kept = map (kept_for Explicit) session.context.kept })
+
 -- what a statement asks for is played; it began at this mark
 abbrev pub play : Row Reply → Mark → Session → Program Pause
 play (row.Give reply) mark session = closing (Answers reply) mark session
@@ -99,6 +104,7 @@ play (row.Downgrade id mode rest) mark session =
 play (row.Give_up which rest) mark session =
     giving_up (which session.context.kept) session.context >>= (λ outcome. play rest mark (with_context session outcome.1))
 play (row.Release id rest) mark session = releasing id session.context >>= (λ outcome. play rest mark (with_context session outcome.1))
+play (row.Keep rest) mark session = play rest mark (all_kept session)
 play (row.Read id rest) mark session =
     Ask (Read_definition session.context.who id) (read_answered mark session (λ standing. play (rest standing) mark session))
 play (row.Redefine id change rest) mark session =

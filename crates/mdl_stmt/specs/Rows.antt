@@ -35,6 +35,8 @@ pub data Row (A : Type 0) : Type 0 where
   Give_up : (List Kept → List Kept) → Row A → Row A
   -- that one goes
   Release : (id : ℕ) → Row A → Row A
+  -- that all stay until the session gives them up
+  Keep : Row A → Row A
   -- what stands under the key of a ticket
   Read : (id : ℕ) → (Standing → Row A) → Row A
   -- a change of it
@@ -56,6 +58,7 @@ Upgrade id key mode rest >>= next = Upgrade id key mode (λ id. rest id >>= next
 Downgrade id mode rest >>= next = Downgrade id mode (rest >>= next)
 Give_up which rest >>= next = Give_up which (rest >>= next)
 Release id rest >>= next = Release id (rest >>= next)
+Keep rest >>= next = Keep (rest >>= next)
 Read id rest >>= next = Read id (λ standing. rest standing >>= next)
 Redefine id change rest >>= next = Redefine id change (rest >>= next)
 Kill target rest >>= next = Kill target (rest >>= next)
@@ -100,6 +103,9 @@ give_up which = Give_up which nothing
 
 abbrev pub release : ℕ → Act
 release id = Release id nothing
+
+abbrev pub keep : Act
+keep = Keep nothing
 
 abbrev pub read : ℕ → Row Standing
 read id = Read id Give

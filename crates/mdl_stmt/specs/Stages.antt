@@ -2,16 +2,19 @@
 use Rattle.std.specs.Prelude.{ℕ, List, [], ◌∷◌, ◌++◌, length, drop, map}
 use Rattle.std.specs.Option.{option_map}
 use Rattle.mdl_key.specs.Keys.{KeyName}
+use Rattle.mdl_context.specs.Wishes.{Wish}
 use Rattle.mdl_stmt.specs.declared.reply.Reply.{Reply}
 use Rattle.mdl_stmt.specs.declared.reply.Reply.TheVariants as reply
 use Rattle.mdl_stmt.specs.declared.reply.TableShown.{TableShown}
 use Rattle.mdl_stmt.specs.declared.runner.Work.{Work}
+use Rattle.mdl_stmt.specs.declared.stage.Locking.{Locking}
+use Rattle.mdl_stmt.specs.declared.stage.Locking.TheVariants.{Ddl, Tables}
 use Rattle.mdl_stmt.specs.declared.stage.Stage.{Stage}
-use Rattle.mdl_stmt.specs.declared.stage.Stage.TheVariants.{Commit, Show, WriteGlobal, WriteTable, CommitWrite, CreateGlobal, CreateSchema, CreateTable, SchemaGlobal, NewSchema, DropScopes, DropTables, RenameScopes, RenameTables, FlushGlobal, FlushCommit, AlterGlobal, AlterSchema, AlterTable, AlterByCopy, AlterInPlace, ChangeTable, AlterLocked, ChangeLocked}
+use Rattle.mdl_stmt.specs.declared.stage.Stage.TheVariants.{Commit, Show, WriteGlobal, WriteTable, CommitWrite, CreateGlobal, CreateSchema, CreateTable, SchemaGlobal, NewSchema, DropScopes, DropTables, RenameScopes, RenameTables, FlushGlobal, FlushCommit, AlterGlobal, AlterSchema, AlterTable, AlterByCopy, AlterInPlace, ChangeTable, AlterLocked, ChangeLocked, LockScopes, LockTables}
 use Rattle.mdl_stmt.specs.LockLists.{LockList, ticket_of, with_ticket}
 use Rattle.mdl_stmt.specs.Rows.{Row, Give, ◌>>=◌, ◌>>◌, acquire_all}
 use Rattle.mdl_stmt.specs.Sessions.{Left, RunnerView, Session}
-use Rattle.mdl_stmt.specs.Statements.{after_commit, end_under, show, show_all, lock_to_read, lock_and_write, write_under, ddl_lock, lock_schema_and_create, lock_and_create, create_under, lock_and_create_schema, create_schema_under, lock_and_drop, drop_under, lock_and_rename, rename_under, schema_of, lock_commits, read_lock_under, lock_schema_and_alter, alter_in_schema, alter_under, raise_and_change, reopen_and_change, change_table, alter_locked_under, change_and_lower}
+use Rattle.mdl_stmt.specs.Statements.{after_commit, end_under, show, show_all, lock_to_read, lock_and_write, write_under, ddl_lock, lock_schema_and_create, lock_and_create, create_under, lock_and_create_schema, create_schema_under, lock_and_drop, drop_under, lock_and_rename, rename_under, schema_of, lock_commits, read_lock_under, lock_schema_and_alter, alter_in_schema, alter_under, raise_and_change, reopen_and_change, change_table, alter_locked_under, change_and_lower, table_lock, lock_named, keep_locked}
 
 -- the first of these tables is locked
 abbrev pub show_next : List TableShown → List KeyName → ℕ → Row Reply
@@ -20,11 +23,20 @@ show_next shown (table ∷ tables) ticket = do
   more ← show shown table ticket
   show_all lock_to_read more tables
 
--- the locks that are left of a list, and then what all tickets lead to
-abbrev pub lock_rest : LockList → (List ℕ → Row Reply) → Row Reply
-lock_rest locks rest = do
-  more ← acquire_all (map ddl_lock (drop (length locks.tickets) locks.keys))
+-- the locks that are left of a list, by what each key is asked for, and then what all tickets lead to
+abbrev pub lock_rest_by : (KeyName → Wish) → LockList → (List ℕ → Row Reply) → Row Reply
+lock_rest_by wish locks rest = do
+  more ← acquire_all (map wish (drop (length locks.tickets) locks.keys))
   rest (locks.tickets ++ more)
+
+-- those of DDL
+abbrev pub lock_rest : LockList → (List ℕ → Row Reply) → Row Reply
+lock_rest = lock_rest_by ddl_lock
+
+-- what is asked for in each key of a list
+abbrev pub wish_by : Locking → KeyName → Wish
+wish_by Ddl = ddl_lock
+wish_by (Tables locks) = table_lock locks.now
 
 -- the locks that are left of both names of a table and of their scopes, and then its other name
 abbrev pub rename_names : KeyName → KeyName → ℕ → LockList → List KeyName → Row Reply
@@ -59,6 +71,9 @@ rest_of (AlterInPlace alteration) ticket = reopen_and_change alteration.now tick
 rest_of (ChangeTable alteration) ticket = change_table alteration.now ticket
 rest_of (AlterLocked alteration) ticket = alter_locked_under alteration.now ticket
 rest_of (ChangeLocked alteration) ticket = change_and_lower alteration.now ticket
+rest_of (LockScopes tables locks) ticket = lock_rest (with_ticket ticket locks) (lock_named tables.now)
+rest_of (LockTables tables scopes locks) ticket =
+    lock_rest_by (table_lock tables.now) (with_ticket ticket locks) (keep_locked tables.now locks.keys scopes.items)
 
 -- the same with where the session stood as the statement began
 abbrev pub left_of : Work → Left

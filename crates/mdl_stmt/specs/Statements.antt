@@ -3,11 +3,13 @@
 -- Checks stand in the order in which they are made. This project's own choice is that CREATE TABLE has its lock before it looks at
 -- schema, table and columns, and CREATE SCHEMA before it looks at the schema, that DROP TABLE drops none where one is missing, that
 -- RENAME TABLE looks for the schema of the new name, that changes of definitions take no COMMIT lock of their own and are refused
--- under locked tables, that a savepoint outside a transaction is nothing, that going back releases what was gained since, whatever was
--- written, and leaves the transaction one that wrote, and that KILL QUERY is always done.
-use Rattle.std.specs.Prelude.{ℕ, Bool, not, nat_lt, List, [], ◌∷◌, ◌++◌, map, find, is_some, Option, Some, None, if◌then◌else◌}
+-- under locked tables, that LOCK TABLES has all its locks before it looks whether a table is missing, that a savepoint outside a
+-- transaction is nothing, that going back releases what was gained since, whatever was written, and leaves the transaction one that
+-- wrote, and that KILL QUERY is always done.
+use Rattle.std.specs.Prelude.{ℕ, Bool, true, false, not, ◌&&◌, nat_lt, List, [], ◌∷◌, ◌++◌, filter, map, find, is_some, Option, Some, None, if◌then◌else◌}
+use Rattle.std.specs.List.{list_any}
 use Rattle.mdl_key.specs.declared.mode.Mode.{Mode}
-use Rattle.mdl_key.specs.declared.mode.Mode.TheVariants.{IX, S, SR, SW, SWLP, X, SU, SNW, SNRW}
+use Rattle.mdl_key.specs.declared.mode.Mode.TheVariants.{IX, S, SR, SW, SWLP, X, SU, SNW, SNRW, SRO}
 use Rattle.mdl_key.specs.declared.mode.Duration.TheVariants as for
 use Rattle.mdl_key.specs.declared.namespace.Namespace.{Namespace}
 use Rattle.mdl_key.specs.declared.namespace.Namespace.TheVariants as of
@@ -24,10 +26,14 @@ use Rattle.mdl_defs.specs.Columns.{names_twice}
 use Rattle.mdl_syntax.specs.declared.statement.Algorithm.{Algorithm}
 use Rattle.mdl_syntax.specs.declared.statement.Algorithm.TheVariants.{Copy, Inplace}
 use Rattle.mdl_syntax.specs.declared.statement.Alteration.{Alteration}
+use Rattle.mdl_syntax.specs.declared.statement.LockType.{LockType}
+use Rattle.mdl_syntax.specs.declared.statement.LockType.TheVariants as to
 use Rattle.mdl_syntax.specs.declared.statement.Priority.{Priority}
 use Rattle.mdl_syntax.specs.declared.statement.Priority.TheVariants.{Normal, Low}
 use Rattle.mdl_syntax.specs.declared.statement.Statement.{Statement}
 use Rattle.mdl_syntax.specs.declared.statement.Statement.TheVariants as statement
+use Rattle.mdl_syntax.specs.declared.table_locks.TableLock.{TableLock}
+use Rattle.mdl_syntax.specs.Forms.{tables_of}
 use Rattle.mdl_context.specs.declared.request.Mark.{Mark}
 use Rattle.mdl_context.specs.Contexts.{beyond_mark, of_transaction}
 use Rattle.mdl_context.specs.Wishes.{Wish}
@@ -40,8 +46,8 @@ use Rattle.mdl_stmt.specs.declared.reply.Reply.TheVariants as reply
 use Rattle.mdl_stmt.specs.declared.reply.TableShown.{TableShown}
 use Rattle.mdl_stmt.specs.KeyOrder.{in_key_order}
 use Rattle.mdl_stmt.specs.LockLists.{ticket_of}
-use Rattle.mdl_stmt.specs.Rows.{Row, Act, Give, Fail, Acquire, ◌>>=◌, ◌>>◌, nothing, room, look, set, here, acquire, give_up, release, read, redefine, kill, check, acquire_all, for_each, upgrade, downgrade}
-use Rattle.mdl_stmt.specs.States.{has_locked, opened, closed, written, unlocked, with_commits_locked, with_savepoint, with_writes_locked, without_read_lock, savepoint_mark, up_to}
+use Rattle.mdl_stmt.specs.Rows.{Row, Act, Give, Fail, Acquire, ◌>>=◌, ◌>>◌, nothing, room, look, set, here, acquire, give_up, release, read, redefine, kill, check, acquire_all, for_each, upgrade, downgrade, keep}
+use Rattle.mdl_stmt.specs.States.{has_locked, opened, closed, written, unlocked, with_commits_locked, with_savepoint, with_writes_locked, without_read_lock, savepoint_mark, up_to, locking}
 
 -- ---- transactions
 
@@ -608,6 +614,73 @@ alter_after_commit alteration = do
   global ← Acquire (ddl_lock global_key) Give
   lock_schema_and_alter alteration
 
+-- ---- LOCK TABLES
+
+-- whether it is for writing
+abbrev pub is_write : LockType → Bool
+is_write to.Read = false
+is_write to.Write = true
+
+-- the tables that are locked for writing
+abbrev pub written_tables : List TableLock → List KeyName
+written_tables locks = tables_of (filter (λ (lock : TableLock). is_write lock.lock_type) locks)
+
+-- whether a table is among them
+abbrev pub may_write : List TableLock → KeyName → Bool
+may_write locks table = list_any (λ (lock : TableLock). is_write lock.lock_type && key_eq table lock.table) locks
+
+-- the lock of a table that LOCK TABLES names
+abbrev pub table_lock : List TableLock → KeyName → Wish
+table_lock locks table = record { key = table; mode = if may_write locks table then SNRW else SRO; duration = for.Transaction }
+
+-- whether any table is locked for writing
+abbrev pub writes_any : List TableLock → Bool
+writes_any locks = list_any (λ (lock : TableLock). is_write lock.lock_type) locks
+
+-- a session that has the global read lock locks no table for writing
+abbrev pub check_writes : Bool → Act
+check_writes true = no_read_lock
+check_writes false = nothing
+
+-- schemas behind the lock of all writes, where there are any
+abbrev pub with_global : List KeyName → List KeyName
+with_global [] = []
+with_global (schema ∷ schemas) = global_key ∷ schema ∷ schemas
+
+-- what is locked around tables that are locked for writing
+abbrev pub scopes_around : List KeyName → List KeyName
+scopes_around tables = with_global (in_key_order (map schema_of tables))
+
+-- tables with their tickets
+abbrev pub locked_by : List TableLock → List KeyName → List ℕ → List Locked
+locked_by locks (table ∷ tables) (ticket ∷ tickets) =
+    record { key = table; may_write = may_write locks table; ticket = ticket } ∷ locked_by locks tables tickets
+locked_by locks _ _ = []
+
+-- tables whose locks are had, and these of their scopes, stay locked until the session gives them up
+abbrev pub keep_locked : List TableLock → List KeyName → List ℕ → List ℕ → Row Reply
+keep_locked locks tables scopes tickets = do
+  for_each stands tickets
+  room
+  keep
+  set (locking (locked_by locks tables tickets) scopes)
+  Give reply.Ok
+
+-- tables are locked under the locks of their scopes, all of them before the first is looked at
+abbrev pub lock_named : List TableLock → List ℕ → Row Reply
+lock_named locks scopes = do
+  room
+  tickets ← acquire_all (map (table_lock locks) (in_key_order (tables_of locks)))
+  keep_locked locks (in_key_order (tables_of locks)) scopes tickets
+
+-- LOCK TABLES, once no transaction is open: tables that were locked before are given up
+abbrev pub lock_tables_after_commit : List TableLock → Row Reply
+lock_tables_after_commit locks = do
+  unlock_tables
+  room
+  scopes ← acquire_all (map ddl_lock (scopes_around (written_tables locks)))
+  lock_named locks scopes
+
 -- ---- the table
 
 -- an open transaction is committed first
@@ -636,6 +709,10 @@ alter_first table rest = do
   state ← look
   if has_locked state.locked then alter_among_locked table rest else commit_first rest
 
+-- and before tables are locked
+abbrev pub lock_first : List TableLock → Row Reply → Row Reply
+lock_first locks rest = check_writes (writes_any locks) >> commit_first rest
+
 -- what is left of a statement once no transaction is open that it has to commit
 abbrev pub after_commit : Statement → Row Reply
 after_commit statement.Begin = begin_after_commit
@@ -645,6 +722,7 @@ after_commit (statement.DropTables tables) = drop_after_commit tables
 after_commit (statement.RenameTable from to) = rename_after_commit from to
 after_commit statement.FlushTablesWithReadLock = flush_after_commit
 after_commit (statement.AlterTable alteration) = alter_after_commit alteration
+after_commit (statement.LockTables locks) = lock_tables_after_commit locks
 after_commit _ = Give reply.Ok
 
 -- what a statement does
@@ -663,5 +741,6 @@ row_of (statement.RenameTable from to) = ddl_first (rename_after_commit from to)
 row_of statement.UnlockTables = unlock
 row_of statement.FlushTablesWithReadLock = flush_first flush_after_commit
 row_of (statement.AlterTable alteration) = alter_first alteration.table (alter_after_commit alteration)
+row_of (statement.LockTables locks) = lock_first locks (lock_tables_after_commit locks)
 row_of (statement.KillQuery target) = kill target >> Give reply.Ok
 row_of statement.Timeout = Give reply.Ok

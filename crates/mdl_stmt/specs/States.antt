@@ -34,9 +34,9 @@ has_locked (table ∷ tables) = true
 abbrev pub at_first : State
 at_first = record { is_open = false; has_written = false; savepoints = []; locked = []; scopes = []; read_lock = None }
 
--- with a transaction that did nothing yet
+-- with a transaction that did nothing yet, and without locked tables
 abbrev pub opened : State → State
-opened state = record state { is_open = true }
+opened state = record state { is_open = true; locked = []; scopes = [] }
 
 -- without one
 abbrev pub closed : State → State
@@ -74,6 +74,10 @@ lone_ticket (Some lock) = if is_some lock.commit then None else Some lock.global
 -- that of a session that is about to get the global read lock: no transaction is open meanwhile
 abbrev pub half_lock : State → Option ℕ
 half_lock state = if state.is_open then None else lone_ticket state.read_lock
+
+-- with these tables locked, and these tickets of their scopes, and without a transaction
+abbrev pub locking : List Locked → List ℕ → State → State
+locking locked scopes state = record (closed state) { locked = locked; scopes = scopes }
 
 -- whether a savepoint has this name
 abbrev pub is_named : List ℕ → Savepoint → Bool

@@ -1,22 +1,20 @@
 //! DROP TABLE.
-ghost use Rattle.std.specs.Prelude.{◌≡◌, ◌<◌, ◌∷◌, ◌++◌, None, map, length};
+ghost use Rattle.std.specs.Prelude.{◌≡◌, None};
 ghost use Rattle.mdl_context.specs.Contexts.{Attends, LeavesOthers};
 ghost use Rattle.mdl_defs.specs.declared.change.Change.TheVariants as change;
-ghost use Rattle.mdl_stmt.specs.Gets.{IsPlayed, IsStep, IsListed, KeepsKeys, IdleUnlessPlayed, IdleUnlessListed};
-ghost use Rattle.mdl_stmt.specs.Rows.{acquire_all, for_each, redefine};
+ghost use Rattle.mdl_stmt.specs.Gets.{IsPlayed, IsStep, IdleUnlessPlayed};
+ghost use Rattle.mdl_stmt.specs.Rows.{for_each, redefine};
 ghost use Rattle.mdl_stmt.specs.Stages.{lock_rest};
-ghost use Rattle.mdl_stmt.specs.Statements.{ddl_lock, drop_after_commit, lock_and_drop, drop_under, can_change, stands};
+ghost use Rattle.mdl_stmt.specs.Statements.{drop_after_commit, lock_and_drop, drop_under, can_change, stands};
 
 use crate::creating::MOST_VERSIONS;
-use crate::ending::{Ending, Got, Listed, Played};
+use crate::ending::{Ending, Listed, Played};
 use crate::key_lists::{in_key_order, scopes_of};
 use crate::player::Player;
 use crate::reading::failing;
 use crate::stage::{LockList, Stage};
 use crate::{ErrorNumber, Reply};
-use mdl_context::Request;
 use mdl_defs::Change;
-use mdl_key::{Duration, Key, Mode, Namespace};
 use mdl_space::{LockSpace, TicketId};
 use mdl_syntax::Tables;
 
@@ -94,34 +92,6 @@ impl<S: LockSpace> Player<S> {
         }
     }
 
-    /// Gets the locks that are left of a list.
-    pub(crate) fn lock_all(&mut self, space: &mut S, locks: LockList) -> Listed
-        requires attends { Attends S.speaks_for S.own S.knows space.old self.old.context }
-        requires idle { self.old.context.wait ≡ None }
-        ensures run { IsListed S.joins locks space.old self.old result space.new self.new }
-        ensures keys { KeepsKeys locks result }
-        ensures attends { Attends S.speaks_for S.own S.knows space.new self.new.context }
-        ensures others { LeavesOthers S.speaks_for S.own S.knows self.old.context.who space.old space.new }
-        ensures who { self.new.context.who ≡ self.old.context.who }
-        ensures idle { IdleUnlessListed result self.new }
-    {
-        let mut locks = locks;
-        while let Some(key) = locks.next() {
-            let mode = ddl_mode(key);
-            let request = Request {
-                key,
-                mode,
-                duration: ddl_duration(key),
-            };
-            match self.get(space, request) {
-                Got::Had(ticket) => locks = locks.with(ticket),
-                Got::Waits(key) => return Listed::Waits(key, mode, locks),
-                Got::Ends(ending) => return Listed::Ends(ending),
-            }
-        }
-        Listed::Had(locks)
-    }
-
     /// Drops tables under their locks: all, or none where one is missing.
     fn drop_under<'s>(&mut self, space: &mut S, tickets: &[TicketId]) -> Played<'s>
         requires attends { Attends S.speaks_for S.own S.knows space.old self.old.context }
@@ -145,7 +115,7 @@ impl<S: LockSpace> Player<S> {
     }
 
     /// Looks whether there are all these tables.
-    fn all_stand(&mut self, space: &mut S, tickets: &[TicketId]) -> Result<(), Ending>
+    pub(crate) fn all_stand(&mut self, space: &mut S, tickets: &[TicketId]) -> Result<(), Ending>
         requires attends { Attends S.speaks_for S.own S.knows space.old self.old.context }
         requires idle { self.old.context.wait ≡ None }
         ensures run { IsStep S.joins (for_each stands tickets.now) space.old self.old result space.new self.new }
@@ -237,25 +207,5 @@ impl<S: LockSpace> Player<S> {
             }
         }
         Ok(())
-    }
-}
-
-/// The mode in which DDL locks a key.
-fn ddl_mode(key: &Key) -> Mode
-    ensures { result ≡ (ddl_lock key.now).mode }
-{
-    match key.namespace() {
-        Namespace::Table => Mode::X,
-        _ => Mode::IX,
-    }
-}
-
-/// For how long DDL locks a key.
-fn ddl_duration(key: &Key) -> Duration
-    ensures { result ≡ (ddl_lock key.now).duration }
-{
-    match key.namespace() {
-        Namespace::Global => Duration::Statement,
-        _ => Duration::Transaction,
     }
 }

@@ -143,6 +143,14 @@ impl ExplicitLocks {
         &self.scopes
     }
 
+    /// These tables are locked, in place of those that were.
+    pub(crate) fn lock(&mut self, locked: Vec<Locked>, scopes: Vec<TicketId>)
+        ensures { self.new ≡ record self.old { locked = locked.items; scopes = scopes.items } }
+    {
+        self.locked = locked;
+        self.scopes = scopes;
+    }
+
     /// No table is locked any more.
     pub(crate) fn clear_tables(&mut self)
         ensures { self.new ≡ record self.old { locked = []; scopes = [] } }

@@ -10,6 +10,8 @@ mod error_number;
 mod explicit;
 mod flushing;
 mod key_lists;
+mod lock_loops;
+mod locking;
 mod memory_laws;
 mod out_of_memory;
 mod performing;

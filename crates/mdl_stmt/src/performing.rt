@@ -38,6 +38,7 @@ impl<S: LockSpace> Player<S> {
             Statement::AlterTable(alteration) => {
                 self.alter_first(space, &alteration.table, statement)
             }
+            Statement::LockTables(tables) => self.lock_first(space, statement, tables),
             Statement::Rollback => {
                 self.rollback(space);
                 Played::Ends(Ending::Answers(Reply::Ok))
@@ -133,6 +134,12 @@ impl<S: LockSpace> Player<S> {
             Stage::ChangeTable(alteration) => self.change_table(space, alteration, ticket),
             Stage::AlterLocked(alteration) => self.alter_locked_under(space, alteration, ticket),
             Stage::ChangeLocked(alteration) => self.change_and_lower(space, alteration, ticket),
+            Stage::LockScopes(tables, locks) => {
+                self.lock_around(space, tables, locks.with(ticket))
+            }
+            Stage::LockTables(tables, scopes, locks) => {
+                self.lock_each_named(space, tables, scopes, locks.with(ticket))
+            }
         }
     }
 

@@ -8,7 +8,7 @@ use crate::TablesShown;
 use mdl_defs::Columns;
 use mdl_key::Key;
 use mdl_space::TicketId;
-use mdl_syntax::{Alteration, Name, Priority, Statement, Tables};
+use mdl_syntax::{Alteration, Name, Priority, Statement, Tables, TableLocks};
 use std::alloc::{AllocError, Global};
 use std::marker::Model;
 
@@ -71,12 +71,35 @@ impl LockList {
         }
     }
 
+    /// The keys.
+    pub fn keys(&self) -> &[Key]
+        ensures { result.now ≡ self.now.keys }
+    {
+        &self.keys
+    }
+
     /// The tickets.
     pub fn tickets(&self) -> &[TicketId]
         ensures { result.now ≡ self.now.tickets }
     {
         &self.tickets
     }
+
+    /// The tickets alone.
+    pub fn into_tickets(self) -> Vec<TicketId>
+        ensures { result.items ≡ self.tickets }
+    {
+        self.tickets
+    }
+}
+
+/// What the locks of a list are for.
+#[derive(Clone, Copy)]
+pub enum Locking<'s> {
+    /// A change of definitions.
+    Ddl,
+    /// LOCK TABLES, which names these.
+    Tables(&'s TableLocks),
 }
 
 // The place of a key.
@@ -137,4 +160,8 @@ pub enum Stage<'s> {
     AlterLocked(&'s Alteration),
     /// The clone raised against all others, for the change.
     ChangeLocked(&'s Alteration),
+    /// The lock of all writes or that of a schema, for tables to be locked for writing.
+    LockScopes(&'s TableLocks, LockList),
+    /// The lock of a table that is to be locked, under these locks of scopes.
+    LockTables(&'s TableLocks, Vec<TicketId>, LockList),
 }

@@ -126,6 +126,7 @@ impl<S: LockSpace> Player<S> {
             Statement::RenameTable { from, to } => self.rename(space, from, to),
             Statement::FlushTablesWithReadLock => self.flush_after_commit(space),
             Statement::AlterTable(alteration) => self.alter(space, alteration),
+            Statement::LockTables(tables) => self.lock_these(space, tables),
             _ => Played::Ends(Ending::Answers(Reply::Ok)),
         }
     }

@@ -1,5 +1,5 @@
 //! UNLOCK TABLES, and what else a session gives up that it has kept until then.
-ghost use Rattle.std.specs.Prelude.{◌≡◌, None, Ok, map};
+ghost use Rattle.std.specs.Prelude.{◌≡◌, [], None, Ok, map};
 ghost use Rattle.mdl_context.specs.Contexts.{Attends, LeavesOthers};
 ghost use Rattle.mdl_stmt.specs.Gets.{IsPlayed, IsStep};
 ghost use Rattle.mdl_stmt.specs.Rows.{for_each, release};
@@ -24,6 +24,7 @@ impl<S: LockSpace> Player<S> {
         ensures others { LeavesOthers S.speaks_for S.own S.knows self.old.context.who space.old space.new }
         ensures who { self.new.context.who ≡ self.old.context.who }
         ensures idle { self.new.context.wait ≡ None }
+        ensures unlocked { (self.new.state.locked ≡ []) × (self.new.state.scopes ≡ []) }
     {
         release_tables(&mut self.context, space, self.explicit.tables());
         release_each(&mut self.context, space, self.explicit.scopes());

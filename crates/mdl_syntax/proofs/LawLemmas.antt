@@ -1,12 +1,12 @@
 -- What is read of a script is within its limits, and in order.
-use Rattle.std.proofs.Common.{◌≡◌, ℕ, ◌+◌, ◌≤◌, ◌<◌, Bool, true, false, cond, List, [], ◌∷◌, ◌++◌, length, nat_le, nat_lt, codes, refl, arith, rules}
+use Rattle.std.proofs.Common.{◌≡◌, ℕ, ◌+◌, ◌≤◌, ◌<◌, Bool, true, false, cond, List, [], ◌∷◌, ◌++◌, length, nat_le, nat_lt, codes, refl, sym, subst, arith, rules}
 use Rattle.std.specs.Prelude.{Option, Some, None, Result, Ok, Err, IfOk, IfSome}
 use Rattle.std.specs.List.{after_first, All, AllByRecursion, before_first, IsDistinct, list_any, position_or_len}
 use Rattle.std.specs.Option.{option_and_then, option_map}
 use Rattle.std.specs.Cmp.{IsEquivalence}
 use Rattle.std.specs.Cmp.Rules.{comparing}
 use Rattle.std.proofs.lemmas.Bool.{leb-false}
-use Rattle.std.proofs.lemmas.List.{length-append}
+use Rattle.std.proofs.lemmas.List.{length-append, map-append}
 use Rattle.std.proofs.lemmas.List.Elements.{All-append, All-cons, All-nil}
 use Rattle.std.proofs.lemmas.Map.Keys.{IsDistinct-push}
 use Rattle.mdl_key.specs.declared.key_error.KeyError.{KeyError}
@@ -24,12 +24,13 @@ use Rattle.mdl_syntax.specs.declared.statement.Statement.{Statement}
 use Rattle.mdl_syntax.specs.declared.statement.Alteration.{Alteration}
 use Rattle.mdl_syntax.specs.declared.statement.Priority.{Priority}
 use Rattle.mdl_syntax.specs.declared.statement.Priority.TheVariants.{Normal, Low}
-use Rattle.mdl_syntax.specs.declared.statement.Statement.TheVariants.{Begin, Commit, Rollback, Savepoint, RollbackTo, Select, Write, CreateTable, CreateSchema, DropTables, RenameTable, UnlockTables, FlushTablesWithReadLock, KillQuery, Timeout, AlterTable}
+use Rattle.mdl_syntax.specs.declared.statement.Statement.TheVariants.{Begin, Commit, Rollback, Savepoint, RollbackTo, Select, Write, CreateTable, CreateSchema, DropTables, RenameTable, UnlockTables, FlushTablesWithReadLock, KillQuery, Timeout, AlterTable, LockTables}
+use Rattle.mdl_syntax.specs.declared.table_locks.TableLock.{TableLock}
 use Rattle.mdl_syntax.specs.KeyWords.{behind}
 use Rattle.mdl_syntax.specs.Laws.{AreColumns, AreTables, IsColumnChange, IsName, IsTable, IsWithinLimits, RiseFrom}
 use Rattle.mdl_syntax.specs.Names.{is_dot, name_of, table_in, table_of, unless_fault}
 use Rattle.mdl_syntax.specs.Scripts.{line_says, lines_say, words_say}
-use Rattle.mdl_syntax.specs.Forms.{altered_by, alteration, and_then, column_and_algorithm, column_change, each_word, Form, forms, listed, makes, more_columns, more_tables, no_more, one_algorithm, one_name, one_session, one_table, one_word, or_refuse, other_table, read_behind, read_by, says_in, some_columns, some_tables, statement_of, table_and_columns, table_to_table, writes}
+use Rattle.mdl_syntax.specs.Forms.{altered_by, alteration, and_then, column_and_algorithm, column_change, each_word, Form, forms, listed, makes, more_columns, more_tables, no_more, one_algorithm, one_name, one_session, one_table, one_word, or_refuse, other_table, read_behind, read_by, says_in, some_columns, some_tables, statement_of, table_and_columns, table_to_table, writes, lock_type_of, more_locks, next_table, some_locks, tables_of}
 
 -- a line that says something says it with its number
 abbrev Numbered : ℕ → Line → Type 0
@@ -114,19 +115,23 @@ key_eq-laws = search (comparing, rules) depth 9
 abbrev FewTables : List KeyName → Type 0
 FewTables tables = (length tables ≤ 8) × IsDistinct key_eq tables × All IsTable tables
 
-more_tables-hold : (tables : List KeyName) (word : List ℕ) → FewTables tables → IfOk (more_tables tables word) AreTables
-more_tables-hold tables word few = by (nat_le 8 (length tables)) refl where
-  new_by : (table : KeyName) → IsTable table → length tables < 8 → (named : Bool) → list_any (key_eq table) tables ≡ named → IfOk (cond named (Err BadName) (Ok (tables ++ table ∷ []))) AreTables
+next_table-holds : (tables : List KeyName) (word : List ℕ) → FewTables tables → IfOk (next_table tables word) (λ table. AreTables (tables ++ table ∷ []))
+next_table-holds tables word few = by (nat_le 8 (length tables)) refl where
+  new_by : (table : KeyName) → IsTable table → length tables < 8 → (named : Bool) → list_any (key_eq table) tables ≡ named → IfOk (cond named (Err BadName) (Ok table)) (λ table. AreTables (tables ++ table ∷ []))
   new_by table is room true e = tt
   new_by table is room false e =
       let long = length-append tables (table ∷ []) in
       (omega (arith, long), omega (arith, long, room), IsDistinct-push key_eq-laws tables table few.1 e, All-append IsTable tables (table ∷ []) few.2 (All-cons IsTable table [] is (All-nil IsTable)))
 
-  by : (full : Bool) → nat_le 8 (length tables) ≡ full → IfOk (cond full (Err BadWord) (and_then (or_refuse BadName (table_of word)) (λ table. cond (list_any (key_eq table) tables) (Err BadName) (Ok (tables ++ table ∷ []))))) AreTables
+  by : (full : Bool) → nat_le 8 (length tables) ≡ full → IfOk (cond full (Err BadWord) (and_then (or_refuse BadName (table_of word)) (λ table. cond (list_any (key_eq table) tables) (Err BadName) (Ok table)))) (λ table. AreTables (tables ++ table ∷ []))
   by true e = tt
   by false e =
-      and_then-with IsTable AreTables (or_refuse BadName (table_of word)) _ (or_refuse-holds IsTable BadName (table_of word) (table_of-IsTable word))
+      and_then-with IsTable (λ table. AreTables (tables ++ table ∷ [])) (or_refuse BadName (table_of word)) _ (or_refuse-holds IsTable BadName (table_of word) (table_of-IsTable word))
       (λ table is. new_by table is (leb-false _ _ e) (list_any (key_eq table) tables) refl)
+
+more_tables-hold : (tables : List KeyName) (word : List ℕ) → FewTables tables → IfOk (more_tables tables word) AreTables
+more_tables-hold tables word few =
+    and_then-with (λ table. AreTables (tables ++ table ∷ [])) AreTables (next_table tables word) (λ table. Ok (tables ++ table ∷ [])) (next_table-holds tables word few) (λ table are. are)
 
 none-distinct : IsDistinct key_eq []
 unfolding IsDistinct
@@ -134,6 +139,30 @@ none-distinct = tt
 
 some_tables-hold : (words : List (List ℕ)) → IfOk (some_tables words) AreTables
 some_tables-hold words = listed-holds FewTables AreTables more_tables (λ tables h. (h.1, h.2, h.3)) more_tables-hold (omega arith, none-distinct, All-nil IsTable) words
+
+-- tables that are to be locked
+abbrev AreLocks : List TableLock → Type 0
+AreLocks locks = AreTables (tables_of locks)
+
+one-lock : (locks : List TableLock) (word : List ℕ) → IfOk (more_locks locks (word ∷ [])) AreLocks
+one-lock locks word = and_then-holds AreLocks (next_table (tables_of locks) word) (λ table. Err BadWord) (λ table. tt)
+
+next-lock : (locks : List TableLock) (word behind : List ℕ) (words : List (List ℕ)) → ((more : List TableLock) → AreLocks more → IfOk (more_locks more words) AreLocks) → FewTables (tables_of locks) → IfOk (more_locks locks (word ∷ behind ∷ words)) AreLocks
+next-lock locks word behind words so few =
+    and_then-with (λ table. AreTables (tables_of locks ++ table ∷ [])) AreLocks (next_table (tables_of locks) word) _ (next_table-holds (tables_of locks) word few) (λ table are.
+    and_then-holds AreLocks (or_refuse BadWord (lock_type_of behind)) _ (λ lock_type.
+    let lock : TableLock = record { table = table; lock_type = lock_type } in
+    so (locks ++ lock ∷ []) (subst AreTables (sym (map-append (λ (l : TableLock). l.table) locks (lock ∷ []))) are)))
+
+more_locks-hold : (locks : List TableLock) (words : List (List ℕ)) → AreLocks locks → IfOk (more_locks locks words) AreLocks
+more_locks-hold locks [] h = h
+more_locks-hold locks (word ∷ []) h = one-lock locks word
+more_locks-hold locks (word ∷ behind ∷ words) h = next-lock locks word behind words (λ more are. more_locks-hold more words are) (h.1, h.2, h.3)
+
+some_locks-hold : (words : List (List ℕ)) → IfOk (some_locks words) AreLocks
+some_locks-hold [] = tt
+some_locks-hold (word ∷ []) = one-lock [] word
+some_locks-hold (word ∷ behind ∷ words) = next-lock [] word behind words (λ more are. more_locks-hold more words are) (omega arith, none-distinct, All-nil IsTable)
 
 abbrev FewColumns : List (List ℕ) → Type 0
 FewColumns columns = (length columns ≤ 64) × All IsName columns

@@ -1,5 +1,6 @@
 pub mod FormLemmas
 pub mod LawLemmas
+pub mod LockLemmas
 pub mod NameLemmas
 pub mod Reading
 pub mod ResultLemmas

@@ -1,6 +1,6 @@
 -- The forms of statements: key words, and what may stand behind them. The script language is this project's own. Words are
 -- read from left to right, and the first fault counts.
-use Rattle.std.specs.Prelude.{ℕ, nat_le, List, [], ◌∷◌, ◌++◌, length, codes, Option, Some, None, Result, Ok, Err, if◌then◌else◌}
+use Rattle.std.specs.Prelude.{ℕ, nat_le, List, [], ◌∷◌, ◌++◌, length, codes, Option, Some, None, Result, Ok, Err, if◌then◌else◌, map}
 use Rattle.std.specs.Option.{option_and_then}
 use Rattle.std.specs.List.{list_any}
 use Rattle.mdl_key.specs.Keys.{KeyName, key_eq}
@@ -13,10 +13,13 @@ use Rattle.mdl_lines.specs.Sessions.{session_of}
 use Rattle.mdl_syntax.specs.declared.statement.Algorithm.{Algorithm}
 use Rattle.mdl_syntax.specs.declared.statement.Algorithm.TheVariants.{Copy, Inplace}
 use Rattle.mdl_syntax.specs.declared.statement.Alteration.{Alteration}
+use Rattle.mdl_syntax.specs.declared.statement.LockType.{LockType}
+use Rattle.mdl_syntax.specs.declared.statement.LockType.TheVariants as to
 use Rattle.mdl_syntax.specs.declared.statement.Priority.{Priority}
 use Rattle.mdl_syntax.specs.declared.statement.Priority.TheVariants.{Normal, Low}
 use Rattle.mdl_syntax.specs.declared.statement.Statement.{Statement}
-use Rattle.mdl_syntax.specs.declared.statement.Statement.TheVariants.{Begin, Commit, Rollback, Savepoint, RollbackTo, Select, Write, CreateTable, CreateSchema, DropTables, RenameTable, UnlockTables, FlushTablesWithReadLock, KillQuery, Timeout, AlterTable}
+use Rattle.mdl_syntax.specs.declared.statement.Statement.TheVariants.{Begin, Commit, Rollback, Savepoint, RollbackTo, Select, Write, CreateTable, CreateSchema, DropTables, RenameTable, UnlockTables, FlushTablesWithReadLock, KillQuery, Timeout, AlterTable, LockTables}
+use Rattle.mdl_syntax.specs.declared.table_locks.TableLock.{TableLock}
 use Rattle.mdl_syntax.specs.KeyWords.{behind}
 use Rattle.mdl_syntax.specs.Names.{name_of, table_of}
 
@@ -52,11 +55,15 @@ one_table = one_word BadName table_of
 abbrev pub one_session : List (List ℕ) → Result ℕ LineError
 one_session = one_word BadSession session_of
 
--- one table more than these: a ninth is a word too many, and none is named twice
-abbrev pub more_tables : List KeyName → List ℕ → Result (List KeyName) LineError
-more_tables tables word =
+-- one table behind these: a ninth is a word too many, and none is named twice
+abbrev pub next_table : List KeyName → List ℕ → Result KeyName LineError
+next_table tables word =
     if nat_le 8 (length tables) then Err BadWord
-    else and_then (or_refuse BadName (table_of word)) (λ table. if list_any (key_eq table) tables then Err BadName else Ok (tables ++ table ∷ []))
+    else and_then (or_refuse BadName (table_of word)) (λ table. if list_any (key_eq table) tables then Err BadName else Ok table)
+
+-- one table more than these
+abbrev pub more_tables : List KeyName → List ℕ → Result (List KeyName) LineError
+more_tables tables word = and_then (next_table tables word) (λ table. Ok (tables ++ table ∷ []))
 
 -- one column more than these: a 65th is a word too many
 abbrev pub more_columns : List (List ℕ) → List ℕ → Result (List (List ℕ)) LineError
@@ -77,6 +84,27 @@ listed adds (word ∷ words) = each_word adds [] (word ∷ words)
 -- tables
 abbrev pub some_tables : List (List ℕ) → Result (List KeyName) LineError
 some_tables = listed more_tables
+
+-- what a word says that a table is locked for
+abbrev pub lock_type_of : List ℕ → Option LockType
+lock_type_of word = if same_text word (codes "READ") then Some to.Read else if same_text word (codes "WRITE") then Some to.Write else None
+
+-- the tables that are to be locked
+abbrev pub tables_of : List TableLock → List KeyName
+tables_of locks = map (λ lock. lock.table) locks
+
+-- tables that are to be locked, behind these: behind each stands what it is locked for
+abbrev pub more_locks : List TableLock → List (List ℕ) → Result (List TableLock) LineError
+more_locks locks [] = Ok locks
+more_locks locks (word ∷ []) = and_then (next_table (tables_of locks) word) (λ table. Err BadWord)
+more_locks locks (word ∷ behind ∷ words) =
+    and_then (next_table (tables_of locks) word) (λ table. and_then (or_refuse BadWord (lock_type_of behind))
+    (λ lock_type. more_locks (locks ++ record { table = table; lock_type = lock_type } ∷ []) words))
+
+-- at least one table that is to be locked
+abbrev pub some_locks : List (List ℕ) → Result (List TableLock) LineError
+some_locks [] = Err BadWord
+some_locks (word ∷ words) = more_locks [] (word ∷ words)
 
 -- columns
 abbrev pub some_columns : List (List ℕ) → Result (List (List ℕ)) LineError
@@ -178,6 +206,7 @@ forms =
     ∷ form (codes "UNLOCK TABLES") (no_more UnlockTables)
     ∷ form (codes "FLUSH TABLES WITH READ LOCK") (no_more FlushTablesWithReadLock)
     ∷ form (codes "ALTER TABLE") (makes AlterTable alteration)
+    ∷ form (codes "LOCK TABLES") (makes LockTables some_locks)
     ∷ form (codes "KILL QUERY") (makes KillQuery one_session)
     ∷ form (codes "TIMEOUT") (no_more Timeout)
     ∷ []

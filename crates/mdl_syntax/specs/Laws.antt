@@ -8,7 +8,8 @@ use Rattle.mdl_defs.specs.declared.change.Change.TheVariants.{AddColumn, DropCol
 use Rattle.mdl_lines.specs.Sessions.{IsScriptSession}
 use Rattle.mdl_syntax.specs.declared.script.Line.{Line}
 use Rattle.mdl_syntax.specs.declared.statement.Statement.{Statement}
-use Rattle.mdl_syntax.specs.declared.statement.Statement.TheVariants.{Begin, Commit, Rollback, Savepoint, RollbackTo, Select, Write, CreateTable, CreateSchema, DropTables, RenameTable, UnlockTables, FlushTablesWithReadLock, KillQuery, Timeout, AlterTable}
+use Rattle.mdl_syntax.specs.declared.statement.Statement.TheVariants.{Begin, Commit, Rollback, Savepoint, RollbackTo, Select, Write, CreateTable, CreateSchema, DropTables, RenameTable, UnlockTables, FlushTablesWithReadLock, KillQuery, Timeout, AlterTable, LockTables}
+use Rattle.mdl_syntax.specs.Forms.{tables_of}
 use Rattle.mdl_syntax.specs.Scripts.{parsed}
 
 -- a name of 1 to 64 bytes of a-z, 0-9 and _
@@ -49,6 +50,7 @@ IsWithinLimits (RenameTable from to) = IsTable from × IsTable to × (key_eq fro
 IsWithinLimits UnlockTables = Unit {0}
 IsWithinLimits FlushTablesWithReadLock = Unit {0}
 IsWithinLimits (AlterTable alteration) = IsTable alteration.table × IsColumnChange alteration.change
+IsWithinLimits (LockTables locks) = AreTables (tables_of locks)
 IsWithinLimits (KillQuery session) = IsScriptSession session
 IsWithinLimits Timeout = Unit {0}
 

@@ -2,12 +2,13 @@
 use Rattle.std.specs.Prelude.{◌≡◌, ℕ, List, [], ◌∷◌, codes, Result, Ok, Err, IsOk}
 use Rattle.mdl_lines.specs.declared.fault.LineError.{LineError}
 use Rattle.mdl_lines.specs.declared.fault.LineError.TheVariants.{BadWord}
+use Rattle.mdl_syntax.specs.declared.statement.LockType.{LockType}
 use Rattle.mdl_syntax.specs.declared.no_statement.NoStatement.{NoStatement}
 use Rattle.mdl_syntax.specs.declared.no_statement.NoStatement.TheVariants.{Refused, Memory}
 use Rattle.mdl_syntax.specs.declared.statement.Priority.TheVariants.{Normal, Low}
 use Rattle.mdl_syntax.specs.declared.statement.Statement.{Statement}
-use Rattle.mdl_syntax.specs.declared.statement.Statement.TheVariants.{CreateTable, CreateSchema, RenameTable, UnlockTables, FlushTablesWithReadLock}
-use Rattle.mdl_syntax.specs.Forms.{form, makes, no_more, one_name, read_by, table_and_columns, table_to_table, writes}
+use Rattle.mdl_syntax.specs.declared.statement.Statement.TheVariants.{CreateTable, CreateSchema, RenameTable, UnlockTables, FlushTablesWithReadLock, LockTables}
+use Rattle.mdl_syntax.specs.Forms.{form, makes, no_more, one_name, read_by, table_and_columns, table_to_table, writes, and_then, lock_type_of, or_refuse, some_locks}
 use Rattle.mdl_syntax.specs.KeyWords.{behind}
 
 -- words that say this are read so: what is refused is told as refused, whether or not there is memory
@@ -38,3 +39,11 @@ unlock_of words = read_by (form (codes "TABLES") (no_more UnlockTables)) (behind
 abbrev pub flush_of : List (List ℕ) → Result Statement LineError
 flush_of words =
     read_by (form (codes "TABLES WITH READ LOCK") (no_more FlushTablesWithReadLock)) (behind (codes "TABLES" ∷ codes "WITH" ∷ codes "READ" ∷ codes "LOCK" ∷ []) words) (Err BadWord)
+-- what the words behind LOCK say
+abbrev pub lock_of : List (List ℕ) → Result Statement LineError
+lock_of words = read_by (form (codes "TABLES") (makes LockTables some_locks)) (behind (codes "TABLES" ∷ []) words) (Err BadWord)
+
+-- what the first word says that a table is locked for, and the words behind it
+abbrev pub next_lock_type : List (List ℕ) → Result (LockType × List (List ℕ)) LineError
+next_lock_type [] = Err BadWord
+next_lock_type (word ∷ words) = and_then (or_refuse BadWord (lock_type_of word)) (λ lock_type. Ok (lock_type, words))

@@ -1,16 +1,16 @@
 //! The forms of statements: key words, and what stands behind them.
-ghost use Rattle.std.specs.Prelude.{◌≡◌, ◌++◌, ◌∷◌, [], Err, map, IfOk};
+ghost use Rattle.std.specs.Prelude.{◌≡◌, ◌<◌, ◌++◌, ◌∷◌, [], Ok, Err, length, map, IfOk, MatchResult};
 ghost use Rattle.mdl_key.specs.Keys.{table_key};
 ghost use Rattle.mdl_lines.specs.Lines.{words_of};
 ghost use Rattle.mdl_syntax.specs.declared.statement.Statement.TheVariants.{Savepoint, RollbackTo, CreateTable, RenameTable, AlterTable, KillQuery};
 ghost use Rattle.mdl_syntax.specs.Forms as forms;
-ghost use Rattle.mdl_syntax.specs.Reading.{ReadsAs, create_of, rename_of, flush_of, unlock_of, write_of};
+ghost use Rattle.mdl_syntax.specs.Reading.{ReadsAs, create_of, rename_of, flush_of, unlock_of, write_of, lock_of, next_lock_type};
 
 use crate::key_words::behind;
 use crate::no_statement::NoStatement;
 use crate::table_names::{TableName, TableNames, name_of, other_table, table_of};
 use crate::words::split_word;
-use crate::{Algorithm, Alteration, Name, Priority, Statement, Tables};
+use crate::{Algorithm, Alteration, Name, Priority, Statement, Tables, LockType, TableLock, TableLocks};
 use mdl_defs::{Change, Column, Columns};
 use mdl_key::Key;
 use mdl_lines::{LineError, session_of};
@@ -56,6 +56,7 @@ pub(crate) fn statement_of(alloc: Global, words: &[u8]) -> Result<Statement, NoS
             Some(rest) => alter_table(alloc, rest),
             None => bad_word(),
         },
+        "LOCK" => lock_tables(alloc, rest),
         "KILL" => match behind("QUERY", rest) {
             Some(rest) => kill_query(rest),
             None => bad_word(),
@@ -363,6 +364,79 @@ fn algorithm_of(word: &[u8]) -> Option<Algorithm>
         return Some(Algorithm::Copy);
     }
     (word == b"INPLACE".as_slice()).then_some(Algorithm::Inplace)
+}
+
+// Tables to lock.
+fn lock_tables(alloc: Global, words: &[u8]) -> Result<Statement, NoStatement>
+    ensures { ReadsAs (lock_of (words_of words.now)) result }
+{
+    match behind("TABLES", words) {
+        Some(rest) => Ok(Statement::LockTables(some_locks(alloc, rest)?)),
+        None => bad_word(),
+    }
+}
+
+// Tables, and behind each what it is locked for. Where one finds no room, those behind it are looked at all the same.
+fn some_locks(alloc: Global, words: &[u8]) -> Result<TableLocks, NoStatement>
+    ensures { ReadsAs (forms.some_locks (words_of words.now)) result }
+{
+    let mut names = TableNames::none();
+    let mut locks = TableLocks::new(alloc);
+    let mut has_room = true;
+    let mut left = words;
+    while let Some((word, rest)) = split_word(left) {
+        let name = names.add(word)?;
+        let (lock_type, rest) = one_lock_type(rest)?;
+        has_room = has_room && push_lock(alloc, &mut locks, &name, lock_type).is_ok();
+        left = rest;
+    }
+    if names.as_slice().is_empty() {
+        return Err(NoStatement::Refused(LineError::BadWord));
+    }
+    if !has_room {
+        return Err(NoStatement::Memory);
+    }
+    Ok(locks)
+}
+
+// What the first word says that a table is locked for, and the words behind it.
+fn one_lock_type(words: &[u8]) -> Result<(LockType, &[u8]), LineError>
+    ensures said { MatchResult result (λ found. next_lock_type (words_of words.now) ≡ Ok (found.0, words_of found.1.now)) (λ error. next_lock_type (words_of words.now) ≡ Err error) }
+    ensures shorter { IfOk result (λ found. length found.1.now < length words.now) }
+{
+    let Some((word, rest)) = split_word(words) else {
+        return Err(LineError::BadWord);
+    };
+    match lock_type_of(word) {
+        Some(lock_type) => Ok((lock_type, rest)),
+        None => Err(LineError::BadWord),
+    }
+}
+
+// What a word says that a table is locked for.
+fn lock_type_of(word: &[u8]) -> Option<LockType>
+    ensures { result ≡ forms.lock_type_of word.now }
+{
+    if word == "READ".as_bytes() {
+        return Some(LockType::Read);
+    }
+    if word == "WRITE".as_bytes() {
+        return Some(LockType::Write);
+    }
+    None
+}
+
+// Puts a table last, whose name was looked at.
+fn push_lock(
+    alloc: Global,
+    locks: &mut TableLocks,
+    name: &TableName,
+    lock_type: LockType,
+) -> Result<(), AllocError>
+    ensures { IfOk result (λ _. locks.new ≡ locks.old ++ record { table = table_key name.now.schema.now name.now.table.now; lock_type = lock_type } ∷ []) }
+{
+    let table = key_of(alloc, name)?;
+    locks.push(TableLock { table, lock_type })
 }
 
 // A session to kill.

@@ -1,5 +1,5 @@
 //! Statements.
-use crate::{Name, Tables};
+use crate::{Name, TableLocks, Tables};
 use mdl_defs::{Change, Columns};
 use mdl_key::Key;
 
@@ -49,6 +49,8 @@ pub enum Statement {
     FlushTablesWithReadLock,
     /// `ALTER TABLE`.
     AlterTable(Alteration),
+    /// `LOCK TABLES` of 1 to 8 tables.
+    LockTables(TableLocks),
     /// `KILL QUERY` of a session, from 1 to 64.
     KillQuery(u16),
     /// `TIMEOUT`: the session gives up its own wait.
@@ -73,6 +75,15 @@ pub enum Algorithm {
     Copy,
     /// It is altered where it stands, while it can be read and written.
     Inplace,
+}
+
+/// What a table is locked for.
+#[derive(Clone, Copy, Debug, PartialEq, Eq)]
+pub enum LockType {
+    /// To be read: `READ`.
+    Read,
+    /// To be read and written: `WRITE`.
+    Write,
 }
 
 /// How a write stands behind reads that wait.

@@ -1,11 +1,11 @@
 //! The names that words write, before memory is taken for them.
-ghost use Rattle.std.specs.Prelude.{◌≡◌, ◌<◌, ◌≤◌, List, Some, None, Ok, Err, length, map, position, take, MatchOption, MatchResult};
+ghost use Rattle.std.specs.Prelude.{◌≡◌, ◌<◌, ◌≤◌, ◌++◌, ◌∷◌, [], List, Some, None, Ok, Err, length, map, position, take, MatchOption, MatchResult};
 ghost use Rattle.std.specs.List.{list_any};
 ghost use Rattle.mdl_key.specs.Keys.{KeyName, key_eq, table_key};
 ghost use Rattle.mdl_lines.specs.Lines.{words_of};
 ghost use Rattle.mdl_syntax.specs.Names.{is_dot, name_of, table_in, table_of};
 ghost use Rattle.mdl_lines.specs.declared.fault.LineError.TheVariants.{BadName};
-ghost use Rattle.mdl_syntax.specs.Forms.{more_tables, listed, one_word, other_table};
+ghost use Rattle.mdl_syntax.specs.Forms.{more_tables, listed, one_word, other_table, next_table};
 
 use crate::words::split_word;
 use mdl_key::check_name;
@@ -111,17 +111,24 @@ impl<'a> Model for TableNames<'a> {
 }
 
 impl<'a> TableNames<'a> {
-    /// The tables that words name.
-    pub(crate) fn read(words: &'a [u8]) -> Result<TableNames<'a>, LineError>
-        ensures { MatchResult result (λ tables. listed more_tables (words_of words.now) ≡ Ok tables) (λ error. listed more_tables (words_of words.now) ≡ Err error) }
+    /// No tables.
+    pub(crate) fn none() -> TableNames<'a>
+        ensures { result ≡ [] }
     {
-        let mut tables = TableNames {
+        TableNames {
             names: [TableName {
                 schema: "",
                 table: "",
             }; MOST_TABLES],
             count: 0,
-        };
+        }
+    }
+
+    /// The tables that words name.
+    pub(crate) fn read(words: &'a [u8]) -> Result<TableNames<'a>, LineError>
+        ensures { MatchResult result (λ tables. listed more_tables (words_of words.now) ≡ Ok tables) (λ error. listed more_tables (words_of words.now) ≡ Err error) }
+    {
+        let mut tables = TableNames::none();
         let mut left = words;
         while let Some((word, rest)) = split_word(left) {
             tables.add(word)?;
@@ -133,9 +140,11 @@ impl<'a> TableNames<'a> {
         Ok(tables)
     }
 
-    // One more, which a word names.
-    fn add(&mut self, word: &'a [u8]) -> Result<(), LineError>
-        ensures { MatchResult result (λ _. more_tables self.old word.now ≡ Ok self.new) (λ error. more_tables self.old word.now ≡ Err error) }
+    /// One more, which a word names.
+    pub(crate) fn add(&mut self, word: &'a [u8]) -> Result<TableName<'a>, LineError>
+        ensures { MatchResult result
+            (λ name. (next_table self.old word.now ≡ Ok (table_key name.schema.now name.table.now)) × (self.new ≡ self.old ++ table_key name.schema.now name.table.now ∷ []))
+            (λ error. next_table self.old word.now ≡ Err error) }
     {
         if self.count == MOST_TABLES {
             return Err(LineError::BadWord);
@@ -148,7 +157,7 @@ impl<'a> TableNames<'a> {
         }
         self.names[self.count] = name;
         self.count += 1;
-        Ok(())
+        Ok(name)
     }
 
     // Whether a table is among them.

@@ -1,7 +1,7 @@
 //! Scripts, and what is read of them or refuses them.
 use crate::written::read;
 use mdl_key::Key;
-use mdl_syntax::{Name, Tables};
+use mdl_syntax::{LockType, Name, TableLock, TableLocks, Tables};
 use std::alloc::{AllocError, Global};
 use std::test::Fail;
 
@@ -26,6 +26,10 @@ const ROWS: &str = "\
     TABLE s.t add copy in place
 1 ALTER TABLE t DROP c COPY / 1 ALTER TABLE add DROP drop INPLACE => 1 1 alter TABLE test.t drop c by copying / 2 1 \
     alter TABLE test.add drop drop in place
+1 LOCK TABLES t READ / 1 LOCK TABLES s.t WRITE t READ read WRITE => 1 1 lock TABLE test.t to read / 2 1 lock TABLE s.t to write \
+    TABLE test.t to read TABLE test.read to write
+1 LOCK TABLES a READ b WRITE c READ d READ e READ f READ g READ h WRITE => 1 1 lock TABLE test.a to read TABLE test.b to write \
+    TABLE test.c to read TABLE test.d to read TABLE test.e to read TABLE test.f to read TABLE test.g to read TABLE test.h to write
 1 KILL QUERY 64 / 9 KILL QUERY 1 / 9 TIMEOUT => 1 1 kill 64 / 2 9 kill 1 / 3 9 time out
 1 SELECT a b c d e f g h => 1 1 read TABLE test.a TABLE test.b TABLE test.c TABLE test.d TABLE test.e TABLE test.f \
     TABLE test.g TABLE test.h
@@ -157,7 +161,27 @@ BEGIN => line 1: BadSession
 1 CREATE SCHEMA S t => line 1: BadName
 1 CREATE SCHEMAS s => line 1: BadWord
 1 DROP SCHEMA s => line 1: BadWord
-1 LOCK TABLES t READ => line 1: BadWord
+1 LOCK => line 1: BadWord
+1 LOCK TABLE t READ => line 1: BadWord
+1 LOCK TABLES => line 1: BadWord
+1 LOCK TABLES t => line 1: BadWord
+1 LOCK TABLES T => line 1: BadName
+1 LOCK TABLES T x => line 1: BadName
+1 LOCK TABLES t read => line 1: BadWord
+1 LOCK TABLES t READS => line 1: BadWord
+1 LOCK TABLES t LOW_PRIORITY WRITE => line 1: BadWord
+1 LOCK TABLES READ READ => line 1: BadName
+1 LOCK TABLES t u READ => line 1: BadWord
+1 LOCK TABLES t READ u => line 1: BadWord
+1 LOCK TABLES t READ U => line 1: BadName
+1 LOCK TABLES t READ test.t WRITE => line 1: BadName
+1 LOCK TABLES t READ t x => line 1: BadName
+1 LOCK TABLES t x t READ => line 1: BadWord
+1 LOCK TABLES a READ b READ c READ d READ e READ f READ g READ h READ i READ => line 1: BadWord
+1 LOCK TABLES a READ b READ c READ d READ e READ f READ g READ h READ T READ => line 1: BadWord
+1 LOCK TABLES a READ b READ c READ d READ e READ f READ g READ h READ a READ => line 1: BadWord
+1 LOCK TABLES a READ b READ c READ d READ e READ f READ g READ T READ => line 1: BadName
+1 LOCK TABLES a READ b READ c READ d READ e READ f READ g READ a READ => line 1: BadName
 1 UNLOCK TABLES => line 1: BadWord
 1 FLUSH TABLES WITH READ LOCK => line 1: BadWord
 1 SELECT t\u{e9} => line 1: NotAscii
@@ -289,6 +313,26 @@ fn copies_are_the_same(rt: HostRuntime) -> Result<(), Fail> {
         assert!(rt; tables.clone()?.as_slice() == tables.as_slice(), "{length}");
     }
     assert_eq!(rt; tables.as_slice().len(), 64);
+    Ok(())
+}
+
+// Tables that are to be locked stand in the order in which they came.
+#[test]
+fn locks_keep_their_order(rt: HostRuntime) -> Result<(), Fail> {
+    let alloc = rt.alloc();
+    let mut locks = TableLocks::new(alloc);
+    for (name, lock_type) in [
+        ("b", LockType::Read),
+        ("a", LockType::Write),
+        ("c", LockType::Read),
+    ] {
+        let table = Key::table(alloc, "s", name)?;
+        locks.push(TableLock { table, lock_type })?;
+        let last = &locks.as_slice()[locks.as_slice().len() - 1];
+        assert_eq!(rt; last.table.table_name(), name);
+        assert!(rt; last.lock_type == lock_type, "{name}");
+    }
+    assert_eq!(rt; locks.as_slice().len(), 3);
     Ok(())
 }
 

@@ -1,7 +1,7 @@
 //! What was read of a script, in words.
 use mdl_defs::{Change, Columns};
 use mdl_key::Key;
-use mdl_syntax::{Algorithm, Alteration, Line, Priority, Script, Statement, Tables, parse};
+use mdl_syntax::{Algorithm, Alteration, Line, Priority, Script, Statement, Tables, parse, LockType, TableLocks};
 use std::alloc::Global;
 use std::test::Fail;
 
@@ -60,6 +60,7 @@ fn statement_text(alloc: Global, statement: &Statement) -> Result<String, Fail> 
             Ok(String::from_str(alloc, "flush tables with read lock")?)
         }
         Statement::AlterTable(alteration) => alter_text(alloc, alteration),
+        Statement::LockTables(locks) => lock_text(alloc, locks),
         Statement::KillQuery(session) => Ok(format!(in alloc; "kill {session}")?),
         Statement::Timeout => Ok(String::from_str(alloc, "time out")?),
     }
@@ -97,6 +98,20 @@ fn alter_text(alloc: Global, alteration: &Alteration) -> Result<String, Fail> {
     };
     let table = &alteration.table;
     Ok(format!(in alloc; "alter {table} {what} {column} {how}")?)
+}
+
+// Tables to lock, and what for.
+fn lock_text(alloc: Global, locks: &TableLocks) -> Result<String, Fail> {
+    let mut text = String::from_str(alloc, "lock")?;
+    for lock in locks.as_slice() {
+        let table = &lock.table;
+        let lock_type = match lock.lock_type {
+            LockType::Read => "read",
+            LockType::Write => "write",
+        };
+        text.push_str(format!(in alloc; " {table} to {lock_type}")?.as_str())?;
+    }
+    Ok(text)
 }
 
 // What is done to tables.

@@ -2,16 +2,17 @@
 use super::{Plain, Step, made};
 use mdl_defs::Columns;
 use mdl_key::{Duration, Key, Mode};
-use mdl_syntax::{Algorithm, Alteration, Name, Priority, Statement, Tables};
+use mdl_syntax::{Algorithm, Alteration, Name, Priority, Statement, Tables, LockType, TableLocks};
 use std::alloc::{AllocError, Global};
 
 // A list of steps that grows.
 #[derive(Drop)]
-struct Plan {
+struct Plan<'p> {
+    plain: &'p Plain,
+    who: u16,
     alloc: Global,
     is_open: bool,
     has_written: bool,
-    has_read_lock: bool,
     steps: Vec<Step>,
 }
 
@@ -19,10 +20,11 @@ impl Plain {
     // The steps of a session's statement, in order.
     pub(super) fn plan(&self, who: u16, statement: &Statement) -> Result<Vec<Step>, AllocError> {
         let mut plan = Plan {
+            plain: self,
+            who,
             alloc: self.alloc,
             is_open: self.is_open(who),
             has_written: self.has_written(who),
-            has_read_lock: self.has_read_lock(who),
             steps: Vec::new(self.alloc),
         };
         plan.add(statement)?;
@@ -30,12 +32,13 @@ impl Plain {
     }
 }
 
-impl Plan {
+impl Plan<'_> {
     // The steps of a statement.
     fn add(&mut self, statement: &Statement) -> Result<(), AllocError> {
         match statement {
             Statement::Begin => {
                 self.commit()?;
+                self.push(Step::Unlock)?;
                 self.push(Step::Open)
             }
             Statement::Commit => self.commit(),
@@ -48,9 +51,10 @@ impl Plan {
             Statement::CreateSchema(name) => self.create_schema(name),
             Statement::DropTables(tables) => self.drop_tables(tables),
             Statement::RenameTable { from, to } => self.rename(from, to),
-            Statement::UnlockTables => self.push(Step::Unlock),
-            Statement::FlushTablesWithReadLock => self.flush(),
             Statement::AlterTable(alteration) => self.alter(alteration),
+            Statement::LockTables(tables) => self.lock_tables(tables),
+            Statement::UnlockTables => self.push(Step::UnlockAll),
+            Statement::FlushTablesWithReadLock => self.flush(),
             Statement::KillQuery(_) | Statement::Timeout => Ok(()),
         }
     }
@@ -91,18 +95,13 @@ impl Plan {
         self.push(Step::EndCommitted)
     }
 
-    // A session that has the global read lock changes nothing.
-    fn refuse_own_read_lock(&mut self) -> Result<(), AllocError> {
-        if self.has_read_lock {
-            self.push(Step::Refuse(1223))?;
-        }
-        Ok(())
-    }
-
     // The global read lock: first no session writes, and then none commits what it wrote.
     fn flush(&mut self) -> Result<(), AllocError> {
+        if self.plain.has_locked(self.who) {
+            self.push(Step::Fail(1192))?;
+        }
         self.commit()?;
-        if self.has_read_lock {
+        if self.plain.has_read_lock(self.who) {
             return Ok(());
         }
         self.ask(Key::global(self.alloc), Mode::S, Duration::Explicit)?;
@@ -111,10 +110,16 @@ impl Plan {
         self.push(Step::HaveReadLock)
     }
 
-    // Each table is looked at under its lock before the next one is asked for.
+    // Each table is looked at under its lock before the next one is asked for. Where tables are locked it has to be one of
+    // them.
     fn select(&mut self, tables: &Tables) -> Result<(), AllocError> {
+        let has_locked = self.plain.has_locked(self.who);
         for table in tables.as_slice() {
-            self.ask_table(table, Mode::SR)?;
+            if !has_locked {
+                self.ask_table(table, Mode::SR)?;
+            } else if self.plain.locked_mode(self.who, table).is_none() {
+                self.push(Step::Fail(1100))?;
+            }
             self.push(Step::Look(table.clone()?))?;
         }
         for table in tables.as_slice() {
@@ -133,10 +138,14 @@ impl Plan {
             Priority::Normal => Mode::SW,
             Priority::Low => Mode::SWLP,
         };
-        self.refuse_own_read_lock()?;
-        self.ask_global()?;
-        self.ask_table(table, mode)?;
-        self.push(Step::Look(table.clone()?))?;
+        if self.plain.has_locked(self.who) {
+            self.check_locked(table)?;
+        } else {
+            self.refuse_read_lock()?;
+            self.ask_global()?;
+            self.ask_table(table, mode)?;
+            self.push(Step::Look(table.clone()?))?;
+        }
         self.push(Step::Write)?;
         if self.is_open {
             self.push(Step::EndStatement)
@@ -145,10 +154,36 @@ impl Plan {
         }
     }
 
+    // Fails where a table isn't locked for writing.
+    fn check_locked(&mut self, table: &Key) -> Result<(), AllocError> {
+        match self.plain.locked_mode(self.who, table) {
+            None => self.push(Step::Fail(1100)),
+            Some(Mode::SRO) => self.push(Step::Fail(1099)),
+            Some(_) => Ok(()),
+        }
+    }
+
+    // Fails where the session has the global read lock.
+    fn refuse_read_lock(&mut self) -> Result<(), AllocError> {
+        if self.plain.has_read_lock(self.who) {
+            self.push(Step::Fail(1223))?;
+        }
+        Ok(())
+    }
+
+    // Fails where it has that, or has locked tables.
+    fn refuse_locks(&mut self) -> Result<(), AllocError> {
+        self.refuse_read_lock()?;
+        if self.plain.has_locked(self.who) {
+            self.push(Step::Fail(1192))?;
+        }
+        Ok(())
+    }
+
     // What begins each change of definitions: it commits, and then asks for the global lock, the schemas and the
     // tables, both in the order of keys. A schema that is asked for again is had already.
     fn begin_change(&mut self, keys: &Vec<Key>) -> Result<(), AllocError> {
-        self.refuse_own_read_lock()?;
+        self.refuse_locks()?;
         self.commit()?;
         self.ask_global()?;
         for key in keys {
@@ -173,7 +208,7 @@ impl Plan {
     // A new schema, which nobody else is in.
     fn create_schema(&mut self, name: &Name) -> Result<(), AllocError> {
         let schema = made(Key::schema(self.alloc, name.as_str()))?;
-        self.refuse_own_read_lock()?;
+        self.refuse_locks()?;
         self.commit()?;
         self.ask_global()?;
         self.ask(schema.clone()?, Mode::X, Duration::Transaction)?;
@@ -211,29 +246,77 @@ impl Plan {
     // A table whose columns change: nobody else uses it while they do.
     fn alter(&mut self, alteration: &Alteration) -> Result<(), AllocError> {
         let table = &alteration.table;
-        let schema = made(Key::schema(self.alloc, table.schema_name()))?;
+        let has_locked = self.plain.has_locked(self.who);
+        self.refuse_read_lock()?;
+        if has_locked {
+            self.check_locked(table)?;
+        }
         self.commit()?;
         self.ask_global()?;
+        let schema = made(Key::schema(self.alloc, table.schema_name()))?;
         self.ask(schema, Mode::IX, Duration::Transaction)?;
-        self.ask_table(table, Mode::SU)?;
+        let first = if has_locked { Mode::SNRW } else { Mode::SU };
+        self.ask_table(table, first)?;
         self.push(Step::CheckChange(table.clone()?, alteration.change.clone()?))?;
         self.push(Step::CheckVersion(table.clone()?))?;
-        match alteration.algorithm {
-            Algorithm::Copy => self.raise(table, Mode::SNW)?,
-            Algorithm::Inplace => {
-                self.raise(table, Mode::X)?;
-                self.push(Step::Lower(table.clone()?, Mode::SU))?;
-            }
+        if !has_locked {
+            self.prepare(table, alteration.algorithm)?;
         }
         self.raise(table, Mode::X)?;
         self.push(Step::Alter(table.clone()?, alteration.change.clone()?))?;
         self.push(Step::End)
     }
 
+    // What an algorithm does before the table changes.
+    fn prepare(&mut self, table: &Key, algorithm: Algorithm) -> Result<(), AllocError> {
+        match algorithm {
+            Algorithm::Copy => self.raise(table, Mode::SNW),
+            Algorithm::Inplace => {
+                self.raise(table, Mode::X)?;
+                self.push(Step::Lower(table.clone()?, Mode::SU))
+            }
+        }
+    }
+
     // A stronger lock in place of one that is had.
     fn raise(&mut self, table: &Key, mode: Mode) -> Result<(), AllocError> {
         self.push(Step::Raise(table.clone()?, mode))?;
         self.push(Step::Merge)
+    }
+
+    // Tables that stay locked, the earlier ones given up: what is around those that are to be written is locked first. All
+    // are looked at under all locks.
+    fn lock_tables(&mut self, tables: &TableLocks) -> Result<(), AllocError> {
+        let mut keys = Vec::new(self.alloc);
+        let mut written = Vec::new(self.alloc);
+        for lock in tables.as_slice() {
+            keys.push(lock.table.clone()?)?;
+            if lock.lock_type == LockType::Write {
+                written.push(lock.table.clone()?)?;
+            }
+        }
+        keys.sort()?;
+        written.sort()?;
+        if !written.is_empty() {
+            self.refuse_read_lock()?;
+        }
+        self.commit()?;
+        self.push(Step::Unlock)?;
+        if !written.is_empty() {
+            self.ask_global()?;
+        }
+        for key in &written {
+            let schema = made(Key::schema(self.alloc, key.schema_name()))?;
+            self.ask(schema, Mode::IX, Duration::Transaction)?;
+        }
+        for key in &keys {
+            let mode = if written.contains(key) { Mode::SNRW } else { Mode::SRO };
+            self.ask_table(key, mode)?;
+        }
+        for key in &keys {
+            self.push(Step::Look(key.clone()?))?;
+        }
+        self.push(Step::Keep)
     }
 
     // Tables in the order of their keys.

@@ -20,9 +20,9 @@ impl Plain {
             Step::Raise(table, mode) => self.raise(who, &table, mode),
             Step::Lower(table, mode) => Ok(self.lower(who, &table, mode)),
             Step::Alter(table, change) => self.alter(&table, &change),
+            Step::Fail(number) => Ok(Taken::Failed(number)),
             Step::Save(name) => self.save(who, name),
             Step::GoBack(name) => self.go_back(who, &name),
-            Step::Refuse(number) => Ok(Taken::Failed(number)),
             other => self.take_plain(who, other),
         }
     }
@@ -34,10 +34,12 @@ impl Plain {
             Step::End => self.end_transaction(who)?,
             Step::EndCommitted => self.end_committed(who)?,
             Step::Open => self.set_open(who, true),
+            Step::Unlock => self.unlock(who)?,
+            Step::Keep => self.keep(who),
             Step::Write => self.set_written(who),
             Step::HalfLock => self.set_half_lock(who, false),
             Step::HaveReadLock => self.set_half_lock(who, true),
-            Step::Unlock => self.unlock(who)?,
+            Step::UnlockAll => self.unlock_all(who)?,
             Step::Merge => self.merge(who),
             _ => {}
         }
@@ -122,7 +124,7 @@ impl Plain {
     }
 
     // Gives up all that is kept until it is given up.
-    fn unlock(&mut self, who: u16) -> Result<(), AllocError> {
+    fn unlock_all(&mut self, who: u16) -> Result<(), AllocError> {
         self.release_all(who, Duration::Explicit)?;
         for session in &mut self.sessions {
             if session.number == who {

@@ -8,7 +8,7 @@ use Rattle.mdl_stmt.specs.Endings.{closing}
 use Rattle.mdl_stmt.specs.Gets.{Comes, IsPlayed}
 use Rattle.mdl_stmt.specs.Playing.{play}
 use Rattle.mdl_stmt.specs.Rows.{Row, Give}
-use Rattle.mdl_stmt.specs.Statements.{after_commit, flush_first, row_of, alter_first}
+use Rattle.mdl_stmt.specs.Statements.{after_commit, flush_first, row_of, alter_first, lock_first}
 use Rattle.mdl_stmt.proofs.player.Player.perform.Goals as goal
 
 pub returns-in-Rollback-clause-run : goal.returns-in-Rollback-clause-run
@@ -37,3 +37,8 @@ returns-in-AlterTable-clause-run g c =
     subst (λ (s : Statement). IsPlayed g.S.LockSpace.joins (row_of s) c.args.space.now c.args.self.now c.alter_first.result c.alter_first.new.space c.alter_first.new.self) (sym c.in-AlterTable.is)
     (subst (λ (s : Statement). IsPlayed g.S.LockSpace.joins (alter_first table (after_commit s)) c.args.space.now c.args.self.now c.alter_first.result c.alter_first.new.space c.alter_first.new.self) c.in-AlterTable.is
     c.alter_first.ensures.run)
+
+pub returns-in-LockTables-clause-run : goal.returns-in-LockTables-clause-run
+returns-in-LockTables-clause-run g c =
+    subst (λ (s : Statement). IsPlayed g.S.LockSpace.joins (row_of s) c.args.space.now c.args.self.now c.lock_first.result c.lock_first.new.space c.lock_first.new.self) (sym c.in-LockTables.is)
+    (subst (λ (s : Statement). IsPlayed g.S.LockSpace.joins (lock_first c.in-LockTables.tables (after_commit s)) c.args.space.now c.args.self.now c.lock_first.result c.lock_first.new.space c.lock_first.new.self) c.in-LockTables.is c.lock_first.ensures.run)

@@ -5,8 +5,8 @@ use Rattle.mdl_stmt.specs.declared.reply.Reply.{Reply}
 use Rattle.mdl_stmt.specs.Gets.{Comes}
 use Rattle.mdl_stmt.specs.Playing.{play}
 use Rattle.mdl_stmt.specs.Rows.{Row}
-use Rattle.mdl_stmt.specs.Stages.{lock_rest}
-use Rattle.mdl_stmt.proofs.player.Player.lock_all.Given as goal
+use Rattle.mdl_stmt.specs.Stages.{lock_rest_by, wish_by}
+use Rattle.mdl_stmt.proofs.player.Player.lock_each.Given as goal
 
 abbrev pub invariant-loop-key : goal.invariant-loop-key
 invariant-loop-key g l = record {
@@ -14,8 +14,8 @@ invariant-loop-key g l = record {
   idle : l.self.context.wait ≡ None;
   who : l.self.context.who ≡ l.fn.self.context.who;
   others : LeavesOthers g.S.LockSpace.speaks_for g.S.LockSpace.own g.S.LockSpace.knows l.fn.self.context.who l.fn.space l.space;
-  run : (rest : List ℕ → Row Reply) → Comes g.S.LockSpace.joins l.fn.space l.fn.self (play (lock_rest l.fn.locks rest)) l.space l.self (play (lock_rest l.locks rest));
   keys : l.locks.keys ≡ l.fn.locks.keys;
+  run : (rest : List ℕ → Row Reply) → Comes g.S.LockSpace.joins l.fn.space l.fn.self (play (lock_rest_by (wish_by l.fn.locking) l.fn.locks rest)) l.space l.self (play (lock_rest_by (wish_by l.fn.locking) l.locks rest));
 }
 
 abbrev pub decreases-loop-key : goal.decreases-loop-key

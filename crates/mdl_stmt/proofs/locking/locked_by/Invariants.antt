@@ -1,0 +1,7 @@
+-- The tables so far, before those that are left, are all.
+use Rattle.std.proofs.Common.{◌≡◌, ◌++◌, drop}
+use Rattle.mdl_stmt.specs.Statements.{locked_by}
+use Rattle.mdl_stmt.proofs.locking.locked_by.Given as goal
+
+abbrev pub invariant-loop-at : goal.invariant-loop-at
+invariant-loop-at l = l.locked.items ++ locked_by l.tables (drop l.at l.locks.keys) (drop l.at l.locks.tickets) ≡ locked_by l.tables l.locks.keys l.locks.tickets

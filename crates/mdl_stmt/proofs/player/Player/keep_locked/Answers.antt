@@ -1,0 +1,43 @@
+-- All tables stand; then there was no memory, or all is kept.
+use Rattle.std.proofs.Common.{ℕ, List, [], true, false, sym, ap, ◌∙◌, subst}
+use Rattle.mdl_syntax.specs.declared.table_locks.TableLock.{TableLock}
+use Rattle.mdl_context.specs.Contexts.{ContextView}
+use Rattle.mdl_stmt.specs.declared.ending.Ending.TheVariants.{Answers}
+use Rattle.mdl_stmt.specs.declared.explicit.Locked.{Locked}
+use Rattle.mdl_stmt.specs.declared.reply.Reply.{Reply}
+use Rattle.mdl_stmt.specs.declared.reply.Reply.TheVariants as reply
+use Rattle.mdl_stmt.specs.declared.savepoint.Savepoint.{Savepoint}
+use Rattle.mdl_stmt.specs.Endings.{closing}
+use Rattle.mdl_stmt.specs.Gets.{Comes}
+use Rattle.mdl_stmt.specs.Playing.{play}
+use Rattle.mdl_stmt.specs.Rows.{Row, Give, Keep, Room, Set}
+use Rattle.mdl_stmt.specs.Sessions.{PlayerView, player_of}
+use Rattle.mdl_stmt.specs.States.{ExplicitLocks, locking}
+use Rattle.mdl_stmt.specs.Statements.{locked_by}
+use Rattle.mdl_stmt.proofs.LockTableLemmas.{all_explicit, explicit-done, kept-so, room-missed}
+use Rattle.mdl_stmt.proofs.RunLemmas.{comes-then}
+use Rattle.mdl_stmt.proofs.player.Player.keep_locked.Goals as goal
+
+pub returns-in_default-locked_by-clause-run : goal.returns-in_default-locked_by-clause-run
+returns-in_default-locked_by-clause-run g c =
+    let rest : Row Reply = Keep (Set (locking (locked_by c.args.tables.now c.args.locks.keys c.args.locks.tickets) c.args.scopes.items) (Give reply.Ok)) in
+    comes-then ((rw c.in_default.is at (rw c.tickets.ensures at c.all_stand.ensures.run)) (λ _. Room rest)) (room-missed rest)
+
+pub returns-clause-run : goal.returns-clause-run
+returns-clause-run g c =
+    let locked : List Locked = locked_by c.args.tables.now c.args.locks.keys c.args.locks.tickets in
+    let rest : Row Reply = Room (Keep (Set (locking locked c.args.scopes.items) (Give reply.Ok))) in
+    let explicit : ExplicitLocks = c.self.inside.explicit in
+    let context : ContextView = all_explicit c.self.inside.context in
+    let before : PlayerView = player_of explicit c.self.inside.context c.self.inside.is_open c.self.inside.has_written c.self.inside.savepoints in
+    let here : PlayerView → PlayerView → Type 0 = λ x y. Comes g.S.LockSpace.joins c.all_stand.new.space x (play rest) c.all_stand.new.space y (closing (Answers reply.Ok)) in
+    let idle = ap (λ (p : PlayerView). p.context.wait) c.self.view_is ∙ c.all_stand.ensures.idle in
+    let kept = explicit-done c.self.inside.context c.make_explicit-kept.new.self c.make_explicit-kept.result idle c.make_explicit-kept.ensures.refused c.make_explicit-kept.ensures.done in
+    let same = c.in-Ok.ensures ∙ ap (λ (t : List TableLock). locked_by t c.args.locks.keys c.args.locks.tickets) c.as_slice.ensures in
+    comes-then ((rw c.in_default.is at (rw c.tickets.ensures at c.all_stand.ensures.run)) (λ _. rest))
+    (subst (λ (x : ContextView). here c.all_stand.new.self (player_of c.lock.new.self x false false c.clear.new.self)) (sym kept)
+    (subst (λ (s : List Savepoint). here c.all_stand.new.self (player_of c.lock.new.self context false false s)) (sym c.clear.ensures)
+    (subst (λ (e : ExplicitLocks). here c.all_stand.new.self (player_of e context false false [])) (sym c.lock.ensures)
+    (subst (λ (l : List Locked). here c.all_stand.new.self (player_of (record explicit { locked = l; scopes = c.args.scopes.items }) context false false [])) (sym same)
+    (subst (λ (x : PlayerView). here x (player_of (record explicit { locked = locked; scopes = c.args.scopes.items }) context false false [])) c.self.view_is
+    (kept-so locked c.args.scopes.items))))))

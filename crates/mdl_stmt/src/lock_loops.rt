@@ -1,0 +1,104 @@
+//! Locks of a list, one after the other.
+ghost use Rattle.std.specs.Prelude.{◌≡◌, None};
+ghost use Rattle.mdl_context.specs.Contexts.{Attends, LeavesOthers};
+ghost use Rattle.mdl_stmt.specs.Gets.{IsListed, IsListedBy, IdleUnlessListed, KeepsKeys};
+ghost use Rattle.mdl_stmt.specs.Stages.{wish_by};
+ghost use Rattle.mdl_stmt.specs.Statements.{ddl_lock};
+
+use crate::ending::{Got, Listed};
+use crate::key_lists::may_write;
+use crate::player::Player;
+use crate::stage::{LockList, Locking};
+use mdl_context::Request;
+use mdl_key::{Duration, Key, Mode, Namespace};
+use mdl_space::LockSpace;
+
+impl<S: LockSpace> Player<S> {
+    /// Gets the locks that are left of a list, for a change of definitions.
+    pub(crate) fn lock_all(&mut self, space: &mut S, locks: LockList) -> Listed
+        requires attends { Attends S.speaks_for S.own S.knows space.old self.old.context }
+        requires idle { self.old.context.wait ≡ None }
+        ensures run { IsListed S.joins locks space.old self.old result space.new self.new }
+        ensures attends { Attends S.speaks_for S.own S.knows space.new self.new.context }
+        ensures others { LeavesOthers S.speaks_for S.own S.knows self.old.context.who space.old space.new }
+        ensures who { self.new.context.who ≡ self.old.context.who }
+        ensures idle { IdleUnlessListed result self.new }
+        ensures keys { KeepsKeys locks result }
+    {
+        self.lock_each(space, Locking::Ddl, locks)
+    }
+
+    /// Gets the locks that are left of a list.
+    pub(crate) fn lock_each(
+        &mut self,
+        space: &mut S,
+        locking: Locking<'_>,
+        locks: LockList,
+    ) -> Listed
+        requires attends { Attends S.speaks_for S.own S.knows space.old self.old.context }
+        requires idle { self.old.context.wait ≡ None }
+        ensures run { IsListedBy S.joins (wish_by locking.entry) locks space.old self.old result space.new self.new }
+        ensures attends { Attends S.speaks_for S.own S.knows space.new self.new.context }
+        ensures others { LeavesOthers S.speaks_for S.own S.knows self.old.context.who space.old space.new }
+        ensures who { self.new.context.who ≡ self.old.context.who }
+        ensures idle { IdleUnlessListed result self.new }
+        ensures keys { KeepsKeys locks result }
+    {
+        let mut locks = locks;
+        while let Some(key) = locks.next() {
+            let mode = mode_of(locking, key);
+            let request = Request {
+                key,
+                mode,
+                duration: duration_of(locking, key),
+            };
+            match self.get(space, request) {
+                Got::Had(ticket) => locks = locks.with(ticket),
+                Got::Waits(key) => return Listed::Waits(key, mode, locks),
+                Got::Ends(ending) => return Listed::Ends(ending),
+            }
+        }
+        Listed::Had(locks)
+    }
+}
+
+/// The mode in which a key is locked.
+fn mode_of(locking: Locking<'_>, key: &Key) -> Mode
+    ensures { result ≡ (wish_by locking.entry key.now).mode }
+{
+    match locking {
+        Locking::Ddl => ddl_mode(key),
+        Locking::Tables(tables) if may_write(tables.as_slice(), key) => Mode::SNRW,
+        Locking::Tables(_) => Mode::SRO,
+    }
+}
+
+/// For how long it is.
+fn duration_of(locking: Locking<'_>, key: &Key) -> Duration
+    ensures { result ≡ (wish_by locking.entry key.now).duration }
+{
+    match locking {
+        Locking::Ddl => ddl_duration(key),
+        Locking::Tables(_) => Duration::Transaction,
+    }
+}
+
+/// The mode in which DDL locks a key.
+fn ddl_mode(key: &Key) -> Mode
+    ensures { result ≡ (ddl_lock key.now).mode }
+{
+    match key.namespace() {
+        Namespace::Table => Mode::X,
+        _ => Mode::IX,
+    }
+}
+
+/// For how long DDL locks a key.
+fn ddl_duration(key: &Key) -> Duration
+    ensures { result ≡ (ddl_lock key.now).duration }
+{
+    match key.namespace() {
+        Namespace::Global => Duration::Statement,
+        _ => Duration::Transaction,
+    }
+}
