@@ -22,7 +22,7 @@ use Rattle.mdl_stmt.specs.States.{has_locked, savepoint_mark, written}
 use Rattle.mdl_stmt.specs.Statements as does
 use Rattle.mdl_script_laws.specs.Shown.{leaves_transaction}
 use Rattle.mdl_script_laws.proofs.ListLemmas.{filter-among, only-one}
-use Rattle.mdl_script_laws.proofs.RowRules.{Any, KeepsTo, keeps-begin, keeps-check, keeps-commit, keeps-create, keeps-create_schema, keeps-drop, keeps-rollback, keeps-then}
+use Rattle.mdl_script_laws.proofs.RowRules.{Any, KeepsTo, keeps-begin, keeps-check, keeps-commit, keeps-create, keeps-create_schema, keeps-drop, keeps-drop_schema, keeps-rollback, keeps-then}
 use Rattle.mdl_script_laws.proofs.ShownPlays.{IsFair, Tells, seen_under}
 use Rattle.mdl_script_laws.proofs.ShownPoints.{shown_as}
 
@@ -134,6 +134,8 @@ fair-tidy old locks seen (row.Give_up which rest) empty tidy = ((λ x is lives. 
 fair-tidy old locks seen (row.Release id rest) empty tidy = ((λ x is lives. empty x is), fair-tidy old [] [] rest empty tidy)
 fair-tidy old locks seen (row.Read id rest) empty tidy = λ standing. fair-tidy old locks _ (rest standing) empty (tidy standing)
 fair-tidy old locks seen (row.Redefine id change rest) empty tidy = ((λ x is lives. empty x is), fair-tidy old [] [] rest empty tidy)
+fair-tidy old locks seen (row.Tables_of schema rest) empty tidy = λ tables. fair-tidy old locks seen (rest tables) empty (tidy tables)
+fair-tidy old locks seen (row.Key_of place rest) empty tidy = λ key. fair-tidy old locks seen (rest key) empty (tidy key)
 fair-tidy old locks seen (row.Kill target rest) empty tidy = fair-tidy old locks seen rest empty tidy
 
 tidy-commit : KeepsTo Any Any does.commit
@@ -172,6 +174,10 @@ fair-any old (statement.CreateSchema name) none =
 fair-any old (statement.DropTables tables) none =
     fair-tidy old [] [] (does.row_of (statement.DropTables tables)) none
     (keeps-then Any ShowsNone does.ddl (does.drop_after_commit tables) tidy-ddl (keeps-drop Any (λ _ _. tt) ShowsNone (λ x tell. absurd tell) tables))
+fair-any old (statement.DropSchema name) none =
+    fair-tidy old [] [] (does.row_of (statement.DropSchema name)) none
+    (keeps-then Any ShowsNone does.ddl (does.drop_schema_after_commit name) tidy-ddl
+    (keeps-drop_schema Any (λ _ _. tt) ShowsNone (λ x tell. absurd tell) name))
 fair-any old (statement.Savepoint name) none = fair-leaving old true (statement.Savepoint name) refl
 fair-any old (statement.Select tables) none = fair-leaving old true (statement.Select tables) refl
 fair-any old (statement.Write table priority) none = fair-leaving old true (statement.Write table priority) refl

@@ -119,9 +119,10 @@ impl Drawn {
             0..=6 => self.alone()?,
             7..=14 => self.some("SELECT", 3)?,
             15..=20 => self.write()?,
-            21..=25 => self.some("DROP TABLE", 3)?,
+            21..=24 => self.some("DROP TABLE", 3)?,
+            25 => self.schema("DROP SCHEMA")?,
             26..=27 => self.create()?,
-            28 => self.create_schema()?,
+            28 => self.schema("CREATE SCHEMA")?,
             29 => self.kill()?,
             _ => self.text.push_str("TIMEOUT")?,
         }
@@ -176,14 +177,14 @@ impl Drawn {
         }
     }
 
-    // A new schema, or at times one that is there from the start.
-    fn create_schema(&mut self) -> Result<(), AllocError> {
+    // A form with a schema, at times the one that is there from the start.
+    fn schema(&mut self, word: &str) -> Result<(), AllocError> {
         let name = match self.chance.draw(4) {
             0 => "test",
             1 => "r",
             _ => "s",
         };
-        write!(self.text, "CREATE SCHEMA {name}")
+        write!(self.text, "{word} {name}")
     }
 
     // A kill of some session.

@@ -77,8 +77,18 @@ const ROWS: &str = "\
 1 BEGIN / 1 SELECT s.a / 2 DROP TABLE s.a / 3 CREATE SCHEMA s / 1 KILL QUERY 3 / 4 CREATE SCHEMA s / 4 TIMEOUT / 1 \
     COMMIT / 4 CREATE SCHEMA s => 1 1 OK / 2 1 ERR 1146 / 3 2 WAIT TABLE s.a X / 4 3 WAIT SCHEMA s X / 5 1 OK / 4 3 \
     ERR 1317 / 6 4 WAIT SCHEMA s X / 7 4 OK / 6 4 ERR 1205 / 8 1 OK / 3 2 ERR 1146 / 9 4 OK
+2 CREATE SCHEMA s / 2 BEGIN / 2 SELECT s.a / 1 CREATE TABLE s.a x / 3 DROP SCHEMA s / 2 COMMIT / 1 SELECT s.a => 1 2 \
+    OK / 2 2 OK / 3 2 ERR 1146 / 4 1 WAIT TABLE s.a X / 5 3 WAIT SCHEMA s X / 6 2 OK / 4 1 OK / 5 3 OK / 7 1 ERR 1146
+1 CREATE SCHEMA s / 1 CREATE TABLE s.b x / 1 CREATE TABLE s.a x / 1 CREATE TABLE t x / 2 BEGIN / 2 SELECT s.b / 3 \
+    BEGIN / 3 SELECT s.a / 1 DROP SCHEMA s / 2 COMMIT / 3 COMMIT / 1 SELECT t / 1 SELECT s.a / 1 CREATE SCHEMA s / 1 \
+    SELECT s.b => 1 1 OK / 2 1 OK / 3 1 OK / 4 1 OK / 5 2 OK / 6 2 OK s.b@1(x) / 7 3 OK / 8 3 OK s.a@1(x) / 9 1 WAIT \
+    TABLE s.a X / 10 2 OK / 11 3 OK / 9 1 OK / 12 1 OK test.t@1(x) / 13 1 ERR 1146 / 14 1 OK / 15 1 ERR 1146
+1 DROP SCHEMA s / 1 CREATE SCHEMA s / 1 DROP SCHEMA s / 1 DROP SCHEMA s / 1 DROP SCHEMA test / 1 CREATE TABLE t x => 1 \
+    1 ERR 1049 / 2 1 OK / 3 1 OK / 4 1 ERR 1049 / 5 1 OK / 6 1 ERR 1049
 1 CREATE SCHEMA S => line 1: BadName
 1 CREATE SCHEMA s t => line 1: BadWord
+1 DROP SCHEMA S => line 1: BadName
+1 DROP SCHEMA s t => line 1: BadWord
 1 SELECT a b c d e f g h T => line 1: BadWord
 1 SELECT a b c d e f g T => line 1: BadName
 1 SELECT a b c d e f g h i => line 1: BadWord

@@ -12,7 +12,7 @@ use Rattle.mdl_syntax.specs.declared.statement.Statement.{Statement}
 use Rattle.mdl_syntax.specs.declared.statement.Statement.TheVariants as statement
 use Rattle.mdl_stmt.specs.Gets.{at_rest}
 use Rattle.mdl_stmt.specs.Playing.{play}
-use Rattle.mdl_stmt.specs.Rows.{Row, Give, Fail, Room, Look, Set, Here, Acquire, Give_up, Release, Read, Redefine, Kill, ◌>>=◌, ◌>>◌, check}
+use Rattle.mdl_stmt.specs.Rows.{Row, Give, Fail, Room, Look, Set, Here, Acquire, Give_up, Release, Read, Redefine, Tables_of, Key_of, Kill, ◌>>=◌, ◌>>◌, check}
 use Rattle.mdl_stmt.specs.Sessions.{PlayerView}
 use Rattle.mdl_stmt.specs.States.{has_locked}
 use Rattle.mdl_stmt.specs.Statements.{after_commit, no_read_lock, write, write_locked, write_unlocked}
@@ -30,6 +30,8 @@ bind-assoc (Give_up which rest) f g = ap (Give_up which) (bind-assoc rest f g)
 bind-assoc (Release id rest) f g = ap (Release id) (bind-assoc rest f g)
 bind-assoc (Read id rest) f g = ap (Read id) (fun_ext (λ x. bind-assoc (rest x) f g))
 bind-assoc (Redefine id change rest) f g = ap (Redefine id change) (bind-assoc rest f g)
+bind-assoc (Tables_of schema rest) f g = ap (Tables_of schema) (fun_ext (λ x. bind-assoc (rest x) f g))
+bind-assoc (Key_of place rest) f g = ap (Key_of place) (fun_ext (λ x. bind-assoc (rest x) f g))
 bind-assoc (Kill target rest) f g = ap (Kill target) (bind-assoc rest f g)
 
 -- ---- locked tables, and the global read lock
@@ -46,16 +48,18 @@ read_lock-so x rest test e mark = sym (ap (λ (t : Bool). play (check (not t) Co
 
 -- all others are done once the transaction is committed
 pub after-others : (st : Statement) → (st ≡ statement.Begin → ⊥) → ((table : KeyName) (columns : List (List ℕ)) → st ≡ statement.CreateTable table columns → ⊥) →
-    ((name : List ℕ) → st ≡ statement.CreateSchema name → ⊥) → ((tables : List KeyName) → st ≡ statement.DropTables tables → ⊥) → after_commit st ≡ Give reply.Ok
-after-others statement.Begin a b c d = absurd (a refl)
-after-others statement.Commit a b c d = refl
-after-others statement.Rollback a b c d = refl
-after-others (statement.Savepoint name) a b c d = refl
-after-others (statement.RollbackTo name) a b c d = refl
-after-others (statement.Select tables) a b c d = refl
-after-others (statement.Write table priority) a b c d = refl
-after-others (statement.CreateTable table columns) a b c d = absurd (b table columns refl)
-after-others (statement.CreateSchema name) a b c d = absurd (c name refl)
-after-others (statement.DropTables tables) a b c d = absurd (d tables refl)
-after-others (statement.KillQuery target) a b c d = refl
-after-others statement.Timeout a b c d = refl
+    ((name : List ℕ) → st ≡ statement.CreateSchema name → ⊥) → ((tables : List KeyName) → st ≡ statement.DropTables tables → ⊥) →
+    ((name : List ℕ) → st ≡ statement.DropSchema name → ⊥) → after_commit st ≡ Give reply.Ok
+after-others statement.Begin a b c d e = absurd (a refl)
+after-others statement.Commit a b c d e = refl
+after-others statement.Rollback a b c d e = refl
+after-others (statement.Savepoint name) a b c d e = refl
+after-others (statement.RollbackTo name) a b c d e = refl
+after-others (statement.Select tables) a b c d e = refl
+after-others (statement.Write table priority) a b c d e = refl
+after-others (statement.CreateTable table columns) a b c d e = absurd (b table columns refl)
+after-others (statement.CreateSchema name) a b c d e = absurd (c name refl)
+after-others (statement.DropTables tables) a b c d e = absurd (d tables refl)
+after-others (statement.DropSchema name) a b c d e = absurd (e name refl)
+after-others (statement.KillQuery target) a b c d e = refl
+after-others statement.Timeout a b c d e = refl

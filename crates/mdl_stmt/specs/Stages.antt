@@ -7,11 +7,11 @@ use Rattle.mdl_stmt.specs.declared.reply.Reply.TheVariants as reply
 use Rattle.mdl_stmt.specs.declared.reply.TableShown.{TableShown}
 use Rattle.mdl_stmt.specs.declared.runner.Work.{Work}
 use Rattle.mdl_stmt.specs.declared.stage.Stage.{Stage}
-use Rattle.mdl_stmt.specs.declared.stage.Stage.TheVariants.{Commit, Show, WriteGlobal, WriteTable, CommitWrite, CreateGlobal, CreateSchema, CreateTable, SchemaGlobal, NewSchema, DropScopes, DropTables}
+use Rattle.mdl_stmt.specs.declared.stage.Stage.TheVariants.{Commit, Show, WriteGlobal, WriteTable, CommitWrite, CreateGlobal, CreateSchema, CreateTable, SchemaGlobal, NewSchema, DropScopes, DropTables, DropGlobal, DropSchema, DropWithin}
 use Rattle.mdl_stmt.specs.LockLists.{LockList, with_ticket}
 use Rattle.mdl_stmt.specs.Rows.{Row, Give, ◌>>=◌, ◌>>◌, acquire_all}
 use Rattle.mdl_stmt.specs.Sessions.{Left, RunnerView, Session}
-use Rattle.mdl_stmt.specs.Statements.{after_commit, end_under, show, show_all, lock_to_read, lock_and_write, write_under, ddl_lock, lock_schema_and_create, lock_and_create, create_under, lock_and_create_schema, create_schema_under, lock_and_drop, drop_under}
+use Rattle.mdl_stmt.specs.Statements.{after_commit, end_under, show, show_all, lock_to_read, lock_and_write, write_under, ddl_lock, lock_schema_and_create, lock_and_create, create_under, lock_and_create_schema, create_schema_under, lock_and_drop, drop_under, lock_and_drop_schema, drop_schema_under, drop_with}
 
 -- the first of these tables is locked
 abbrev pub show_next : List TableShown → List KeyName → ℕ → Row Reply
@@ -40,6 +40,9 @@ rest_of (SchemaGlobal name) global = lock_and_create_schema name.now
 rest_of NewSchema ticket = create_schema_under ticket
 rest_of (DropScopes tables locks) ticket = lock_rest (with_ticket ticket locks) (λ scopes. lock_and_drop tables.now)
 rest_of (DropTables locks) ticket = lock_rest (with_ticket ticket locks) drop_under
+rest_of (DropGlobal name) global = lock_and_drop_schema name.now
+rest_of (DropSchema name) ticket = drop_schema_under name.now ticket
+rest_of (DropWithin schema locks) ticket = lock_rest (with_ticket ticket locks) (drop_with schema)
 
 -- the same with where the session stood as the statement began
 abbrev pub left_of : Work → Left

@@ -95,7 +95,7 @@ impl<S: LockSpace> Player<S> {
     }
 
     /// Gets the locks that are left of a list.
-    fn lock_all(&mut self, space: &mut S, locks: LockList) -> Listed
+    pub(crate) fn lock_all(&mut self, space: &mut S, locks: LockList) -> Listed
         requires attends { Attends S.speaks_for S.own S.knows space.old self.old.context }
         requires idle { self.old.context.wait ≡ None }
         ensures run { IsListed S.joins locks space.old self.old result space.new self.new }
@@ -178,7 +178,7 @@ impl<S: LockSpace> Player<S> {
     }
 
     /// Looks whether all these tables can be changed once more.
-    fn all_can_change(&mut self, space: &mut S, tickets: &[TicketId]) -> Result<(), Ending>
+    pub(crate) fn all_can_change(&mut self, space: &mut S, tickets: &[TicketId]) -> Result<(), Ending>
         requires attends { Attends S.speaks_for S.own S.knows space.old self.old.context }
         requires idle { self.old.context.wait ≡ None }
         ensures run { IsStep S.joins (for_each can_change tickets.now) space.old self.old result space.new self.new }
@@ -196,7 +196,7 @@ impl<S: LockSpace> Player<S> {
     }
 
     /// Looks whether a table can be changed once more.
-    fn can_change(&mut self, space: &mut S, ticket: TicketId) -> Result<(), Ending>
+    pub(crate) fn can_change(&mut self, space: &mut S, ticket: TicketId) -> Result<(), Ending>
         requires attends { Attends S.speaks_for S.own S.knows space.old self.old.context }
         requires idle { self.old.context.wait ≡ None }
         ensures run { IsStep S.joins (can_change ticket) space.old self.old result space.new self.new }
@@ -217,7 +217,7 @@ impl<S: LockSpace> Player<S> {
     }
 
     /// Lets none of these tables stand.
-    fn drop_all(&mut self, space: &mut S, tickets: &[TicketId]) -> Result<(), Ending>
+    pub(crate) fn drop_all(&mut self, space: &mut S, tickets: &[TicketId]) -> Result<(), Ending>
         requires attends { Attends S.speaks_for S.own S.knows space.old self.old.context }
         requires idle { self.old.context.wait ≡ None }
         ensures run { IsStep S.joins (for_each (λ ticket. redefine ticket change.Drop) tickets.now) space.old self.old result space.new self.new }

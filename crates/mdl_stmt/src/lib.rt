@@ -4,6 +4,7 @@
 mod creating;
 mod creating_schemas;
 mod dropping;
+mod dropping_schemas;
 mod ending;
 mod error_number;
 mod explicit;

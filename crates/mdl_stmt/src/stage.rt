@@ -92,4 +92,10 @@ pub enum Stage<'s> {
     DropScopes(&'s Tables, LockList),
     /// The lock of a table that is to be dropped.
     DropTables(LockList),
+    /// The lock of all writes, for a schema to be dropped.
+    DropGlobal(&'s Name),
+    /// The schema's own lock.
+    DropSchema(&'s Name),
+    /// The lock of a table of a schema that is to be dropped, under that of the schema.
+    DropWithin(TicketId, LockList),
 }

@@ -21,7 +21,7 @@ use Rattle.mdl_syntax.specs.declared.script.Line.{Line}
 use Rattle.mdl_syntax.specs.declared.statement.Statement.{Statement}
 use Rattle.mdl_syntax.specs.declared.statement.Priority.{Priority}
 use Rattle.mdl_syntax.specs.declared.statement.Priority.TheVariants.{Normal, Low}
-use Rattle.mdl_syntax.specs.declared.statement.Statement.TheVariants.{Begin, Commit, Rollback, Savepoint, RollbackTo, Select, Write, CreateTable, CreateSchema, DropTables, KillQuery, Timeout}
+use Rattle.mdl_syntax.specs.declared.statement.Statement.TheVariants.{Begin, Commit, Rollback, Savepoint, RollbackTo, Select, Write, CreateTable, CreateSchema, DropTables, DropSchema, KillQuery, Timeout}
 use Rattle.mdl_syntax.specs.KeyWords.{behind}
 use Rattle.mdl_syntax.specs.Laws.{AreColumns, AreTables, IsName, IsTable, IsWithinLimits, RiseFrom}
 use Rattle.mdl_syntax.specs.Names.{is_dot, name_of, table_in, table_of, unless_fault}
@@ -198,8 +198,11 @@ forms-hold =
                                   (
                                     makes-holds AreTables DropTables some_tables some_tables-hold (λ value h. h),
                                     (
-                                      makes-holds IsScriptSession KillQuery one_session (one_word-holds IsScriptSession BadSession session_of session_of-IsScriptSession) (λ value h. h),
-                                      (λ words. no_more-holds IsWithinLimits Timeout words tt, tt),
+                                      makes-holds IsName DropSchema one_name name (λ value h. h),
+                                      (
+                                        makes-holds IsScriptSession KillQuery one_session (one_word-holds IsScriptSession BadSession session_of session_of-IsScriptSession) (λ value h. h),
+                                        (λ words. no_more-holds IsWithinLimits Timeout words tt, tt),
+                                      ),
                                     ),
                                   ),
                                 ),

@@ -10,7 +10,7 @@ use Rattle.mdl_lines.specs.Sessions.{session_of}
 use Rattle.mdl_syntax.specs.declared.statement.Priority.{Priority}
 use Rattle.mdl_syntax.specs.declared.statement.Priority.TheVariants.{Normal, Low}
 use Rattle.mdl_syntax.specs.declared.statement.Statement.{Statement}
-use Rattle.mdl_syntax.specs.declared.statement.Statement.TheVariants.{Begin, Commit, Rollback, Savepoint, RollbackTo, Select, Write, CreateTable, CreateSchema, DropTables, KillQuery, Timeout}
+use Rattle.mdl_syntax.specs.declared.statement.Statement.TheVariants.{Begin, Commit, Rollback, Savepoint, RollbackTo, Select, Write, CreateTable, CreateSchema, DropTables, DropSchema, KillQuery, Timeout}
 use Rattle.mdl_syntax.specs.KeyWords.{behind}
 use Rattle.mdl_syntax.specs.Names.{name_of, table_of}
 
@@ -122,6 +122,7 @@ forms =
     ∷ form (codes "CREATE TABLE") (makes (λ named. CreateTable named.0 named.1) table_and_columns)
     ∷ form (codes "CREATE SCHEMA") (makes CreateSchema one_name)
     ∷ form (codes "DROP TABLE") (makes DropTables some_tables)
+    ∷ form (codes "DROP SCHEMA") (makes DropSchema one_name)
     ∷ form (codes "KILL QUERY") (makes KillQuery one_session)
     ∷ form (codes "TIMEOUT") (no_more Timeout)
     ∷ []

@@ -36,6 +36,8 @@ pub enum Statement {
     CreateSchema(Name),
     /// `DROP TABLE` of 1 to 8 tables.
     DropTables(Tables),
+    /// `DROP SCHEMA` and its name.
+    DropSchema(Name),
     /// `KILL QUERY` of a session, from 1 to 64.
     KillQuery(u16),
     /// `TIMEOUT`: the session gives up its own wait.

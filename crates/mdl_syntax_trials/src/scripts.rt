@@ -18,6 +18,7 @@ const ROWS: &str = "\
 1 CREATE SCHEMA s / 1 CREATE SCHEMA az09_ / 1 CREATE SCHEMA test => 1 1 create schema s / 2 1 create schema az09_ / 3 1 \
     create schema test
 1 DROP TABLE t / 1 DROP TABLE b s.a a => 1 1 drop TABLE test.t / 2 1 drop TABLE test.b TABLE s.a TABLE test.a
+1 DROP SCHEMA s / 1 DROP SCHEMA az09_ => 1 1 drop schema s / 2 1 drop schema az09_
 1 KILL QUERY 64 / 9 KILL QUERY 1 / 9 TIMEOUT => 1 1 kill 64 / 2 9 kill 1 / 3 9 time out
 1 SELECT a b c d e f g h => 1 1 read TABLE test.a TABLE test.b TABLE test.c TABLE test.d TABLE test.e TABLE test.f \
     TABLE test.g TABLE test.h
@@ -105,7 +106,11 @@ BEGIN => line 1: BadSession
 1 CREATE SCHEMA s.t => line 1: BadName
 1 CREATE SCHEMA S t => line 1: BadName
 1 CREATE SCHEMAS s => line 1: BadWord
-1 DROP SCHEMA s => line 1: BadWord
+1 DROP SCHEMA => line 1: BadWord
+1 DROP SCHEMA s t => line 1: BadWord
+1 DROP SCHEMA S => line 1: BadName
+1 DROP SCHEMA s.t => line 1: BadName
+1 DROP SCHEMAS s => line 1: BadWord
 1 LOCK TABLES t READ => line 1: BadWord
 1 UNLOCK TABLES => line 1: BadWord
 1 FLUSH TABLES WITH READ LOCK => line 1: BadWord

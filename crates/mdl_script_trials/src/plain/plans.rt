@@ -45,6 +45,7 @@ impl Plan {
             Statement::CreateTable { table, columns } => self.create(table, columns),
             Statement::CreateSchema(name) => self.create_schema(name),
             Statement::DropTables(tables) => self.drop_tables(tables),
+            Statement::DropSchema(name) => self.drop_schema(name),
             Statement::KillQuery(_) | Statement::Timeout => Ok(()),
         }
     }
@@ -165,6 +166,16 @@ impl Plan {
         for key in &keys {
             self.push(Step::Drop(key.clone()?))?;
         }
+        self.push(Step::End)
+    }
+
+    // The tables of a schema are found once nobody else is in it.
+    fn drop_schema(&mut self, name: &Name) -> Result<(), AllocError> {
+        let schema = made(Key::schema(self.alloc, name.as_str()))?;
+        self.commit()?;
+        self.ask_global()?;
+        self.ask(schema.clone()?, Mode::X, Duration::Transaction)?;
+        self.push(Step::DropSchema(schema))?;
         self.push(Step::End)
     }
 
