@@ -10,7 +10,7 @@ use Rattle.mdl_context.specs.declared.request.Mark.{Mark}
 use Rattle.mdl_defs.specs.declared.standing.Standing.{Standing}
 use Rattle.mdl_syntax.specs.declared.script.Line.{Line}
 use Rattle.mdl_syntax.specs.declared.statement.Statement.{Statement}
-use Rattle.mdl_syntax.specs.declared.statement.Statement.TheVariants.{Begin, Commit, Select, Write, CreateTable, CreateSchema, DropTables, DropSchema}
+use Rattle.mdl_syntax.specs.declared.statement.Statement.TheVariants.{Begin, Commit, Select, Write, CreateTable, CreateSchema, DropTables, DropSchema, RenameTable}
 use Rattle.mdl_syntax.specs.Laws.{IsWithinLimits}
 use Rattle.mdl_syntax.specs.Scripts.{parsed}
 use Rattle.mdl_stmt.specs.Rows.{Row}
@@ -44,8 +44,8 @@ AsksForAtMost most (row.Key_of place rest) = (key : KeyName) → AsksForAtMost m
 AsksForAtMost most (row.Kill target rest) = AsksForAtMost most rest
 
 -- the most locks that a statement asks for: the COMMIT lock where it has to commit, the global lock where it writes or changes
--- definitions, and the tables or the schema that it names, with the tables' schemas where these are created or dropped, and with the
--- schema's tables where it is dropped
+-- definitions, and the tables or the schema that it names, with the tables' schemas where these are created, dropped or renamed, and with
+-- the schema's tables where it is dropped
 abbrev pub locks_of : Statement → ℕ
 locks_of Begin = 1
 locks_of Commit = 1
@@ -55,6 +55,7 @@ locks_of (CreateTable table columns) = 4
 locks_of (CreateSchema name) = 3
 locks_of (DropTables tables) = 2 + 2 * length tables
 locks_of (DropSchema name) = 3 + 256
+locks_of (RenameTable from to) = 6
 locks_of _ = 0
 
 -- that of a DROP SCHEMA is the most that the language has

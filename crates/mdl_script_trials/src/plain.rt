@@ -101,6 +101,8 @@ enum Step {
     DropSchema(Key),
     // Drops a table or a schema.
     Drop(Key),
+    // Gives a table another name, if it can get it.
+    Rename(Key, Key),
 }
 
 // How it goes on behind a step.

@@ -35,6 +35,7 @@ impl<S: LockSpace> Player<S> {
             Statement::CreateSchema(_) => self.define(space, statement),
             Statement::DropTables(_) => self.define(space, statement),
             Statement::DropSchema(_) => self.define(space, statement),
+            Statement::RenameTable { .. } => self.define(space, statement),
             Statement::Rollback => {
                 self.rollback(space);
                 Played::Ends(Ending::Answers(Reply::Ok))
@@ -116,6 +117,12 @@ impl<S: LockSpace> Player<S> {
             Stage::DropSchema(name) => self.drop_schema_under(space, name, ticket),
             Stage::DropWithin(schema, locks) => {
                 self.lock_within(space, schema, locks.with(ticket))
+            }
+            Stage::RenameScopes(from, to, locks) => {
+                self.lock_rename_scopes(space, from, to, locks.with(ticket))
+            }
+            Stage::RenameTables(from, to, schema, locks) => {
+                self.lock_names(space, from, to, schema, locks.with(ticket))
             }
         }
     }

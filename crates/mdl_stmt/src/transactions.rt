@@ -124,6 +124,7 @@ impl<S: LockSpace> Player<S> {
             Statement::CreateSchema(name) => self.create_schema(space, name),
             Statement::DropTables(tables) => self.drop_tables(space, tables),
             Statement::DropSchema(name) => self.drop_schema(space, name),
+            Statement::RenameTable { from, to } => self.rename(space, from, to),
             _ => Played::Ends(Ending::Answers(Reply::Ok)),
         }
     }

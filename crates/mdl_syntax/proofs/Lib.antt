@@ -1,6 +1,5 @@
 pub mod FormLemmas
 pub mod LawLemmas
-pub mod LineLemmas
 pub mod NameLemmas
 pub mod Reading
 pub mod ResultLemmas

@@ -38,6 +38,13 @@ pub enum Statement {
     DropTables(Tables),
     /// `DROP SCHEMA` and its name.
     DropSchema(Name),
+    /// `RENAME TABLE` of one table to another name.
+    RenameTable {
+        /// The table, by the name that it has.
+        from: Key,
+        /// The name that it gets.
+        to: Key,
+    },
     /// `KILL QUERY` of a session, from 1 to 64.
     KillQuery(u16),
     /// `TIMEOUT`: the session gives up its own wait.

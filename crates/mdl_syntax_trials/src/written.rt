@@ -58,6 +58,7 @@ fn statement_text(alloc: Global, statement: &Statement) -> Result<String, Fail> 
             let name = name.as_str();
             Ok(format!(in alloc; "drop schema {name}")?)
         }
+        Statement::RenameTable { from, to } => Ok(format!(in alloc; "rename {from} to {to}")?),
         Statement::KillQuery(session) => Ok(format!(in alloc; "kill {session}")?),
         Statement::Timeout => Ok(String::from_str(alloc, "time out")?),
     }

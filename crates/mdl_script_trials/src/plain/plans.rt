@@ -46,6 +46,7 @@ impl Plan {
             Statement::CreateSchema(name) => self.create_schema(name),
             Statement::DropTables(tables) => self.drop_tables(tables),
             Statement::DropSchema(name) => self.drop_schema(name),
+            Statement::RenameTable { from, to } => self.rename(from, to),
             Statement::KillQuery(_) | Statement::Timeout => Ok(()),
         }
     }
@@ -176,6 +177,17 @@ impl Plan {
         self.ask_global()?;
         self.ask(schema.clone()?, Mode::X, Duration::Transaction)?;
         self.push(Step::DropSchema(schema))?;
+        self.push(Step::End)
+    }
+
+    // Both names are locked before the first is looked at.
+    fn rename(&mut self, from: &Key, to: &Key) -> Result<(), AllocError> {
+        let mut keys = Vec::new(self.alloc);
+        keys.push(from.clone()?)?;
+        keys.push(to.clone()?)?;
+        keys.sort()?;
+        self.begin_change(&keys)?;
+        self.push(Step::Rename(from.clone()?, to.clone()?))?;
         self.push(Step::End)
     }
 

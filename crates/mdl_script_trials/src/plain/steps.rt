@@ -16,6 +16,7 @@ impl Plain {
             Step::CheckVersion(table) => Ok(self.check_version(&table)),
             Step::DropSchema(schema) => self.drop_schema(who, &schema),
             Step::Drop(key) => Ok(self.drop_key(&key)),
+            Step::Rename(from, to) => self.rename(&from, &to),
             Step::Save(name) => self.save(who, name),
             Step::GoBack(name) => self.go_back(who, &name),
             other => self.take_plain(who, other),
