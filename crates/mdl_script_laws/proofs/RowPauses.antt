@@ -87,7 +87,7 @@ pub record Rules (These : List ℕ → Type 0) (P : Pause → Type 0) (mark : Ma
 
 module _ (These : List ℕ → Type 0) (P : Pause → Type 0) (mark : Mark) (E : Ending → Type 0) (R : Row Reply → Type 0) (rules : Rules These P mark E R) where
   -- each pause of a program is so
-  abbrev So : Program Pause → Type 0
+  abbrev pub So : Program Pause → Type 0
   So program = EachBy (Told These) P program
 
   so-closing : (ending : Ending) (session : Session) → E ending → So (closing ending mark session)
