@@ -38,7 +38,8 @@ use Rattle.mdl_stmt.specs.Statements.{row_of}
 use Rattle.mdl_syntax.specs.declared.statement.Statement.{Statement}
 use Rattle.mdl_script_laws.specs.RefusalsFirst.{IsTidy, EarlyErrorsChangeNothing, is_early}
 use Rattle.mdl_script_laws.proofs.EarlyRows.{ChecksFirst, FailsLate, IsLate, statements_check}
-use Rattle.mdl_script_laws.proofs.RowPauses.{Follows, Rules, so-play, so-resumed}
+use Rattle.mdl_script_laws.proofs.RowPauses.{AnyTables, Follows, Rules, Told, any-told, so-play, so-resumed}
+use Rattle.mdl_script_laws.proofs.OutcomeLemmas.{by-each}
 use Rattle.mdl_script_laws.proofs.TidyLemmas.{none-gone}
 
 -- what is left of a statement never fails by an early error
@@ -101,11 +102,12 @@ late_closing ending mark session so = by (half_lock (state_after ending session.
 
 -- ---- what never fails so
 
-follows_late : (asked : Row Reply) → FailsLate IsLate asked → Follows (FailsLate IsLate) IsLateEnding asked
+follows_late : (asked : Row Reply) → FailsLate IsLate asked → Follows AnyTables (FailsLate IsLate) IsLateEnding asked
 follows_late (row.Set change rest) so = so.1
+follows_late (row.Tables_of schema rest) so = λ tables told. so tables
 follows_late _ so = so
 
-rules_late : (mark : Mark) → Rules IsLatePause mark IsLateEnding (FailsLate IsLate)
+rules_late : (mark : Mark) → Rules AnyTables IsLatePause mark IsLateEnding (FailsLate IsLate)
 rules_late mark = record {
   endings = record { starves = tt; refused = late_refusal; erred = late_error; lost = late_loss };
   closes = λ ending session so. late_closing ending mark session so;
@@ -115,14 +117,17 @@ rules_late mark = record {
 }
 
 late_play : (asked : Row Reply) (mark : Mark) (session : Session) → FailsLate IsLate asked → AllLate (play asked mark session)
-late_play asked mark session so = so-play IsLatePause mark IsLateEnding (FailsLate IsLate) (rules_late mark) asked session so
+late_play asked mark session so =
+    by-each (Told AnyTables) IsLatePause (play asked mark session) any-told
+    (so-play AnyTables IsLatePause mark IsLateEnding (FailsLate IsLate) (rules_late mark) asked session so)
 
 -- a statement that has waited never ends so
 pub late_going_on : (left : Option Left) (session : Session) → IsLateLeft left → AllLate (playing.going_on_with left session)
 late_going_on None session so = tt
 late_going_on (Some left) session so =
     each_then {A = Outcome Resume} {B = Pause} IsLatePause (resuming session.context) (playing.resumed left session)
-    (so-resumed IsLatePause IsLateEnding (FailsLate IsLate) left session (rules_late left.mark) (λ context. so) so)
+    (λ outcome. by-each (Told AnyTables) IsLatePause (playing.resumed left session outcome) any-told
+    (so-resumed AnyTables IsLatePause IsLateEnding (FailsLate IsLate) left session (rules_late left.mark) (λ context. so) so outcome))
 
 -- ---- what fails so before it changes anything
 

@@ -24,6 +24,7 @@ pub mod ShownWaits
 pub mod ShownWorlds
 pub mod TidyLemmas
 pub mod TurnLemmas
+pub mod TurnPlaces
 pub mod TurnPlays
 pub mod TurnRows
 pub mod TurnSpaces

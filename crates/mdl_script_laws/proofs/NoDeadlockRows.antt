@@ -1,7 +1,8 @@
 -- Each statement leaves a space without a deadlock, however far it comes.
-use Rattle.std.proofs.Common.{ℕ, Option, Some, None, Ok, Err, refl}
+use Rattle.std.proofs.Common.{ℕ, Option, Some, None, Ok, Err, refl, List}
+use Rattle.mdl_key.specs.Keys.{KeyName}
 use Rattle.mdl_defs.specs.declared.standing.Standing.{Standing}
-use Rattle.mdl_calls.specs.Words.{Answer, Has_wait, Reads, Changed, Change_definition, Kill, Read_definition, Wait_of, Program, Give, ◌>>=◌}
+use Rattle.mdl_calls.specs.Words.{Answer, Has_wait, Reads, Changed, Change_definition, Kill, Read_definition, Wait_of, Program, Give, ◌>>=◌, Tables, Key_is, Tables_of, Key_of}
 use Rattle.mdl_context.specs.declared.request.Acquire.{Acquire}
 use Rattle.mdl_context.specs.declared.request.Acquire.TheVariants as acquire
 use Rattle.mdl_context.specs.declared.request.Mark.{Mark}
@@ -74,6 +75,16 @@ calm-change : (mark : Mark) (session : Session) (more : Program Pause) → IsCal
 calm-change mark session more made (Changed version) = made
 calm-change mark session more made answer = calm-closing (ending_of_refusal (refusal_of answer)) mark session
 
+calm-tables : (mark : Mark) (session : Session) (more : List ℕ → Program Pause) → ((tables : List ℕ) → IsCalmFor session.context.who (more tables))
+    → (answer : Answer) → IsCalmFor session.context.who (playing.tables_answered mark session more answer)
+calm-tables mark session more made (Tables tables) = made tables
+calm-tables mark session more made answer = calm-closing (ending_of_refusal (refusal_of answer)) mark session
+
+calm-key : (mark : Mark) (session : Session) (more : KeyName → Program Pause) → ((key : KeyName) → IsCalmFor session.context.who (more key))
+    → (answer : Answer) → IsCalmFor session.context.who (playing.key_answered mark session more answer)
+calm-key mark session more made (Key_is key) = made key
+calm-key mark session more made answer = calm-closing (ending_of_refusal (refusal_of answer)) mark session
+
 -- ---- kills
 
 calm-told : (who target : ℕ) (more : Program Pause) → IsCalmFor who more → (answer : Answer) → IsCalmFor who (playing.wait_told target answer >>= (λ _. more))
@@ -120,6 +131,14 @@ calm-play (row.Redefine id change rest) mark session =
     let more = play rest mark session in
     calm-ask {A = Pause} session.context.who (Change_definition session.context.who id change) (playing.change_answered mark session more) (refl, refl)
     (λ answer session. refl) (calm-change mark session more (calm-play rest mark session))
+calm-play (row.Tables_of schema rest) mark session =
+    let more = λ (tables : List ℕ). play (rest tables) mark session in
+    calm-ask {A = Pause} session.context.who (Tables_of session.context.who schema) (playing.tables_answered mark session more) (refl, refl)
+    (λ answer session. refl) (calm-tables mark session more (λ tables. calm-play (rest tables) mark session))
+calm-play (row.Key_of place rest) mark session =
+    let more = λ (key : KeyName). play (rest key) mark session in
+    calm-ask {A = Pause} session.context.who (Key_of session.context.who place) (playing.key_answered mark session more) (refl, refl)
+    (λ answer session. refl) (calm-key mark session more (λ key. calm-play (rest key) mark session))
 calm-play (row.Kill target rest) mark session =
     let more = play rest mark session in
     calm-ask {A = Pause} session.context.who (Wait_of target) (λ answer. playing.wait_told target answer >>= (λ _. more)) (refl, tt)

@@ -21,7 +21,8 @@ use Rattle.mdl_stmt.specs.Sessions.{Session}
 use Rattle.mdl_stmt.specs.States.{State, half_lock, without_read_lock}
 use Rattle.mdl_stmt.specs.Statements.{row_of}
 use Rattle.mdl_script_laws.specs.RefusalsFirst.{IsOrderly, IsTidy, IsUnderway, SessionsStayTidy}
-use Rattle.mdl_script_laws.proofs.RowPauses.{AnyEnding, Follows, Rules, any-endings, so-play, so-resumed}
+use Rattle.mdl_script_laws.proofs.RowPauses.{AnyEnding, AnyTables, Follows, Rules, Told, any-endings, any-told, so-play, so-resumed}
+use Rattle.mdl_script_laws.proofs.OutcomeLemmas.{by-each}
 use Rattle.mdl_script_laws.proofs.TidyLemmas.{none-of_statement, none-of_transaction}
 
 -- whatever comes of it
@@ -98,15 +99,17 @@ orderly_closing ending mark session start = by (half_lock (state_after ending se
 abbrev AnyRow : Row Reply → Type 0
 AnyRow asked = Unit {0}
 
-follows_any : (asked : Row Reply) → Follows AnyRow AnyEnding asked
+follows_any : (asked : Row Reply) → Follows AnyTables AnyRow AnyEnding asked
 follows_any (row.Look rest) = λ state. tt
 follows_any (row.Here rest) = λ mark. tt
 follows_any (row.Acquire wish rest) = λ id. tt
 follows_any (row.Upgrade id key mode rest) = λ id. tt
 follows_any (row.Read id rest) = λ standing. tt
+follows_any (row.Tables_of schema rest) = λ tables told. tt
+follows_any (row.Key_of place rest) = λ key. tt
 follows_any _ = tt
 
-rules_orderly : (mark : Mark) → IsAtStart mark → Rules IsOrderly mark AnyEnding AnyRow
+rules_orderly : (mark : Mark) → IsAtStart mark → Rules AnyTables IsOrderly mark AnyEnding AnyRow
 rules_orderly mark start = record {
   endings = any-endings;
   closes = λ ending session _. orderly_closing ending mark session start;
@@ -120,12 +123,14 @@ orderly_going_on session (left, is, start) =
     let resting : Session = record session { left = None } in
     subst (λ some. AllOrderly (playing.going_on_with some resting)) (sym is)
     (each_then {A = Outcome Resume} {B = Pause} IsOrderly (resuming session.context) (playing.resumed left resting)
-    (so-resumed IsOrderly AnyEnding AnyRow left resting (rules_orderly left.mark start) (λ context. (left, refl, start)) (λ id. tt)))
+    (λ outcome. by-each (Told AnyTables) IsOrderly (playing.resumed left resting outcome) any-told
+    (so-resumed AnyTables IsOrderly AnyEnding AnyRow left resting (rules_orderly left.mark start) (λ context. (left, refl, start)) (λ id. tt) outcome)))
 
 pub stay_tidy : SessionsStayTidy
 stay_tidy session = (
   λ statement tidy.
       let mark = mark_of session.context.kept in
-      so-play IsOrderly mark AnyEnding AnyRow (rules_orderly mark (ap length tidy.statement)) (row_of statement) session tt,
+      by-each (Told AnyTables) IsOrderly (play (row_of statement) mark session) any-told
+      (so-play AnyTables IsOrderly mark AnyEnding AnyRow (rules_orderly mark (ap length tidy.statement)) (row_of statement) session tt),
   orderly_going_on session,
 )

@@ -27,8 +27,8 @@ use Rattle.mdl_stmt.specs.declared.explicit.ReadLock.{ReadLock}
 use Rattle.mdl_stmt.specs.declared.reply.Reply.{Reply}
 use Rattle.mdl_stmt.specs.declared.reply.Reply.TheVariants as reply
 use Rattle.mdl_stmt.specs.KeyOrder.{in_key_order}
+use Rattle.mdl_stmt.specs.Rows.{Row, Act, Give, Fail, Room, Look, Set, Here, Acquire, Give_up, Release, Read, Redefine, Tables_of, Key_of, Kill, ◌>>=◌, ◌>>◌, acquire_all, check, for_each, nothing, redefine, release, room, set}
 use Rattle.mdl_stmt.specs.LockLists.{ticket_of}
-use Rattle.mdl_stmt.specs.Rows.{Row, Act, Give, Fail, Room, Look, Set, Here, Acquire, Give_up, Release, Read, Redefine, Kill, ◌>>=◌, ◌>>◌, acquire_all, check, for_each, nothing, redefine, release, set, Upgrade, Downgrade, Keep, keep, room}
 use Rattle.mdl_stmt.specs.States.{State, has_locked, opened, unlocked, without_read_lock, locking}
 use Rattle.mdl_stmt.specs.Statements as rows
 use Rattle.mdl_script_laws.specs.RefusalsFirst.{is_early}
@@ -57,6 +57,8 @@ KeepsTo F P (Release id rest) = KeepsTo F P rest
 KeepsTo F P (Keep rest) = KeepsTo F P rest
 KeepsTo F P (Read id rest) = (standing : Standing) → KeepsTo F P (rest standing)
 KeepsTo F P (Redefine id change rest) = KeepsTo F P rest
+KeepsTo F P (Tables_of schema rest) = (tables : List ℕ) → KeepsTo F P (rest tables)
+KeepsTo F P (Key_of place rest) = (key : KeyName) → KeepsTo F P (rest key)
 KeepsTo F P (Kill target rest) = KeepsTo F P rest
 
 -- whatever it is
@@ -80,6 +82,8 @@ keeps-bind F P Q (Release id rest) next so later = keeps-bind F P Q rest next so
 keeps-bind F P Q (Keep rest) next so later = keeps-bind F P Q rest next so later
 keeps-bind F P Q (Read id rest) next so later = λ standing. keeps-bind F P Q (rest standing) next (so standing) later
 keeps-bind F P Q (Redefine id change rest) next so later = keeps-bind F P Q rest next so later
+keeps-bind F P Q (Tables_of schema rest) next so later = λ tables. keeps-bind F P Q (rest tables) next (so tables) later
+keeps-bind F P Q (Key_of place rest) next so later = λ key. keeps-bind F P Q (rest key) next (so key) later
 keeps-bind F P Q (Kill target rest) next so later = keeps-bind F P Q rest next so later
 
 -- something is done, and then this follows
@@ -153,6 +157,10 @@ module _ (F : ErrorNumber → Type 0) (late : (number : ErrorNumber) → is_earl
       keeps-then F Any (check (not (rows.is_defined standing)) SchemaExists) (check (rows.has_version_left standing) VersionLimit)
       (keeps-check F (not (rows.is_defined standing)) SchemaExists (late SchemaExists refl)) (keeps-version standing)
 
+  keeps-told : (told : List KeyName) (places : List ℕ) → KeepsTo F Any (rows.keys_of told places)
+  keeps-told told [] = tt
+  keeps-told told (place ∷ places) = λ key. keeps-told (told ++ key ∷ []) places
+
   keeps-free : (ticket : ℕ) → KeepsTo F Any (rows.is_free ticket)
   keeps-free ticket = λ standing. keeps-check F (not (rows.is_defined standing)) TableExists (late TableExists refl)
 
@@ -213,6 +221,24 @@ module _ (F : ErrorNumber → Type 0) (late : (number : ErrorNumber) → is_earl
         let wishes = map rows.ddl_lock (in_key_order tables) in
         keeps-bind F Any P (acquire_all scopes) (λ _. rows.lock_and_drop tables) (keeps-locks F scopes)
         (λ _ _. keeps-bind F Any P (acquire_all wishes) rows.drop_under (keeps-locks F wishes) (λ tickets _. keeps-drop_under tickets))
+
+    keeps-drop_with : (schema : ℕ) (tables : List ℕ) → KeepsTo F P (rows.drop_with schema tables)
+    keeps-drop_with schema tables =
+        let dropping : Act = for_each (λ ticket. redefine ticket change.Drop) tables in
+        let last : Row Reply = redefine schema change.Drop >> Give reply.Ok in
+        keeps-then F P (for_each rows.can_change tables) (rows.can_change schema >> (dropping >> last))
+        (keeps-each F rows.can_change (λ ticket standing. keeps-version standing) tables)
+        (keeps-then F P (rows.can_change schema) (dropping >> last) (λ standing. keeps-version standing)
+        (keeps-then F P dropping last (keeps-each F (λ ticket. redefine ticket change.Drop) (λ _. tt) tables) ok))
+
+    pub keeps-drop_schema : (name : List ℕ) → KeepsTo F P (rows.drop_schema_after_commit name)
+    keeps-drop_schema name = λ global schema.
+        let locked : List KeyName → Row Reply = λ tables. room >> (acquire_all (map rows.ddl_lock tables) >>= rows.drop_with schema) in
+        keeps-then F P (rows.check_schema schema) (rows.tables_in name >>= locked)
+        (λ over. keeps-check F (rows.is_defined over) UnknownDatabase (late UnknownDatabase refl))
+        (keeps-bind F Any P (rows.tables_in name) locked (λ places. keeps-told [] places)
+        (λ tables _. keeps-bind F Any P (acquire_all (map rows.ddl_lock tables)) (rows.drop_with schema) (keeps-locks F (map rows.ddl_lock tables))
+        (λ tickets _. keeps-drop_with schema tickets)))
 
     keeps-move : (definition : Definition) (from to : ℕ) → KeepsTo F P (rows.move_definition definition from to)
     keeps-move definition from to =

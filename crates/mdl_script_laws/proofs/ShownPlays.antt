@@ -16,7 +16,7 @@ use Rattle.mdl_calls.specs.declared.answers.Settled.{Settled}
 use Rattle.mdl_calls.specs.declared.answers.Settled.TheVariants as settled
 use Rattle.mdl_calls.specs.declared.space_error.SpaceError.{SpaceError}
 use Rattle.mdl_calls.specs.declared.space_error.SpaceError.TheVariants as space
-use Rattle.mdl_calls.specs.Words.{Answer, Has_wait, Reads, Changed, Change_definition, Kill, Read_definition, Wait_of, Own, Program, Give, ◌>>=◌}
+use Rattle.mdl_calls.specs.Words.{Answer, Has_wait, Reads, Changed, Change_definition, Kill, Read_definition, Wait_of, Own, Program, Give, ◌>>=◌, Tables, Key_is, Tables_of, Key_of}
 use Rattle.mdl_core.specs.CoreJoins.{Joins, Knows, SpeaksFor, own_at}
 use Rattle.mdl_core.specs.Cores.{Core, standing_at}
 use Rattle.mdl_core.proofs.CallLaws.{core-changes, core-keeps, core-remembers, core-rising}
@@ -101,6 +101,8 @@ IsFair old live locks seen (row.Release id rest) = ((x : TableShown) → old x �
 IsFair old live locks seen (row.Keep rest) = ((x : TableShown) → old x → live ≡ true → ⊥) × IsFair old live [] [] rest
 IsFair old live locks seen (row.Read id rest) = (standing : Standing) → IsFair old live locks (seen_under id standing locks ++ seen) (rest standing)
 IsFair old live locks seen (row.Redefine id change rest) = ((x : TableShown) → old x → live ≡ true → ⊥) × IsFair old live [] [] rest
+IsFair old live locks seen (row.Tables_of schema rest) = (tables : List ℕ) → IsFair old live locks seen (rest tables)
+IsFair old live locks seen (row.Key_of place rest) = (key : KeyName) → IsFair old live locks seen (rest key)
 IsFair old live locks seen (row.Kill target rest) = IsFair old live locks seen rest
 
 -- ---- where a statement is
@@ -560,6 +562,35 @@ module _ (old : TableShown → Type 0) (live : Bool) (locks : List (ℕ × KeyNa
       by (Changed version) = later now
       by r = leads-closing old live [] [] mark b session now (ending_of_refusal (refusal_of r)) (λ lives x tell. absurd (tells_no_refusal (refusal_of r) x tell))
 
+  -- the tables of a schema, and the key of a place
+  leads-tables : (schema : List ℕ) (more : List ℕ → Program Pause) (a b : Core) (session : Session) (answer : Answer) → At a session.context session.state
+      → Joins a (Tables_of session.context.who schema) answer b
+      → ((tables : List ℕ) → Point old live locks seen mark b session.context session.state → Leads (Comes old) (more tables) b)
+      → Leads (Comes old) (playing.tables_answered mark session more answer) b
+  leads-tables schema more a b session answer point joins later = by answer
+    where
+      now : Point old live locks seen mark b session.context session.state
+      now = point-same old live locks seen mark a session.context session.state point b
+          (stays-call session.context.who none a b (Tables_of session.context.who schema) answer point.fits.speaks (refl, tt, refl) joins)
+
+      by : (r : Answer) → Leads (Comes old) (playing.tables_answered mark session more r) b
+      by (Tables tables) = later tables now
+      by r = leads-closing old live locks seen mark b session now (ending_of_refusal (refusal_of r)) (λ x tell. absurd (tells_no_refusal (refusal_of r) x tell))
+
+  leads-key : (place : ℕ) (more : KeyName → Program Pause) (a b : Core) (session : Session) (answer : Answer) → At a session.context session.state
+      → Joins a (Key_of session.context.who place) answer b
+      → ((key : KeyName) → Point old live locks seen mark b session.context session.state → Leads (Comes old) (more key) b)
+      → Leads (Comes old) (playing.key_answered mark session more answer) b
+  leads-key place more a b session answer point joins later = by answer
+    where
+      now : Point old live locks seen mark b session.context session.state
+      now = point-same old live locks seen mark a session.context session.state point b
+          (stays-call session.context.who none a b (Key_of session.context.who place) answer point.fits.speaks (refl, tt, refl) joins)
+
+      by : (r : Answer) → Leads (Comes old) (playing.key_answered mark session more r) b
+      by (Key_is key) = later key now
+      by r = leads-closing old live locks seen mark b session now (ending_of_refusal (refusal_of r)) (λ x tell. absurd (tells_no_refusal (refusal_of r) x tell))
+
   -- a wait that another session has is killed
   leads-told : (target : ℕ) (more : Program Pause) (a b : Core) (session : Session) (answer : Answer) → At b session.context session.state
       → ((c : Core) → At c session.context session.state → Leads (Comes old) more c)
@@ -632,6 +663,12 @@ leads-play old live locks seen (row.Read id rest) mark a session fair point = λ
 leads-play old live locks seen (row.Redefine id change rest) mark a session fair point = λ answer b joins.
     leads-change old live locks seen mark id change (play rest mark session) a b session answer point fair.0 joins
     (λ now. leads-play old live [] [] rest mark b session fair.1 now)
+leads-play old live locks seen (row.Tables_of schema rest) mark a session fair point = λ answer b joins.
+    leads-tables old live locks seen mark schema (λ tables. play (rest tables) mark session) a b session answer point joins
+    (λ tables now. leads-play old live locks seen (rest tables) mark b session (fair tables) now)
+leads-play old live locks seen (row.Key_of place rest) mark a session fair point = λ answer b joins.
+    leads-key old live locks seen mark place (λ key. play (rest key) mark session) a b session answer point joins
+    (λ key now. leads-play old live locks seen (rest key) mark b session (fair key) now)
 leads-play old live locks seen (row.Kill target rest) mark a session fair point = λ answer b joins.
     leads-told old live locks seen mark target (play rest mark session) b b session answer
     (point-same old live locks seen mark a session.context session.state point b

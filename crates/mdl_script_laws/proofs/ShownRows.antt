@@ -24,7 +24,7 @@ use Rattle.mdl_stmt.specs.States.{State, has_locked, savepoint_mark, written}
 use Rattle.mdl_stmt.specs.Statements as does
 use Rattle.mdl_script_laws.specs.Shown.{leaves_transaction}
 use Rattle.mdl_script_laws.proofs.ListLemmas.{filter-among, only-one}
-use Rattle.mdl_script_laws.proofs.RowRules.{Any, KeepsTo, keeps-begin, keeps-check, keeps-commit, keeps-create, keeps-create_schema, keeps-drop, keeps-rename, keeps-flush, keeps-rollback, keeps-then, keeps-unlock_all, keeps-alter, keeps-either, IsUnlocked, keeps-lock_tables}
+use Rattle.mdl_script_laws.proofs.RowRules.{Any, KeepsTo, keeps-begin, keeps-check, keeps-commit, keeps-create, keeps-create_schema, keeps-drop, keeps-rename, keeps-flush, keeps-rollback, keeps-then, keeps-unlock_all, keeps-alter, keeps-either, IsUnlocked, keeps-lock_tables, keeps-drop_schema}
 use Rattle.mdl_script_laws.proofs.ShownPlays.{IsFair, Tells, seen_under, begun}
 use Rattle.mdl_script_laws.proofs.ShownPoints.{shown_as}
 
@@ -184,6 +184,8 @@ fair-tidy old locks seen (row.Release id rest) empty tidy = ((λ x is lives. emp
 fair-tidy old locks seen (row.Keep rest) empty tidy = ((λ x is lives. empty x is), fair-tidy old [] [] rest empty tidy)
 fair-tidy old locks seen (row.Read id rest) empty tidy = λ standing. fair-tidy old locks _ (rest standing) empty (tidy standing)
 fair-tidy old locks seen (row.Redefine id change rest) empty tidy = ((λ x is lives. empty x is), fair-tidy old [] [] rest empty tidy)
+fair-tidy old locks seen (row.Tables_of schema rest) empty tidy = λ tables. fair-tidy old locks seen (rest tables) empty (tidy tables)
+fair-tidy old locks seen (row.Key_of place rest) empty tidy = λ key. fair-tidy old locks seen (rest key) empty (tidy key)
 fair-tidy old locks seen (row.Kill target rest) empty tidy = fair-tidy old locks seen rest empty tidy
 
 tidy-commit : KeepsTo Any Any does.commit
@@ -232,6 +234,10 @@ fair-any old (statement.CreateSchema name) other none =
 fair-any old (statement.DropTables tables) other none =
     fair-tidy old [] [] (does.row_of (statement.DropTables tables)) none
     (keeps-then Any ShowsNone does.ddl (does.drop_after_commit tables) tidy-ddl (keeps-drop Any (λ _ _. tt) ShowsNone (λ x tell. absurd tell) tables))
+fair-any old (statement.DropSchema name) other none =
+    fair-tidy old [] [] (does.row_of (statement.DropSchema name)) none
+    (keeps-then Any ShowsNone does.ddl (does.drop_schema_after_commit name) tidy-ddl
+    (keeps-drop_schema Any (λ _ _. tt) ShowsNone (λ x tell. absurd tell) name))
 fair-any old (statement.RenameTable from to) other none =
     fair-tidy old [] [] (does.row_of (statement.RenameTable from to)) none
     (keeps-then Any ShowsNone does.ddl (does.rename_after_commit from to) tidy-ddl (keeps-rename Any (λ _ _. tt) ShowsNone (λ x tell. absurd tell) from to))

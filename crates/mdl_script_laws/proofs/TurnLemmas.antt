@@ -1,13 +1,15 @@
 -- The turns after a line are always enough: with each of them the locks that are left to ask for become fewer.
 use Rattle.std.proofs.Common.{◌≡◌, ℕ, zero, suc, ◌<◌, ◌≤◌, ◌-◌, ◌*◌, Bool, true, false, cond, List, [], ◌∷◌, length, get_or, set, take, replicate, Option, Some, None, Result, Ok, refl, subst, ap, ◌∙◌, sym, arith}
-use Rattle.std.specs.Prelude.{IfOk, is_some}
+use Rattle.std.specs.Prelude.{IfOk, codes, is_some}
 use Rattle.std.specs.List.{All, find, sum_by}
 use Rattle.std.proofs.lemmas.List.{get_or-set_other, get_or-set_same, get_or-replicate, length-set, length-replicate}
 use Rattle.std.proofs.lemmas.List.Elements.{All-cons, All-nil, All-replicate, All-set, All-take}
 use Rattle.std.proofs.lemmas.List.Sums.{sum_by-le, sum_by-set}
 use Rattle.mdl_book.proofs.TicketLemmas.{find-passes}
-use Rattle.mdl_calls.specs.Words.{Program, outcome_of}
+use Rattle.mdl_key.specs.Keys.{schema_key}
+use Rattle.mdl_calls.specs.Words.{Program, Settle_timeout, outcome_of}
 use Rattle.mdl_core.specs.CoreCalls.{has_settled, outcome}
+use Rattle.mdl_core.specs.Cores.{empty_core}
 use Rattle.mdl_lines.specs.declared.fault.LineError.{LineError}
 use Rattle.mdl_lines.specs.Lines.{lines_of}
 use Rattle.mdl_lines.specs.Sessions.{IsScriptSession}
@@ -21,14 +23,14 @@ use Rattle.mdl_stmt.specs.MemoryLaws.{session_at}
 use Rattle.mdl_stmt.specs.Playing.{going_on, starting}
 use Rattle.mdl_stmt.specs.Sessions.{Left}
 use Rattle.mdl_stmt.specs.Statements.{row_of}
-use Rattle.mdl_script.specs.Worlds.{Player, Scene, World, asked, first_settled, first_world, going, is_waiting, line_played, most_turns, most_waits, played, player_at, script_played, settling, started, timed_out, waiting_in}
+use Rattle.mdl_script.specs.Worlds.{Player, Scene, World, asked, creating, first_settled, first_world, going, is_waiting, line_played, most_turns, most_waits, played, player_at, script_played, settling, started, timed_out, waiting_in}
 use Rattle.mdl_script.proofs.HallLemmas.{waiting-sessions}
 use Rattle.mdl_script.proofs.ListLemmas.{All-find}
 use Rattle.mdl_script.proofs.SettleLemmas.{settling-none, settling-over, settling-some}
 use Rattle.mdl_script.proofs.SoundLemmas.{IsStaffed, first-session, staffed-first, staffed-going, staffed-started, staffed-timed_out}
 use Rattle.mdl_script_laws.specs.Turns.{AsksForAtMost, MoreTurnsDoNothing, NobodyIsLeftSettled, TurnsSuffice, locks_of, most_locks}
-use Rattle.mdl_script_laws.proofs.OutcomeLemmas.{each-outcome}
 use Rattle.mdl_script_laws.proofs.ScriptLemmas.{asked-by, lines-by, new-session, plays-each}
+use Rattle.mdl_script_laws.proofs.TurnPlaces.{HasFewPlaces, by-outcome, few-call, few-outcome}
 use Rattle.mdl_script_laws.proofs.TurnPlays.{IsLeftWithin, PausesWithin, left-within, within-going, within-play}
 use Rattle.mdl_script_laws.proofs.TurnRows.{few-locks}
 
@@ -43,6 +45,7 @@ nothing_due = record { line = 0; locks = 0 }
 -- all sessions are there, and what is left of each one's statement is within its dues; none are greater than those of a statement
 pub record IsBounded (dues : List Due) (world : World) : Type 0 where
   pub staffed : IsStaffed world
+  pub places : HasFewPlaces world.core
   pub all : length dues ≡ 64
   pub few : All (λ due. due.locks ≤ most_waits) dues
   pub lines : (who : ℕ) → IsScriptSession who → (get_or dues (who - 1) nothing_due).line ≡ (player_at who world).line
@@ -64,6 +67,7 @@ bounded-played : (line who n : ℕ) (program : Program Pause) (world : World) (d
     → IsBounded (set dues (who - 1) (record { line = line; locks = n })) (played line who program world).world
 bounded-played line who n program world dues is most staffed here bounded = record {
   staffed = staffed;
+  places = few-outcome program world.core bounded.places;
   all = length-set dues (who - 1) new ∙ bounded.all;
   few = All-set (λ due. due.locks ≤ most_waits) dues (who - 1) new most bounded.few;
   lines = λ w session. (each w session).0;
@@ -91,12 +95,12 @@ bounded-played line who n program world dues is most staffed here bounded = reco
       (bounded.lines w there, bounded.within w there))
 
 -- how far a statement comes that a session starts
-pub pauses-started : (line : Line) (world : World)
+pub pauses-started : (line : Line) (world : World) → HasFewPlaces world.core
     → PausesWithin (locks_of line.statement) (outcome_of outcome (starting line.statement (player_at line.session world).session) world.core).0
-pauses-started line world =
+pauses-started line world few =
     let session = (player_at line.session world).session in
     let most = locks_of line.statement in
-    each-outcome (PausesWithin most) outcome (starting line.statement session) world.core
+    by-outcome (PausesWithin most) (starting line.statement session) world.core few
     (within-play most (row_of line.statement) (mark_of session.context.kept) session (few-locks line.statement).0)
 
 pub bounded-started : (line : Line) (world : World) (dues : List Due) → IsRead line → IsBounded dues world
@@ -104,7 +108,7 @@ pub bounded-started : (line : Line) (world : World) (dues : List Due) → IsRead
 bounded-started line world dues read bounded =
     let few : locks_of line.statement ≤ most_locks = (few-locks line.statement).1 read.1 in
     bounded-played line.number line.session (locks_of line.statement) (starting line.statement (player_at line.session world).session) world dues read.0
-    (omega (arith, few)) (staffed-started line world read.0 bounded.staffed) (pauses-started line world) bounded
+    (omega (arith, few)) (staffed-started line world read.0 bounded.staffed) (pauses-started line world bounded.places) bounded
 
 -- ---- turns
 
@@ -158,7 +162,7 @@ turn-going world dues who found bounded = record {
   fewer = its.1
 
   pauses : PausesWithin fewer (outcome_of outcome (going_on player.session) world.core).0
-  pauses = within-going fewer player.session its.0 world.core its.2 its.4 (found-settled world who bounded.staffed found)
+  pauses = within-going fewer player.session its.0 world.core bounded.places its.2 its.4 (found-settled world who bounded.staffed found)
 
   among : who - 1 < length dues
   among = let all = bounded.all in omega (arith, is.0, is.1, all)
@@ -213,6 +217,7 @@ rests-settling (suc n) world dues bounded less =
 pub bounded-timed_out : (who : ℕ) (world : World) (dues : List Due) → IsScriptSession who → IsBounded dues world → IsBounded dues (timed_out who world)
 bounded-timed_out who world dues is bounded = record {
   staffed = staffed-timed_out who world is bounded.staffed;
+  places = few-call (Settle_timeout who) world.core bounded.places;
   all = bounded.all;
   few = bounded.few;
   lines = bounded.lines;
@@ -234,9 +239,13 @@ rests-line line world read rest =
 
 -- ---- scripts
 
+few-first : HasFewPlaces first_world.core
+few-first = few-outcome (creating (schema_key (codes "test"))) (empty_core 256 64) (record { books = omega arith; most = omega arith })
+
 pub bounded-first : IsBounded (replicate 64 nothing_due) first_world
 bounded-first = record {
   staffed = staffed-first;
+  places = few-first;
   all = length-replicate {A = Due} 64 nothing_due;
   few = All-replicate (λ (due : Due). due.locks ≤ most_waits) 64 nothing_due (omega arith);
   lines = λ who is. rw (new-session who is) (ap (λ (due : Due). due.line) (get_or-replicate 64 (who - 1) nothing_due nothing_due (omega (arith, is.0, is.1))));

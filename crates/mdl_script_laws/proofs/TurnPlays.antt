@@ -5,7 +5,7 @@ use Rattle.std.specs.Prelude.{is_some, if◌then◌else◌}
 use Rattle.mdl_key.specs.declared.mode.Mode.{Mode}
 use Rattle.mdl_calls.specs.declared.answers.Settled.{Settled}
 use Rattle.mdl_calls.specs.declared.space_error.SpaceError.{SpaceError}
-use Rattle.mdl_calls.specs.Words.{Answer, Granted, Lost, Is_settled, Give, Each, outcome_of}
+use Rattle.mdl_calls.specs.Words.{Answer, Granted, Lost, Is_settled, Give, Each, outcome_of, Program}
 use Rattle.mdl_calls.proofs.FaithfulLemmas.{each_then}
 use Rattle.mdl_core.specs.declared.pending.Pending.{Pending}
 use Rattle.mdl_core.specs.CoreCalls.{ending, has_settled, outcome, polling, polling_of}
@@ -32,9 +32,10 @@ use Rattle.mdl_stmt.specs.Rows.{Row}
 use Rattle.mdl_stmt.specs.Rows as row
 use Rattle.mdl_stmt.specs.Sessions.{Left, Session}
 use Rattle.mdl_stmt.specs.States.{State, half_lock, without_read_lock}
-use Rattle.mdl_script_laws.specs.Turns.{AsksForAtMost}
-use Rattle.mdl_script_laws.proofs.OutcomeLemmas.{each-outcome, outcome-then}
-use Rattle.mdl_script_laws.proofs.RowPauses.{AnyEnding, Follows, Rules, any-endings, so-play}
+use Rattle.mdl_script_laws.specs.Turns.{AsksForAtMost, AreFewTables}
+use Rattle.mdl_script_laws.proofs.OutcomeLemmas.{outcome-then, EachBy, each-by}
+use Rattle.mdl_script_laws.proofs.RowPauses.{AnyEnding, Follows, Rules, any-endings, so-play, Told}
+use Rattle.mdl_script_laws.proofs.TurnPlaces.{HasFewPlaces, by-outcome, few-outcome}
 use Rattle.mdl_script_laws.proofs.TurnRows.{few-more}
 
 -- what is left of a statement is within a bound: the lock that it waits for, and those that it still asks for
@@ -78,7 +79,7 @@ within-closing most ending mark session = by (half_lock (state_after ending sess
       each_then {A = Outcome (Unit {0})} {B = Pause} (PausesWithin most) (releasing global session.context) (λ outcome. letting_go ending mark (after outcome))
       (λ outcome. within-letting_go most ending mark (after outcome))
 
-follows-within : (most : ℕ) (asked : Row Reply) → AsksForAtMost most asked → Follows (AsksForAtMost most) AnyEnding asked
+follows-within : (most : ℕ) (asked : Row Reply) → AsksForAtMost most asked → Follows AreFewTables (AsksForAtMost most) AnyEnding asked
 follows-within most (row.Give reply) is = tt
 follows-within most (row.Fail number) is = tt
 follows-within most (row.Acquire wish rest) (fewer, same, is) = λ id. few-more fewer most (rest id) (omega (arith, same)) (is id)
@@ -86,7 +87,7 @@ follows-within most (row.Upgrade id key mode rest) (fewer, same, is) = λ id. fe
 follows-within most _ is = is
 
 -- the bound may be greater than what is left, so that a lock that is had at once leaves it as it is
-rules-within : (most : ℕ) (mark : Mark) → Rules (PausesWithin most) mark AnyEnding (AsksForAtMost most)
+rules-within : (most : ℕ) (mark : Mark) → Rules AreFewTables (PausesWithin most) mark AnyEnding (AsksForAtMost most)
 rules-within most mark = record {
   endings = any-endings;
   closes = λ ending session _. within-closing most ending mark session;
@@ -95,8 +96,13 @@ rules-within most mark = record {
   raises = λ id key mode rest session is. (let more = is.1 in omega (arith, more), is);
 }
 
-pub within-play : (most : ℕ) (asked : Row Reply) (mark : Mark) (session : Session) → AsksForAtMost most asked → Each (PausesWithin most) (play asked mark session)
-within-play most asked mark session is = so-play (PausesWithin most) mark AnyEnding (AsksForAtMost most) (rules-within most mark) asked session is
+-- where a schema has no more tables than a space has places
+abbrev pub EachWithin : ℕ → Program Pause → Type 0
+EachWithin most program = EachBy (Told AreFewTables) (PausesWithin most) program
+
+pub within-play : (most : ℕ) (asked : Row Reply) (mark : Mark) (session : Session) → AsksForAtMost most asked → EachWithin most (play asked mark session)
+within-play most asked mark session is =
+    so-play AreFewTables (PausesWithin most) mark AnyEnding (AsksForAtMost most) (rules-within most mark) asked session is
 
 -- ---- what is left of a statement
 
@@ -109,11 +115,15 @@ IsOver (Err error, context) = Unit {0}
 
 -- then the statement ends, or it has one lock less to ask for
 within-resumed : (n : ℕ) (left : Left) (session : Session) (outcome : Outcome Resume) → ((id : ℕ) → AsksForAtMost n (left.rest id)) → IsOver outcome
-    → Each (PausesWithin n) (playing.resumed left session outcome)
+    → EachWithin n (playing.resumed left session outcome)
 within-resumed n left session (Ok resume.Waiting, context) is over = absurd over
 within-resumed n left session (Ok (resume.Acquired id), context) is over = within-play n (left.rest id) left.mark (with_context session context) (is id)
-within-resumed n left session (Ok (resume.Lost how), context) is over = within-closing n (ending_of_loss how) left.mark (with_context session context)
-within-resumed n left session (Err error, context) is over = within-closing n (ending_of_error error) left.mark (with_context session context)
+within-resumed n left session (Ok (resume.Lost how), context) is over =
+    each-by (Told AreFewTables) (PausesWithin n) (closing (ending_of_loss how) left.mark (with_context session context))
+    (within-closing n (ending_of_loss how) left.mark (with_context session context))
+within-resumed n left session (Err error, context) is over =
+    each-by (Told AreFewTables) (PausesWithin n) (closing (ending_of_error error) left.mark (with_context session context))
+    (within-closing n (ending_of_error error) left.mark (with_context session context))
 
 -- ---- a settled wait
 
@@ -177,12 +187,12 @@ over-resuming context core settled =
 -- ---- outcomes
 
 -- a session goes on whose wait is settled: if it waits again, then with one lock less to ask for
-pub within-going : (n : ℕ) (session : Session) (left : Left) (core : Core) → session.left ≡ Some left → ((id : ℕ) → AsksForAtMost n (left.rest id))
+pub within-going : (n : ℕ) (session : Session) (left : Left) (core : Core) → HasFewPlaces core → session.left ≡ Some left → ((id : ℕ) → AsksForAtMost n (left.rest id))
     → has_settled core session.context.who ≡ true → PausesWithin n (outcome_of outcome (going_on session) core).0
-within-going n session left core same is settled =
+within-going n session left core few same is settled =
     let bare : Session = record session { left = None } in
     let end : Outcome Resume × Core = outcome_of outcome (resuming session.context) core in
     subst (λ (its : Option Left). PausesWithin n (outcome_of outcome (playing.going_on_with its bare) core).0) (sym same)
     (subst (λ (end : Pause × Core). PausesWithin n end.0) (sym (outcome-then outcome (resuming session.context) (playing.resumed left bare) core))
-    (each-outcome (PausesWithin n) outcome (playing.resumed left bare end.0) end.1
+    (by-outcome (PausesWithin n) (playing.resumed left bare end.0) end.1 (few-outcome (resuming session.context) core few)
     (within-resumed n left bare end.0 is (over-resuming session.context core settled))))

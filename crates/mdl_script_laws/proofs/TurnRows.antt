@@ -1,7 +1,7 @@
 -- How many locks each statement asks for.
 use Rattle.std.proofs.Common.{◌≡◌, ℕ, suc, ◌+◌, ◌-◌, ◌*◌, ◌≤◌, Bool, true, false, List, [], ◌∷◌, ◌++◌, length, map, filter, Option, Some, None, refl, arith}
 use Rattle.std.specs.Prelude.{find, if◌then◌else◌, is_some, not}
-use Rattle.std.proofs.lemmas.List.{length-map}
+use Rattle.std.proofs.lemmas.List.{length-append, length-map}
 use Rattle.std.specs.declared.cmp.Ordering.{Ordering}
 use Rattle.std.specs.declared.cmp.Ordering.TheVariants.{Less, Equal, Greater}
 use Rattle.mdl_key.specs.Keys.{KeyName, global_key, key_cmp, key_eq}
@@ -62,6 +62,8 @@ few-more n m (row.Release id rest) less is = few-more n m rest less is
 few-more n m (row.Keep rest) less is = few-more n m rest less is
 few-more n m (row.Read id rest) less is = λ standing. few-more n m (rest standing) less (is standing)
 few-more n m (row.Redefine id change rest) less is = few-more n m rest less is
+few-more n m (row.Tables_of schema rest) less is = λ tables few. few-more n m (rest tables) less (is tables few)
+few-more n m (row.Key_of place rest) less is = λ key. few-more n m (rest key) less (is key)
 few-more n m (row.Kill target rest) less is = few-more n m rest less is
 
 -- one row after another
@@ -87,6 +89,8 @@ few-then n m most (row.Release id more) next less is rest = few-then n m most mo
 few-then n m most (row.Keep more) next less is rest = few-then n m most more next less is rest
 few-then n m most (row.Read id more) next less is rest = λ standing. few-then n m most (more standing) next less (is standing) rest
 few-then n m most (row.Redefine id change more) next less is rest = few-then n m most more next less is rest
+few-then n m most (row.Tables_of schema more) next less is rest = λ tables few. few-then n m most (more tables) next less (is tables few) rest
+few-then n m most (row.Key_of place more) next less is rest = λ key. few-then n m most (more key) next less (is key) rest
 few-then n m most (row.Kill target more) next less is rest = few-then n m most more next less is rest
 
 -- one row or the other, by a test
@@ -237,7 +241,7 @@ few-write table priority state =
     few-either 3 (has_locked state.locked) (stm.write_locked table) (stm.write_unlocked table priority) (few-write_locked table)
     (few-write_unlocked table priority)
 
--- ---- CREATE TABLE, CREATE SCHEMA, DROP TABLE, RENAME TABLE
+-- ---- CREATE TABLE, CREATE SCHEMA, DROP TABLE, DROP SCHEMA, RENAME TABLE
 
 few-ddl_first : (n : ℕ) (rest : Row Reply) → AsksForAtMost n rest → AsksForAtMost (suc n) (stm.ddl_first rest)
 few-ddl_first n rest is =
@@ -318,6 +322,33 @@ few-drop tables =
     let all = length-map tables stm.schema_of in
     few-then (length wishes) n (1 + n + n) (acquire_all wishes) (λ scopes. stm.lock_and_drop tables) (omega (arith, count, most, all)) (few-acquire_all wishes)
     (λ scopes. few-lock_and_drop tables)
+
+few-drop_with : (schema : ℕ) (tables : List ℕ) → AsksForAtMost 0 (stm.drop_with schema tables)
+few-drop_with schema tables =
+    few-then 0 0 0 (for_each stm.can_change tables) _ (omega arith)
+    (few-for_each stm.can_change tables (λ id standing. few-checked (stm.has_version_left standing) VersionLimit))
+    (λ _. few-then 0 0 0 (stm.can_change schema) _ (omega arith) (λ standing. few-checked (stm.has_version_left standing) VersionLimit)
+    (λ _. few-then 0 0 0 (for_each (λ ticket. row.redefine ticket change.Drop) tables) _ (omega arith)
+    (few-for_each (λ ticket. row.redefine ticket change.Drop) tables (λ id. tt)) (λ _. tt)))
+
+-- the tables that are told are locked, as many as there are places
+few-keys : (schema : ℕ) (told : List KeyName) (places : List ℕ) (most : ℕ) → length told + length places ≤ most
+    → AsksForAtMost most (stm.keys_of told places >>= (λ tables. row.room >> (acquire_all (map stm.ddl_lock tables) >>= stm.drop_with schema)))
+few-keys schema told [] most less =
+    let wishes = map stm.ddl_lock told in
+    let count = length-map told stm.ddl_lock in
+    few-then (length wishes) 0 most (acquire_all wishes) (stm.drop_with schema) (omega (arith, count, less)) (few-acquire_all wishes) (few-drop_with schema)
+few-keys schema told (place ∷ places) most less = λ key.
+    let longer = length-append told (key ∷ []) in
+    few-keys schema (told ++ key ∷ []) places most (omega (arith, less, longer))
+
+few-drop_schema_under : (name : List ℕ) (schema : ℕ) → AsksForAtMost 256 (stm.drop_schema_under name schema)
+few-drop_schema_under name schema =
+    few-then 0 256 256 (stm.check_schema schema) _ (omega arith) (few-check_schema schema)
+    (λ _ places few. few-keys schema [] places 256 (omega (arith, few)))
+
+few-drop_schema : (name : List ℕ) → AsksForAtMost (2 + 256) (stm.drop_schema_after_commit name)
+few-drop_schema name = (1 + 256, refl, λ global. (256, refl, λ schema. few-drop_schema_under name schema))
 
 few-free : (ticket : ℕ) → AsksForAtMost 0 (stm.is_free ticket)
 few-free ticket standing = few-checked (not (stm.is_defined standing)) TableExists
@@ -476,6 +507,7 @@ few-asked (statement.DropTables tables) =
     let n = length tables in
     few-more (suc (1 + n + n)) (2 + 2 * n) (stm.row_of (statement.DropTables tables)) (omega arith)
     (few-ddl_first (1 + n + n) (stm.drop_after_commit tables) (few-drop tables))
+few-asked (statement.DropSchema name) = few-ddl_first (2 + 256) (stm.drop_schema_after_commit name) (few-drop_schema name)
 few-asked (statement.RenameTable from to) = few-ddl_first 5 (stm.rename_after_commit from to) (few-rename from to)
 few-asked statement.UnlockTables = few-unlock_all
 few-asked statement.FlushTablesWithReadLock =

@@ -1,11 +1,12 @@
 -- A statement waits exactly where its session has a wait in the space.
 use Rattle.std.proofs.Common.{◌≡◌, ℕ, zero, suc, Bool, true, false, List, [], ◌∷◌, Option, Some, None, Result, Ok, Err, refl, subst, sym, ◌∙◌}
+use Rattle.mdl_key.specs.Keys.{KeyName}
 use Rattle.std.specs.Prelude.{if◌then◌else◌, is_some, ◌==◌}
 use Rattle.mdl_defs.specs.declared.standing.Standing.{Standing}
 use Rattle.mdl_key.specs.declared.mode.Mode.{Mode}
 use Rattle.mdl_calls.specs.declared.answers.Held.{Held}
 use Rattle.mdl_calls.specs.declared.space_error.SpaceError.{SpaceError}
-use Rattle.mdl_calls.specs.Words.{Answer, At_place, Changed, Done, Granted, Has_wait, Reads, Refused, Upgraded, Victim_is, Waits, Would_wait, Begin_wait, Downgrade, Release, Search, Upgrade_now, Program, Give, Ask, ◌>>=◌, SearchEnd, Over, Cut_off, Failed, after_search, seeking, most_searches}
+use Rattle.mdl_calls.specs.Words.{Answer, At_place, Changed, Done, Granted, Has_wait, Reads, Refused, Upgraded, Victim_is, Waits, Would_wait, Begin_wait, Downgrade, Release, Search, Upgrade_now, Program, Give, Ask, ◌>>=◌, SearchEnd, Over, Cut_off, Failed, after_search, seeking, most_searches, Tables, Key_is}
 use Rattle.mdl_context.specs.declared.asking.Got.{Got}
 use Rattle.mdl_context.specs.declared.asking.Got.TheVariants as got
 use Rattle.mdl_context.specs.declared.context_error.ContextError.{ContextError}
@@ -272,6 +273,16 @@ tied-change : (mark : Mark) (session : Session) (more : Program Pause) → Track
 tied-change mark session more made (Changed version) = made
 tied-change mark session more made answer = tied-closing (ending_of_refusal (refusal_of answer)) mark session
 
+tied-tables : (mark : Mark) (session : Session) (more : List ℕ → Program Pause) → ((tables : List ℕ) → Tracks PausesTied (more tables) false)
+    → (answer : Answer) → Tracks PausesTied (playing.tables_answered mark session more answer) false
+tied-tables mark session more made (Tables tables) = made tables
+tied-tables mark session more made answer = tied-closing (ending_of_refusal (refusal_of answer)) mark session
+
+tied-key : (mark : Mark) (session : Session) (more : KeyName → Program Pause) → ((key : KeyName) → Tracks PausesTied (more key) false)
+    → (answer : Answer) → Tracks PausesTied (playing.key_answered mark session more answer) false
+tied-key mark session more made (Key_is key) = made key
+tied-key mark session more made answer = tied-closing (ending_of_refusal (refusal_of answer)) mark session
+
 tied-told : (target : ℕ) (more : Program Pause) → Tracks PausesTied more false → (answer : Answer)
     → Tracks PausesTied (playing.wait_told target answer >>= (λ _. more)) false
 tied-told target more made (Has_wait (Some number)) = λ answer is. made
@@ -314,4 +325,8 @@ tied-play (row.Keep rest) mark session = tied-play rest mark (playing.all_kept s
 tied-play (row.Read id rest) mark session =
     λ answer is. tied-read mark session (λ standing. play (rest standing) mark session) (λ standing. tied-play (rest standing) mark session) answer
 tied-play (row.Redefine id change rest) mark session = λ answer is. tied-change mark session (play rest mark session) (tied-play rest mark session) answer
+tied-play (row.Tables_of schema rest) mark session =
+    λ answer is. tied-tables mark session (λ tables. play (rest tables) mark session) (λ tables. tied-play (rest tables) mark session) answer
+tied-play (row.Key_of place rest) mark session =
+    λ answer is. tied-key mark session (λ key. play (rest key) mark session) (λ key. tied-play (rest key) mark session) answer
 tied-play (row.Kill target rest) mark session = λ answer is. tied-told target (play rest mark session) (tied-play rest mark session) answer

@@ -153,7 +153,7 @@ begun-started line world dues read bounded = record {
   among = let all = bounded.all in let is = read.0 in omega (arith, is.0, is.1, all)
 
   told : (number : ℕ) → waits_told number (started line world).told + owed_at number new ≤ cond (eqb line.number number) (locks_of line.statement) 0
-  told number = waits-told number line.number line.session (locks_of line.statement) _ (pauses-started line world)
+  told number = waits-told number line.number line.session (locks_of line.statement) _ (pauses-started line world bounded.places)
 
   least : (same : Bool) → cond same (locks_of line.statement) 0 ≤ locks_of line.statement
   least true = omega arith

@@ -2,6 +2,7 @@
 -- statement waits just where its session has an unsettled wait, and how many waits are told.
 use Rattle.std.specs.Prelude.{◌≡◌, ℕ, suc, ◌+◌, ◌*◌, ◌≤◌, Bool, true, false, ◌&&◌, ◌==◌, List, length, filter, take, None, Ok}
 use Rattle.std.specs.List.{All}
+use Rattle.mdl_key.specs.Keys.{KeyName}
 use Rattle.mdl_core.specs.CoreCalls.{has_settled, wait_at}
 use Rattle.mdl_core.specs.Seats.{is_open}
 use Rattle.mdl_lines.specs.Sessions.{IsScriptSession}
@@ -9,7 +10,7 @@ use Rattle.mdl_context.specs.declared.request.Mark.{Mark}
 use Rattle.mdl_defs.specs.declared.standing.Standing.{Standing}
 use Rattle.mdl_syntax.specs.declared.script.Line.{Line}
 use Rattle.mdl_syntax.specs.declared.statement.Statement.{Statement}
-use Rattle.mdl_syntax.specs.declared.statement.Statement.TheVariants.{Begin, Commit, Select, Write, CreateTable, CreateSchema, DropTables, RenameTable, FlushTablesWithReadLock, AlterTable, LockTables}
+use Rattle.mdl_syntax.specs.declared.statement.Statement.TheVariants.{Begin, Commit, Select, Write, CreateTable, CreateSchema, DropTables, RenameTable, FlushTablesWithReadLock, AlterTable, LockTables, DropSchema}
 use Rattle.mdl_syntax.specs.Laws.{IsWithinLimits}
 use Rattle.mdl_syntax.specs.Scripts.{parsed}
 use Rattle.mdl_stmt.specs.Rows.{Row}
@@ -20,6 +21,10 @@ use Rattle.mdl_script.specs.declared.told.News.{News}
 use Rattle.mdl_script.specs.declared.told.News.TheVariants.{Waits}
 use Rattle.mdl_script.specs.declared.told.Told.{Told}
 use Rattle.mdl_script.specs.Worlds.{World, first_settled, is_waiting, script_played, settling, silent, waiting_in}
+
+-- a schema has no more tables than a space has places
+abbrev pub AreFewTables : List ℕ → Type 0
+AreFewTables tables = length tables ≤ 256
 
 -- a statement asks for at most so many locks, one after the other, whatever it is told meanwhile. To make one stronger is to ask for one
 -- more
@@ -38,12 +43,14 @@ AsksForAtMost most (row.Release id rest) = AsksForAtMost most rest
 AsksForAtMost most (row.Keep rest) = AsksForAtMost most rest
 AsksForAtMost most (row.Read id rest) = (standing : Standing) → AsksForAtMost most (rest standing)
 AsksForAtMost most (row.Redefine id change rest) = AsksForAtMost most rest
+AsksForAtMost most (row.Tables_of schema rest) = (tables : List ℕ) → AreFewTables tables → AsksForAtMost most (rest tables)
+AsksForAtMost most (row.Key_of place rest) = (key : KeyName) → AsksForAtMost most (rest key)
 AsksForAtMost most (row.Kill target rest) = AsksForAtMost most rest
 
 -- the most locks that a statement asks for: the COMMIT lock where it has to commit, the global lock where it writes or changes
 -- definitions, and the tables or the schema that it names, with the tables' schemas where these are created, dropped, renamed, altered or
--- locked for writing; and for the global read lock the global lock and once more the COMMIT lock. A table that is altered is locked up to
--- three times, each time more strongly
+-- locked for writing, and with the schema's tables where it is dropped; and for the global read lock the global lock and once more the
+-- COMMIT lock. A table that is altered is locked up to three times, each time more strongly
 abbrev pub locks_of : Statement → ℕ
 locks_of Begin = 1
 locks_of Commit = 1
@@ -52,15 +59,16 @@ locks_of (Write table priority) = 3
 locks_of (CreateTable table columns) = 4
 locks_of (CreateSchema name) = 3
 locks_of (DropTables tables) = 2 + 2 * length tables
+locks_of (DropSchema name) = 3 + 256
 locks_of (RenameTable from to) = 6
 locks_of FlushTablesWithReadLock = 3
 locks_of (AlterTable alteration) = 6
 locks_of (LockTables locks) = 2 + 2 * length locks
 locks_of _ = 0
 
--- that of eight tables that are dropped or locked is the most that the language has
+-- that of a DROP SCHEMA is the most that the language has
 abbrev pub most_locks : ℕ
-most_locks = 2 + 2 * 8
+most_locks = 3 + 256
 
 -- no statement asks for more
 abbrev pub StatementsAskForFewLocks : Type 0

@@ -102,9 +102,11 @@ enum Step {
     Create(Key, Columns),
     // Makes a schema, if it can be made.
     CreateSchema(Key),
-    // Fails where a table has had all its versions.
+    // Fails where a table or a schema has had all its versions.
     CheckVersion(Key),
-    // Drops a table.
+    // Finds the tables of a schema, if it is there, and has them and then the schema locked and dropped.
+    DropSchema(Key),
+    // Drops a table or a schema.
     Drop(Key),
     // Gives a table another name, if it can get it.
     Rename(Key, Key),

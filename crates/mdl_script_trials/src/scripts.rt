@@ -165,6 +165,14 @@ const ROWS: &str = "\
 1 CREATE TABLE t x / 1 BEGIN / 1 INSERT t / 2 LOCK TABLES t READ / 3 INSERT LOW_PRIORITY t / 4 INSERT t / 1 COMMIT / 2 BEGIN \
     => 1 1 OK / 2 1 OK / 3 1 OK / 4 2 WAIT TABLE test.t SRO / 5 3 WAIT TABLE test.t SWLP / 6 4 OK / 7 1 OK / 4 2 OK / 8 2 OK / \
     5 3 OK
+2 CREATE SCHEMA s / 2 BEGIN / 2 SELECT s.a / 1 CREATE TABLE s.a x / 3 DROP SCHEMA s / 2 COMMIT / 1 SELECT s.a => 1 2 \
+    OK / 2 2 OK / 3 2 ERR 1146 / 4 1 WAIT TABLE s.a X / 5 3 WAIT SCHEMA s X / 6 2 OK / 4 1 OK / 5 3 OK / 7 1 ERR 1146
+1 CREATE SCHEMA s / 1 CREATE TABLE s.b x / 1 CREATE TABLE s.a x / 1 CREATE TABLE t x / 2 BEGIN / 2 SELECT s.b / 3 \
+    BEGIN / 3 SELECT s.a / 1 DROP SCHEMA s / 2 COMMIT / 3 COMMIT / 1 SELECT t / 1 SELECT s.a / 1 CREATE SCHEMA s / 1 \
+    SELECT s.b => 1 1 OK / 2 1 OK / 3 1 OK / 4 1 OK / 5 2 OK / 6 2 OK s.b@1(x) / 7 3 OK / 8 3 OK s.a@1(x) / 9 1 WAIT \
+    TABLE s.a X / 10 2 OK / 11 3 OK / 9 1 OK / 12 1 OK test.t@1(x) / 13 1 ERR 1146 / 14 1 OK / 15 1 ERR 1146
+1 DROP SCHEMA s / 1 CREATE SCHEMA s / 1 DROP SCHEMA s / 1 DROP SCHEMA s / 1 DROP SCHEMA test / 1 CREATE TABLE t x => 1 \
+    1 ERR 1049 / 2 1 OK / 3 1 OK / 4 1 ERR 1049 / 5 1 OK / 6 1 ERR 1049
 1 CREATE SCHEMA S => line 1: BadName
 1 CREATE SCHEMA s t => line 1: BadWord
 1 CREATE TABLE t x / 2 BEGIN / 2 INSERT t / 1 FLUSH TABLES WITH READ LOCK / 1 INSERT t / 2 COMMIT / 1 UNLOCK TABLES => 1 1 \
@@ -189,6 +197,8 @@ const ROWS: &str = "\
     TABLE test.t X / END 3 WAIT
 1 CREATE TABLE t x / 1 FLUSH TABLES WITH READ LOCK / 1 FLUSH TABLES WITH READ LOCK / 2 INSERT t / 1 UNLOCK TABLES / 1 UNLOCK \
     TABLES => 1 1 OK / 2 1 OK / 3 1 OK / 4 2 WAIT GLOBAL IX / 5 1 OK / 4 2 OK / 6 1 OK
+1 DROP SCHEMA S => line 1: BadName
+1 DROP SCHEMA s t => line 1: BadWord
 1 SELECT a b c d e f g h T => line 1: BadWord
 1 SELECT a b c d e f g T => line 1: BadName
 1 SELECT a b c d e f g h i => line 1: BadWord

@@ -12,4 +12,5 @@ pub mod RowMemory
 pub mod RowOutcomes
 pub mod RunLemmas
 pub mod SavepointLemmas
+pub mod ToldKeyLemmas
 pub mod UnlockLemmas

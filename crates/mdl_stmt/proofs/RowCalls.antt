@@ -1,7 +1,8 @@
 -- All calls of statements are made for their session or for nobody, and the session keeps its number.
-use Rattle.std.proofs.Common.{◌≡◌, ℕ, Option, Some, None, Ok, Err, refl, subst}
+use Rattle.std.proofs.Common.{◌≡◌, ℕ, List, Option, Some, None, Ok, Err, refl, subst}
+use Rattle.mdl_key.specs.Keys.{KeyName}
 use Rattle.mdl_defs.specs.declared.standing.Standing.{Standing}
-use Rattle.mdl_calls.specs.Words.{Answer, Has_wait, Reads, Changed, Call, Change_definition, Kill, Read_definition, Wait_of, Program, Give, Ask, Grow, ◌>>=◌, Each, EachCall}
+use Rattle.mdl_calls.specs.Words.{Answer, Has_wait, Reads, Changed, Tables, Key_is, Call, Change_definition, Kill, Tables_of, Key_of, Read_definition, Wait_of, Program, Give, Ask, Grow, ◌>>=◌, Each, EachCall}
 use Rattle.mdl_core.specs.RunLaws.{IsMadeFor}
 use Rattle.mdl_context.specs.declared.request.Acquire.{Acquire}
 use Rattle.mdl_context.specs.declared.request.Acquire.TheVariants as acquire
@@ -123,6 +124,18 @@ own_change : (mark : Mark) (session : Session) (more : Program Pause) → IsOwn 
 own_change mark session more made (Changed version) = made
 own_change mark session more made answer = own_closing (ending_of_refusal (refusal_of answer)) mark session
 
+own_tables : (mark : Mark) (session : Session) (more : List ℕ → Program Pause) →
+    ((places : List ℕ) → IsOwn session.context.who (more places)) →
+    (answer : Answer) → IsOwn session.context.who (playing.tables_answered mark session more answer)
+own_tables mark session more made (Tables places) = made places
+own_tables mark session more made answer = own_closing (ending_of_refusal (refusal_of answer)) mark session
+
+own_key : (mark : Mark) (session : Session) (more : KeyName → Program Pause) →
+    ((key : KeyName) → IsOwn session.context.who (more key)) →
+    (answer : Answer) → IsOwn session.context.who (playing.key_answered mark session more answer)
+own_key mark session more made (Key_is key) = made key
+own_key mark session more made answer = own_closing (ending_of_refusal (refusal_of answer)) mark session
+
 -- ---- kills
 
 -- a wait that another session has is killed, for nobody
@@ -170,6 +183,14 @@ own_play (row.Redefine id change rest) mark session =
     let more = play rest mark session in
     own_ask session.context.who (Change_definition session.context.who id change) (playing.change_answered mark session more) (refl, refl)
     (own_change mark session more (own_play rest mark session))
+own_play (row.Tables_of schema rest) mark session =
+    let more = λ (places : List ℕ). play (rest places) mark session in
+    own_ask session.context.who (Tables_of session.context.who schema) (playing.tables_answered mark session more) (refl, refl)
+    (own_tables mark session more (λ places. own_play (rest places) mark session))
+own_play (row.Key_of place rest) mark session =
+    let more = λ (key : KeyName). play (rest key) mark session in
+    own_ask session.context.who (Key_of session.context.who place) (playing.key_answered mark session more) (refl, refl)
+    (own_key mark session more (λ key. own_play (rest key) mark session))
 own_play (row.Kill target rest) mark session =
     let more = play rest mark session in
     own_ask session.context.who (Wait_of target) (λ answer. playing.wait_told target answer >>= (λ _. more)) (refl, tt)

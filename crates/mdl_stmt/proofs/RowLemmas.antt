@@ -14,7 +14,7 @@ use Rattle.mdl_syntax.specs.declared.statement.Statement.TheVariants as statemen
 use Rattle.mdl_syntax.specs.declared.table_locks.TableLock.{TableLock}
 use Rattle.mdl_stmt.specs.Gets.{at_rest}
 use Rattle.mdl_stmt.specs.Playing.{play}
-use Rattle.mdl_stmt.specs.Rows.{Row, Give, Fail, Room, Look, Set, Here, Acquire, Upgrade, Downgrade, Give_up, Release, Read, Redefine, Kill, ◌>>=◌, ◌>>◌, check, Keep}
+use Rattle.mdl_stmt.specs.Rows.{Row, Give, Fail, Room, Look, Set, Here, Acquire, Upgrade, Downgrade, Give_up, Release, Read, Redefine, Kill, ◌>>=◌, ◌>>◌, check, Keep, Tables_of, Key_of}
 use Rattle.mdl_stmt.specs.Sessions.{PlayerView}
 use Rattle.mdl_stmt.specs.States.{has_locked}
 use Rattle.mdl_stmt.specs.Statements.{after_commit, no_read_lock, write, write_locked, write_unlocked}
@@ -35,6 +35,8 @@ bind-assoc (Release id rest) f g = ap (Release id) (bind-assoc rest f g)
 bind-assoc (Keep rest) f g = ap Keep (bind-assoc rest f g)
 bind-assoc (Read id rest) f g = ap (Read id) (fun_ext (λ x. bind-assoc (rest x) f g))
 bind-assoc (Redefine id change rest) f g = ap (Redefine id change) (bind-assoc rest f g)
+bind-assoc (Tables_of schema rest) f g = ap (Tables_of schema) (fun_ext (λ x. bind-assoc (rest x) f g))
+bind-assoc (Key_of place rest) f g = ap (Key_of place) (fun_ext (λ x. bind-assoc (rest x) f g))
 bind-assoc (Kill target rest) f g = ap (Kill target) (bind-assoc rest f g)
 
 -- ---- locked tables, and the global read lock
@@ -52,14 +54,16 @@ read_lock-so x rest test e mark = sym (ap (λ (t : Bool). play (check (not t) Co
 -- all others are done once the transaction is committed
 pub after-others : (st : Statement) → (st ≡ statement.Begin → ⊥) → ((table : KeyName) (columns : List (List ℕ)) → st ≡ statement.CreateTable table columns → ⊥) →
     ((name : List ℕ) → st ≡ statement.CreateSchema name → ⊥) → ((tables : List KeyName) → st ≡ statement.DropTables tables → ⊥) →
+    ((name : List ℕ) → st ≡ statement.DropSchema name → ⊥) →
     ((from to : KeyName) → st ≡ statement.RenameTable from to → ⊥) → ((alteration : Alteration) → st ≡ statement.AlterTable alteration → ⊥) →
     ((locks : List TableLock) → st ≡ statement.LockTables locks → ⊥) → (st ≡ statement.FlushTablesWithReadLock → ⊥) → after_commit st ≡ Give reply.Ok
-after-others statement.Begin a b c d e f g h = absurd (a refl)
-after-others (statement.CreateTable table columns) a b c d e f g h = absurd (b table columns refl)
-after-others (statement.CreateSchema name) a b c d e f g h = absurd (c name refl)
-after-others (statement.DropTables tables) a b c d e f g h = absurd (d tables refl)
-after-others (statement.RenameTable from to) a b c d e f g h = absurd (e from to refl)
-after-others (statement.AlterTable alteration) a b c d e f g h = absurd (f alteration refl)
-after-others (statement.LockTables locks) a b c d e f g h = absurd (g locks refl)
-after-others statement.FlushTablesWithReadLock a b c d e f g h = absurd (h refl)
-after-others _ a b c d e f g h = refl
+after-others statement.Begin a b c d e f g h i = absurd (a refl)
+after-others (statement.CreateTable table columns) a b c d e f g h i = absurd (b table columns refl)
+after-others (statement.CreateSchema name) a b c d e f g h i = absurd (c name refl)
+after-others (statement.DropTables tables) a b c d e f g h i = absurd (d tables refl)
+after-others (statement.DropSchema name) a b c d e f g h i = absurd (e name refl)
+after-others (statement.RenameTable from to) a b c d e f g h i = absurd (f from to refl)
+after-others (statement.AlterTable alteration) a b c d e f g h i = absurd (g alteration refl)
+after-others (statement.LockTables locks) a b c d e f g h i = absurd (h locks refl)
+after-others statement.FlushTablesWithReadLock a b c d e f g h i = absurd (i refl)
+after-others _ a b c d e f g h i = refl

@@ -1,7 +1,8 @@
 -- Statements where memory is wanting: that all they can come to then is that they end for want of it.
-use Rattle.std.proofs.Common.{ℕ, Option, Some, None, Ok, Err, refl, sym, subst}
+use Rattle.std.proofs.Common.{ℕ, List, Option, Some, None, Ok, Err, refl, sym, subst}
+use Rattle.mdl_key.specs.Keys.{KeyName}
 use Rattle.mdl_defs.specs.declared.standing.Standing.{Standing}
-use Rattle.mdl_calls.specs.Words.{Answer, Has_wait, Reads, Changed, Program, Give, Each, IsFaithful, IsFrugal, ◌>>=◌}
+use Rattle.mdl_calls.specs.Words.{Answer, Has_wait, Reads, Changed, Tables, Key_is, Program, Give, Each, IsFaithful, IsFrugal, ◌>>=◌}
 use Rattle.mdl_calls.proofs.FaithfulLemmas.{each_then, faithful_bind, frugal_faithful}
 use Rattle.mdl_context.specs.declared.request.Acquire.{Acquire}
 use Rattle.mdl_context.specs.declared.request.Acquire.TheVariants as acquire
@@ -114,6 +115,16 @@ faithful_change : (mark : Mark) (session : Session) (more : Program Pause) → I
 faithful_change mark session more made (Changed version) = made
 faithful_change mark session more made answer = faithful_closing (ending_of_refusal (refusal_of answer)) mark session
 
+faithful_tables : (mark : Mark) (session : Session) (more : List ℕ → Program Pause) → ((places : List ℕ) → IsFaithful IsFault (more places)) →
+    (answer : Answer) → IsFaithful IsFault (playing.tables_answered mark session more answer)
+faithful_tables mark session more made (Tables places) = made places
+faithful_tables mark session more made answer = faithful_closing (ending_of_refusal (refusal_of answer)) mark session
+
+faithful_key : (mark : Mark) (session : Session) (more : KeyName → Program Pause) → ((key : KeyName) → IsFaithful IsFault (more key)) →
+    (answer : Answer) → IsFaithful IsFault (playing.key_answered mark session more answer)
+faithful_key mark session more made (Key_is key) = made key
+faithful_key mark session more made answer = faithful_closing (ending_of_refusal (refusal_of answer)) mark session
+
 -- ---- kills
 
 frugal_told : (target : ℕ) (answer : Answer) → IsFrugal (playing.wait_told target answer)
@@ -159,6 +170,12 @@ faithful_play (row.Read id rest) mark session =
     (λ takes. each_starves mark session, faithful_read mark session more (λ standing. faithful_play (rest standing) mark session))
 faithful_play (row.Redefine id change rest) mark session =
     (λ takes. each_starves mark session, faithful_change mark session (play rest mark session) (faithful_play rest mark session))
+faithful_play (row.Tables_of schema rest) mark session =
+    let more = λ (places : List ℕ). play (rest places) mark session in
+    (λ takes. each_starves mark session, faithful_tables mark session more (λ places. faithful_play (rest places) mark session))
+faithful_play (row.Key_of place rest) mark session =
+    let more = λ (key : KeyName). play (rest key) mark session in
+    (λ takes. each_starves mark session, faithful_key mark session more (λ key. faithful_play (rest key) mark session))
 faithful_play (row.Kill target rest) mark session =
     frugal_first {A = Unit {0}} (playing.killing target) (λ _. play rest mark session) (frugal_killing target) (λ _. faithful_play rest mark session)
 

@@ -1,6 +1,6 @@
 -- What the code tells of a lock that it asked for, of a row that it played, and of a statement's progress. A clause says of what was
 -- done so far that whatever follows it follows from the start.
-use Rattle.std.specs.Prelude.{◌≡◌, ℕ, List, None, Result, Ok, Err}
+use Rattle.std.specs.Prelude.{◌≡◌, ℕ, List, None, Result, Ok, Err, Vec}
 use Rattle.mdl_key.specs.declared.mode.Mode.{Mode}
 use Rattle.mdl_key.specs.declared.mode.Mode.TheVariants.{IX}
 use Rattle.mdl_key.specs.Keys.{KeyName}
@@ -56,6 +56,11 @@ pub record Waits {S : Type 0} (joins : S → Call → Answer → S → Type 0) (
 abbrev pub IsStep : {S A : Type 0} → (S → Call → Answer → S → Type 0) → Row A → S → PlayerView → Result A Ending → S → PlayerView → Type 0
 IsStep {S} {A} joins act a before (Ok x) b after = (rest : A → Row Reply) → Comes joins a before (play (act >>= rest)) b after (play (rest x))
 IsStep {S} {A} joins act a before (Err ending) b after = (rest : A → Row Reply) → Comes joins a before (play (act >>= rest)) b after (closing ending)
+
+-- a list, as a step tells it
+abbrev pub items_told : {A Z : Type 0} → Result (Vec A Z) Ending → Result (List A) Ending
+items_told (Ok list) = Ok list.items
+items_told (Err ending) = Err ending
 
 -- a lock was asked for: it is had, it is waited for, or the statement is to end
 abbrev pub IsGot : {S : Type 0} → (S → Call → Answer → S → Type 0) → Wish → S → PlayerView → Got ℕ → S → PlayerView → Type 0

@@ -1,10 +1,10 @@
 -- How a session plays what its statements ask: as a program of calls of a lock space.
-use Rattle.std.specs.Prelude.{ℕ, Option, Some, None, Ok, Err, map}
+use Rattle.std.specs.Prelude.{ℕ, Option, Some, None, Ok, Err, map, List}
 use Rattle.mdl_key.specs.declared.mode.Mode.{Mode}
 use Rattle.mdl_key.specs.declared.mode.Duration.TheVariants.{Transaction, Explicit}
 use Rattle.mdl_key.specs.Keys.{KeyName}
 use Rattle.mdl_defs.specs.declared.standing.Standing.{Standing}
-use Rattle.mdl_calls.specs.Words.{Answer, Has_wait, Reads, Changed, Read_definition, Change_definition, Wait_of, Program, Give, Ask, Grow, ◌>>=◌, ◌>>◌}
+use Rattle.mdl_calls.specs.Words.{Answer, Has_wait, Reads, Changed, Tables, Key_is, Read_definition, Change_definition, Tables_of, Key_of, Wait_of, Program, Give, Ask, Grow, ◌>>=◌, ◌>>◌}
 use Rattle.mdl_calls.specs.Words as call
 use Rattle.mdl_context.specs.declared.request.Acquire.{Acquire}
 use Rattle.mdl_context.specs.declared.request.Acquire.TheVariants as acquire
@@ -74,6 +74,16 @@ abbrev pub change_answered : Mark → Session → Program Pause → Answer → P
 change_answered mark session more (Changed version) = more
 change_answered mark session more answer = closing (ending_of_refusal (refusal_of answer)) mark session
 
+-- the tables of a schema were asked for
+abbrev pub tables_answered : Mark → Session → (List ℕ → Program Pause) → Answer → Program Pause
+tables_answered mark session more (Tables places) = more places
+tables_answered mark session more answer = closing (ending_of_refusal (refusal_of answer)) mark session
+
+-- the key of a place was asked for
+abbrev pub key_answered : Mark → Session → (KeyName → Program Pause) → Answer → Program Pause
+key_answered mark session more (Key_is key) = more key
+key_answered mark session more answer = closing (ending_of_refusal (refusal_of answer)) mark session
+
 -- the number of a session's wait was asked for: if it has one, that is killed
 abbrev pub wait_told : ℕ → Answer → Program (Unit {0})
 wait_told target (Has_wait (Some number)) = Ask (call.Kill target number) (λ _. Give tt)
@@ -109,6 +119,10 @@ play (row.Read id rest) mark session =
     Ask (Read_definition session.context.who id) (read_answered mark session (λ standing. play (rest standing) mark session))
 play (row.Redefine id change rest) mark session =
     Ask (Change_definition session.context.who id change) (change_answered mark session (play rest mark session))
+play (row.Tables_of schema rest) mark session =
+    Ask (Tables_of session.context.who schema) (tables_answered mark session (λ places. play (rest places) mark session))
+play (row.Key_of place rest) mark session =
+    Ask (Key_of session.context.who place) (key_answered mark session (λ key. play (rest key) mark session))
 play (row.Kill target rest) mark session = killing target >> play rest mark session
 
 -- a statement starts

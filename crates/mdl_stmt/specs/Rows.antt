@@ -41,6 +41,10 @@ pub data Row (A : Type 0) : Type 0 where
   Read : (id : ℕ) → (Standing → Row A) → Row A
   -- a change of it
   Redefine : (id : ℕ) → Change → Row A → Row A
+  -- the places of a schema's tables
+  Tables_of : (schema : List ℕ) → (List ℕ → Row A) → Row A
+  -- the key of a place
+  Key_of : (place : ℕ) → (KeyName → Row A) → Row A
   -- the end of a session's wait
   Kill : (target : ℕ) → Row A → Row A
 
@@ -61,6 +65,8 @@ Release id rest >>= next = Release id (rest >>= next)
 Keep rest >>= next = Keep (rest >>= next)
 Read id rest >>= next = Read id (λ standing. rest standing >>= next)
 Redefine id change rest >>= next = Redefine id change (rest >>= next)
+Tables_of schema rest >>= next = Tables_of schema (λ places. rest places >>= next)
+Key_of place rest >>= next = Key_of place (λ key. rest key >>= next)
 Kill target rest >>= next = Kill target (rest >>= next)
 
 infixl 20 ◌>>◌
@@ -112,6 +118,12 @@ read id = Read id Give
 
 abbrev pub redefine : ℕ → Change → Act
 redefine id change = Redefine id change nothing
+
+abbrev pub tables_of : List ℕ → Row (List ℕ)
+tables_of schema = Tables_of schema Give
+
+abbrev pub key_of : ℕ → Row KeyName
+key_of place = Key_of place Give
 
 abbrev pub kill : ℕ → Act
 kill target = Kill target nothing

@@ -10,11 +10,11 @@ use Rattle.mdl_stmt.specs.declared.runner.Work.{Work}
 use Rattle.mdl_stmt.specs.declared.stage.Locking.{Locking}
 use Rattle.mdl_stmt.specs.declared.stage.Locking.TheVariants.{Ddl, Tables}
 use Rattle.mdl_stmt.specs.declared.stage.Stage.{Stage}
-use Rattle.mdl_stmt.specs.declared.stage.Stage.TheVariants.{Commit, Show, WriteGlobal, WriteTable, CommitWrite, CreateGlobal, CreateSchema, CreateTable, SchemaGlobal, NewSchema, DropScopes, DropTables, RenameScopes, RenameTables, FlushGlobal, FlushCommit, AlterGlobal, AlterSchema, AlterTable, AlterByCopy, AlterInPlace, ChangeTable, AlterLocked, ChangeLocked, LockScopes, LockTables}
+use Rattle.mdl_stmt.specs.declared.stage.Stage.TheVariants.{Commit, Show, WriteGlobal, WriteTable, CommitWrite, CreateGlobal, CreateSchema, CreateTable, SchemaGlobal, NewSchema, DropScopes, DropTables, RenameScopes, RenameTables, FlushGlobal, FlushCommit, AlterGlobal, AlterSchema, AlterTable, AlterByCopy, AlterInPlace, ChangeTable, AlterLocked, ChangeLocked, LockScopes, LockTables, DropGlobal, DropSchema, DropWithin}
 use Rattle.mdl_stmt.specs.LockLists.{LockList, ticket_of, with_ticket}
 use Rattle.mdl_stmt.specs.Rows.{Row, Give, ◌>>=◌, ◌>>◌, acquire_all}
 use Rattle.mdl_stmt.specs.Sessions.{Left, RunnerView, Session}
-use Rattle.mdl_stmt.specs.Statements.{after_commit, end_under, show, show_all, lock_to_read, lock_and_write, write_under, ddl_lock, lock_schema_and_create, lock_and_create, create_under, lock_and_create_schema, create_schema_under, lock_and_drop, drop_under, lock_and_rename, rename_under, schema_of, lock_commits, read_lock_under, lock_schema_and_alter, alter_in_schema, alter_under, raise_and_change, reopen_and_change, change_table, alter_locked_under, change_and_lower, table_lock, lock_named, keep_locked}
+use Rattle.mdl_stmt.specs.Statements.{after_commit, end_under, show, show_all, lock_to_read, lock_and_write, write_under, ddl_lock, lock_schema_and_create, lock_and_create, create_under, lock_and_create_schema, create_schema_under, lock_and_drop, drop_under, lock_and_rename, rename_under, schema_of, lock_commits, read_lock_under, lock_schema_and_alter, alter_in_schema, alter_under, raise_and_change, reopen_and_change, change_table, alter_locked_under, change_and_lower, table_lock, lock_named, keep_locked, lock_and_drop_schema, drop_schema_under, drop_with}
 
 -- the first of these tables is locked
 abbrev pub show_next : List TableShown → List KeyName → ℕ → Row Reply
@@ -59,6 +59,9 @@ rest_of (SchemaGlobal name) global = lock_and_create_schema name.now
 rest_of NewSchema ticket = create_schema_under ticket
 rest_of (DropScopes tables locks) ticket = lock_rest (with_ticket ticket locks) (λ scopes. lock_and_drop tables.now)
 rest_of (DropTables locks) ticket = lock_rest (with_ticket ticket locks) drop_under
+rest_of (DropGlobal name) global = lock_and_drop_schema name.now
+rest_of (DropSchema name) ticket = drop_schema_under name.now ticket
+rest_of (DropWithin schema locks) ticket = lock_rest (with_ticket ticket locks) (drop_with schema)
 rest_of (RenameScopes from to locks) ticket = rename_scopes from.now to.now (with_ticket ticket locks) locks.keys
 rest_of (RenameTables from to schema locks) ticket = rename_names from.now to.now schema (with_ticket ticket locks) locks.keys
 rest_of FlushGlobal global = lock_commits global

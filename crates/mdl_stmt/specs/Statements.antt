@@ -1,8 +1,8 @@
 -- What each statement does, after MySQL 5.7: the Reference Manual, "Metadata Locking", "START TRANSACTION, COMMIT, and ROLLBACK
 -- Statements", "SAVEPOINT, ROLLBACK TO SAVEPOINT, and RELEASE SAVEPOINT Statements" and "LOCK TABLES and UNLOCK TABLES Statements".
 -- Checks stand in the order in which they are made. This project's own choice is that CREATE TABLE has its lock before it looks at
--- schema, table and columns, and CREATE SCHEMA before it looks at the schema, that DROP TABLE drops none where one is missing, that
--- RENAME TABLE looks for the schema of the new name, that changes of definitions take no COMMIT lock of their own and are refused
+-- schema, table and columns, and CREATE SCHEMA and DROP SCHEMA before they look at the schema, that DROP TABLE drops none where one is
+-- missing, that RENAME TABLE looks for the schema of the new name, that changes of definitions take no COMMIT lock of their own and are refused
 -- under locked tables, that LOCK TABLES has all its locks before it looks whether a table is missing, that a savepoint outside a
 -- transaction is nothing, that going back releases what was gained since, whatever was written, and leaves the transaction one that
 -- wrote, and that KILL QUERY is always done.
@@ -45,8 +45,8 @@ use Rattle.mdl_stmt.specs.declared.reply.Reply.{Reply}
 use Rattle.mdl_stmt.specs.declared.reply.Reply.TheVariants as reply
 use Rattle.mdl_stmt.specs.declared.reply.TableShown.{TableShown}
 use Rattle.mdl_stmt.specs.KeyOrder.{in_key_order}
+use Rattle.mdl_stmt.specs.Rows.{Row, Act, Give, Fail, Acquire, ◌>>=◌, ◌>>◌, nothing, room, look, set, here, acquire, give_up, release, read, redefine, tables_of, key_of, kill, check, acquire_all, for_each}
 use Rattle.mdl_stmt.specs.LockLists.{ticket_of}
-use Rattle.mdl_stmt.specs.Rows.{Row, Act, Give, Fail, Acquire, ◌>>=◌, ◌>>◌, nothing, room, look, set, here, acquire, give_up, release, read, redefine, kill, check, acquire_all, for_each, upgrade, downgrade, keep}
 use Rattle.mdl_stmt.specs.States.{has_locked, opened, closed, written, unlocked, with_commits_locked, with_savepoint, with_writes_locked, without_read_lock, savepoint_mark, up_to, locking}
 
 -- ---- transactions
@@ -393,6 +393,53 @@ drop_after_commit tables = do
   scopes ← acquire_all (map ddl_lock (global_key ∷ in_key_order (map schema_of tables)))
   lock_and_drop tables
 
+-- ---- DROP SCHEMA
+
+-- the keys of places, one after the other, behind those that were told before
+abbrev pub keys_of : List KeyName → List ℕ → Row (List KeyName)
+keys_of told [] = Give told
+keys_of told (place ∷ places) = do
+  key ← key_of place
+  room
+  keys_of (told ++ key ∷ []) places
+
+-- the tables of a schema that have a definition, in key order
+abbrev pub tables_in : List ℕ → Row (List KeyName)
+tables_in name = do
+  places ← tables_of name
+  keys_of [] places
+
+-- a schema is dropped behind its tables, under all their locks, unless one of them can't be changed once more
+abbrev pub drop_with : ℕ → List ℕ → Row Reply
+drop_with schema tables = do
+  for_each can_change tables
+  can_change schema
+  for_each (λ ticket. redefine ticket change.Drop) tables
+  redefine schema change.Drop
+  Give reply.Ok
+
+-- there is such a schema: its tables are locked under its lock, all of them before the first is looked at, and it is dropped with them
+abbrev pub drop_schema_under : List ℕ → ℕ → Row Reply
+drop_schema_under name schema = do
+  check_schema schema
+  tables ← tables_in name
+  room
+  tickets ← acquire_all (map ddl_lock tables)
+  drop_with schema tickets
+
+-- a schema is locked against all that would be done in it, under the lock of all writes, and dropped
+abbrev pub lock_and_drop_schema : List ℕ → Row Reply
+lock_and_drop_schema name = do
+  room
+  schema ← acquire (schema_key name) X for.Transaction
+  drop_schema_under name schema
+
+-- DROP SCHEMA, once no transaction is open
+abbrev pub drop_schema_after_commit : List ℕ → Row Reply
+drop_schema_after_commit name = do
+  global ← Acquire (ddl_lock global_key) Give
+  lock_and_drop_schema name
+
 -- ---- RENAME TABLE
 
 -- there is no table under this lock
@@ -719,6 +766,7 @@ after_commit statement.Begin = begin_after_commit
 after_commit (statement.CreateTable table columns) = create_after_commit table columns
 after_commit (statement.CreateSchema name) = create_schema_after_commit name
 after_commit (statement.DropTables tables) = drop_after_commit tables
+after_commit (statement.DropSchema name) = drop_schema_after_commit name
 after_commit (statement.RenameTable from to) = rename_after_commit from to
 after_commit statement.FlushTablesWithReadLock = flush_after_commit
 after_commit (statement.AlterTable alteration) = alter_after_commit alteration
@@ -737,6 +785,7 @@ row_of (statement.Write table priority) = write table priority
 row_of (statement.CreateTable table columns) = ddl_first (create_after_commit table columns)
 row_of (statement.CreateSchema name) = ddl_first (create_schema_after_commit name)
 row_of (statement.DropTables tables) = ddl_first (drop_after_commit tables)
+row_of (statement.DropSchema name) = ddl_first (drop_schema_after_commit name)
 row_of (statement.RenameTable from to) = ddl_first (rename_after_commit from to)
 row_of statement.UnlockTables = unlock
 row_of statement.FlushTablesWithReadLock = flush_first flush_after_commit

@@ -171,7 +171,7 @@ impl<S: LockSpace> Player<S> {
     }
 
     /// Looks whether a table can be changed once more.
-    fn can_change(&mut self, space: &mut S, ticket: TicketId) -> Result<(), Ending>
+    pub(crate) fn can_change(&mut self, space: &mut S, ticket: TicketId) -> Result<(), Ending>
         requires attends { Attends S.speaks_for S.own S.knows space.old self.old.context }
         requires idle { self.old.context.wait ≡ None }
         ensures run { IsStep S.joins (can_change ticket) space.old self.old result space.new self.new }
@@ -192,7 +192,7 @@ impl<S: LockSpace> Player<S> {
     }
 
     /// Lets none of these tables stand.
-    fn drop_all(&mut self, space: &mut S, tickets: &[TicketId]) -> Result<(), Ending>
+    pub(crate) fn drop_all(&mut self, space: &mut S, tickets: &[TicketId]) -> Result<(), Ending>
         requires attends { Attends S.speaks_for S.own S.knows space.old self.old.context }
         requires idle { self.old.context.wait ≡ None }
         ensures run { IsStep S.joins (for_each (λ ticket. redefine ticket change.Drop) tickets.now) space.old self.old result space.new self.new }

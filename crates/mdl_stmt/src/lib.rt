@@ -5,6 +5,7 @@ mod altering;
 mod creating;
 mod creating_schemas;
 mod dropping;
+mod dropping_schemas;
 mod ending;
 mod error_number;
 mod explicit;

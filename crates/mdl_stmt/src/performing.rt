@@ -34,6 +34,7 @@ impl<S: LockSpace> Player<S> {
             Statement::CreateTable { .. } => self.define(space, statement),
             Statement::CreateSchema(_) => self.define(space, statement),
             Statement::DropTables(_) => self.define(space, statement),
+            Statement::DropSchema(_) => self.define(space, statement),
             Statement::RenameTable { .. } => self.define(space, statement),
             Statement::AlterTable(alteration) => {
                 self.alter_first(space, &alteration.table, statement)
@@ -118,6 +119,11 @@ impl<S: LockSpace> Player<S> {
                 self.lock_scopes(space, tables, locks.with(ticket))
             }
             Stage::DropTables(locks) => self.lock_tables(space, locks.with(ticket)),
+            Stage::DropGlobal(name) => self.lock_and_drop_schema(space, name),
+            Stage::DropSchema(name) => self.drop_schema_under(space, name, ticket),
+            Stage::DropWithin(schema, locks) => {
+                self.lock_within(space, schema, locks.with(ticket))
+            }
             Stage::RenameScopes(from, to, locks) => {
                 self.lock_rename_scopes(space, from, to, locks.with(ticket))
             }

@@ -1,8 +1,8 @@
 //! What a session reads, changes and kills.
 ghost use Rattle.std.specs.Prelude.{◌≡◌, ◌++◌, ◌∷◌, [], None, Ok, MatchResult};
 ghost use Rattle.mdl_context.specs.Contexts.{Attends, LeavesOthers};
-ghost use Rattle.mdl_stmt.specs.Gets.{IsStep};
-ghost use Rattle.mdl_stmt.specs.Rows.{read, redefine, kill};
+ghost use Rattle.mdl_stmt.specs.Gets.{IsStep, items_told};
+ghost use Rattle.mdl_stmt.specs.Rows.{read, redefine, tables_of, key_of, kill};
 ghost use Rattle.mdl_stmt.specs.Statements.{columns_of, exists, show};
 ghost use Rattle.mdl_stmt.specs.declared.ending.Ending.TheVariants.{Answers, Starves};
 ghost use Rattle.mdl_stmt.specs.declared.reply.Reply.TheVariants.{Error};
@@ -12,7 +12,7 @@ use crate::player::{Player, ending_of_refusal};
 use crate::{ErrorNumber, Reply, TableShown, TablesShown};
 use mdl_defs::{Change, Columns, Definition, Standing};
 use mdl_key::Key;
-use mdl_space::{LockSpace, TicketId};
+use mdl_space::{LockSpace, Place, TicketId};
 use std::alloc::Global;
 
 /// The end of a statement that fails a check.
@@ -56,6 +56,38 @@ impl<S: LockSpace> Player<S> {
     {
         match space.change_definition(self.context.who(), ticket, change) {
             Ok(_) => Ok(()),
+            Err(refusal) => Err(ending_of_refusal(refusal)),
+        }
+    }
+
+    /// The places of a schema's tables that have a definition, in key order.
+    pub(crate) fn tables_of(&mut self, space: &mut S, schema: &str) -> Result<Vec<Place>, Ending>
+        requires attends { Attends S.speaks_for S.own S.knows space.old self.old.context }
+        requires idle { self.old.context.wait ≡ None }
+        ensures run { IsStep S.joins (tables_of schema.now) space.old self.old (items_told result) space.new self.new }
+        ensures attends { Attends S.speaks_for S.own S.knows space.new self.new.context }
+        ensures others { LeavesOthers S.speaks_for S.own S.knows self.old.context.who space.old space.new }
+        ensures who { self.new.context.who ≡ self.old.context.who }
+        ensures idle { self.new.context.wait ≡ None }
+    {
+        match space.tables_of(self.context.who(), schema) {
+            Ok(places) => Ok(places),
+            Err(refusal) => Err(ending_of_refusal(refusal)),
+        }
+    }
+
+    /// The key of a place.
+    pub(crate) fn key_of(&mut self, space: &mut S, place: Place) -> Result<Key, Ending>
+        requires attends { Attends S.speaks_for S.own S.knows space.old self.old.context }
+        requires idle { self.old.context.wait ≡ None }
+        ensures run { IsStep S.joins (key_of place) space.old self.old result space.new self.new }
+        ensures attends { Attends S.speaks_for S.own S.knows space.new self.new.context }
+        ensures others { LeavesOthers S.speaks_for S.own S.knows self.old.context.who space.old space.new }
+        ensures who { self.new.context.who ≡ self.old.context.who }
+        ensures idle { self.new.context.wait ≡ None }
+    {
+        match space.key_of(self.context.who(), place) {
+            Ok(key) => Ok(key),
             Err(refusal) => Err(ending_of_refusal(refusal)),
         }
     }

@@ -136,6 +136,12 @@ pub enum Stage<'s> {
     DropScopes(&'s Tables, LockList),
     /// The lock of a table that is to be dropped.
     DropTables(LockList),
+    /// The lock of all writes, for a schema to be dropped.
+    DropGlobal(&'s Name),
+    /// The schema's own lock.
+    DropSchema(&'s Name),
+    /// The lock of a table of a schema that is to be dropped, under that of the schema.
+    DropWithin(TicketId, LockList),
     /// The lock of all writes or that of a schema, for the first table to be renamed as the second.
     RenameScopes(&'s Key, &'s Key, LockList),
     /// The lock of one of its names, under that of the schema that it comes into.

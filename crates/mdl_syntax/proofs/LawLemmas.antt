@@ -24,7 +24,7 @@ use Rattle.mdl_syntax.specs.declared.statement.Statement.{Statement}
 use Rattle.mdl_syntax.specs.declared.statement.Alteration.{Alteration}
 use Rattle.mdl_syntax.specs.declared.statement.Priority.{Priority}
 use Rattle.mdl_syntax.specs.declared.statement.Priority.TheVariants.{Normal, Low}
-use Rattle.mdl_syntax.specs.declared.statement.Statement.TheVariants.{Begin, Commit, Rollback, Savepoint, RollbackTo, Select, Write, CreateTable, CreateSchema, DropTables, RenameTable, UnlockTables, FlushTablesWithReadLock, KillQuery, Timeout, AlterTable, LockTables}
+use Rattle.mdl_syntax.specs.declared.statement.Statement.TheVariants.{Begin, Commit, Rollback, Savepoint, RollbackTo, Select, Write, CreateTable, CreateSchema, DropTables, RenameTable, UnlockTables, FlushTablesWithReadLock, KillQuery, Timeout, AlterTable, LockTables, DropSchema}
 use Rattle.mdl_syntax.specs.declared.table_locks.TableLock.{TableLock}
 use Rattle.mdl_syntax.specs.KeyWords.{behind}
 use Rattle.mdl_syntax.specs.Laws.{AreColumns, AreTables, IsColumnChange, IsName, IsTable, IsWithinLimits, RiseFrom}
@@ -283,7 +283,7 @@ forms-hold =
                                   (
                                     makes-holds AreTables DropTables some_tables some_tables-hold (λ value h. h),
                                     (
-                                      makes-holds AreTwo (λ named. RenameTable named.0 named.1) table_to_table table_to_table-hold (λ value h. h),
+                                      makes-holds IsName DropSchema one_name name (λ value h. h),
                                       (
                                         λ words. no_more-holds IsWithinLimits UnlockTables words tt,
                                         (

@@ -18,7 +18,7 @@ use Rattle.mdl_syntax.specs.declared.statement.LockType.TheVariants as to
 use Rattle.mdl_syntax.specs.declared.statement.Priority.{Priority}
 use Rattle.mdl_syntax.specs.declared.statement.Priority.TheVariants.{Normal, Low}
 use Rattle.mdl_syntax.specs.declared.statement.Statement.{Statement}
-use Rattle.mdl_syntax.specs.declared.statement.Statement.TheVariants.{Begin, Commit, Rollback, Savepoint, RollbackTo, Select, Write, CreateTable, CreateSchema, DropTables, RenameTable, UnlockTables, FlushTablesWithReadLock, KillQuery, Timeout, AlterTable, LockTables}
+use Rattle.mdl_syntax.specs.declared.statement.Statement.TheVariants.{Begin, Commit, Rollback, Savepoint, RollbackTo, Select, Write, CreateTable, CreateSchema, DropTables, RenameTable, UnlockTables, FlushTablesWithReadLock, KillQuery, Timeout, AlterTable, LockTables, DropSchema}
 use Rattle.mdl_syntax.specs.declared.table_locks.TableLock.{TableLock}
 use Rattle.mdl_syntax.specs.KeyWords.{behind}
 use Rattle.mdl_syntax.specs.Names.{name_of, table_of}
@@ -202,6 +202,7 @@ forms =
     ∷ form (codes "CREATE TABLE") (makes (λ named. CreateTable named.0 named.1) table_and_columns)
     ∷ form (codes "CREATE SCHEMA") (makes CreateSchema one_name)
     ∷ form (codes "DROP TABLE") (makes DropTables some_tables)
+    ∷ form (codes "DROP SCHEMA") (makes DropSchema one_name)
     ∷ form (codes "RENAME TABLE") (makes (λ named. RenameTable named.0 named.1) table_to_table)
     ∷ form (codes "UNLOCK TABLES") (no_more UnlockTables)
     ∷ form (codes "FLUSH TABLES WITH READ LOCK") (no_more FlushTablesWithReadLock)

@@ -8,7 +8,7 @@ use Rattle.mdl_defs.specs.declared.change.Change.TheVariants.{AddColumn, DropCol
 use Rattle.mdl_lines.specs.Sessions.{IsScriptSession}
 use Rattle.mdl_syntax.specs.declared.script.Line.{Line}
 use Rattle.mdl_syntax.specs.declared.statement.Statement.{Statement}
-use Rattle.mdl_syntax.specs.declared.statement.Statement.TheVariants.{Begin, Commit, Rollback, Savepoint, RollbackTo, Select, Write, CreateTable, CreateSchema, DropTables, RenameTable, UnlockTables, FlushTablesWithReadLock, KillQuery, Timeout, AlterTable, LockTables}
+use Rattle.mdl_syntax.specs.declared.statement.Statement.TheVariants.{Begin, Commit, Rollback, Savepoint, RollbackTo, Select, Write, CreateTable, CreateSchema, DropTables, RenameTable, UnlockTables, FlushTablesWithReadLock, KillQuery, Timeout, AlterTable, LockTables, DropSchema}
 use Rattle.mdl_syntax.specs.Forms.{tables_of}
 use Rattle.mdl_syntax.specs.Scripts.{parsed}
 
@@ -46,6 +46,7 @@ IsWithinLimits (Write table priority) = IsTable table
 IsWithinLimits (CreateTable table columns) = IsTable table × AreColumns columns
 IsWithinLimits (CreateSchema name) = IsName name
 IsWithinLimits (DropTables tables) = AreTables tables
+IsWithinLimits (DropSchema name) = IsName name
 IsWithinLimits (RenameTable from to) = IsTable from × IsTable to × (key_eq from to ≡ false)
 IsWithinLimits UnlockTables = Unit {0}
 IsWithinLimits FlushTablesWithReadLock = Unit {0}

@@ -7,8 +7,8 @@ use Rattle.mdl_syntax.specs.declared.no_statement.NoStatement.{NoStatement}
 use Rattle.mdl_syntax.specs.declared.no_statement.NoStatement.TheVariants.{Refused, Memory}
 use Rattle.mdl_syntax.specs.declared.statement.Priority.TheVariants.{Normal, Low}
 use Rattle.mdl_syntax.specs.declared.statement.Statement.{Statement}
-use Rattle.mdl_syntax.specs.declared.statement.Statement.TheVariants.{CreateTable, CreateSchema, RenameTable, UnlockTables, FlushTablesWithReadLock, LockTables}
-use Rattle.mdl_syntax.specs.Forms.{form, makes, no_more, one_name, read_by, table_and_columns, table_to_table, writes, and_then, lock_type_of, or_refuse, some_locks}
+use Rattle.mdl_syntax.specs.declared.statement.Statement.TheVariants.{CreateTable, CreateSchema, RenameTable, UnlockTables, FlushTablesWithReadLock, LockTables, DropTables, DropSchema}
+use Rattle.mdl_syntax.specs.Forms.{form, makes, no_more, one_name, read_by, table_and_columns, table_to_table, writes, and_then, lock_type_of, or_refuse, some_locks, some_tables}
 use Rattle.mdl_syntax.specs.KeyWords.{behind}
 
 -- words that say this are read so: what is refused is told as refused, whether or not there is memory
@@ -26,6 +26,12 @@ abbrev pub create_of : List (List ℕ) → Result Statement LineError
 create_of words =
     read_by (form (codes "TABLE") (makes (λ named. CreateTable named.0 named.1) table_and_columns)) (behind (codes "TABLE" ∷ []) words)
     (read_by (form (codes "SCHEMA") (makes CreateSchema one_name)) (behind (codes "SCHEMA" ∷ []) words) (Err BadWord))
+
+-- what the words behind DROP say
+abbrev pub drop_of : List (List ℕ) → Result Statement LineError
+drop_of words =
+    read_by (form (codes "TABLE") (makes DropTables some_tables)) (behind (codes "TABLE" ∷ []) words)
+    (read_by (form (codes "SCHEMA") (makes DropSchema one_name)) (behind (codes "SCHEMA" ∷ []) words) (Err BadWord))
 
 -- what the words behind RENAME say
 abbrev pub rename_of : List (List ℕ) → Result Statement LineError

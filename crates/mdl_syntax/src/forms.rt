@@ -4,7 +4,7 @@ ghost use Rattle.mdl_key.specs.Keys.{table_key};
 ghost use Rattle.mdl_lines.specs.Lines.{words_of};
 ghost use Rattle.mdl_syntax.specs.declared.statement.Statement.TheVariants.{Savepoint, RollbackTo, CreateTable, RenameTable, AlterTable, KillQuery};
 ghost use Rattle.mdl_syntax.specs.Forms as forms;
-ghost use Rattle.mdl_syntax.specs.Reading.{ReadsAs, create_of, rename_of, flush_of, unlock_of, write_of, lock_of, next_lock_type};
+ghost use Rattle.mdl_syntax.specs.Reading.{ReadsAs, create_of, rename_of, flush_of, unlock_of, write_of, lock_of, next_lock_type, drop_of};
 
 use crate::key_words::behind;
 use crate::no_statement::NoStatement;
@@ -45,10 +45,7 @@ pub(crate) fn statement_of(alloc: Global, words: &[u8]) -> Result<Statement, NoS
         "SELECT" => Ok(Statement::Select(some_tables(alloc, rest)?)),
         "INSERT" | "UPDATE" | "DELETE" => write(alloc, rest),
         "CREATE" => create(alloc, rest),
-        "DROP" => match behind("TABLE", rest) {
-            Some(rest) => Ok(Statement::DropTables(some_tables(alloc, rest)?)),
-            None => bad_word(),
-        },
+        "DROP" => drop(alloc, rest),
         "RENAME" => rename(alloc, rest),
         "UNLOCK" => unlock(rest),
         "FLUSH" => flush(rest),
@@ -172,6 +169,19 @@ fn create(alloc: Global, words: &[u8]) -> Result<Statement, NoStatement>
     }
     match behind("SCHEMA", words) {
         Some(rest) => Ok(Statement::CreateSchema(one_name(alloc, rest)?)),
+        None => bad_word(),
+    }
+}
+
+// Tables or a schema to be dropped.
+fn drop(alloc: Global, words: &[u8]) -> Result<Statement, NoStatement>
+    ensures { ReadsAs (drop_of (words_of words.now)) result }
+{
+    if let Some(rest) = behind("TABLE", words) {
+        return Ok(Statement::DropTables(some_tables(alloc, rest)?));
+    }
+    match behind("SCHEMA", words) {
+        Some(rest) => Ok(Statement::DropSchema(one_name(alloc, rest)?)),
         None => bad_word(),
     }
 }

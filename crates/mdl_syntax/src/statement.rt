@@ -36,6 +36,8 @@ pub enum Statement {
     CreateSchema(Name),
     /// `DROP TABLE` of 1 to 8 tables.
     DropTables(Tables),
+    /// `DROP SCHEMA` and its name.
+    DropSchema(Name),
     /// `RENAME TABLE` of one table to another name.
     RenameTable {
         /// The table, by the name that it has.

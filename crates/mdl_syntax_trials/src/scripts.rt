@@ -18,6 +18,7 @@ const ROWS: &str = "\
 1 CREATE SCHEMA s / 1 CREATE SCHEMA az09_ / 1 CREATE SCHEMA test => 1 1 create schema s / 2 1 create schema az09_ / 3 1 \
     create schema test
 1 DROP TABLE t / 1 DROP TABLE b s.a a => 1 1 drop TABLE test.t / 2 1 drop TABLE test.b TABLE s.a TABLE test.a
+1 DROP SCHEMA s / 1 DROP SCHEMA az09_ => 1 1 drop schema s / 2 1 drop schema az09_
 1 RENAME TABLE t TO u / 1 RENAME TABLE t TO s.t / 1 RENAME TABLE s.a TO a / 1 RENAME TABLE to TO table => 1 1 rename TABLE \
     test.t to TABLE test.u / 2 1 rename TABLE test.t to TABLE s.t / 3 1 rename TABLE s.a to TABLE test.a / 4 1 rename \
     TABLE test.to to TABLE test.table
@@ -160,7 +161,11 @@ BEGIN => line 1: BadSession
 1 CREATE SCHEMA s.t => line 1: BadName
 1 CREATE SCHEMA S t => line 1: BadName
 1 CREATE SCHEMAS s => line 1: BadWord
-1 DROP SCHEMA s => line 1: BadWord
+1 DROP SCHEMA => line 1: BadWord
+1 DROP SCHEMA s t => line 1: BadWord
+1 DROP SCHEMA S => line 1: BadName
+1 DROP SCHEMA s.t => line 1: BadName
+1 DROP SCHEMAS s => line 1: BadWord
 1 LOCK => line 1: BadWord
 1 LOCK TABLE t READ => line 1: BadWord
 1 LOCK TABLES => line 1: BadWord

@@ -54,6 +54,10 @@ fn statement_text(alloc: Global, statement: &Statement) -> Result<String, Fail> 
             Ok(format!(in alloc; "create schema {name}")?)
         }
         Statement::DropTables(tables) => named(alloc, "drop", tables),
+        Statement::DropSchema(name) => {
+            let name = name.as_str();
+            Ok(format!(in alloc; "drop schema {name}")?)
+        }
         Statement::RenameTable { from, to } => Ok(format!(in alloc; "rename {from} to {to}")?),
         Statement::UnlockTables => Ok(String::from_str(alloc, "unlock tables")?),
         Statement::FlushTablesWithReadLock => {

@@ -1,7 +1,7 @@
 //! What stands under keys.
-use super::{MOST_PLACES, MOST_VERSIONS, Place, Plain, Taken, made};
+use super::{MOST_PLACES, MOST_VERSIONS, Place, Plain, Step, Taken, made};
 use mdl_defs::{Change, Column, Columns, Definition};
-use mdl_key::Key;
+use mdl_key::{Duration, Key, Mode, Namespace};
 use std::alloc::{AllocError, Global};
 
 // The most columns of a table.
@@ -118,10 +118,58 @@ impl Plain {
         Taken::Done
     }
 
-    // Drops a table.
-    pub(super) fn drop_table(&mut self, table: &Key) -> Taken {
-        self.change(table, None);
+    // Drops a table or a schema.
+    pub(super) fn drop_key(&mut self, key: &Key) -> Taken {
+        self.change(key, None);
         Taken::Done
+    }
+
+    // Finds the tables of a schema, if it is there, and what there is to do with them and then with the schema.
+    pub(super) fn drop_schema(&mut self, who: u16, schema: &Key) -> Result<Taken, AllocError> {
+        if !self.is_there(schema) {
+            return Ok(Taken::Failed(1049));
+        }
+        let mut steps = self.steps_of_drop(schema)?;
+        for session in &mut self.sessions {
+            if session.number == who {
+                while let Some(step) = steps.pop() {
+                    session.steps.push(step)?;
+                }
+            }
+        }
+        Ok(Taken::Done)
+    }
+
+    // Each table is locked, then all are looked at, and then all are dropped, with the schema last.
+    fn steps_of_drop(&self, schema: &Key) -> Result<Vec<Step>, AllocError> {
+        let mut keys = self.tables_of(schema)?;
+        let mut steps = Vec::new(self.alloc);
+        for key in &keys {
+            steps.push(Step::Ask(key.clone()?, Mode::X, Duration::Transaction))?;
+        }
+        keys.push(schema.clone()?)?;
+        for key in &keys {
+            steps.push(Step::CheckVersion(key.clone()?))?;
+        }
+        for key in &keys {
+            steps.push(Step::Drop(key.clone()?))?;
+        }
+        Ok(steps)
+    }
+
+    // The tables of a schema that are there, in the order of their keys.
+    fn tables_of(&self, schema: &Key) -> Result<Vec<Key>, AllocError> {
+        let mut keys = Vec::new(self.alloc);
+        for place in &self.places {
+            if place.key.namespace() == Namespace::Table
+                && place.key.schema_name() == schema.schema_name()
+                && place.definition.is_some()
+            {
+                keys.push(place.key.clone()?)?;
+            }
+        }
+        keys.sort()?;
+        Ok(keys)
     }
 
     // Gives a table another name, if no table has it, there is the table, and there is the name's schema.

@@ -50,6 +50,7 @@ impl Plan<'_> {
             Statement::CreateTable { table, columns } => self.create(table, columns),
             Statement::CreateSchema(name) => self.create_schema(name),
             Statement::DropTables(tables) => self.drop_tables(tables),
+            Statement::DropSchema(name) => self.drop_schema(name),
             Statement::RenameTable { from, to } => self.rename(from, to),
             Statement::AlterTable(alteration) => self.alter(alteration),
             Statement::LockTables(tables) => self.lock_tables(tables),
@@ -229,6 +230,16 @@ impl Plan<'_> {
         for key in &keys {
             self.push(Step::Drop(key.clone()?))?;
         }
+        self.push(Step::End)
+    }
+
+    // The tables of a schema are found once nobody else is in it.
+    fn drop_schema(&mut self, name: &Name) -> Result<(), AllocError> {
+        let schema = made(Key::schema(self.alloc, name.as_str()))?;
+        self.commit()?;
+        self.ask_global()?;
+        self.ask(schema.clone()?, Mode::X, Duration::Transaction)?;
+        self.push(Step::DropSchema(schema))?;
         self.push(Step::End)
     }
 

@@ -1,0 +1,108 @@
+-- The space of a script has no more keys than places, so that a schema has no more tables.
+use Rattle.std.proofs.Common.{◌≡◌, ℕ, suc, ◌+◌, ◌≤◌, Bool, true, false, List, [], ◌∷◌, length, map, Option, Some, None, refl, sym, ap, ◌∙◌, arith, subst}
+use Rattle.std.specs.Prelude.{filter, if◌then◌else◌, nat_le}
+use Rattle.std.specs.List.{range_with_len}
+use Rattle.std.proofs.lemmas.Bool.Decides.{nat_tests}
+use Rattle.std.proofs.lemmas.List.{length-append, length-map}
+use Rattle.std.proofs.lemmas.List.FromFn.{length-range_with_len}
+use Rattle.std.proofs.lemmas.List.Sums.{count_by-le-length, length-filter}
+use Rattle.mdl_key.specs.Keys.{KeyName}
+use Rattle.mdl_book.specs.declared.book_view.BookView.{BookView}
+use Rattle.mdl_book.specs.Books.{empty_book}
+use Rattle.mdl_calls.specs.Words.{Answer, Call, Resolve, Tables_of, Read_kept, Unpin, Program, Give, Ask, Grow, outcome_of}
+use Rattle.mdl_core.specs.CoreCalls.{has_call, outcome, placing}
+use Rattle.mdl_core.specs.Cores.{Core, comes_before, has_defined_table, in_key_order, index_of, put_in_order, tables_in}
+use Rattle.mdl_core.specs.Determined.{Places, places_of}
+use Rattle.mdl_core.proofs.CallCases.{option_cases, test_cases}
+use Rattle.mdl_core.proofs.PlacesKept.{is_resolve, places-kept}
+use Rattle.mdl_script_laws.specs.Turns.{AreFewTables}
+use Rattle.mdl_script_laws.proofs.OutcomeLemmas.{EachBy}
+use Rattle.mdl_script_laws.proofs.RowPauses.{Told}
+
+-- a space has a place for each of its keys, of at most 256
+pub record HasFewPlaces (core : Core) : Type 0 where
+  pub books : length core.books ≤ core.places
+  pub most : core.places ≤ 256
+
+few-same : (a b : Core) → places_of b ≡ places_of a → HasFewPlaces a → HasFewPlaces b
+few-same a b same few =
+    let there = length-map b.books (λ (book : BookView). book.key) in
+    let here = length-map a.books (λ (book : BookView). book.key) in
+    let keys = ap (λ (p : Places). length p.keys) same in
+    let most = ap (λ (p : Places). p.most) same in
+    let books = few.books in
+    let least = few.most in
+    record { books = omega (arith, there, here, keys, most, books); most = omega (arith, most, least) }
+
+-- a key is given a place only where one is left
+few-placing : (key : KeyName) (core : Core) → HasFewPlaces core → HasFewPlaces (placing key (index_of key core.books) core).1
+few-placing key core few =
+    option_cases (λ found. HasFewPlaces (placing key found core).1) (index_of key core.books)
+    (λ none. test_cases (λ (r : Answer × Core). HasFewPlaces r.1) (nat_le core.places (length core.books)) _ _ (λ full. few) (λ room. record {
+      books = (let longer = length-append core.books (empty_book key ∷ []) in let least = few.books in grind (arith, nat_tests));
+      most = few.most;
+    }))
+    (λ index found. few)
+
+never : true ≡ false → ⊥
+never e = cc
+
+-- a call that the space hasn't changes nothing
+left-alone : (call : Call) (core : Core) → has_call call ≡ false → (outcome call core).1 ≡ core
+left-alone (Read_kept who id) core has = refl
+left-alone (Unpin who place) core has = refl
+left-alone _ core has = absurd (never has)
+
+resolved-key : (call : Call) → is_resolve call ≡ true → (who : ℕ) × (key : KeyName) × (call ≡ Resolve who key)
+resolved-key (Resolve who key) e = (who, key, refl)
+resolved-key _ e = cc
+
+pub few-call : (call : Call) (core : Core) → HasFewPlaces core → HasFewPlaces (outcome call core).1
+few-call call core few = by (is_resolve call) refl (has_call call) refl
+  where
+    by : (resolves : Bool) → is_resolve call ≡ resolves → (has : Bool) → has_call call ≡ has → HasFewPlaces (outcome call core).1
+    by resolves e false has = few-same core (outcome call core).1 (ap places_of (left-alone call core has)) few
+    by false e true has = few-same core (outcome call core).1 (places-kept core call e has) few
+    by true e true has =
+        let it = resolved-key call e in subst (λ (c : Call). HasFewPlaces (outcome c core).1) (sym it.2) (few-placing it.1 core few)
+
+-- so it is after a program
+pub few-outcome : {A : Type 0} (program : Program A) (core : Core) → HasFewPlaces core → HasFewPlaces (outcome_of outcome program core).1
+few-outcome (Give x) core few = few
+few-outcome (Ask call next) core few = few-outcome (next (outcome call core).0) (outcome call core).1 (few-call call core few)
+few-outcome (Grow refused found) core few = few-outcome found core few
+
+-- ---- the tables of a schema
+
+length-put : (core : Core) (place : ℕ) (places : List ℕ) → length (put_in_order core place places) ≡ suc (length places)
+length-put core place [] = refl
+length-put core place (other ∷ others) =
+    test_cases (λ l. length l ≡ suc (length (other ∷ others))) (comes_before core place other) (place ∷ other ∷ others) (other ∷ put_in_order core place others)
+    (λ _. refl) (λ _. ap suc (length-put core place others))
+
+length-order : (core : Core) (places : List ℕ) → length (in_key_order core places) ≡ length places
+length-order core [] = refl
+length-order core (place ∷ places) = length-put core place (in_key_order core places) ∙ ap suc (length-order core places)
+
+few-tables : (schema : List ℕ) (core : Core) → HasFewPlaces core → AreFewTables (tables_in schema core)
+few-tables schema core few =
+    let all = range_with_len 1 (length core.books) in
+    let told = length-order core (filter (has_defined_table schema core) all) in
+    let kept = length-filter (has_defined_table schema core) all in
+    let fewer = count_by-le-length (has_defined_table schema core) all in
+    let long = length-range_with_len 1 (length core.books) in
+    let books = few.books in
+    let most = few.most in
+    omega (arith, told, kept, fewer, long, books, most)
+
+few-told : (call : Call) (core : Core) → HasFewPlaces core → Told AreFewTables call (outcome call core).0
+few-told (Tables_of who schema) core few = few-tables schema core few
+few-told _ core few = tt
+
+-- what all replies are where schemas have no more tables, that of the outcome is
+pub by-outcome : {A : Type 0} (P : A → Type 0) (program : Program A) (core : Core) → HasFewPlaces core → EachBy (Told AreFewTables) P program
+    → P (outcome_of outcome program core).0
+by-outcome P (Give x) core few each = each
+by-outcome P (Ask call next) core few each =
+    by-outcome P (next (outcome call core).0) (outcome call core).1 (few-call call core few) (each (outcome call core).0 (few-told call core few))
+by-outcome P (Grow refused found) core few each = by-outcome P found core few each.1

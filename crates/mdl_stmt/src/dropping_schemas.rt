@@ -1,0 +1,187 @@
+//! DROP SCHEMA.
+ghost use Rattle.std.specs.Prelude.{◌≡◌, None, []};
+ghost use Rattle.mdl_context.specs.Contexts.{Attends, LeavesOthers};
+ghost use Rattle.mdl_stmt.specs.Gets.{IsPlayed, IsStep, IdleUnlessPlayed, items_told};
+ghost use Rattle.mdl_stmt.specs.Stages.{lock_rest};
+ghost use Rattle.mdl_stmt.specs.Statements.{drop_schema_after_commit, lock_and_drop_schema, drop_schema_under, drop_with, keys_of, tables_in};
+
+use crate::Reply;
+use crate::ending::{Ending, Got, Listed, Played};
+use crate::player::Player;
+use crate::stage::{LockList, Stage};
+use mdl_context::Request;
+use mdl_defs::Change;
+use mdl_key::{Duration, Key, Mode};
+use mdl_space::{LockSpace, Place, TicketId};
+use mdl_syntax::Name;
+
+impl<S: LockSpace> Player<S> {
+    /// Drops a schema, once no transaction is open.
+    pub(crate) fn drop_schema<'s>(&mut self, space: &mut S, name: &'s Name) -> Played<'s>
+        requires attends { Attends S.speaks_for S.own S.knows space.old self.old.context }
+        requires idle { self.old.context.wait ≡ None }
+        ensures run { IsPlayed S.joins (drop_schema_after_commit name.now) space.old self.old result space.new self.new }
+        ensures attends { Attends S.speaks_for S.own S.knows space.new self.new.context }
+        ensures others { LeavesOthers S.speaks_for S.own S.knows self.old.context.who space.old space.new }
+        ensures who { self.new.context.who ≡ self.old.context.who }
+        ensures idle { IdleUnlessPlayed result self.new }
+    {
+        let writes = Key::global(self.alloc);
+        let request = Request {
+            key: &writes,
+            mode: Mode::IX,
+            duration: Duration::Statement,
+        };
+        match self.get(space, request) {
+            Got::Had(_) => self.lock_and_drop_schema(space, name),
+            Got::Waits(key) => Played::Waits(key, Mode::IX, Stage::DropGlobal(name)),
+            Got::Ends(ending) => Played::Ends(ending),
+        }
+    }
+
+    /// Locks a schema under the lock of all writes, and drops it.
+    pub(crate) fn lock_and_drop_schema<'s>(&mut self, space: &mut S, name: &'s Name) -> Played<'s>
+        requires attends { Attends S.speaks_for S.own S.knows space.old self.old.context }
+        requires idle { self.old.context.wait ≡ None }
+        ensures run { IsPlayed S.joins (lock_and_drop_schema name.now) space.old self.old result space.new self.new }
+        ensures attends { Attends S.speaks_for S.own S.knows space.new self.new.context }
+        ensures others { LeavesOthers S.speaks_for S.own S.knows self.old.context.who space.old space.new }
+        ensures who { self.new.context.who ≡ self.old.context.who }
+        ensures idle { IdleUnlessPlayed result self.new }
+    {
+        let Ok(schema) = Key::schema(self.alloc, name.as_str()) else {
+            return Played::Ends(Ending::Starves);
+        };
+        let request = Request {
+            key: &schema,
+            mode: Mode::X,
+            duration: Duration::Transaction,
+        };
+        match self.get(space, request) {
+            Got::Had(ticket) => self.drop_schema_under(space, name, ticket),
+            Got::Waits(key) => Played::Waits(key, Mode::X, Stage::DropSchema(name)),
+            Got::Ends(ending) => Played::Ends(ending),
+        }
+    }
+
+    /// Drops a schema and its tables under its lock, once theirs are had.
+    pub(crate) fn drop_schema_under<'s>(
+        &mut self,
+        space: &mut S,
+        name: &'s Name,
+        schema: TicketId,
+    ) -> Played<'s>
+        requires attends { Attends S.speaks_for S.own S.knows space.old self.old.context }
+        requires idle { self.old.context.wait ≡ None }
+        ensures run { IsPlayed S.joins (drop_schema_under name.now schema) space.old self.old result space.new self.new }
+        ensures attends { Attends S.speaks_for S.own S.knows space.new self.new.context }
+        ensures others { LeavesOthers S.speaks_for S.own S.knows self.old.context.who space.old space.new }
+        ensures who { self.new.context.who ≡ self.old.context.who }
+        ensures idle { IdleUnlessPlayed result self.new }
+    {
+        if let Err(ending) = self.check_schema(space, schema) {
+            return Played::Ends(ending);
+        }
+        let tables = match self.tables_in(space, name) {
+            Ok(tables) => tables,
+            Err(ending) => return Played::Ends(ending),
+        };
+        match LockList::new(self.alloc, tables) {
+            Ok(locks) => self.lock_within(space, schema, locks),
+            Err(_) => Played::Ends(Ending::Starves),
+        }
+    }
+
+    /// The tables of a schema that have a definition, in key order.
+    fn tables_in(&mut self, space: &mut S, name: &Name) -> Result<Vec<Key>, Ending>
+        requires attends { Attends S.speaks_for S.own S.knows space.old self.old.context }
+        requires idle { self.old.context.wait ≡ None }
+        ensures run { IsStep S.joins (tables_in name.now) space.old self.old (items_told result) space.new self.new }
+        ensures attends { Attends S.speaks_for S.own S.knows space.new self.new.context }
+        ensures others { LeavesOthers S.speaks_for S.own S.knows self.old.context.who space.old space.new }
+        ensures who { self.new.context.who ≡ self.old.context.who }
+        ensures idle { self.new.context.wait ≡ None }
+    {
+        match self.tables_of(space, name.as_str()) {
+            Ok(places) => self.keys_of(space, &places),
+            Err(ending) => Err(ending),
+        }
+    }
+
+    /// The keys of places, in their order.
+    fn keys_of(&mut self, space: &mut S, places: &[Place]) -> Result<Vec<Key>, Ending>
+        requires attends { Attends S.speaks_for S.own S.knows space.old self.old.context }
+        requires idle { self.old.context.wait ≡ None }
+        ensures run { IsStep S.joins (keys_of [] places.now) space.old self.old (items_told result) space.new self.new }
+        ensures attends { Attends S.speaks_for S.own S.knows space.new self.new.context }
+        ensures others { LeavesOthers S.speaks_for S.own S.knows self.old.context.who space.old space.new }
+        ensures who { self.new.context.who ≡ self.old.context.who }
+        ensures idle { self.new.context.wait ≡ None }
+    {
+        let mut keys = Vec::new(self.alloc);
+        for place in places {
+            let key = match self.key_of(space, *place) {
+                Ok(key) => key,
+                Err(ending) => return Err(ending),
+            };
+            if keys.push(key).is_err() {
+                return Err(Ending::Starves);
+            }
+        }
+        Ok(keys)
+    }
+
+    /// Gets the locks of a schema's tables that are left, and drops the tables and the schema.
+    pub(crate) fn lock_within<'s>(
+        &mut self,
+        space: &mut S,
+        schema: TicketId,
+        locks: LockList,
+    ) -> Played<'s>
+        requires attends { Attends S.speaks_for S.own S.knows space.old self.old.context }
+        requires idle { self.old.context.wait ≡ None }
+        ensures run { IsPlayed S.joins (lock_rest locks (drop_with schema)) space.old self.old result space.new self.new }
+        ensures attends { Attends S.speaks_for S.own S.knows space.new self.new.context }
+        ensures others { LeavesOthers S.speaks_for S.own S.knows self.old.context.who space.old space.new }
+        ensures who { self.new.context.who ≡ self.old.context.who }
+        ensures idle { IdleUnlessPlayed result self.new }
+    {
+        match self.lock_all(space, locks) {
+            Listed::Had(locks) => self.drop_with(space, schema, locks.tickets()),
+            Listed::Waits(key, mode, locks) => {
+                Played::Waits(key, mode, Stage::DropWithin(schema, locks))
+            }
+            Listed::Ends(ending) => Played::Ends(ending),
+        }
+    }
+
+    /// Drops a schema behind its tables, under all their locks.
+    fn drop_with<'s>(
+        &mut self,
+        space: &mut S,
+        schema: TicketId,
+        tables: &[TicketId],
+    ) -> Played<'s>
+        requires attends { Attends S.speaks_for S.own S.knows space.old self.old.context }
+        requires idle { self.old.context.wait ≡ None }
+        ensures run { IsPlayed S.joins (drop_with schema tables.now) space.old self.old result space.new self.new }
+        ensures attends { Attends S.speaks_for S.own S.knows space.new self.new.context }
+        ensures others { LeavesOthers S.speaks_for S.own S.knows self.old.context.who space.old space.new }
+        ensures who { self.new.context.who ≡ self.old.context.who }
+        ensures idle { IdleUnlessPlayed result self.new }
+    {
+        if let Err(ending) = self.all_can_change(space, tables) {
+            return Played::Ends(ending);
+        }
+        if let Err(ending) = self.can_change(space, schema) {
+            return Played::Ends(ending);
+        }
+        if let Err(ending) = self.drop_all(space, tables) {
+            return Played::Ends(ending);
+        }
+        match self.redefine(space, schema, &Change::Drop) {
+            Ok(()) => Played::Ends(Ending::Answers(Reply::Ok)),
+            Err(ending) => Played::Ends(ending),
+        }
+    }
+}
