@@ -1,20 +1,38 @@
-# The two commands of the README, `make run` and `make test`, and the benchmark, `make bench`.
+# The two commands of the README, `make run` and `make test`, and what else can be asked for: `make help` lists it.
 
-# The script that `make run` runs. By its ending it is one of statements (NAME.replay), of a scoped lock (NAME.scoped.lock), or of
-# an object lock. With OPTIONS=--scoped it is one of a scoped lock whatever its ending.
+# The script that `make run` and `make try` run. By its ending it is one of statements (NAME.replay), of a scoped lock
+# (NAME.scoped.lock), or of an object lock. With OPTIONS=--scoped it is one of a scoped lock whatever its ending.
 SCRIPT = crates/mdlsim/stdin
 SUBCOMMAND = $(if $(filter %.replay,$(SCRIPT)),replay,lock)
 OPTIONS = $(if $(filter %.scoped.lock,$(SCRIPT)),--scoped)
+
+# Where `make install` puts the program and its manual page.
+PREFIX = /usr/local
 
 PROGRAM = crates/mdlsim/out/mdlsim
 
 BENCH = crates/mdl_bench/out/mdl_bench
 
-.PHONY: run test bench examples growths build kit
+.PHONY: help run try test bench examples growths build install clean kit
+
+help:
+	@echo 'make run [SCRIPT=FILE]     builds mdlsim, proved, and prints its answers to a script'
+	@echo 'make try [SCRIPT=FILE]     the same without the proof, in about a minute'
+	@echo 'make test                  the gate: proves everything from nothing, and runs all tests'
+	@echo 'make examples              compares the answers to each example with those that lie beside it'
+	@echo 'make growths               refuses each growth of some short lives in turn'
+	@echo 'make bench                 times scripts and calls'
+	@echo 'make install [PREFIX=DIR]  builds mdlsim, proved, and installs it with its manual page'
+	@echo 'make clean                 removes what was built, and what the prover keeps for its next check'
 
 # Builds mdlsim, proved, and prints its answers to the script.
 run: build
 	@$(PROGRAM) $(SUBCOMMAND) $(OPTIONS) < $(SCRIPT)
+
+# Builds mdlsim without the proof, and prints its answers to the script. Two lines on standard error say so.
+try: kit
+	@script=$$(cd "$$(dirname "$(SCRIPT)")" && pwd)/$$(basename "$(SCRIPT)") \
+	&& cd crates/mdlsim && rt try -- $(SUBCOMMAND) $(OPTIONS) < "$$script"
 
 # The gate: the examples have their answers, refused growths lose nothing, and everything is proved and tested from nothing.
 test: examples growths
@@ -25,8 +43,7 @@ test: examples growths
 bench: build
 	@sh bench/lock.sh $(PROGRAM)
 	@sh bench/replay.sh $(PROGRAM)
-	@mkdir -p crates/mdl_bench/out
-	@cd crates/mdl_bench && rt run -- quick > out/build.log 2>&1 || { cat out/build.log >&2; exit 1; }
+	@sh make/build.sh mdl_bench quick
 	@$(BENCH)
 
 # Each example gives the answers that lie beside it.
@@ -39,8 +56,14 @@ growths: kit
 
 # Proves mdlsim and what it stands on, and builds it.
 build: kit
-	@mkdir -p crates/mdlsim/out
-	@cd crates/mdlsim && rt run -- lock < stdin > out/build.log 2>&1 || { cat out/build.log >&2; exit 1; }
+	@sh make/build.sh mdlsim lock
+
+install: build
+	@mkdir -p "$(PREFIX)/bin" "$(PREFIX)/share/man/man1"
+	@cp $(PROGRAM) "$(PREFIX)/bin/mdlsim" && cp docs/mdlsim.1 "$(PREFIX)/share/man/man1/mdlsim.1"
+
+clean:
+	@rm -rf crates/*/out
 
 kit:
-	@command -v rt > /dev/null || { echo "rt is missing: put the folder bin of the Rattle kit on the path" >&2; exit 1; }
+	@sh make/needs.sh rt python3

@@ -7,6 +7,7 @@ folder=$(dirname "$0")
 scripts=$(mktemp -d)
 trap 'rm -rf "$scripts"' EXIT
 
+sh "$folder/../make/needs.sh" awk || exit 1
 if [ ! -x /usr/bin/time ]; then
     echo "GNU time is missing: install the package time" >&2
     exit 1

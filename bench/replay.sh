@@ -8,23 +8,34 @@ folder=$(dirname "$0")
 scripts=$(mktemp -d)
 trap 'rm -rf "$scripts"' EXIT
 
+sh "$folder/../make/needs.sh" awk || exit 1
 if [ ! -x /usr/bin/time ]; then
     echo "GNU time is missing: install the package time" >&2
     exit 1
 fi
 
+# The script of sessions that live as sessions do, so many of them in a transaction at a time.
+lives() {
+    awk -v LINES="$2" -v SEED=7 -v CHANGES=100 -v OPEN="$1" -f "$folder/replay_scripts.awk"
+}
+
+# The script of all forms.
+forms() {
+    awk -v LINES="$1" -v SEED=7 -f "$folder/all_forms.awk"
+}
+
 # Runs a script so many times, and prints the time of one run, the peak memory and how many of its statements wait, and then the
 # nanoseconds of a line for a program to read: ROW, the workload, the threads, the figure's name and the figure.
 measure() {
-    open=$1
-    lines=$2
+    workload=$1
+    size=$2
     turns=$3
-    script="$scripts/$open.$lines.script"
-    awk -v LINES="$lines" -v SEED=7 -v CHANGES=100 -v OPEN="$open" -f "$folder/replay_scripts.awk" > "$script"
+    script="$scripts/script"
+    lines=$(wc -l < "$script")
     bytes=$(wc -c < "$script")
     /usr/bin/time -f '%M' -o "$scripts/memory" "$program" replay < "$script" > "$scripts/answers" || exit 1
-    if grep -q -e ' BUSY$' -e ' ERR 1213$' "$scripts/answers"; then
-        echo "$open: a session that waits was asked, or came to a deadlock" >&2
+    if grep -q ' BUSY$' "$scripts/answers" || { [ "$workload" != all_forms ] && grep -q ' ERR 1213$' "$scripts/answers"; }; then
+        echo "$workload: a session that waits was asked, or came to a deadlock" >&2
         exit 1
     fi
     waits=$(grep -c ' WAIT [A-Z]' "$scripts/answers")
@@ -32,17 +43,21 @@ measure() {
         for turn in $(seq "$3"); do
             "$0" replay < "$1" > "$2"
         done' "$program" "$script" "$scripts/answers" "$turns"
-    awk -v open="$open" -v lines="$lines" -v bytes="$bytes" -v memory="$(cat "$scripts/memory")" -v waits="$waits" -v turns="$turns" '{
+    awk -v workload="$workload" -v size="$size" -v lines="$lines" -v bytes="$bytes" -v memory="$(cat "$scripts/memory")" -v waits="$waits" -v turns="$turns" '{
         seconds = ($1 + $2) / turns
-        printf "%2d open  %9d lines  %9d bytes  %8.4f s  %9.0f lines/s  %6d KiB, %.1f times the script, %4.1f of 100 lines wait\n",
-            open, lines, bytes, seconds, lines / seconds, memory, memory * 1024 / bytes, waits / lines * 100
-        printf "ROW replay_%d 1 line_of_%d %.0f\n", open, lines, seconds / lines * 1e9
+        printf "%-9s %9d lines  %9d bytes  %8.4f s  %9.0f lines/s  %6d KiB, %.1f times the script, %4.1f waits of 100 lines\n",
+            workload, lines, bytes, seconds, lines / seconds, memory, memory * 1024 / bytes, waits / lines * 100
+        printf "ROW replay_%s 1 line_of_%d %.0f\n", workload, size, seconds / lines * 1e9
     }' "$scripts/seconds"
 }
 
-# All sessions have transactions open, or a quarter of them.
-for open in 64 16; do
-    measure "$open" 10000 50
-    measure "$open" 100000 10
-    measure "$open" 1000000 3
+# All sessions have transactions open, or a quarter of them; and all forms of statements.
+for size in 10000 100000 1000000; do
+    turns=$((500000 / size + 2))
+    for open in 64 16; do
+        lives $open $size > "$scripts/script"
+        measure ${open}_open $size $turns
+    done
+    forms $size > "$scripts/script"
+    measure all_forms $size $turns
 done

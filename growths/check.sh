@@ -4,6 +4,7 @@
 # number is refused, so each word has another one of the lives refused. It is built here without its proof, which `rt ci` gives.
 # Usage: sh growths/check.sh
 growths=$(cd "$(dirname "$0")" && pwd)
+sh "$growths/../make/needs.sh" rt python3 || exit 1
 made=$(mktemp -d)
 trap 'rm -rf "$made"' EXIT
 

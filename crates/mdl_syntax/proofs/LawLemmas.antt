@@ -285,13 +285,24 @@ forms-hold =
                                     (
                                       makes-holds IsName DropSchema one_name name (λ value h. h),
                                       (
-                                        λ words. no_more-holds IsWithinLimits UnlockTables words tt,
+                                        makes-holds AreTwo (λ named. RenameTable named.0 named.1) table_to_table table_to_table-hold (λ value h. h),
                                         (
-                                          λ words. no_more-holds IsWithinLimits FlushTablesWithReadLock words tt,
+                                          makes-holds IsAlteration AlterTable alteration alteration-holds (λ value h. h),
                                           (
-                                            makes-holds IsScriptSession KillQuery one_session (one_word-holds IsScriptSession BadSession session_of session_of-IsScriptSession) (λ value h. h),
-                                            (λ words. no_more-holds IsWithinLimits Timeout words tt, tt),
+                                            makes-holds AreLocks LockTables some_locks some_locks-hold (λ value h. h),
+                                            (
+                                              λ words. no_more-holds IsWithinLimits UnlockTables words tt,
+                                              (
+                                                λ words. no_more-holds IsWithinLimits FlushTablesWithReadLock words tt,
+                                                (
+                                                  makes-holds IsScriptSession KillQuery one_session (one_word-holds IsScriptSession BadSession session_of session_of-IsScriptSession) (λ value h. h),
+                                                  (λ words. no_more-holds IsWithinLimits Timeout words tt, tt),
+                                                ),
+                                              ),
+                                            ),
                                           ),
+                                        ),
+                                      ),
                                         ),
                                       ),
                                     ),

@@ -204,10 +204,10 @@ forms =
     ∷ form (codes "DROP TABLE") (makes DropTables some_tables)
     ∷ form (codes "DROP SCHEMA") (makes DropSchema one_name)
     ∷ form (codes "RENAME TABLE") (makes (λ named. RenameTable named.0 named.1) table_to_table)
-    ∷ form (codes "UNLOCK TABLES") (no_more UnlockTables)
-    ∷ form (codes "FLUSH TABLES WITH READ LOCK") (no_more FlushTablesWithReadLock)
     ∷ form (codes "ALTER TABLE") (makes AlterTable alteration)
     ∷ form (codes "LOCK TABLES") (makes LockTables some_locks)
+    ∷ form (codes "UNLOCK TABLES") (no_more UnlockTables)
+    ∷ form (codes "FLUSH TABLES WITH READ LOCK") (no_more FlushTablesWithReadLock)
     ∷ form (codes "KILL QUERY") (makes KillQuery one_session)
     ∷ form (codes "TIMEOUT") (no_more Timeout)
     ∷ []

@@ -7,8 +7,8 @@ use Rattle.mdl_syntax.specs.declared.no_statement.NoStatement.{NoStatement}
 use Rattle.mdl_syntax.specs.declared.no_statement.NoStatement.TheVariants.{Refused, Memory}
 use Rattle.mdl_syntax.specs.declared.statement.Priority.TheVariants.{Normal, Low}
 use Rattle.mdl_syntax.specs.declared.statement.Statement.{Statement}
-use Rattle.mdl_syntax.specs.declared.statement.Statement.TheVariants.{CreateTable, CreateSchema, RenameTable, UnlockTables, FlushTablesWithReadLock, LockTables, DropTables, DropSchema}
-use Rattle.mdl_syntax.specs.Forms.{form, makes, no_more, one_name, read_by, table_and_columns, table_to_table, writes, and_then, lock_type_of, or_refuse, some_locks, some_tables}
+use Rattle.mdl_syntax.specs.declared.statement.Statement.TheVariants.{CreateTable, CreateSchema, RenameTable, AlterTable, KillQuery, UnlockTables, FlushTablesWithReadLock, LockTables, DropTables, DropSchema}
+use Rattle.mdl_syntax.specs.Forms.{alteration, one_session, form, makes, no_more, one_name, read_by, table_and_columns, table_to_table, writes, and_then, lock_type_of, or_refuse, some_locks, some_tables}
 use Rattle.mdl_syntax.specs.KeyWords.{behind}
 
 -- words that say this are read so: what is refused is told as refused, whether or not there is memory
@@ -37,6 +37,15 @@ drop_of words =
 abbrev pub rename_of : List (List ℕ) → Result Statement LineError
 rename_of words =
     read_by (form (codes "TABLE") (makes (λ named. RenameTable named.0 named.1) table_to_table)) (behind (codes "TABLE" ∷ []) words) (Err BadWord)
+
+-- what the words behind ALTER say
+abbrev pub alter_of : List (List ℕ) → Result Statement LineError
+alter_of words = read_by (form (codes "TABLE") (makes AlterTable alteration)) (behind (codes "TABLE" ∷ []) words) (Err BadWord)
+
+-- what the words behind KILL say
+abbrev pub kill_of : List (List ℕ) → Result Statement LineError
+kill_of words = read_by (form (codes "QUERY") (makes KillQuery one_session)) (behind (codes "QUERY" ∷ []) words) (Err BadWord)
+
 -- what the words behind UNLOCK say
 abbrev pub unlock_of : List (List ℕ) → Result Statement LineError
 unlock_of words = read_by (form (codes "TABLES") (no_more UnlockTables)) (behind (codes "TABLES" ∷ []) words) (Err BadWord)
@@ -45,6 +54,7 @@ unlock_of words = read_by (form (codes "TABLES") (no_more UnlockTables)) (behind
 abbrev pub flush_of : List (List ℕ) → Result Statement LineError
 flush_of words =
     read_by (form (codes "TABLES WITH READ LOCK") (no_more FlushTablesWithReadLock)) (behind (codes "TABLES" ∷ codes "WITH" ∷ codes "READ" ∷ codes "LOCK" ∷ []) words) (Err BadWord)
+
 -- what the words behind LOCK say
 abbrev pub lock_of : List (List ℕ) → Result Statement LineError
 lock_of words = read_by (form (codes "TABLES") (makes LockTables some_locks)) (behind (codes "TABLES" ∷ []) words) (Err BadWord)

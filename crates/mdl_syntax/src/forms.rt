@@ -4,7 +4,7 @@ ghost use Rattle.mdl_key.specs.Keys.{table_key};
 ghost use Rattle.mdl_lines.specs.Lines.{words_of};
 ghost use Rattle.mdl_syntax.specs.declared.statement.Statement.TheVariants.{Savepoint, RollbackTo, CreateTable, RenameTable, AlterTable, KillQuery};
 ghost use Rattle.mdl_syntax.specs.Forms as forms;
-ghost use Rattle.mdl_syntax.specs.Reading.{ReadsAs, create_of, rename_of, flush_of, unlock_of, write_of, lock_of, next_lock_type, drop_of};
+ghost use Rattle.mdl_syntax.specs.Reading.{alter_of, kill_of, ReadsAs, create_of, rename_of, flush_of, unlock_of, write_of, lock_of, next_lock_type, drop_of};
 
 use crate::key_words::behind;
 use crate::no_statement::NoStatement;
@@ -47,17 +47,11 @@ pub(crate) fn statement_of(alloc: Global, words: &[u8]) -> Result<Statement, NoS
         "CREATE" => create(alloc, rest),
         "DROP" => drop(alloc, rest),
         "RENAME" => rename(alloc, rest),
+        "ALTER" => alter(alloc, rest),
+        "LOCK" => lock_tables(alloc, rest),
         "UNLOCK" => unlock(rest),
         "FLUSH" => flush(rest),
-        "ALTER" => match behind("TABLE", rest) {
-            Some(rest) => alter_table(alloc, rest),
-            None => bad_word(),
-        },
-        "LOCK" => lock_tables(alloc, rest),
-        "KILL" => match behind("QUERY", rest) {
-            Some(rest) => kill_query(rest),
-            None => bad_word(),
-        },
+        "KILL" => kill(rest),
         "TIMEOUT" => no_more(Statement::Timeout, rest),
         _ => bad_word(),
     }
@@ -300,6 +294,16 @@ fn flush(words: &[u8]) -> Result<Statement, NoStatement>
     }
 }
 
+// A table whose columns change.
+fn alter(alloc: Global, words: &[u8]) -> Result<Statement, NoStatement>
+    ensures { ReadsAs (alter_of (words_of words.now)) result }
+{
+    match behind("TABLE", words) {
+        Some(rest) => alter_table(alloc, rest),
+        None => bad_word(),
+    }
+}
+
 // A table, a change of its columns, and how it is altered.
 fn alter_table(alloc: Global, words: &[u8]) -> Result<Statement, NoStatement>
     ensures { ReadsAs (forms.makes AlterTable forms.alteration (words_of words.now)) result }
@@ -447,6 +451,16 @@ fn push_lock(
 {
     let table = key_of(alloc, name)?;
     locks.push(TableLock { table, lock_type })
+}
+
+// A session's wait to be killed.
+fn kill(words: &[u8]) -> Result<Statement, NoStatement>
+    ensures { ReadsAs (kill_of (words_of words.now)) result }
+{
+    match behind("QUERY", words) {
+        Some(rest) => kill_query(rest),
+        None => bad_word(),
+    }
 }
 
 // A session to kill.

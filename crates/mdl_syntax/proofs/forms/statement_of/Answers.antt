@@ -21,15 +21,25 @@ returns-in-CREATE c =
     let word : c.in-Some.word.now ≡ codes "CREATE" = search rules in
     says-at (codes "CREATE") (words_of c.args.words.now) (words_of c.in-Some.rest.now) c.in-Some.word.now c.create.result c.in-Some.ensures.word word c.create.ensures
 
-pub returns-in-None-behind-2 : goal.returns-in-None-behind-2
-returns-in-None-behind-2 c =
+pub returns-in-DROP : goal.returns-in-DROP
+returns-in-DROP c =
     let word : c.in-Some.word.now ≡ codes "DROP" = search rules in
-    says-at (codes "DROP") (words_of c.args.words.now) (words_of c.in-Some.rest.now) c.in-Some.word.now _ c.in-Some.ensures.word word (rw c.bad_word-in-None-behind-2.ensures (rw c.in-None-behind-2.ensures refl))
+    says-at (codes "DROP") (words_of c.args.words.now) (words_of c.in-Some.rest.now) c.in-Some.word.now c.drop.result c.in-Some.ensures.word word c.drop.ensures
 
 pub returns-in-RENAME : goal.returns-in-RENAME
 returns-in-RENAME c =
     let word : c.in-Some.word.now ≡ codes "RENAME" = search rules in
     says-at (codes "RENAME") (words_of c.args.words.now) (words_of c.in-Some.rest.now) c.in-Some.word.now c.rename.result c.in-Some.ensures.word word c.rename.ensures
+
+pub returns-in-ALTER : goal.returns-in-ALTER
+returns-in-ALTER c =
+    let word : c.in-Some.word.now ≡ codes "ALTER" = search rules in
+    says-at (codes "ALTER") (words_of c.args.words.now) (words_of c.in-Some.rest.now) c.in-Some.word.now c.alter.result c.in-Some.ensures.word word c.alter.ensures
+
+pub returns-in-LOCK : goal.returns-in-LOCK
+returns-in-LOCK c =
+    let word : c.in-Some.word.now ≡ codes "LOCK" = search rules in
+    says-at (codes "LOCK") (words_of c.args.words.now) (words_of c.in-Some.rest.now) c.in-Some.word.now c.lock_tables.result c.in-Some.ensures.word word c.lock_tables.ensures
 
 pub returns-in-UNLOCK : goal.returns-in-UNLOCK
 returns-in-UNLOCK c =
@@ -41,15 +51,10 @@ returns-in-FLUSH c =
     let word : c.in-Some.word.now ≡ codes "FLUSH" = search rules in
     says-at (codes "FLUSH") (words_of c.args.words.now) (words_of c.in-Some.rest.now) c.in-Some.word.now c.flush.result c.in-Some.ensures.word word c.flush.ensures
 
-pub returns-in-Some-behind-4 : goal.returns-in-Some-behind-4
-returns-in-Some-behind-4 c =
+pub returns-in-KILL : goal.returns-in-KILL
+returns-in-KILL c =
     let word : c.in-Some.word.now ≡ codes "KILL" = search rules in
-    says-at (codes "KILL") (words_of c.args.words.now) (words_of c.in-Some.rest.now) c.in-Some.word.now c.kill_query.result c.in-Some.ensures.word word (rw c.in-Some-behind-4.ensures c.kill_query.ensures)
-
-pub returns-in-None-behind-3 : goal.returns-in-None-behind-3
-returns-in-None-behind-3 c =
-    let word : c.in-Some.word.now ≡ codes "KILL" = search rules in
-    says-at (codes "KILL") (words_of c.args.words.now) (words_of c.in-Some.rest.now) c.in-Some.word.now _ c.in-Some.ensures.word word (rw c.bad_word-in-None-behind-3.ensures (rw c.in-None-behind-3.ensures refl))
+    says-at (codes "KILL") (words_of c.args.words.now) (words_of c.in-Some.rest.now) c.in-Some.word.now c.kill.result c.in-Some.ensures.word word c.kill.ensures
 
 pub returns-in-TIMEOUT : goal.returns-in-TIMEOUT
 returns-in-TIMEOUT c =
@@ -74,6 +79,8 @@ returns-in_default-key_word c =
     (λ e. other.not-CREATE (sym same ∙ e))
     (λ e. other.not-DROP (sym same ∙ e))
     (λ e. other.not-RENAME (sym same ∙ e))
+    (λ e. other.not-ALTER (sym same ∙ e))
+    (λ e. other.not-LOCK (sym same ∙ e))
     (λ e. other.not-UNLOCK (sym same ∙ e))
     (λ e. other.not-FLUSH (sym same ∙ e))
     (λ e. other.not-KILL (sym same ∙ e))

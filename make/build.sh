@@ -1,0 +1,28 @@
+#!/bin/sh
+# Proves a program and what it stands on, builds it, and runs it once with these words. It shows which crate is being proved, and how far;
+# all that is said goes to the program's out/build.log, which is shown where the build fails.
+# Usage: sh make/build.sh CRATE WORD..
+crate=$1
+shift
+cd "$(dirname "$0")/../crates/$crate" && mkdir -p out || exit 1
+input=/dev/null
+if [ -f stdin ]; then
+    input=stdin
+fi
+
+{
+    rt run -- "$@" < "$input" 2>&1
+    echo $? > out/build.status
+} | while IFS= read -r line; do
+    printf '%s\n' "$line" >&3
+    case "$line" in
+        'rt: chose --jobs '*) echo "proving ${line##* }" >&2 ;;
+        'so far: '*' functions checked'*) echo "    ${line#so far: }" >&2 ;;
+    esac
+done 3> out/build.log
+
+status=$(cat out/build.status)
+if [ "$status" -ne 0 ]; then
+    cat out/build.log >&2
+fi
+exit "$status"
