@@ -99,6 +99,8 @@ enum Step {
     CheckVersion(Key),
     // Drops a table.
     Drop(Key),
+    // Gives a table another name, if it can get it.
+    Rename(Key, Key),
     // Fails with this error.
     Refuse(u32),
     // The lock that was asked for last goes unless the session gets the global read lock.

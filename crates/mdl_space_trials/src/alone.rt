@@ -3,7 +3,7 @@ ghost use Rattle.std.specs.Prelude.{◌≡◌};
 ghost use Rattle.mdl_calls.specs.Runs.{Runs};
 ghost use Rattle.mdl_space_trials.specs.Visits.{visiting, visited};
 
-use crate::acts::{Act, Reply, call, key_of};
+use crate::acts::{Act, Reply, call, key_of, tables_of};
 use crate::lone_session::LoneSession;
 use crate::wishes::{Shown, Wish};
 use mdl_defs::DefError;
@@ -76,6 +76,14 @@ impl Alone {
     // The key of a place.
     fn key_of(&mut self, place: Place) -> Result<Key, SpaceError> {
         key_of(&mut self.space, WHO, place)
+    }
+
+    // Whether just these are the places of a schema's tables.
+    fn tells(&mut self, schema: &str, places: &[Place]) -> bool {
+        match tables_of(&mut self.space, WHO, schema) {
+            Ok(told) => told.as_slice() == places,
+            Err(_) => false,
+        }
     }
 
     // How many tickets are held.
@@ -159,6 +167,33 @@ fn names_its_key(alloc: Global, alone: &mut Alone, name: &str) -> bool {
 fn the_key_of_the_one_place_is_told(rt: HostRuntime) {
     let is_told = match Alone::new(rt.alloc(), "t") {
         Ok(mut alone) => names_its_key(rt.alloc(), &mut alone, "t"),
+        Err(_) => false,
+    };
+    assert!(rt; is_told);
+}
+
+const CREATED: &[(Act, Reply)] = &[
+    (Act::TryNow(3, 1, Mode::X), Reply::WouldWait),
+    (Act::TryNow(3, 1, Mode::X), Reply::Granted(1)),
+    (Act::Redefine(3, 1, Wish::CreateTable), Reply::Changed(1)),
+];
+
+const DROPPED: &[(Act, Reply)] = &[(Act::Redefine(3, 1, Wish::Drop), Reply::Changed(2))];
+
+// Whether the one table is told while it has a definition, as a table of its schema alone.
+fn tells_the_one_table(alone: &mut Alone) -> bool {
+    alone.tells("test", &[])
+        && alone.first_wrong(CREATED).is_none()
+        && alone.tells("test", &[1])
+        && alone.tells("tes", &[])
+        && alone.first_wrong(DROPPED).is_none()
+        && alone.tells("test", &[])
+}
+
+#[test]
+fn the_one_table_is_told(rt: HostRuntime) {
+    let is_told = match Alone::new(rt.alloc(), "t") {
+        Ok(mut alone) => tells_the_one_table(&mut alone),
         Err(_) => false,
     };
     assert!(rt; is_told);
@@ -303,7 +338,50 @@ const A_CLONE: &[(Act, Reply)] = &[
     (Act::Release(3, 2), NOT_HELD),
 ];
 
+const NOT_UPGRADABLE: Reply = Reply::Refused(SpaceError::NotUpgradable);
+
+// A stronger mode is had as the other session gives the lock up.
+const OTHER_MODES: &[(Act, Reply)] = &[
+    (Act::Upgrade(3, 1, Mode::X), NOT_HELD),
+    (Act::Downgrade(3, 1, Mode::SU), NOT_HELD),
+    (Act::Merge(3, 1, 2), NOT_HELD),
+    (Act::TryNow(3, 1, Mode::SU), Reply::WouldWait),
+    (Act::TryNow(3, 1, Mode::SU), Reply::Granted(1)),
+    (Act::Upgrade(3, 1, Mode::SR), Reply::Upgraded),
+    (Act::Upgrade(3, 1, Mode::IX), NOT_UPGRADABLE),
+    (Act::Upgrade(3, 1, Mode::SNW), Reply::WouldWait),
+    (Act::Upgrade(3, 1, Mode::SNW), Reply::Upgraded),
+    (Act::Clone(3, 1, Mode::SNW), Reply::Granted(2)),
+    (Act::Upgrade(3, 2, Mode::X), Reply::WouldWait),
+    (
+        Act::Redefine(3, 2, Wish::CreateTable),
+        Reply::Refused(SpaceError::NotExclusive),
+    ),
+    (Act::Upgrade(3, 2, Mode::X), Reply::Upgraded),
+    (Act::Merge(3, 1, 3), NOT_HELD),
+    (Act::Merge(3, 1, 1), Reply::Refused(SpaceError::BadMode)),
+    (Act::Merge(3, 2, 1), Reply::Refused(SpaceError::BadMode)),
+    (Act::Merge(3, 1, 2), Reply::Done),
+    (Act::Release(3, 2), NOT_HELD),
+    (Act::Redefine(3, 1, Wish::CreateTable), Reply::Changed(1)),
+    (Act::Downgrade(3, 1, Mode::SR), NOT_UPGRADABLE),
+    (Act::Downgrade(3, 1, Mode::SU), Reply::Done),
+    (
+        Act::Redefine(3, 1, Wish::Drop),
+        Reply::Refused(SpaceError::NotExclusive),
+    ),
+    (Act::Release(3, 1), Reply::Done),
+];
+
 // The place of the first call that answers something else than it should.
+fn first_wrong_of_table(alloc: Global, rows: &[(Act, Reply)]) -> Option<usize> {
+    match Alone::new(alloc, "t") {
+        Ok(mut alone) => alone.first_wrong(rows),
+        Err(_) => Some(rows.len()),
+    }
+}
+
+// Likewise.
 fn first_wrong_of_schema(alloc: Global, rows: &[(Act, Reply)]) -> Option<usize> {
     match Alone::of_schema(alloc, "s") {
         Ok(mut alone) => alone.first_wrong(rows),
@@ -314,6 +392,11 @@ fn first_wrong_of_schema(alloc: Global, rows: &[(Act, Reply)]) -> Option<usize> 
 #[test]
 fn others_change_what_stands_while_nothing_is_held(rt: HostRuntime) {
     assert_eq!(rt; first_wrong_of_schema(rt.alloc(), A_SCHEMA_OF_OTHERS), None);
+}
+
+#[test]
+fn tickets_get_other_modes(rt: HostRuntime) {
+    assert_eq!(rt; first_wrong_of_table(rt.alloc(), OTHER_MODES), None);
 }
 
 #[test]

@@ -14,6 +14,7 @@ mod out_of_memory;
 mod performing;
 mod player;
 mod reading;
+mod renaming;
 mod reply;
 mod rows;
 mod runner;

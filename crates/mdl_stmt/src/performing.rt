@@ -34,6 +34,7 @@ impl<S: LockSpace> Player<S> {
             Statement::CreateTable { .. } => self.define(space, statement),
             Statement::CreateSchema(_) => self.define(space, statement),
             Statement::DropTables(_) => self.define(space, statement),
+            Statement::RenameTable { .. } => self.define(space, statement),
             Statement::Rollback => {
                 self.rollback(space);
                 Played::Ends(Ending::Answers(Reply::Ok))
@@ -113,6 +114,12 @@ impl<S: LockSpace> Player<S> {
                 self.lock_scopes(space, tables, locks.with(ticket))
             }
             Stage::DropTables(locks) => self.lock_tables(space, locks.with(ticket)),
+            Stage::RenameScopes(from, to, locks) => {
+                self.lock_rename_scopes(space, from, to, locks.with(ticket))
+            }
+            Stage::RenameTables(from, to, schema, locks) => {
+                self.lock_names(space, from, to, schema, locks.with(ticket))
+            }
             Stage::FlushGlobal => self.lock_commits(space, ticket),
             Stage::FlushCommit => Played::Ends(self.read_lock_under(space, ticket)),
         }

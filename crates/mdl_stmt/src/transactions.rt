@@ -123,6 +123,7 @@ impl<S: LockSpace> Player<S> {
             Statement::CreateTable { table, columns } => self.create(space, table, columns),
             Statement::CreateSchema(name) => self.create_schema(space, name),
             Statement::DropTables(tables) => self.drop_tables(space, tables),
+            Statement::RenameTable { from, to } => self.rename(space, from, to),
             Statement::FlushTablesWithReadLock => self.flush_after_commit(space),
             _ => Played::Ends(Ending::Answers(Reply::Ok)),
         }

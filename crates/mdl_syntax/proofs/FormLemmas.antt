@@ -19,9 +19,9 @@ differs word text ne = by (same_text word text) (bytes_eq-Decides word text).0 w
   by false h = refl
 
 -- what is none of the first words of forms begins no statement
-pub statement_of-unknown : (word : List ℕ) (words : List (List ℕ)) → (word ≡ codes "BEGIN" → ⊥) → (word ≡ codes "START" → ⊥) → (word ≡ codes "COMMIT" → ⊥) → (word ≡ codes "ROLLBACK" → ⊥) → (word ≡ codes "SAVEPOINT" → ⊥) → (word ≡ codes "SELECT" → ⊥) → (word ≡ codes "INSERT" → ⊥) → (word ≡ codes "UPDATE" → ⊥) → (word ≡ codes "DELETE" → ⊥) → (word ≡ codes "CREATE" → ⊥) → (word ≡ codes "DROP" → ⊥) → (word ≡ codes "UNLOCK" → ⊥) → (word ≡ codes "FLUSH" → ⊥) → (word ≡ codes "KILL" → ⊥) → (word ≡ codes "TIMEOUT" → ⊥) →
+pub statement_of-unknown : (word : List ℕ) (words : List (List ℕ)) → (word ≡ codes "BEGIN" → ⊥) → (word ≡ codes "START" → ⊥) → (word ≡ codes "COMMIT" → ⊥) → (word ≡ codes "ROLLBACK" → ⊥) → (word ≡ codes "SAVEPOINT" → ⊥) → (word ≡ codes "SELECT" → ⊥) → (word ≡ codes "INSERT" → ⊥) → (word ≡ codes "UPDATE" → ⊥) → (word ≡ codes "DELETE" → ⊥) → (word ≡ codes "CREATE" → ⊥) → (word ≡ codes "DROP" → ⊥) → (word ≡ codes "RENAME" → ⊥) → (word ≡ codes "UNLOCK" → ⊥) → (word ≡ codes "FLUSH" → ⊥) → (word ≡ codes "KILL" → ⊥) → (word ≡ codes "TIMEOUT" → ⊥) →
     statement_of (word ∷ words) ≡ Err BadWord
-statement_of-unknown word words n0 n1 n2 n3 n4 n5 n6 n7 n8 n9 n10 n11 n12 n13 n14 =
+statement_of-unknown word words n0 n1 n2 n3 n4 n5 n6 n7 n8 n9 n10 n11 n12 n13 n14 n15 =
     rw (
       differs word (codes "BEGIN") n0,
       differs word (codes "START") n1,
@@ -34,10 +34,11 @@ statement_of-unknown word words n0 n1 n2 n3 n4 n5 n6 n7 n8 n9 n10 n11 n12 n13 n1
       differs word (codes "DELETE") n8,
       differs word (codes "CREATE") n9,
       differs word (codes "DROP") n10,
-      differs word (codes "UNLOCK") n11,
-      differs word (codes "FLUSH") n12,
-      differs word (codes "KILL") n13,
-      differs word (codes "TIMEOUT") n14,
+      differs word (codes "RENAME") n11,
+      differs word (codes "UNLOCK") n12,
+      differs word (codes "FLUSH") n13,
+      differs word (codes "KILL") n14,
+      differs word (codes "TIMEOUT") n15,
     ) refl
 
 -- what is no text is no key word
@@ -56,6 +57,7 @@ statement_of-no_text word words bad =
     (not_it (codes "DELETE") (codes "DELETE", (refl, refl)))
     (not_it (codes "CREATE") (codes "CREATE", (refl, refl)))
     (not_it (codes "DROP") (codes "DROP", (refl, refl)))
+    (not_it (codes "RENAME") (codes "RENAME", (refl, refl)))
     (not_it (codes "UNLOCK") (codes "UNLOCK", (refl, refl)))
     (not_it (codes "FLUSH") (codes "FLUSH", (refl, refl)))
     (not_it (codes "KILL") (codes "KILL", (refl, refl)))

@@ -4,18 +4,15 @@ use Rattle.std.specs.Prelude.{Option, Some, None, IsOk}
 use Rattle.std.specs.Str.Lines.{strip_carriage_return}
 use Rattle.std.proofs.lemmas.List.{get_or-map, length-map, drop_all}
 use Rattle.mdl_lines.specs.declared.fault.LineError.{LineError}
-use Rattle.mdl_lines.specs.declared.fault.LineError.TheVariants.{BadSession}
 use Rattle.mdl_lines.specs.Lines.{lines_of}
 use Rattle.mdl_lines.specs.ScriptLines.{said_before}
-use Rattle.mdl_lines.specs.Sessions.{session_of}
 use Rattle.mdl_lines.proofs.ScriptLemmas.{joined, joined-said, pieces}
 use Rattle.mdl_syntax.specs.declared.no_statement.NoStatement.{NoStatement}
 use Rattle.mdl_syntax.specs.declared.no_statement.NoStatement.TheVariants.{Refused, Memory}
 use Rattle.mdl_syntax.specs.declared.script.Line.{Line}
-use Rattle.mdl_syntax.specs.declared.statement.Statement.{Statement}
-use Rattle.mdl_syntax.specs.Forms.{and_then, or_refuse, statement_of}
+use Rattle.mdl_syntax.specs.Forms.{and_then}
 use Rattle.mdl_syntax.specs.Reading.{ReadsAs}
-use Rattle.mdl_syntax.specs.Scripts.{line_says, lines_say, parsed, words_say}
+use Rattle.mdl_syntax.specs.Scripts.{line_says, lines_say, parsed}
 
 lines_left : (text line : List ℕ) (n : ℕ) → n < length (pieces text) → line ≡ get_or (pieces text) n line → drop n (lines_of text) ≡ strip_carriage_return line ∷ drop (n + 1) (lines_of text)
 lines_left text line n l e =
@@ -53,19 +50,9 @@ module _ {A : Type 0} (said : Result A LineError) (result : Result A NoStatement
   pub memory_said : result ≡ Err Memory → IsOk said
   memory_said is = subst (ReadsAs said) is reads
 
--- a line of this number, session and statement
-abbrev line : ℕ → ℕ → Statement → Line
-line number who statement = record { number = number; session = who; statement = statement }
-
--- what is no statement is no line
-pub words_say-none : (number session : ℕ) (word : List ℕ) (words : List (List ℕ)) (none : NoStatement) → session_of word ≡ Some session
-    → ReadsAs (statement_of words) (Err none) → ReadsAs (words_say number (word ∷ words)) (Err none)
-words_say-none number session word words (Refused error) named reads =
-    ap (λ (found : Option ℕ). and_then (or_refuse BadSession found) (λ who. and_then (statement_of words) (λ statement. Ok (Some (line number who statement))))) named
-    ∙ ap (λ (said : Result Statement LineError). and_then said (λ statement. Ok (Some (line number session statement)))) reads
-words_say-none number session word words Memory named reads =
-    subst (λ (found : Option ℕ). IsOk (and_then (or_refuse BadSession found) (λ who. and_then (statement_of words) (λ statement. Ok (Some (line number who statement)))))) (sym named)
-    (by (statement_of words) reads) where
-      by : (said : Result Statement LineError) → IsOk said → IsOk (and_then said (λ statement. Ok (Some (line number session statement))))
-      by (Ok statement) is = is
-      by (Err error) is = is
+-- what refuses a statement refuses its line
+pub line-refused : {A B : Type 0} (said : Result A LineError) (made : A → B) (none : NoStatement) → ReadsAs said (Err none) → ReadsAs (and_then said (λ value. Ok (made value))) (Err none)
+line-refused (Ok value) made (Refused error) reads = cc
+line-refused (Err error) made (Refused other) reads = cc
+line-refused (Ok value) made Memory reads = refl
+line-refused (Err error) made Memory reads = reads

@@ -36,6 +36,13 @@ pub enum Statement {
     CreateSchema(Name),
     /// `DROP TABLE` of 1 to 8 tables.
     DropTables(Tables),
+    /// `RENAME TABLE` of one table to another name.
+    RenameTable {
+        /// The table, by the name that it has.
+        from: Key,
+        /// The name that it gets.
+        to: Key,
+    },
     /// `UNLOCK TABLES`: locked tables and the global read lock are given up.
     UnlockTables,
     /// `FLUSH TABLES WITH READ LOCK`: the session gets the global read lock.

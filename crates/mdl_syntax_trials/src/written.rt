@@ -54,6 +54,7 @@ fn statement_text(alloc: Global, statement: &Statement) -> Result<String, Fail> 
             Ok(format!(in alloc; "create schema {name}")?)
         }
         Statement::DropTables(tables) => named(alloc, "drop", tables),
+        Statement::RenameTable { from, to } => Ok(format!(in alloc; "rename {from} to {to}")?),
         Statement::UnlockTables => Ok(String::from_str(alloc, "unlock tables")?),
         Statement::FlushTablesWithReadLock => {
             Ok(String::from_str(alloc, "flush tables with read lock")?)

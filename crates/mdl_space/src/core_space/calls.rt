@@ -1,8 +1,8 @@
 //! The space of one thread as a lock space: each call has just one outcome, but that memory may run out.
 ghost use Rattle.mdl_core.specs.CoreJoins.{SpeaksFor, own_at, numbers_at, Knows, IsSettledAs, HasRead, HasSeen, Pins, Joins};
 ghost use Rattle.std.proofs.Common.{refl};
-ghost use Rattle.mdl_core.proofs.CallLaws.{core-allowed, core-keeps, core-changes, core-others, core-draws, core-others_draw, core-rising, core-fits, core-explains, core-lists, core-resolves, core-tells_key, core-remembers};
-ghost use Rattle.mdl_core.proofs.CallLaws.{core-waits_settled, core-settled_once, core-tells, core-stays, core-agrees, core-victims, core-counts, core-kills, core-kills_or_settled};
+ghost use Rattle.mdl_core.proofs.CallLaws.{core-allowed, core-keeps, core-changes, core-others, core-draws, core-others_draw, core-rising, core-fits, core-explains, core-lists, core-resolves, core-tells_key, core-tells_tables, core-remembers};
+ghost use Rattle.mdl_core.proofs.CallLaws.{core-waits_settled, core-settled_once, core-tells, core-stays, core-agrees, core-victims, core-counts, core-kills, core-kills_or_settled, core-upgrades};
 ghost use Rattle.mdl_core.proofs.KnownPlaces.{core-one_key, core-one_place, core-held_places, core-wait_place};
 ghost use Rattle.mdl_core.proofs.CoreSound.{calls_keep-sound};
 ghost use Rattle.mdl_core.proofs.ReadLaws.{core-reads, core-redefines, core-redefines_so, core-reads_one, core-stands, core-reads_fit, core-sees, core-seen_stays, core-seen_below, core-pins_stay, has_not};
@@ -10,6 +10,7 @@ ghost use Rattle.mdl_core.proofs.ReadLaws.{core-reads, core-redefines, core-rede
 use super::CoreSpace;
 use crate::{
     Attempt, Begun, Ended, Held, LockSpace, Place, Poll, Search, SpaceError, TicketId, TimedOut,
+    Upgrade,
 };
 use mdl_defs::{Change, Standing};
 use mdl_key::{Key, Mode};
@@ -79,6 +80,18 @@ impl LockSpace for CoreSpace {
         self.clone_held(who, id, mode)
     }
 
+    fn upgrade_now(&mut self, who: u16, id: TicketId, mode: Mode) -> Result<Upgrade, SpaceError> {
+        self.upgrade_held(who, id, mode)
+    }
+
+    fn merge(&mut self, who: u16, old: TicketId, new: TicketId) -> Result<(), SpaceError> {
+        self.merge_held(who, old, new)
+    }
+
+    fn downgrade(&mut self, who: u16, id: TicketId, mode: Mode) -> Result<(), SpaceError> {
+        self.downgrade_held(who, id, mode)
+    }
+
     fn read_definition(&mut self, who: u16, id: TicketId) -> Result<Standing, SpaceError> {
         self.read_held(who, id)
     }
@@ -94,6 +107,10 @@ impl LockSpace for CoreSpace {
 
     fn key_of(&mut self, _who: u16, place: Place) -> Result<Key, SpaceError> {
         self.key_at(place)
+    }
+
+    fn tables_of(&mut self, _who: u16, schema: &str) -> Result<Vec<Place>, SpaceError> {
+        self.list_tables(schema)
     }
 
     fn held(&self, who: u16) -> Result<Vec<Held>, SpaceError> {
@@ -168,11 +185,11 @@ impl LockSpace for CoreSpace {
 
     ghost seen_below = { core-seen_below };
 
-    ghost upgrades = { λ a b who id mode ticket its covered j. has_not j.1 };
+    ghost upgrades = { core-upgrades };
 
     ghost tells_key = { core-tells_key };
 
-    ghost tells_tables = { λ a b who schema places j. has_not j.1 };
+    ghost tells_tables = { core-tells_tables };
 
     ghost resolved_pinned = { λ a b who place key j. (core-resolves a b who place key j).0 };
 

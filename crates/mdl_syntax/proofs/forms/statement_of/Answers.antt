@@ -26,6 +26,11 @@ returns-in-None-behind-2 c =
     let word : c.in-Some.word.now ≡ codes "DROP" = search rules in
     says-at (codes "DROP") (words_of c.args.words.now) (words_of c.in-Some.rest.now) c.in-Some.word.now _ c.in-Some.ensures.word word (rw c.bad_word-in-None-behind-2.ensures (rw c.in-None-behind-2.ensures refl))
 
+pub returns-in-RENAME : goal.returns-in-RENAME
+returns-in-RENAME c =
+    let word : c.in-Some.word.now ≡ codes "RENAME" = search rules in
+    says-at (codes "RENAME") (words_of c.args.words.now) (words_of c.in-Some.rest.now) c.in-Some.word.now c.rename.result c.in-Some.ensures.word word c.rename.ensures
+
 pub returns-in-UNLOCK : goal.returns-in-UNLOCK
 returns-in-UNLOCK c =
     let word : c.in-Some.word.now ≡ codes "UNLOCK" = search rules in
@@ -68,6 +73,7 @@ returns-in_default-key_word c =
     (λ e. other.not-DELETE (sym same ∙ e))
     (λ e. other.not-CREATE (sym same ∙ e))
     (λ e. other.not-DROP (sym same ∙ e))
+    (λ e. other.not-RENAME (sym same ∙ e))
     (λ e. other.not-UNLOCK (sym same ∙ e))
     (λ e. other.not-FLUSH (sym same ∙ e))
     (λ e. other.not-KILL (sym same ∙ e))
