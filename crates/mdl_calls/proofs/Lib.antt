@@ -4,3 +4,4 @@ pub mod OwnLemmas
 pub mod RunLemmas
 pub mod SeekingLemmas
 pub mod StandingLemmas
+pub mod TableLemmas

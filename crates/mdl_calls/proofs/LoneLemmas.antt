@@ -1,5 +1,6 @@
 -- What is told by what is always so of a space of one session and one key.
-use Rattle.std.proofs.Common.{◌≡◌, ◌≢◌, ◌⊎◌, inl, inr, ℕ, zero, suc, ◌+◌, ◌≤◌, Bool, true, false, List, [], ◌∷◌, find, cond, Option, Some, None, option_map, is_some, Contains, MatchOption, IfSome, sym, ap, subst, refl, ◌∙◌, arith}
+use Rattle.std.proofs.Common.{◌≡◌, ◌≢◌, ◌⊎◌, inl, inr, ℕ, zero, suc, ◌+◌, ◌≤◌, Bool, true, false, ◌&&◌, List, [], ◌∷◌, find, cond, Option, Some, None, option_map, is_some, Contains, MatchOption, IfSome, sym, ap, subst, refl, ◌∙◌, arith, if◌then◌else◌}
+use Rattle.std.proofs.lemmas.List.Elements.{All-nil, All-cons}
 use Rattle.mdl_key.specs.Keys.{KeyName}
 use Rattle.mdl_key.specs.declared.mode.Mode.{Mode}
 use Rattle.mdl_key.specs.declared.mode.Mode.TheVariants.{X}
@@ -14,8 +15,10 @@ use Rattle.mdl_calls.specs.declared.answers.Settled.{Settled}
 use Rattle.mdl_calls.specs.declared.space_error.SpaceError.TheVariants.{OutOfMemory}
 use Rattle.mdl_calls.specs.Tests.LoneSessions.{Lone, LoneSpeaks, LoneJoins, IsSettled, AreAtOne, Knows, HasRead, HasSeen}
 use Rattle.mdl_system.specs.Strength.{covers}
+use Rattle.mdl_calls.specs.Reads.{AreTablesOf, HasTableOf, is_table_of}
+use Rattle.mdl_calls.proofs.TableLemmas.{table-of, both-left}
 use Rattle.mdl_calls.specs.Own.{Own, Wait}
-use Rattle.mdl_calls.specs.Words.{Call, Read_definition, Read_kept, Change_definition, Upgrade_now, Key_of, caller, Answer, Refused, Would_wait, Key_is, Reads, Changed, cause_of, OfHeld, IsChangeOf, HoldsAt, is_number, ticket_held, read_under, redefined_place}
+use Rattle.mdl_calls.specs.Words.{Call, Read_definition, Read_kept, Change_definition, Tables_of, Upgrade_now, Key_of, caller, Answer, Refused, Would_wait, Key_is, Tables, Reads, Changed, cause_of, OfHeld, IsChangeOf, HoldsAt, is_number, ticket_held, read_under, redefined_place}
 
 -- each of the tickets is of place 1
 pub held-at_one : (held : List Held) (ticket : Held) → AreAtOne held → Contains held ticket → ticket.place ≡ 1
@@ -38,6 +41,22 @@ settled-how a w same settled = let h = go a.settled settled in (h.0, (same, h.1)
 -- whoever is told the key of the one place knows it
 pub lone-tells_key : (a b : Lone) (who place : ℕ) (key : KeyName) → LoneJoins a (Key_of who place) (Key_is key) b → Knows b who place key
 lone-tells_key a b who place key j = (j.allowed.0 ∙ sym j.same.0, j.told_truly.0, j.told_truly.1 ∙ sym j.same.1)
+
+-- whoever is told the tables of a schema knows them
+pub lone-tells_tables : (a b : Lone) (who : ℕ) (schema places : List ℕ) → LoneJoins a (Tables_of who schema) (Tables places) b
+    → AreTablesOf (Knows b who) schema places
+lone-tells_tables a b who schema places j =
+    subst (AreTablesOf (Knows b who) schema) (sym j.told_truly)
+    (at_one (is_table_of schema b.key && is_some b.standing.definition) refl)
+  where
+    at_one : (told : Bool) → (is_table_of schema b.key && is_some b.standing.definition) ≡ told
+        → AreTablesOf (Knows b who) schema (if told then 1 ∷ [] else [])
+    at_one false e = (All-nil (HasTableOf (Knows b who) schema), λ i k d lt short. absurd (omega arith))
+    at_one true e = (
+      All-cons (HasTableOf (Knows b who) schema) 1 [] (b.key.table, (j.allowed.0 ∙ sym j.same.0, refl, table-of schema b.key (both-left _ _ e)))
+          (All-nil (HasTableOf (Knows b who) schema)),
+      λ i k d lt short. absurd (omega arith),
+    )
 
 -- ---- what stands under the key
 

@@ -147,6 +147,10 @@ abbrev pub keyed : Result KeyName SpaceError → Answer
 keyed (Ok key) = Key_is key
 keyed (Err refusal) = Refused refusal
 
+abbrev pub tables_told : {Z : Type 0} → Result (Vec ℕ Z) SpaceError → Answer
+tables_told (Ok places) = Tables places.items
+tables_told (Err refusal) = Refused refusal
+
 abbrev pub redefined : Result ℕ SpaceError → Answer
 redefined (Ok version) = Changed version
 redefined (Err refusal) = Refused refusal

@@ -1,7 +1,10 @@
 -- What a session reads and changes under its tickets: the definition of a key, with its version. Which tables are told it.
-use Rattle.std.specs.Prelude.{◌≡◌, ◌⊎◌, ℕ, ◌+◌, List, Option, Some, None, MatchOption, Contains, All, AllPairs}
+use Rattle.std.specs.Prelude.{◌≡◌, ◌⊎◌, ℕ, ◌+◌, Bool, true, false, ◌&&◌, List, Option, Some, None, MatchOption, Contains, All, AllPairs}
 use Rattle.std.specs.Option.{option_map}
+use Rattle.std.specs.Str.{bytes_eq}
 use Rattle.std.specs.declared.cmp.Ordering.TheVariants.{Less}
+use Rattle.mdl_key.specs.declared.namespace.Namespace.{Namespace}
+use Rattle.mdl_key.specs.declared.namespace.Namespace.TheVariants.{Table}
 use Rattle.mdl_key.specs.Keys.{KeyName, table_key, key_cmp}
 use Rattle.mdl_defs.specs.declared.change.Change.{Change}
 use Rattle.mdl_defs.specs.declared.change_error.ChangeError.{ChangeError}
@@ -48,6 +51,15 @@ abbrev pub IsChangeOf : KeyName → Change → Standing → Answer → Type 0
 IsChangeOf key change standing answer =
     (answer ≡ Refused OutOfMemory)
     ⊎ MatchOption (standing_fault key.namespace change standing) (answer ≡ Changed (standing.version + 1)) (λ why. answer ≡ Refused (cause_of why))
+
+-- whether keys of a namespace are those of tables
+abbrev pub is_of_tables : Namespace → Bool
+is_of_tables Table = true
+is_of_tables _ = false
+
+-- whether a key is that of a table of this schema
+abbrev pub is_table_of : List ℕ → KeyName → Bool
+is_table_of schema key = is_of_tables key.namespace && bytes_eq key.schema schema
 
 -- a session knows that a table of this schema has the place
 abbrev pub HasTableOf : Knowledge → List ℕ → ℕ → Type 0

@@ -9,13 +9,13 @@ use Rattle.mdl_calls.specs.declared.answers.Settled.{Settled}
 use Rattle.mdl_calls.specs.declared.answers.Settled.TheVariants as settled_as
 use Rattle.mdl_calls.specs.declared.answers.TimedOut.TheVariants.{ByThisCall, Already}
 use Rattle.mdl_calls.specs.declared.space_error.SpaceError.TheVariants.{OutOfMemory}
-use Rattle.mdl_calls.specs.Words.{Answer, Refused, Done, At_place, Would_wait, Upgraded, Is_settled, Timed_out, Has_wait, Has_killed, Victim_is, Key_is, Holds, is_answer_of, Call, Resolve, Search, Poll_wait, Settle_timeout, End_wait, Wait_of, Kill, Release, Upgrade_now, Downgrade, Change_definition, Key_of, List_held, Unpin, caller, takes_memory, IsCause, IsExplained, own_after, wait_number, is_waiting, IsRising, Draws, ticket_held, told, IsToldOf}
+use Rattle.mdl_calls.specs.Words.{Answer, Refused, Done, At_place, Would_wait, Upgraded, Is_settled, Timed_out, Has_wait, Has_killed, Victim_is, Key_is, Tables, Holds, is_answer_of, Call, Resolve, Search, Poll_wait, Settle_timeout, End_wait, Wait_of, Kill, Release, Upgrade_now, Downgrade, Change_definition, Key_of, Tables_of, List_held, Unpin, caller, takes_memory, AreTablesOf, IsCause, IsExplained, own_after, wait_number, is_waiting, IsRising, Draws, ticket_held, told, IsToldOf}
 use Rattle.mdl_core.specs.declared.pending.Pending.{Pending}
 use Rattle.mdl_core.specs.Changes.{Change, Settle, seat_after, changing, losing}
 use Rattle.mdl_core.specs.CoreCalls.{outcome, Makes, wait_at, is_open_wait}
 use Rattle.mdl_core.specs.CoreJoins.{SpeaksFor, own_at, numbers_at, Knows, IsSettledAs, Joins}
 use Rattle.mdl_core.specs.CoreLaws.{CallsKeepSound, UpgradesWhatIsGrantable}
-use Rattle.mdl_core.specs.Cores.{Core, seat_at, has_session}
+use Rattle.mdl_core.specs.Cores.{Core, seat_at, has_session, tables_in}
 use Rattle.mdl_core.specs.Seats.{own_of, numbers_of}
 use Rattle.mdl_core.specs.SessionLaws.{RefusesForCause}
 use Rattle.mdl_core.specs.Ties.{IsTied}
@@ -27,6 +27,7 @@ use Rattle.mdl_core.proofs.KnownPlaces.{spares-opening}
 use Rattle.mdl_core.proofs.MadeCalls.{number-same, refused, made}
 use Rattle.mdl_core.proofs.SparedSeats.{IsSettledWait, HasSettled, settled-seat, seat-settled, wait-of_session, Spares, spares-same, is_end, own-settling, sessions-changed, seat-changed, seat-other, keys-changed, settled-changed, spares-changing}
 use Rattle.mdl_core.proofs.Ways.{HasAtOnce, HasNotAtOnce, Way, Stay, Open, Settle_wait, Make, makes_room, served_if, space_by, seat_by, IsSo, ServesCaller, IsMade, Made, Comes}
+use Rattle.mdl_core.proofs.TableLists.{are-tables}
 
 -- ---- calls and what comes of them
 
@@ -275,6 +276,14 @@ core-resolves a b who place key joins = (called a b (Resolve who key) (At_place 
 -- whoever is told the key of a place knows it
 pub core-tells_key : (a b : Core) (who place : ℕ) (key : KeyName) → Joins a (Key_of who place) (Key_is key) b → Knows b who place key
 core-tells_key a b who place key joins = (called a b (Key_of who place) (Key_is key) who refl joins).so
+
+-- whoever is told the tables of a schema knows them
+pub core-tells_tables : (a b : Core) (who : ℕ) (schema places : List ℕ) → Joins a (Tables_of who schema) (Tables places) b
+    → AreTablesOf (Knows b who) schema places
+core-tells_tables a b who schema places joins =
+    let so = (called a b (Tables_of who schema) (Tables places) who refl joins).so in
+    subst (AreTablesOf (Knows b who) schema) (sym so.0)
+    (subst (λ c. AreTablesOf (Knows c who) schema (tables_in schema a)) (sym so.1) (are-tables a schema joins.0.1.tied who))
 
 -- a place keeps its key, for all who know it
 pub core-remembers : (a b : Core) (call : Call) (answer : Answer) (w place : ℕ) (key : KeyName) → SpeaksFor a w

@@ -16,7 +16,7 @@ use Rattle.mdl_calls.specs.declared.answers.Held.{Held}
 use Rattle.mdl_calls.specs.declared.answers.Settled.{Settled}
 use Rattle.mdl_calls.specs.declared.answers.Settled.TheVariants as settled_as
 use Rattle.mdl_calls.specs.declared.space_error.SpaceError.TheVariants.{NotHeld, NotUpgradable, NotExclusive, AlreadyWaiting, BadMode, VersionFull, CounterFull, Def, WrongKind}
-use Rattle.mdl_calls.specs.Words.{Answer, Refused, Done, Would_wait, No_cycle, Victim_is, Has_wait, Has_killed, Changed, Upgraded, finds_no_memory, Call, Resolve, Try_now, Begin_wait, Search, Poll_wait, Settle_timeout, End_wait, Wait_of, Kill, Release, Clone_ticket, Upgrade_now, Merge, Downgrade, Read_definition, Change_definition, Key_of, List_held, caller, may_merge}
+use Rattle.mdl_calls.specs.Words.{Answer, Refused, Done, Would_wait, No_cycle, Victim_is, Has_wait, Has_killed, Changed, Upgraded, finds_no_memory, Call, Resolve, Try_now, Begin_wait, Search, Poll_wait, Settle_timeout, End_wait, Wait_of, Kill, Release, Clone_ticket, Upgrade_now, Merge, Downgrade, Read_definition, Change_definition, Key_of, Tables_of, List_held, caller, may_merge}
 use Rattle.mdl_core.specs.declared.pending.Pending.{Pending}
 use Rattle.mdl_core.specs.ChangeEvents.{holding_of}
 use Rattle.mdl_core.specs.CoreCalls.{has_call, outcome, refused_or, first_cause, request_causes, clone_causes, granted_unless_full, queued_unless_full, cloning_of, upgrade_causes, upgraded_if_free, upgrading_of, is_lower, downgrading_of, merge_causes, merging_of, held_ticket, releasing_of, standing, polling_of, timing_out_at, timing_out_of, ending_at, ending_of, wait_at, is_open_wait, looking_after, killing, searching_of, searching, victim_at, reading_of, redefining_of, redefining_fault, redefined_unless}
@@ -37,6 +37,7 @@ use Rattle.mdl_core.proofs.PlaceAnswers.{at-place, at-nowhere, names, resolves, 
 use Rattle.mdl_core.proofs.RightAnswers.{IsAnswer, only, where-so, where-not, met, unmet}
 use Rattle.mdl_core.proofs.SearchRuns.{nothing-found, victim-found}
 use Rattle.mdl_core.proofs.SessionAnswers.{without-wait, of-wait, of-ticket, no-ticket, lists}
+use Rattle.mdl_core.proofs.TableLists.{tells-tables}
 use Rattle.mdl_core.proofs.SessionHas.{sessions-have, waits-somewhere}
 use Rattle.mdl_core.proofs.SessionWaits.{found-open}
 use Rattle.mdl_core.proofs.SparedSeats.{wait-of_session}
@@ -351,6 +352,7 @@ determined a (Read_definition who id) sound speaks has =
 determined a (Change_definition who id change) sound speaks has =
     by-ticket a who sound speaks.0 id _ (λ o. redefining_of o change a) refl (redefines a who sound speaks.0 change)
 determined a (Key_of who place) sound speaks has = names a place
+determined a (Tables_of who schema) sound speaks has = tells-tables a schema sound.tied
 determined a (List_held who) sound speaks has = lists a who sound.tied speaks.0 ((sessions-have a who sound).0 speaks.0)
 determined a _ sound speaks has = cc
 

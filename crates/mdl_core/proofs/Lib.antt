@@ -31,6 +31,7 @@ pub mod SessionAnswers
 pub mod SessionHas
 pub mod SessionWaits
 pub mod SparedSeats
+pub mod TableLists
 pub mod TicketLists
 pub mod TiedOpening
 pub mod TiedWrites

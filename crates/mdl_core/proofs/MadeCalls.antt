@@ -17,7 +17,7 @@ use Rattle.mdl_calls.specs.declared.answers.Settled.TheVariants as settled_as
 use Rattle.mdl_calls.specs.declared.answers.TimedOut.TheVariants.{Already}
 use Rattle.mdl_calls.specs.declared.space_error.SpaceError.{SpaceError}
 use Rattle.mdl_calls.specs.declared.space_error.SpaceError.TheVariants.{NoPlace, NotHeld, NotUpgradable, NotExclusive, AlreadyWaiting, BadMode, VersionFull, NoWait, Unsettled as Not_settled, CounterFull, Full, Def, WrongKind}
-use Rattle.mdl_calls.specs.Words.{Answer, Refused, Granted, Is_settled, Done, Timed_out, Lost, Changed, Upgraded, is_answer_of, Call, Resolve, Try_now, Begin_wait, Search, Poll_wait, Settle_timeout, End_wait, Wait_of, Kill, Release, Clone_ticket, Upgrade_now, Merge, Downgrade, Read_definition, Change_definition, Key_of, List_held, caller, OfHeld, IsFit, IsUnfit, IsUnknown, MayClone, MayNotClone, MayUpgrade, MayNotUpgrade, MayDowngrade, MayNotDowngrade, Mergeable, may_merge, IsCause, IsExplained, Own, Numbers, is_number, is_waiting, wait_number, own_after, winning, cloning as cloning_own, holds, giving_up, Draws, IsEndOf, IsToldOf, cause_of}
+use Rattle.mdl_calls.specs.Words.{Answer, Refused, Granted, Is_settled, Done, Timed_out, Lost, Changed, Upgraded, is_answer_of, Call, Resolve, Try_now, Begin_wait, Search, Poll_wait, Settle_timeout, End_wait, Wait_of, Kill, Release, Clone_ticket, Upgrade_now, Merge, Downgrade, Read_definition, Change_definition, Key_of, Tables_of, List_held, caller, OfHeld, IsFit, IsUnfit, IsUnknown, MayClone, MayNotClone, MayUpgrade, MayNotUpgrade, MayDowngrade, MayNotDowngrade, Mergeable, may_merge, IsCause, IsExplained, Own, Numbers, is_number, is_waiting, wait_number, own_after, winning, cloning as cloning_own, holds, giving_up, Draws, IsEndOf, IsToldOf, cause_of}
 use Rattle.mdl_calls.specs.Own.{changing as changing_own, merging as merging_own, upgraded}
 use Rattle.mdl_core.specs.declared.pending.Pending.{Pending}
 use Rattle.mdl_core.specs.ChangeEvents.{holding_of, waiting_ticket, IsChangeEvent}
@@ -537,5 +537,6 @@ module _ (a : Core) where
     made (Key_of who place) has is =
         tested (λ absent. refused who NoPlace refl (unknown who place (not_true _ absent)) (λ _ _. tt) (not_true _ absent))
         (λ there. stays refl refl (not_false _ there, refl) (tells refl refl tt (λ _ _. tt)))
+    made (Tables_of who schema) has is = stays refl refl (refl, refl) (tells refl refl tt (λ _ _. tt))
     made (List_held who) has is = stays refl refl refl (tells refl refl tt (λ _ _. tt))
     made _ has is = cc

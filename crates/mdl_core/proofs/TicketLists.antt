@@ -1,4 +1,4 @@
--- Lists of distinct tickets in one another, and lists of rising numbers with the same members.
+-- Lists of distinct tickets in one another, and lists in order with the same members.
 use Rattle.std.proofs.Common.{◌≡◌, ◌≢◌, ◌⊎◌, ◌↔◌, suc, ◌+◌, ◌≤◌, inl, inr, List, [], ◌∷◌, ◌++◌, length, map, refl, sym, ap, subst, ◌∙◌, arith}
 use Rattle.std.specs.Prelude.{AllPairs, Contains}
 use Rattle.std.proofs.lemmas.List.{length-append}
@@ -41,31 +41,36 @@ pairs-map {X} {Y} R S f step (x ∷ xs) pairs =
     subst (S (f x)) (sym from.2) (step x from.0 (pairs-head R x xs pairs from.0 from.1))) in
     AllPairs-cons S (f x) (map f xs) (all-from_members S (S (f x)) (map f xs) later) (pairs-map R S f step xs (pairs-tail R x xs pairs))
 
--- lists of rising numbers with the same members are one
-pub same-rising : (xs ys : List Held) → AllPairs below xs → AllPairs below ys → ((t : Held) → Contains xs t ↔ Contains ys t) → xs ≡ ys
-same-rising [] [] rises climbs same = refl
-same-rising [] (y ∷ ys) rises climbs same = absurd (none-in y ((same y).1 (Contains-here y ys)))
-same-rising (x ∷ xs) [] rises climbs same = absurd (none-in x ((same x).0 (Contains-here x xs)))
-same-rising (x ∷ xs) (y ∷ ys) rises climbs same =
-    let rest = same-rising xs ys (pairs-tail below x xs rises) (pairs-tail below y ys climbs) (λ t. (there t, back t)) in
+-- lists in one order, in which no member comes before itself, are one where they have the same members
+pub same-ordered : {T : Type 0} (R : T → T → Type 0) → ((x y : T) → R x y → R y x → ⊥) → (xs ys : List T) → AllPairs R xs → AllPairs R ys
+    → ((t : T) → Contains xs t ↔ Contains ys t) → xs ≡ ys
+same-ordered R never [] [] rises climbs same = refl
+same-ordered R never [] (y ∷ ys) rises climbs same = absurd (none-in y ((same y).1 (Contains-here y ys)))
+same-ordered R never (x ∷ xs) [] rises climbs same = absurd (none-in x ((same x).0 (Contains-here x xs)))
+same-ordered {T} R never (x ∷ xs) (y ∷ ys) rises climbs same =
+    let rest = same-ordered R never xs ys (pairs-tail R x xs rises) (pairs-tail R y ys climbs) (λ t. (there t, back t)) in
     λ i. first i ∷ rest i
   where
     heads : Contains ys x ⊎ (x ≡ y) → Contains xs y ⊎ (y ≡ x) → x ≡ y
     heads (inr e) other = e
     heads (inl one) (inr e) = sym e
-    heads (inl one) (inl other) = let lt = pairs-head below y ys climbs x one in let gt = pairs-head below x xs rises y other in absurd (omega arith)
+    heads (inl one) (inl other) = absurd (never x y (pairs-head R x xs rises y other) (pairs-head R y ys climbs x one))
 
     first : x ≡ y
     first = heads (Contains-cons_cases y ys x ((same x).0 (Contains-here x xs))) (Contains-cons_cases x xs y ((same y).1 (Contains-here y ys)))
 
-    there : (t : Held) → Contains xs t → Contains ys t
+    there : (t : T) → Contains xs t → Contains ys t
     there t among = elim (Contains-cons_cases y ys t ((same t).0 (Contains-later x xs t among))) [
       | inl later ↦ later
-      | inr e ↦ absurd (let lt = pairs-head below x xs rises t among in let id : t.id ≡ x.id = ap (λ (h : Held). h.id) (e ∙ sym first) in omega arith)
+      | inr e ↦ absurd (let here : R x x = subst (R x) (e ∙ sym first) (pairs-head R x xs rises t among) in never x x here here)
     ]
 
-    back : (t : Held) → Contains ys t → Contains xs t
+    back : (t : T) → Contains ys t → Contains xs t
     back t among = elim (Contains-cons_cases x xs t ((same t).1 (Contains-later y ys t among))) [
       | inl later ↦ later
-      | inr e ↦ absurd (let lt = pairs-head below y ys climbs t among in let id : t.id ≡ y.id = ap (λ (h : Held). h.id) (e ∙ first) in omega arith)
+      | inr e ↦ absurd (let here : R y y = subst (R y) (e ∙ first) (pairs-head R y ys climbs t among) in never y y here here)
     ]
+
+-- lists of rising numbers with the same members are one
+pub same-rising : (xs ys : List Held) → AllPairs below xs → AllPairs below ys → ((t : Held) → Contains xs t ↔ Contains ys t) → xs ≡ ys
+same-rising = same-ordered below (λ x y lt gt. omega arith)

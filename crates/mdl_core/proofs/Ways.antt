@@ -7,14 +7,14 @@ use Rattle.mdl_calls.specs.declared.answers.Held.{Held}
 use Rattle.mdl_calls.specs.declared.answers.Settled.{Settled}
 use Rattle.mdl_calls.specs.declared.answers.Settled.TheVariants as settled_as
 use Rattle.mdl_calls.specs.declared.answers.TimedOut.TheVariants.{ByThisCall, Already}
-use Rattle.mdl_calls.specs.Words.{Answer, Refused, At_place, Would_wait, Waits, Victim_is, Is_settled, Timed_out, Has_wait, Has_killed, Key_is, Upgraded, Holds, is_answer_of, Call, Resolve, Try_now, Begin_wait, Search, Poll_wait, Settle_timeout, End_wait, Wait_of, Kill, Upgrade_now, Key_of, List_held, caller, IsExplained, own_after, wait_number, Draws, IsToldOf}
+use Rattle.mdl_calls.specs.Words.{Answer, Refused, At_place, Would_wait, Waits, Victim_is, Is_settled, Timed_out, Has_wait, Has_killed, Key_is, Tables, Upgraded, Holds, is_answer_of, Call, Resolve, Try_now, Begin_wait, Search, Poll_wait, Settle_timeout, End_wait, Wait_of, Kill, Upgrade_now, Key_of, Tables_of, List_held, caller, IsExplained, own_after, wait_number, Draws, IsToldOf}
 use Rattle.mdl_core.specs.declared.pending.Pending.{Pending}
 use Rattle.mdl_core.specs.ChangeEvents.{IsChangeEvent}
 use Rattle.mdl_core.specs.Changes.{Change, Lose, Settle, Leave, Alter, Fold, May, seat_after, changing, opening, serving}
 use Rattle.mdl_core.specs.CoreCalls.{wait_at, is_open_wait, held_ticket}
 use Rattle.mdl_core.specs.CoreJoins.{own_at, numbers_at, Knows}
 use Rattle.mdl_core.specs.CoreLaws.{is_change, IsEventOf}
-use Rattle.mdl_core.specs.Cores.{Core, seat_at, key_at, index_of}
+use Rattle.mdl_core.specs.Cores.{Core, seat_at, key_at, index_of, tables_in}
 use Rattle.mdl_core.specs.CoreSystems.{system_of}
 use Rattle.mdl_core.specs.Seats.{SeatView, own_of, numbers_of}
 use Rattle.mdl_core.specs.SessionLaws.{MeetsLimit}
@@ -85,6 +85,7 @@ IsSo a (Wait_of target) (Has_wait number) b = number ≡ option_map (λ (wait : 
 IsSo a (Kill target number) (Has_killed true) b = (wait_number (own_at a target) ≡ Some number) × HasSettled (seat_at target b) settled_as.Killed
 IsSo a (Kill target number) (Has_killed false) b = (is_open_wait number (wait_at target a) ≡ false) × (b ≡ a)
 IsSo a (Key_of who place) (Key_is key) b = Knows b who place key
+IsSo a (Tables_of who schema) (Tables places) b = (places ≡ tables_in schema a) × (b ≡ a)
 IsSo a (List_held who) (Holds tickets) b = tickets ≡ (own_at a who).held
 IsSo a call answer b = Unit {0}
 

@@ -20,8 +20,8 @@ use Rattle.mdl_calls.specs.declared.answers.Settled.{Settled}
 use Rattle.mdl_calls.specs.declared.answers.Settled.TheVariants as settled_as
 use Rattle.mdl_calls.specs.declared.answers.TimedOut.TheVariants.{ByThisCall, Already}
 use Rattle.mdl_core.specs.declared.pending.Pending.{Pending}
-use Rattle.mdl_calls.specs.Words.{Answer, Refused, Done, At_place, Granted, Would_wait, Waits, No_cycle, Victim_is, Pending as Is_pending, Is_settled, Timed_out, Lost, Has_wait, Has_killed, Holds, Reads, Changed, Key_is, Upgraded, Call, Resolve, Try_now, Begin_wait, Search, Poll_wait, Settle_timeout, End_wait, Wait_of, Kill, Release, Clone_ticket, Upgrade_now, Merge, Downgrade, Read_definition, Change_definition, Key_of, List_held, is_number, may_merge, cause_of}
-use Rattle.mdl_core.specs.Cores.{Core, book_at, seat_at, key_at, standing_at, has_key, has_session, index_of, is_free}
+use Rattle.mdl_calls.specs.Words.{Answer, Refused, Done, At_place, Granted, Would_wait, Waits, No_cycle, Victim_is, Pending as Is_pending, Is_settled, Timed_out, Lost, Has_wait, Has_killed, Holds, Reads, Changed, Key_is, Tables, Upgraded, Call, Resolve, Try_now, Begin_wait, Search, Poll_wait, Settle_timeout, End_wait, Wait_of, Kill, Release, Clone_ticket, Upgrade_now, Merge, Downgrade, Read_definition, Change_definition, Key_of, Tables_of, List_held, is_number, may_merge, cause_of}
+use Rattle.mdl_core.specs.Cores.{Core, book_at, seat_at, key_at, standing_at, has_key, has_session, index_of, is_free, tables_in}
 use Rattle.mdl_core.specs.Changes.{opening, granting_to, queueing, losing, taking_up, leaving, freeing, altering, folding, redefining_at, serving}
 use Rattle.mdl_core.specs.Seats.{is_open, is_closed}
 use Rattle.mdl_system.specs.Strength.{covers, may_upgrade, may_downgrade}
@@ -70,6 +70,10 @@ resolving key core = placing key (index_of key core.books) core
 -- the key of a place, if it has one
 abbrev pub naming : ℕ → Core → Answer × Core
 naming place core = if not (has_key place core) then (Refused NoPlace, core) else (Key_is (key_at place core), core)
+
+-- the tables of a schema
+abbrev pub telling_tables : List ℕ → Core → Answer × Core
+telling_tables schema core = (Tables (tables_in schema core), core)
 
 -- ---- locks
 
@@ -328,6 +332,7 @@ has_call (Downgrade _ _ _) = true
 has_call (Read_definition _ _) = true
 has_call (Change_definition _ _ _) = true
 has_call (Key_of _ _) = true
+has_call (Tables_of _ _) = true
 has_call (List_held _) = true
 has_call _ = false
 
@@ -350,6 +355,7 @@ outcome (Downgrade who id mode) core = downgrading who id mode core
 outcome (Read_definition who id) core = reading who id core
 outcome (Change_definition who id change) core = redefining who id change core
 outcome (Key_of who place) core = naming place core
+outcome (Tables_of who schema) core = telling_tables schema core
 outcome (List_held who) core = listing who core
 outcome _ core = (Refused OutOfMemory, core)
 

@@ -1,11 +1,14 @@
 -- The lock space of one thread, by place and by session.
-use Rattle.std.specs.Prelude.{ℕ, ◌-◌, Bool, ◌&&◌, nat_le, List, [], length, replicate, position, slice_index_or, slice_set, Option}
+use Rattle.std.specs.Prelude.{ℕ, ◌-◌, Bool, ◌&&◌, nat_le, List, [], ◌∷◌, length, replicate, filter, position, slice_index_or, slice_set, Option, is_some, if◌then◌else◌}
+use Rattle.std.specs.List.{range_with_len}
+use Rattle.std.specs.Ordering.{is_lt}
 use Rattle.mdl_key.specs.declared.mode.Mode.{Mode}
-use Rattle.mdl_key.specs.Keys.{KeyName, key_eq, global_key}
+use Rattle.mdl_key.specs.Keys.{KeyName, key_eq, key_cmp, global_key}
 use Rattle.mdl_book.specs.Books.{lock_kind, empty_book}
 use Rattle.mdl_book.specs.Granting.{is_grantable}
 use Rattle.mdl_book.specs.declared.book_view.BookView.{BookView}
 use Rattle.mdl_defs.specs.declared.standing.Standing.{Standing}
+use Rattle.mdl_calls.specs.Reads.{is_table_of}
 use Rattle.mdl_core.specs.Seats.{SeatView, empty_seat}
 
 -- the books of the places that have a key, from place 1, what is kept of the sessions, from session 1, and how many places
@@ -51,6 +54,29 @@ standing_at place core = (book_at place core).standing
 abbrev pub is_free : ℕ → ℕ → Mode → Core → Bool
 is_free who place mode core =
     let book = book_at place core in is_grantable (lock_kind book) book.granted book.waiting who mode
+
+-- whether the key of one place comes before that of another
+abbrev pub comes_before : Core → ℕ → ℕ → Bool
+comes_before core one other = is_lt (key_cmp (key_at one core) (key_at other core))
+
+-- a place put before the first of these whose key comes after its own
+abbrev pub put_in_order : Core → ℕ → List ℕ → List ℕ
+put_in_order core place [] = place ∷ []
+put_in_order core place (other ∷ others) =
+    if comes_before core place other then place ∷ other ∷ others else other ∷ put_in_order core place others
+
+-- places in the order of their keys
+abbrev pub in_key_order : Core → List ℕ → List ℕ
+in_key_order core [] = []
+in_key_order core (place ∷ places) = put_in_order core place (in_key_order core places)
+
+-- whether a table of this schema that has a definition has the place
+abbrev pub has_defined_table : List ℕ → Core → ℕ → Bool
+has_defined_table schema core place = is_table_of schema (key_at place core) && is_some (standing_at place core).definition
+
+-- the places of a schema's tables that have a definition, in the order of their keys
+abbrev pub tables_in : List ℕ → Core → List ℕ
+tables_in schema core = in_key_order core (filter (has_defined_table schema core) (range_with_len 1 (length core.books)))
 
 -- with another book at a place
 abbrev pub booking : ℕ → BookView → Core → Core

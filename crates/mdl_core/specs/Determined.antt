@@ -1,6 +1,8 @@
 -- What each call is answered, by the system of locks: who holds what, who waits for what and what is defined; by the places of its
 -- keys; and by the numbers that were given last. How the space of one thread is kept doesn't stand here but in the laws at the end.
-use Rattle.std.specs.Prelude.{◌≡◌, ◌≢◌, ◌⊎◌, ◌↔◌, ℕ, zero, suc, ◌+◌, ◌-◌, ◌<◌, ◌^◌, true, false, ◌||◌, List, [], ◌∷◌, ◌++◌, length, map, slice_get, Option, Some, None, MatchOption, Contains, AllPairs}
+use Rattle.std.specs.Prelude.{◌≡◌, ◌≢◌, ◌⊎◌, ◌↔◌, ℕ, zero, suc, ◌+◌, ◌-◌, ◌<◌, ◌^◌, true, false, ◌||◌, List, [], ◌∷◌, ◌++◌, length, map, slice_get, Option, Some, None, MatchOption, IsSome, Contains, AllPairs}
+use Rattle.std.specs.declared.cmp.Ordering.TheVariants.{Less}
+use Rattle.mdl_key.specs.Keys.{table_key, key_cmp}
 use Rattle.mdl_key.specs.declared.mode.Mode.{Mode}
 use Rattle.mdl_key.specs.declared.mode.Mode.TheVariants.{X}
 use Rattle.mdl_key.specs.Words.{KeyName, is_mode_of}
@@ -15,7 +17,7 @@ use Rattle.mdl_calls.specs.declared.answers.Settled.TheVariants as settled_as
 use Rattle.mdl_calls.specs.declared.answers.TimedOut.TheVariants.{ByThisCall, Already}
 use Rattle.mdl_calls.specs.declared.space_error.SpaceError.{SpaceError}
 use Rattle.mdl_calls.specs.declared.space_error.SpaceError.TheVariants.{NoPlace, NotHeld, NotUpgradable, NotExclusive, AlreadyWaiting, BadMode, VersionFull, NoWait, Unsettled, CounterFull, Full, Def, WrongKind}
-use Rattle.mdl_calls.specs.Words.{Answer, Refused, Done, At_place, Granted, Would_wait, Waits, No_cycle, Victim_is, Pending, Is_settled, Timed_out, Lost, Has_wait, Has_killed, Holds, Reads, Changed, Key_is, Upgraded, finds_no_memory, Call, Resolve, Try_now, Begin_wait, Search, Poll_wait, Settle_timeout, End_wait, Wait_of, Kill, Release, Clone_ticket, Upgrade_now, Merge, Downgrade, Read_definition, Change_definition, Key_of, List_held, caller, Numbers, Draws}
+use Rattle.mdl_calls.specs.Words.{Answer, Refused, Done, At_place, Granted, Would_wait, Waits, No_cycle, Victim_is, Pending, Is_settled, Timed_out, Lost, Has_wait, Has_killed, Holds, Reads, Changed, Key_is, Tables, Upgraded, finds_no_memory, Call, Resolve, Try_now, Begin_wait, Search, Poll_wait, Settle_timeout, End_wait, Wait_of, Kill, Release, Clone_ticket, Upgrade_now, Merge, Downgrade, Read_definition, Change_definition, Key_of, Tables_of, List_held, caller, Numbers, Draws}
 use Rattle.mdl_core.specs.CoreJoins.{Joins, numbers_at}
 use Rattle.mdl_core.specs.Cores.{Core, has_session}
 use Rattle.mdl_core.specs.CoreSystems.{state_of, system_of}
@@ -64,6 +66,23 @@ abbrev pub ToResolve : Places → KeyName → Right
 ToResolve places key answer =
     ((place : ℕ) × (key_of places place ≡ Some key) × (answer ≡ At_place place))
     ⊎ ((Contains places.keys key → ⊥) × Needs (length places.keys < places.most) NoPlace (Only (At_place (length places.keys + 1))) answer)
+
+-- a table of this schema that has a definition has the place
+abbrev pub HasDefinedTable : System Definition → Places → List ℕ → ℕ → Type 0
+HasDefinedTable system places schema place =
+    (table : List ℕ) × (key_of places place ≡ Some (table_key schema table)) × IsSome (system.definitions (table_key schema table)).definition
+
+-- the key of the one place comes before that of the other
+abbrev pub ComesBefore : Places → ℕ → ℕ → Type 0
+ComesBefore places one other =
+    (key later : KeyName) × (key_of places one ≡ Some key) × (key_of places other ≡ Some later) × (key_cmp key later ≡ Less)
+
+-- all tables of the schema that have a definition, in the order of their keys
+abbrev pub ToTellTables : System Definition → Places → List ℕ → Right
+ToTellTables system places schema answer =
+    (tables : List ℕ) × (answer ≡ Tables tables)
+    × AllPairs (ComesBefore places) tables
+    × ((place : ℕ) → Contains tables place ↔ HasDefinedTable system places schema place)
 
 -- ---- locks
 
@@ -220,6 +239,7 @@ Determines system places numbers (Read_definition who id) = OfTicket system who 
 Determines system places numbers (Change_definition who id change) =
     OfTicket system who id (λ ticket. Needs (ticket.mode ≡ X) NotExclusive (ToChange ticket.key change (system.definitions ticket.key)))
 Determines system places numbers (Key_of who place) = AtPlace places place (λ key. Only (Key_is key))
+Determines system places numbers (Tables_of who schema) = ToTellTables system places schema
 Determines system places numbers (List_held who) = ToList system places who
 Determines system places numbers _ = λ answer. ⊥
 

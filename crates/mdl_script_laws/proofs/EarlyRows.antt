@@ -11,15 +11,16 @@ use Rattle.mdl_syntax.specs.declared.statement.Statement.TheVariants as statemen
 use Rattle.mdl_context.specs.declared.request.Mark.{Mark}
 use Rattle.mdl_stmt.specs.declared.error_number.ErrorNumber.{ErrorNumber}
 use Rattle.mdl_stmt.specs.declared.error_number.ErrorNumber.TheVariants.{TableLockedForRead, NoSuchTable, ActiveLocks, ConflictingReadLock}
+use Rattle.mdl_stmt.specs.declared.explicit.Locked.{Locked}
 use Rattle.mdl_stmt.specs.declared.reply.Reply.{Reply}
 use Rattle.mdl_stmt.specs.declared.reply.Reply.TheVariants as reply
 use Rattle.mdl_stmt.specs.declared.reply.TableShown.{TableShown}
 use Rattle.mdl_stmt.specs.Rows.{Row, Act, Give, Fail, Room, Look, Here, Read, ◌>>=◌, ◌>>◌, acquire, check, nothing, room, set}
-use Rattle.mdl_stmt.specs.States.{Locked, State, has_locked, savepoint_mark, written}
+use Rattle.mdl_stmt.specs.States.{State, has_locked, savepoint_mark, written}
 use Rattle.mdl_stmt.specs.Statements as rows
 use Rattle.mdl_stmt.specs.Statements.{row_of}
 use Rattle.mdl_script_laws.specs.RefusalsFirst.{is_early}
-use Rattle.mdl_script_laws.proofs.RowRules.{Any, KeepsTo, keeps-begin, keeps-bind, keeps-commit, keeps-create, keeps-create_schema, keeps-drop, keeps-either, keeps-exists, keeps-rollback}
+use Rattle.mdl_script_laws.proofs.RowRules.{Any, KeepsTo, keeps-begin, keeps-bind, keeps-commit, keeps-create, keeps-create_schema, keeps-drop, keeps-either, keeps-exists, keeps-rename, keeps-rollback}
 
 -- a failure by another error
 abbrev pub IsOther : ErrorNumber → Type 0
@@ -183,7 +184,7 @@ checks_write : (locked : Bool) (table : KeyName) (priority : Priority)
 checks_write true table priority = checks_locked table
 checks_write false table priority = checks_unlocked table priority
 
--- ---- CREATE TABLE, CREATE SCHEMA, DROP TABLE
+-- ---- CREATE TABLE, CREATE SCHEMA, DROP TABLE, RENAME TABLE
 
 late_commit : FailsLate Any rows.commit
 late_commit = keeps-commit IsOther (λ number other. other)
@@ -223,5 +224,7 @@ statements_check (statement.CreateSchema name) = checks_ddl_first (rows.create_s
     (keeps-create_schema IsOther (λ number other. other) IsLate tt name)
 statements_check (statement.DropTables tables) = checks_ddl_first (rows.drop_after_commit tables)
     (keeps-drop IsOther (λ number other. other) IsLate tt tables)
+statements_check (statement.RenameTable from to) = checks_ddl_first (rows.rename_after_commit from to)
+    (keeps-rename IsOther (λ number other. other) IsLate tt from to)
 statements_check (statement.KillQuery target) = tt
 statements_check statement.Timeout = tt

@@ -1,20 +1,23 @@
 -- Rows that keep to a rule, whatever they are told: how they fail, what they give, and that they lock no tables for their session.
 use Rattle.std.proofs.Common.{◌≡◌, ℕ, Bool, true, false, List, [], ◌∷◌, refl}
-use Rattle.std.specs.Prelude.{if◌then◌else◌, map, not, ◌++◌}
+use Rattle.std.specs.Prelude.{if◌then◌else◌, map, not, ◌++◌, Option, Some, None}
 use Rattle.mdl_key.specs.Keys.{KeyName, global_key}
 use Rattle.mdl_defs.specs.declared.change.Change.TheVariants as change
 use Rattle.mdl_defs.specs.Columns.{names_twice}
+use Rattle.mdl_defs.specs.declared.definition.Definition.{Definition}
 use Rattle.mdl_defs.specs.declared.definition.Definition.TheVariants.{Schema}
 use Rattle.mdl_defs.specs.declared.standing.Standing.{Standing}
 use Rattle.mdl_context.specs.declared.request.Mark.{Mark}
 use Rattle.mdl_context.specs.Wishes.{Wish}
 use Rattle.mdl_stmt.specs.declared.error_number.ErrorNumber.{ErrorNumber}
 use Rattle.mdl_stmt.specs.declared.error_number.ErrorNumber.TheVariants.{SchemaExists, UnknownDatabase, TableExists, DuplicateColumn, NoSuchTable, VersionLimit}
+use Rattle.mdl_stmt.specs.declared.explicit.Locked.{Locked}
 use Rattle.mdl_stmt.specs.declared.reply.Reply.{Reply}
 use Rattle.mdl_stmt.specs.declared.reply.Reply.TheVariants as reply
 use Rattle.mdl_stmt.specs.KeyOrder.{in_key_order}
+use Rattle.mdl_stmt.specs.LockLists.{ticket_of}
 use Rattle.mdl_stmt.specs.Rows.{Row, Act, Give, Fail, Room, Look, Set, Here, Acquire, Give_up, Release, Read, Redefine, Kill, ◌>>=◌, ◌>>◌, acquire_all, check, for_each, nothing, redefine, release, set}
-use Rattle.mdl_stmt.specs.States.{Locked, State, has_locked, opened, unlocked}
+use Rattle.mdl_stmt.specs.States.{State, has_locked, opened, unlocked}
 use Rattle.mdl_stmt.specs.Statements as rows
 use Rattle.mdl_script_laws.specs.RefusalsFirst.{is_early}
 
@@ -116,6 +119,13 @@ module _ (F : ErrorNumber → Type 0) (late : (number : ErrorNumber) → is_earl
       keeps-then F Any (check (not (rows.is_defined standing)) SchemaExists) (check (rows.has_version_left standing) VersionLimit)
       (keeps-check F (not (rows.is_defined standing)) SchemaExists (late SchemaExists refl)) (keeps-version standing)
 
+  keeps-free : (ticket : ℕ) → KeepsTo F Any (rows.is_free ticket)
+  keeps-free ticket = λ standing. keeps-check F (not (rows.is_defined standing)) TableExists (late TableExists refl)
+
+  keeps-definition : (found : Option Definition) → KeepsTo F Any (rows.has_definition found)
+  keeps-definition (Some definition) = tt
+  keeps-definition None = late NoSuchTable refl
+
   -- those that are told that it is done
   module _ (P : Reply → Type 0) (ok : P reply.Ok) where
     pub keeps-begin : KeepsTo F P rows.begin_after_commit
@@ -146,3 +156,28 @@ module _ (F : ErrorNumber → Type 0) (late : (number : ErrorNumber) → is_earl
         let wishes = map rows.ddl_lock (in_key_order tables) in
         keeps-bind F Any P (acquire_all scopes) (λ _. rows.lock_and_drop tables) (keeps-locks F scopes)
         (λ _ _. keeps-bind F Any P (acquire_all wishes) rows.drop_under (keeps-locks F wishes) (λ tickets _. keeps-drop_under tickets))
+
+    keeps-move : (definition : Definition) (from to : ℕ) → KeepsTo F P (rows.move_definition definition from to)
+    keeps-move definition from to =
+        keeps-then F P (for_each rows.can_change (to ∷ from ∷ [])) (redefine to (change.Put definition) >> (redefine from change.Drop >> Give reply.Ok))
+        (keeps-each F rows.can_change (λ ticket standing. keeps-version standing) (to ∷ from ∷ [])) ok
+
+    keeps-rename_under : (schema from to : ℕ) → KeepsTo F P (rows.rename_under schema from to)
+    keeps-rename_under schema from to =
+        let moving : Definition → Row Reply = λ definition. rows.check_schema schema >> rows.move_definition definition from to in
+        keeps-then F P (rows.is_free to) (rows.definition_under from >>= moving) (keeps-free to)
+        (keeps-bind F Any P (rows.definition_under from) moving (λ standing. keeps-definition standing.definition)
+        (λ definition _. keeps-then F P (rows.check_schema schema) (rows.move_definition definition from to)
+        (λ over. keeps-check F (rows.is_defined over) UnknownDatabase (late UnknownDatabase refl)) (keeps-move definition from to)))
+
+    keeps-lock_and_rename : (from to : KeyName) (schema : ℕ) → KeepsTo F P (rows.lock_and_rename from to schema)
+    keeps-lock_and_rename from to schema =
+        let names = rows.both_names from to in
+        keeps-bind F Any P (acquire_all (map rows.ddl_lock names)) (λ tickets. rows.rename_under schema (ticket_of from names tickets) (ticket_of to names tickets))
+        (keeps-locks F (map rows.ddl_lock names)) (λ tickets _. keeps-rename_under schema (ticket_of from names tickets) (ticket_of to names tickets))
+
+    pub keeps-rename : (from to : KeyName) → KeepsTo F P (rows.rename_after_commit from to)
+    keeps-rename from to =
+        let scopes = rows.both_scopes from to in
+        keeps-bind F Any P (acquire_all (map rows.ddl_lock scopes)) (λ tickets. rows.lock_and_rename from to (ticket_of (rows.schema_of to) scopes tickets))
+        (keeps-locks F (map rows.ddl_lock scopes)) (λ tickets _. keeps-lock_and_rename from to (ticket_of (rows.schema_of to) scopes tickets))

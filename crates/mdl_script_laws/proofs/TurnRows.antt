@@ -6,6 +6,7 @@ use Rattle.std.specs.declared.cmp.Ordering.{Ordering}
 use Rattle.std.specs.declared.cmp.Ordering.TheVariants.{Less, Equal, Greater}
 use Rattle.mdl_key.specs.Keys.{KeyName, global_key, key_cmp, key_eq}
 use Rattle.mdl_defs.specs.declared.change.Change.TheVariants as change
+use Rattle.mdl_defs.specs.declared.definition.Definition.{Definition}
 use Rattle.mdl_defs.specs.Columns.{names_twice}
 use Rattle.mdl_context.specs.declared.request.Mark.{Mark}
 use Rattle.mdl_context.specs.Wishes.{Wish}
@@ -15,14 +16,16 @@ use Rattle.mdl_syntax.specs.declared.statement.Statement.TheVariants as statemen
 use Rattle.mdl_syntax.specs.Laws.{IsWithinLimits}
 use Rattle.mdl_stmt.specs.declared.error_number.ErrorNumber.{ErrorNumber}
 use Rattle.mdl_stmt.specs.declared.error_number.ErrorNumber.TheVariants.{NoSuchTable, ConflictingReadLock, ActiveLocks, SchemaExists, UnknownDatabase, TableExists, DuplicateColumn, VersionLimit, TableLockedForRead}
+use Rattle.mdl_stmt.specs.declared.explicit.Locked.{Locked}
 use Rattle.mdl_stmt.specs.declared.reply.Reply.{Reply}
 use Rattle.mdl_stmt.specs.declared.reply.Reply.TheVariants as reply
 use Rattle.mdl_stmt.specs.declared.reply.TableShown.{TableShown}
 use Rattle.mdl_stmt.specs.KeyOrder.{in_key_order, placed, placed_all, put}
+use Rattle.mdl_stmt.specs.LockLists.{ticket_of}
 use Rattle.mdl_stmt.specs.Rows.{Row, Act, ◌>>=◌, ◌>>◌, check, nothing, acquire_all, for_each}
 use Rattle.mdl_stmt.specs.Rows as row
 use Rattle.mdl_stmt.specs.Statements as stm
-use Rattle.mdl_stmt.specs.States.{Locked, has_locked, written, savepoint_mark}
+use Rattle.mdl_stmt.specs.States.{has_locked, written, savepoint_mark}
 use Rattle.mdl_script_laws.specs.Turns.{AsksForAtMost, StatementsAskForFewLocks, locks_of, most_locks}
 
 -- ---- bounds
@@ -199,7 +202,7 @@ few-write table priority state =
     few-either 3 (has_locked state.locked) (stm.write_locked table) (stm.write_unlocked table priority) (few-write_locked table)
     (few-write_unlocked table priority)
 
--- ---- CREATE TABLE, CREATE SCHEMA, DROP TABLE
+-- ---- CREATE TABLE, CREATE SCHEMA, DROP TABLE, RENAME TABLE
 
 few-ddl_first : (n : ℕ) (rest : Row Reply) → AsksForAtMost n rest → AsksForAtMost (suc n) (stm.ddl_first rest)
 few-ddl_first n rest is =
@@ -281,6 +284,44 @@ few-drop tables =
     few-then (length wishes) n (1 + n + n) (acquire_all wishes) (λ scopes. stm.lock_and_drop tables) (omega (arith, count, most, all)) (few-acquire_all wishes)
     (λ scopes. few-lock_and_drop tables)
 
+few-free : (ticket : ℕ) → AsksForAtMost 0 (stm.is_free ticket)
+few-free ticket standing = few-checked (not (stm.is_defined standing)) TableExists
+
+few-definition : (found : Option Definition) → AsksForAtMost 0 (stm.has_definition found)
+few-definition (Some definition) = tt
+few-definition None = tt
+
+few-move : (definition : Definition) (from to : ℕ) → AsksForAtMost 0 (stm.move_definition definition from to)
+few-move definition from to =
+    few-then 0 0 0 (for_each stm.can_change (to ∷ from ∷ [])) _ (omega arith)
+    (few-for_each stm.can_change (to ∷ from ∷ []) (λ id standing. few-checked (stm.has_version_left standing) VersionLimit)) (λ _. tt)
+
+few-rename_under : (schema from to : ℕ) → AsksForAtMost 0 (stm.rename_under schema from to)
+few-rename_under schema from to =
+    few-then 0 0 0 (stm.is_free to) _ (omega arith) (few-free to)
+    (λ _. few-then 0 0 0 (stm.definition_under from) _ (omega arith) (λ standing. few-definition standing.definition)
+    (λ definition. few-then 0 0 0 (stm.check_schema schema) _ (omega arith) (few-check_schema schema) (λ _. few-move definition from to)))
+
+few-lock_and_rename : (from to : KeyName) (schema : ℕ) → AsksForAtMost 2 (stm.lock_and_rename from to schema)
+few-lock_and_rename from to schema =
+    let names = stm.both_names from to in
+    let wishes = map stm.ddl_lock names in
+    let count = length-map names stm.ddl_lock in
+    let most = length-in_order (from ∷ to ∷ []) in
+    few-then (length wishes) 0 2 (acquire_all wishes) (λ tickets. stm.rename_under schema (ticket_of from names tickets) (ticket_of to names tickets))
+    (omega (arith, count, most)) (few-acquire_all wishes)
+    (λ tickets. few-rename_under schema (ticket_of from names tickets) (ticket_of to names tickets))
+
+few-rename : (from to : KeyName) → AsksForAtMost 5 (stm.rename_after_commit from to)
+few-rename from to =
+    let scopes = stm.both_scopes from to in
+    let wishes = map stm.ddl_lock scopes in
+    let count = length-map scopes stm.ddl_lock in
+    let most = length-in_order (map stm.schema_of (from ∷ to ∷ [])) in
+    few-then (length wishes) 2 5 (acquire_all wishes) (λ tickets. stm.lock_and_rename from to (ticket_of (stm.schema_of to) scopes tickets))
+    (omega (arith, count, most)) (few-acquire_all wishes)
+    (λ tickets. few-lock_and_rename from to (ticket_of (stm.schema_of to) scopes tickets))
+
 -- ---- the table
 
 few-begin : AsksForAtMost 0 stm.begin_after_commit
@@ -300,6 +341,7 @@ few-asked (statement.DropTables tables) =
     let n = length tables in
     few-more (suc (1 + n + n)) (2 + 2 * n) (stm.row_of (statement.DropTables tables)) (omega arith)
     (few-ddl_first (1 + n + n) (stm.drop_after_commit tables) (few-drop tables))
+few-asked (statement.RenameTable from to) = few-ddl_first 5 (stm.rename_after_commit from to) (few-rename from to)
 few-asked (statement.KillQuery target) = tt
 few-asked statement.Timeout = tt
 

@@ -119,7 +119,8 @@ impl Drawn {
             0..=6 => self.alone()?,
             7..=14 => self.some("SELECT", 3)?,
             15..=20 => self.write()?,
-            21..=25 => self.some("DROP TABLE", 3)?,
+            21..=23 => self.some("DROP TABLE", 3)?,
+            24..=25 => self.rename()?,
             26..=27 => self.create()?,
             28 => self.create_schema()?,
             29 => self.kill()?,
@@ -184,6 +185,26 @@ impl Drawn {
             _ => "s",
         };
         write!(self.text, "CREATE SCHEMA {name}")
+    }
+
+    // A table renamed, mostly as another one of those that were there at first, and at times from or into a schema that
+    // may not be there.
+    fn rename(&mut self) -> Result<(), AllocError> {
+        let first = self.draw_below(self.tables);
+        let step = self.draw_below(self.tables.wrapping_sub(1)).wrapping_add(1);
+        let from = table_name(first);
+        let to = table_name(
+            first
+                .wrapping_add(step)
+                .checked_rem(self.tables)
+                .unwrap_or(0),
+        );
+        match self.chance.draw(8) {
+            0 => write!(self.text, "RENAME TABLE s.{from} TO {to}"),
+            1 => write!(self.text, "RENAME TABLE {from} TO s.{to}"),
+            2 => write!(self.text, "RENAME TABLE {from} TO s.{from}"),
+            _ => write!(self.text, "RENAME TABLE {from} TO {to}"),
+        }
     }
 
     // A kill of some session.

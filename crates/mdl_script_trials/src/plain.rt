@@ -99,6 +99,8 @@ enum Step {
     CheckVersion(Key),
     // Drops a table.
     Drop(Key),
+    // Gives a table another name, if it can get it.
+    Rename(Key, Key),
 }
 
 // How it goes on behind a step.

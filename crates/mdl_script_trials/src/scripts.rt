@@ -65,6 +65,37 @@ const ROWS: &str = "\
 1 CREATE TABLE t x / 1 BEGIN / 1 SELECT t / 2 CREATE TABLE t x / 1 COMMIT => 1 1 OK / 2 1 OK / 3 1 OK test.t@1(x) / \
     4 2 WAIT TABLE test.t X / 5 1 OK / 4 2 ERR 1050
 1 CREATE TABLE a x / 1 DROP TABLE a b / 1 SELECT a => 1 1 OK / 2 1 ERR 1146 / 3 1 OK test.a@1(x)
+1 CREATE TABLE t x / 1 RENAME TABLE t TO u / 1 SELECT u / 1 SELECT t => 1 1 OK / 2 1 OK / 3 1 OK test.u@1(x) / 4 1 \
+    ERR 1146
+1 CREATE TABLE t x / 1 RENAME TABLE t TO u / 1 SELECT u / 1 CREATE TABLE t z / 1 SELECT t / 1 RENAME TABLE u TO t / \
+    1 RENAME TABLE v TO t => 1 1 OK / 2 1 OK / 3 1 OK test.u@1(x) / 4 1 OK / 5 1 OK test.t@3(z) / 6 1 ERR 1050 / 7 1 \
+    ERR 1050
+1 CREATE TABLE t x / 1 DROP TABLE t / 1 CREATE TABLE u y / 1 RENAME TABLE u TO t / 1 SELECT t / 1 DROP TABLE t / 1 \
+    CREATE TABLE u z / 1 SELECT u => 1 1 OK / 2 1 OK / 3 1 OK / 4 1 OK / 5 1 OK test.t@3(y) / 6 1 OK / 7 1 OK / 8 1 \
+    OK test.u@3(z)
+1 CREATE TABLE t x / 1 CREATE TABLE u y / 1 RENAME TABLE v TO t / 1 RENAME TABLE t TO u / 1 RENAME TABLE v TO s.t / \
+    1 RENAME TABLE t TO s.t / 1 SELECT t u => 1 1 OK / 2 1 OK / 3 1 ERR 1050 / 4 1 ERR 1050 / 5 1 ERR 1146 / 6 1 ERR \
+    1049 / 7 1 OK test.t@1(x) test.u@1(y)
+1 CREATE SCHEMA s / 1 CREATE TABLE t x y / 1 RENAME TABLE t TO s.t / 1 SELECT s.t / 1 RENAME TABLE s.t TO t / 1 \
+    SELECT t / 1 SELECT s.t => 1 1 OK / 2 1 OK / 3 1 OK / 4 1 OK s.t@1(x,y) / 5 1 OK / 6 1 OK test.t@3(x,y) / 7 1 \
+    ERR 1146
+1 CREATE SCHEMA s / 1 CREATE TABLE s.b x / 1 BEGIN / 1 SELECT a / 2 CREATE TABLE a x / 3 CREATE SCHEMA test / 4 \
+    RENAME TABLE s.b TO b / 1 COMMIT / 1 SELECT b a => 1 1 OK / 2 1 OK / 3 1 OK / 4 1 ERR 1146 / 5 2 WAIT TABLE \
+    test.a X / 6 3 WAIT SCHEMA test X / 7 4 WAIT SCHEMA test IX / 8 1 OK / 5 2 OK / 6 3 ERR 1007 / 7 4 OK / 9 1 OK \
+    test.b@1(x) test.a@1(x)
+1 CREATE TABLE b x / 1 BEGIN / 1 SELECT b / 2 BEGIN / 2 SELECT a / 3 RENAME TABLE b TO a / 4 SELECT a / 2 COMMIT / 1 \
+    COMMIT => 1 1 OK / 2 1 OK / 3 1 OK test.b@1(x) / 4 2 OK / 5 2 ERR 1146 / 6 3 WAIT TABLE test.a X / 7 4 WAIT \
+    TABLE test.a SR / 8 2 OK / 6 3 WAIT TABLE test.b X / 9 1 OK / 6 3 OK / 7 4 OK test.a@1(x)
+1 CREATE TABLE t x / 1 BEGIN / 1 SELECT t / 2 RENAME TABLE t TO u / 2 SELECT t / 1 KILL QUERY 2 / 3 RENAME TABLE u \
+    TO t / 3 TIMEOUT / 1 COMMIT / 2 RENAME TABLE t TO u / 2 SELECT u => 1 1 OK / 2 1 OK / 3 1 OK test.t@1(x) / 4 2 \
+    WAIT TABLE test.t X / 5 2 BUSY / 6 1 OK / 4 2 ERR 1317 / 7 3 WAIT TABLE test.t X / 8 3 OK / 7 3 ERR 1205 / 9 1 \
+    OK / 10 2 OK / 11 2 OK test.u@1(x)
+1 CREATE TABLE t x / 1 BEGIN / 1 INSERT t / 1 SAVEPOINT p / 1 RENAME TABLE t TO u / 1 ROLLBACK TO p / 2 INSERT u => \
+    1 1 OK / 2 1 OK / 3 1 OK / 4 1 OK / 5 1 OK / 6 1 ERR 1305 / 7 2 OK
+1 CREATE TABLE t x / 1 BEGIN / 1 SELECT t / 2 RENAME TABLE t TO a / 1 SELECT a / 1 SELECT a => 1 1 OK / 2 1 OK / 3 1 \
+    OK test.t@1(x) / 4 2 WAIT TABLE test.t X / 5 1 WAIT TABLE test.a SR / 5 1 ERR 1213 / 4 2 OK / 6 1 OK test.a@1(x)
+1 RENAME TABLE a TO test.a x => line 1: BadName
+1 RENAME TABLE a b => line 1: BadWord
 1 CREATE SCHEMA s / 1 CREATE SCHEMA s / 2 CREATE SCHEMA test / 1 CREATE TABLE s.t x / 1 SELECT s.t => 1 1 OK / 2 1 ERR \
     1007 / 3 2 ERR 1007 / 4 1 OK / 5 1 OK s.t@1(x)
 1 CREATE TABLE s.t x / 1 CREATE SCHEMA s / 1 CREATE TABLE s.t x y / 2 CREATE TABLE s.t x / 2 SELECT s.t t => 1 1 ERR \

@@ -5,3 +5,4 @@ pub mod ModeLemmas
 pub mod SearchLemmas
 pub mod ServingLemmas
 pub mod SpeakingLemmas
+pub mod TableLemmas

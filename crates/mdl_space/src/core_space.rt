@@ -426,3 +426,4 @@ mod deadlocks;
 mod definitions;
 mod modes;
 mod serving;
+mod tables;

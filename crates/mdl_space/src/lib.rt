@@ -5,9 +5,9 @@
 //! ([`LockSpace::resolve`]), asks for a lock there ([`LockSpace::try_now`], [`LockSpace::begin_wait`]), sees its wait
 //! through, reads and changes the key's definition under its tickets ([`LockSpace::read_definition`],
 //! [`LockSpace::change_definition`]), and gives them up ([`LockSpace::release`]). It is told the key of a place, too
-//! ([`LockSpace::key_of`]). Contracts see a call as what joins the space before it to the space after it, and what a session has
-//! as its own tickets and wait. Some calls that the laws of the trait speak of have no method as yet: the tables of a schema, and
-//! pins that are given up.
+//! ([`LockSpace::key_of`]), and the tables of a schema ([`LockSpace::tables_of`]). Contracts see a call as what joins the space
+//! before it to the space after it, and what a session has as its own tickets and wait. Some calls that the laws of the trait
+//! speak of have no method as yet: pins that are given up.
 //!
 //! [`CoreSpace`] is the space of one thread. Each of its calls is an event of the system of locks that a reader believes in,
 //! which stays lawful, and in which nobody is forgotten: the laws of that stand in `mdl_system` and `mdl_core`, and their names

@@ -12,7 +12,7 @@ ghost use Rattle.mdl_system.specs.Strength.{covers};
 ghost use Rattle.mdl_calls.specs.declared.space_error.SpaceError.{SpaceError};
 ghost use Rattle.mdl_calls.specs.declared.answers.Settled.{Settled};
 ghost use Rattle.mdl_calls.specs.declared.answers.Held.{Held};
-ghost use Rattle.mdl_calls.specs.Words.{Call, Resolve, Try_now, Begin_wait, Search as Search_by, Poll_wait, Settle_timeout, End_wait, Wait_of, Kill, Release, Clone_ticket, Upgrade_now, Merge, Downgrade, List_held, Read_definition, Change_definition, Tables_of, Key_of, Unpin, caller, Answer, Refused, Would_wait, Changed, Done, Reads, Tables, Key_is, At_place, Victim_is, Has_wait, Has_killed, Holds, is_answer_of, placed, attempted, begun, searched, polled, timed_out, ended, done, cloned, upgrade_tried, listed, Own, Wait, Numbers, own_after, wait_number, is_waiting, IsRising, Draws, IsExplained, told, IsToldOf, HoldsAt, AwaitsAt, AreTablesOf, IsChangeOf, keyed, read, read_under, redefined, redefined_place, ticket_held};
+ghost use Rattle.mdl_calls.specs.Words.{Call, Resolve, Try_now, Begin_wait, Search as Search_by, Poll_wait, Settle_timeout, End_wait, Wait_of, Kill, Release, Clone_ticket, Upgrade_now, Merge, Downgrade, List_held, Read_definition, Change_definition, Tables_of, Key_of, Unpin, caller, Answer, Refused, Would_wait, Changed, Done, Reads, Tables, Key_is, At_place, Victim_is, Has_wait, Has_killed, Holds, is_answer_of, placed, attempted, begun, searched, polled, timed_out, ended, done, cloned, upgrade_tried, listed, Own, Wait, Numbers, own_after, wait_number, is_waiting, IsRising, Draws, IsExplained, told, IsToldOf, HoldsAt, AwaitsAt, AreTablesOf, IsChangeOf, keyed, read, read_under, redefined, redefined_place, tables_told, ticket_held};
 
 use crate::{
     Attempt, Begun, Ended, Held, Place, Poll, Search, SpaceError, TicketId, TimedOut, Upgrade,
@@ -159,6 +159,11 @@ pub trait LockSpace {
     fn key_of(&mut self, who: u16, place: Place) -> Result<Key, SpaceError>
         requires { speaks_for self.old who }
         ensures { joins self.old (Key_of who place) (keyed result) self.new };
+
+    /// The places of a schema's tables that have a definition, in the order of their keys.
+    fn tables_of(&mut self, who: u16, schema: &str) -> Result<Vec<Place>, SpaceError>
+        requires { speaks_for self.old who }
+        ensures { joins self.old (Tables_of who schema.now) (tables_told result) self.new };
 
     /// The tickets that the session holds, in order of gain.
     fn held(&self, who: u16) -> Result<Vec<Held>, SpaceError>

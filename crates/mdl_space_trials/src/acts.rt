@@ -91,6 +91,18 @@ pub(crate) fn key_of<S: LockSpace>(space: &mut S, who: u16, place: Place) -> Res
     space.key_of(who, place)
 }
 
+/// The places of a schema's tables, for a session.
+pub(crate) fn tables_of<S: LockSpace>(
+    space: &mut S,
+    who: u16,
+    schema: &str,
+) -> Result<Vec<Place>, SpaceError>
+    requires { S.speaks_for space.old who }
+    ensures { (w : ℕ) → S.speaks_for space.old w → S.speaks_for space.new w }
+{
+    space.tables_of(who, schema)
+}
+
 /// Makes a call for a session.
 pub(crate) fn call<S: LockSpace>(space: &mut S, alloc: Global, who: u16, act: Act) -> Reply
     requires { S.speaks_for space.old who }

@@ -3,7 +3,7 @@ ghost use Rattle.std.specs.Prelude.{◌≡◌};
 ghost use Rattle.mdl_calls.specs.Runs.{Runs};
 ghost use Rattle.mdl_space_trials.specs.Visits.{visiting, visited};
 
-use crate::acts::{Act, Reply, call, key_of};
+use crate::acts::{Act, Reply, call, key_of, tables_of};
 use crate::lone_session::LoneSession;
 use crate::wishes::{Shown, Wish};
 use mdl_defs::DefError;
@@ -76,6 +76,14 @@ impl Alone {
     // The key of a place.
     fn key_of(&mut self, place: Place) -> Result<Key, SpaceError> {
         key_of(&mut self.space, WHO, place)
+    }
+
+    // Whether just these are the places of a schema's tables.
+    fn tells(&mut self, schema: &str, places: &[Place]) -> bool {
+        match tables_of(&mut self.space, WHO, schema) {
+            Ok(told) => told.as_slice() == places,
+            Err(_) => false,
+        }
     }
 
     // How many tickets are held.
@@ -159,6 +167,33 @@ fn names_its_key(alloc: Global, alone: &mut Alone, name: &str) -> bool {
 fn the_key_of_the_one_place_is_told(rt: HostRuntime) {
     let is_told = match Alone::new(rt.alloc(), "t") {
         Ok(mut alone) => names_its_key(rt.alloc(), &mut alone, "t"),
+        Err(_) => false,
+    };
+    assert!(rt; is_told);
+}
+
+const CREATED: &[(Act, Reply)] = &[
+    (Act::TryNow(3, 1, Mode::X), Reply::WouldWait),
+    (Act::TryNow(3, 1, Mode::X), Reply::Granted(1)),
+    (Act::Redefine(3, 1, Wish::CreateTable), Reply::Changed(1)),
+];
+
+const DROPPED: &[(Act, Reply)] = &[(Act::Redefine(3, 1, Wish::Drop), Reply::Changed(2))];
+
+// Whether the one table is told while it has a definition, as a table of its schema alone.
+fn tells_the_one_table(alone: &mut Alone) -> bool {
+    alone.tells("test", &[])
+        && alone.first_wrong(CREATED).is_none()
+        && alone.tells("test", &[1])
+        && alone.tells("tes", &[])
+        && alone.first_wrong(DROPPED).is_none()
+        && alone.tells("test", &[])
+}
+
+#[test]
+fn the_one_table_is_told(rt: HostRuntime) {
+    let is_told = match Alone::new(rt.alloc(), "t") {
+        Ok(mut alone) => tells_the_one_table(&mut alone),
         Err(_) => false,
     };
     assert!(rt; is_told);

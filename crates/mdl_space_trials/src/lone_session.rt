@@ -1,15 +1,15 @@
 //! A lock space for tests: one session, one key, and one ticket and its clone at most, while another session comes and goes, and
 //! changes what stands under the key.
-ghost use Rattle.std.specs.Prelude.{◌&&◌, ◌||◌, ◌≡◌, ◌≢◌, ◌≤◌, ◌+◌, [], true, false, MatchResult, IfOk, IfSome, OnErr, Err};
+ghost use Rattle.std.specs.Prelude.{◌&&◌, ◌||◌, ◌≡◌, ◌≢◌, ◌≤◌, ◌+◌, [], true, false, MatchResult, IfOk, IfSome, OnErr, Err, is_some};
 ghost use Rattle.mdl_key.specs.Words.{kind_of, is_mode_of};
 ghost use Rattle.mdl_system.specs.Strength.{covers, may_upgrade, may_downgrade};
 ghost use Rattle.mdl_defs.specs.Standings.{MayStand, standing_after};
-ghost use Rattle.mdl_calls.specs.Words.{Begin_wait, IsClear, IsCause, IsChangeOf, ticket_drawn, is_waiting, ticket_held, redefined, change_takes_memory};
+ghost use Rattle.mdl_calls.specs.Words.{Begin_wait, IsClear, IsCause, IsChangeOf, is_table_of, ticket_drawn, is_waiting, ticket_held, redefined, change_takes_memory};
 ghost use Rattle.mdl_calls.specs.Own.{changing};
 ghost use Rattle.mdl_calls.specs.Tests.LoneSessions.{Knows, alone, numbering, owning, having};
 
 use mdl_defs::{Change, Definition, Standing};
-use mdl_key::{Key, Mode};
+use mdl_key::{Key, Mode, Namespace};
 use mdl_space::{Held, Place, Settled, SpaceError, TicketId};
 use mdl_system::{covers, may_downgrade, may_upgrade};
 use std::alloc::Global;
@@ -165,6 +165,15 @@ impl LoneSession {
             Some((_, Some(copy))) if copy.id == id => Some(copy),
             _ => None,
         }
+    }
+
+    // Whether the one key is that of a table of the schema that has a definition.
+    fn has_table_of(&self, schema: &str) -> bool
+        ensures { result ≡ (is_table_of schema.now self.now.key && is_some self.now.standing.definition) }
+    {
+        matches!(self.key.namespace(), Namespace::Table)
+            && self.key.schema_name() == schema
+            && self.standing.definition.is_some()
     }
 
     // Whether a ticket can serve for a second one in the mode.

@@ -2,7 +2,7 @@
 ghost use Rattle.mdl_core.specs.CoreJoins.{SpeaksFor};
 ghost use Rattle.mdl_space_trials.specs.Serving.{SpeaksForAll};
 
-use crate::acts::{Act, Reply, call, key_of, resolve};
+use crate::acts::{Act, Reply, call, key_of, resolve, tables_of};
 use mdl_key::Key;
 use mdl_space::{CoreSpace, Held, LockSpace, NewError, Place, SpaceError};
 use std::alloc::Global;
@@ -63,8 +63,8 @@ impl Room {
         Room::with_keys(alloc, 4, &[a, b, Key::commit(alloc), Key::global(alloc)])
     }
 
-    // Each of these keys has a place, in this order, of so many.
-    fn with_keys(alloc: Global, places: u16, keys: &[Key]) -> Option<Room> {
+    /// Each of these keys has a place, in this order, of so many.
+    pub(crate) fn with_keys(alloc: Global, places: u16, keys: &[Key]) -> Option<Room> {
         let mut room = Room::new(alloc, places, SESSIONS).ok()?;
         for key in keys {
             room.resolve(key).ok()?;
@@ -86,6 +86,14 @@ impl Room {
             return Err(SpaceError::NoPlace);
         }
         key_of(&mut self.space, 1, place)
+    }
+
+    /// The places of a schema's tables, for the first session.
+    pub(crate) fn tables_of(&mut self, schema: &str) -> Result<Vec<Place>, SpaceError> {
+        if self.sessions == 0 {
+            return Err(SpaceError::NoPlace);
+        }
+        tables_of(&mut self.space, 1, schema)
     }
 
     /// What a session holds.

@@ -1,13 +1,16 @@
 -- Single calls of a lock space: what a context attends to after them, and what they come to.
 use Rattle.std.specs.Prelude.{List, [], ◌∷◌, ◌++◌, MatchResult}
+use Rattle.mdl_defs.specs.declared.definition.Definition.{Definition}
 use Rattle.mdl_defs.specs.declared.standing.Standing.{Standing}
-use Rattle.mdl_stmt.specs.declared.ending.Ending.TheVariants.{Starves}
+use Rattle.mdl_stmt.specs.declared.ending.Ending.TheVariants.{Answers, Starves}
+use Rattle.mdl_stmt.specs.declared.error_number.ErrorNumber.TheVariants.{NoSuchTable}
+use Rattle.mdl_stmt.specs.declared.reply.Reply.TheVariants as reply
 use Rattle.mdl_stmt.specs.declared.reply.TableShown.{TableShown}
 use Rattle.mdl_stmt.specs.Endings.{closing}
-use Rattle.mdl_stmt.specs.Statements.{columns_of, exists, show}
+use Rattle.mdl_stmt.specs.Statements.{columns_of, definition_under, exists, has_definition, show}
 use Rattle.mdl_stmt.proofs.RowLemmas.{bind-assoc}
 use Rattle.mdl_stmt.proofs.RunLemmas.{comes-then}
-use Rattle.std.proofs.Common.{◌≡◌, ℕ, Some, Result, Ok, Err, sym, subst, inl, inr}
+use Rattle.std.proofs.Common.{◌≡◌, ℕ, Some, None, Result, Ok, Err, ap, sym, subst, inl, inr}
 use Rattle.mdl_key.specs.Keys.{KeyName}
 use Rattle.mdl_key.specs.declared.mode.Mode.{Mode}
 use Rattle.mdl_calls.specs.Words.{Answer, Done, Call, Unpin, caller, Own, Runs}
@@ -78,6 +81,17 @@ pub show-ends : {S : Type 0} (joins : S → Call → Answer → S → Type 0) (s
 show-ends joins shown table ticket a b x y ending first = λ rest.
     let behind : Standing → Row (List TableShown) = λ s. room >> Give (shown ++ record { key = table; version = s.version; columns = columns_of s.definition } ∷ []) in
     comes-then (comes-row (show shown table ticket >>= rest) (exists ticket >>= (λ s. behind s >>= rest)) (bind-assoc (exists ticket) behind rest)) (first (λ s. behind s >>= rest))
+
+-- a definition is there, or the table is missing
+pub found-step : {S : Type 0} (joins : S → Call → Answer → S → Type 0) (ticket : ℕ) (a b : S) (x y : PlayerView) (standing : Standing) (result : Result Definition Ending) →
+    IsStep joins (row.read ticket) a x (Ok standing) b y →
+    MatchResult result (λ it. standing.definition ≡ Some it) (λ ending. (standing.definition ≡ None) × (ending ≡ Answers (reply.Error NoSuchTable))) →
+    IsStep joins (definition_under ticket) a x result b y
+found-step joins ticket a b x y standing (Ok it) first e = λ rest.
+    comes-then (first (λ s. has_definition s.definition >>= rest)) (comes-row _ _ (ap (λ d. has_definition d >>= rest) e))
+found-step joins ticket a b x y standing (Err ending) first (e, f) = λ rest.
+    subst (λ (n : Ending). Comes joins a x (play (definition_under ticket >>= rest)) b y (closing n)) (sym f)
+    (comes-then (first (λ s. has_definition s.definition >>= rest)) (comes-row _ _ (ap (λ d. has_definition d >>= rest) e)))
 
 -- a wait after memory was there
 pub room-waits : {S : Type 0} {joins : S → Call → Answer → S → Type 0} {a b : S} {x y : PlayerView} {key : KeyName} {mode : Mode} {then_rest : ℕ → Row Reply} (rest : Row Reply) →

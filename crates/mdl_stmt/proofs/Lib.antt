@@ -10,3 +10,4 @@ pub mod RowMemory
 pub mod RowOutcomes
 pub mod RunLemmas
 pub mod SavepointLemmas
+pub mod UnlockLemmas

@@ -1,5 +1,5 @@
 -- Locks of a list, one after the other.
-use Rattle.std.proofs.Common.{◌≡◌, ℕ, Bool, true, List, [], ◌∷◌, ◌++◌, drop, suc, length, Some, None, refl, sym, ap, ◌∙◌, subst, arith, if◌then◌else◌}
+use Rattle.std.proofs.Common.{◌≡◌, ℕ, Bool, true, false, List, [], ◌∷◌, ◌++◌, drop, suc, length, Some, None, refl, sym, ap, ◌∙◌, subst, arith, if◌then◌else◌}
 use mathlib.Core.Path.{fun_ext}
 use Rattle.std.specs.Prelude.{slice_get, nat_lt, map}
 use Rattle.std.proofs.Math.ListN.{drop_of_length-le}
@@ -45,6 +45,13 @@ ddl-so key mode duration e f =
     ap (λ k. record { key = k; mode = mode; duration = duration }) (sym (ddl-key key))
     ∙ ap (λ m. record { key = (ddl_lock key).key; mode = m; duration = duration }) e
     ∙ ap (λ d. record { key = (ddl_lock key).key; mode = (ddl_lock key).mode; duration = d }) f
+
+-- its keys stay
+pub keys-stay : (ticket : ℕ) (locks : LockList) → (with_ticket ticket locks).keys ≡ locks.keys
+keys-stay ticket locks = by (nat_lt (length locks.tickets) (length locks.keys)) where
+  by : (left : Bool) → (if left then record locks { tickets = locks.tickets ++ ticket ∷ [] } else locks).keys ≡ locks.keys
+  by true = refl
+  by false = refl
 
 -- the ticket of the next lock is among the tickets
 pub lock-had : (locks : LockList) (ticket : ℕ) (rest : List ℕ → Row Reply) → nat_lt (length locks.tickets) (length locks.keys) ≡ true →

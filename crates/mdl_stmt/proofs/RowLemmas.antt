@@ -1,23 +1,21 @@
--- Rows: one after another, and what they come to in a session that has locked no tables.
-use Rattle.std.proofs.Common.{◌≡◌, ℕ, Bool, false, not, List, [], Option, None, refl, sym, ap, ◌∙◌, if◌then◌else◌}
+-- Rows: one after another, and what they come to by what a session keeps.
+use Rattle.std.proofs.Common.{◌≡◌, ℕ, Bool, not, List, refl, sym, ap, if◌then◌else◌}
 use mathlib.Core.Path.{fun_ext}
 use Rattle.std.specs.Prelude.{is_some}
-use Rattle.mdl_key.specs.declared.mode.Mode.TheVariants.{IX}
-use Rattle.mdl_key.specs.declared.mode.Duration.TheVariants as for
-use Rattle.mdl_key.specs.Keys.{KeyName, global_key}
+use Rattle.mdl_key.specs.Keys.{KeyName}
 use Rattle.mdl_syntax.specs.declared.statement.Priority.{Priority}
 use Rattle.mdl_context.specs.declared.request.Mark.{Mark}
-use Rattle.mdl_stmt.specs.declared.error_number.ErrorNumber.TheVariants.{ActiveLocks, ConflictingReadLock}
+use Rattle.mdl_stmt.specs.declared.error_number.ErrorNumber.TheVariants.{ConflictingReadLock}
 use Rattle.mdl_stmt.specs.declared.reply.Reply.{Reply}
 use Rattle.mdl_stmt.specs.declared.reply.Reply.TheVariants as reply
 use Rattle.mdl_syntax.specs.declared.statement.Statement.{Statement}
 use Rattle.mdl_syntax.specs.declared.statement.Statement.TheVariants as statement
 use Rattle.mdl_stmt.specs.Gets.{at_rest}
 use Rattle.mdl_stmt.specs.Playing.{play}
-use Rattle.mdl_stmt.specs.Rows.{Row, Give, Fail, Room, Look, Set, Here, Acquire, Give_up, Release, Read, Redefine, Kill, ◌>>=◌, ◌>>◌, acquire, check, nothing}
+use Rattle.mdl_stmt.specs.Rows.{Row, Give, Fail, Room, Look, Set, Here, Acquire, Give_up, Release, Read, Redefine, Kill, ◌>>=◌, ◌>>◌, check}
 use Rattle.mdl_stmt.specs.Sessions.{PlayerView}
-use Rattle.mdl_stmt.specs.States.{Locked, has_locked}
-use Rattle.mdl_stmt.specs.Statements.{after_commit, commit, commit_first, commit_writes, ddl_first, end_transaction, no_locked_tables, lock_and_write, lock_held, lock_to_read, select, show_all, write, write_locked, write_unlocked}
+use Rattle.mdl_stmt.specs.States.{has_locked}
+use Rattle.mdl_stmt.specs.Statements.{after_commit, no_read_lock, write, write_locked, write_unlocked}
 
 -- three rows in a row
 pub bind-assoc : {A B C : Type 0} (m : Row A) (f : A → Row B) (g : B → Row C) → (m >>= f) >>= g ≡ m >>= (λ x. f x >>= g)
@@ -34,43 +32,32 @@ bind-assoc (Read id rest) f g = ap (Read id) (fun_ext (λ x. bind-assoc (rest x)
 bind-assoc (Redefine id change rest) f g = ap (Redefine id change) (bind-assoc rest f g)
 bind-assoc (Kill target rest) f g = ap (Kill target) (bind-assoc rest f g)
 
--- ---- without locked tables
+-- ---- locked tables, and the global read lock
 
-pub select-so : (x : PlayerView) (tables : List KeyName) → x.state.locked ≡ [] → (mark : Mark) →
-    play (show_all lock_to_read [] tables) mark (at_rest x) ≡ play (select tables) mark (at_rest x)
-select-so x tables e mark = sym (ap (λ (locked : List Locked). play (show_all (if has_locked locked then lock_held else lock_to_read) [] tables) mark (at_rest x)) e)
+pub write-so : (x : PlayerView) (table : KeyName) (priority : Priority) (test : Bool) → has_locked x.state.locked ≡ test → (mark : Mark) →
+    play (if test then write_locked table else write_unlocked table priority) mark (at_rest x) ≡ play (write table priority) mark (at_rest x)
+write-so x table priority test e mark = sym (ap (λ (t : Bool). play (if t then write_locked table else write_unlocked table priority) mark (at_rest x)) e)
 
-pub write-so : (x : PlayerView) (table : KeyName) (priority : Priority) → x.state.locked ≡ [] → x.state.read_lock ≡ None → (mark : Mark) →
-    play (acquire global_key IX for.Statement >> lock_and_write table priority) mark (at_rest x) ≡ play (write table priority) mark (at_rest x)
-write-so x table priority e f mark =
-    sym (ap (λ (locked : List Locked). play (if has_locked locked then write_locked table else write_unlocked table priority) mark (at_rest x)) e
-    ∙ ap (λ (lock : Option (ℕ × ℕ)). play (check (not (is_some lock)) ConflictingReadLock >> (acquire global_key IX for.Statement >> lock_and_write table priority)) mark (at_rest x)) f)
+pub read_lock-so : (x : PlayerView) (rest : Row Reply) (test : Bool) → is_some x.state.read_lock ≡ test → (mark : Mark) →
+    play (check (not test) ConflictingReadLock >> rest) mark (at_rest x) ≡ play (no_read_lock >> rest) mark (at_rest x)
+read_lock-so x rest test e mark = sym (ap (λ (t : Bool). play (check (not t) ConflictingReadLock >> rest) mark (at_rest x)) e)
 
-pub ddl-so : (x : PlayerView) (rest : Row Reply) → x.state.locked ≡ [] → x.state.read_lock ≡ None → (mark : Mark) →
-    play (commit_first rest) mark (at_rest x) ≡ play (ddl_first rest) mark (at_rest x)
-ddl-so x rest e f mark =
-    sym (ap (λ (lock : Option (ℕ × ℕ)). play ((check (not (is_some lock)) ConflictingReadLock >> (no_locked_tables >> commit)) >> rest) mark (at_rest x)) f
-    ∙ ap (λ (locked : List Locked). play ((check (not (has_locked locked)) ActiveLocks >> commit) >> rest) mark (at_rest x)) e)
-
--- ---- without an open transaction
-
-pub closed-so : (x : PlayerView) (rest : Row Reply) → x.state.is_open ≡ false → (mark : Mark) →
-    play rest mark (at_rest x) ≡ play (commit_first rest) mark (at_rest x)
-closed-so x rest shut mark =
-    sym (ap (λ (it : Bool). play ((if it then (if x.state.has_written then commit_writes else end_transaction) else nothing) >> rest) mark (at_rest x)) shut)
+-- ---- what is left after a commit
 
 -- all others are done once the transaction is committed
 pub after-others : (st : Statement) → (st ≡ statement.Begin → ⊥) → ((table : KeyName) (columns : List (List ℕ)) → st ≡ statement.CreateTable table columns → ⊥) →
-    ((name : List ℕ) → st ≡ statement.CreateSchema name → ⊥) → ((tables : List KeyName) → st ≡ statement.DropTables tables → ⊥) → after_commit st ≡ Give reply.Ok
-after-others statement.Begin a b c d = absurd (a refl)
-after-others statement.Commit a b c d = refl
-after-others statement.Rollback a b c d = refl
-after-others (statement.Savepoint name) a b c d = refl
-after-others (statement.RollbackTo name) a b c d = refl
-after-others (statement.Select tables) a b c d = refl
-after-others (statement.Write table priority) a b c d = refl
-after-others (statement.CreateTable table columns) a b c d = absurd (b table columns refl)
-after-others (statement.CreateSchema name) a b c d = absurd (c name refl)
-after-others (statement.DropTables tables) a b c d = absurd (d tables refl)
-after-others (statement.KillQuery target) a b c d = refl
-after-others statement.Timeout a b c d = refl
+    ((name : List ℕ) → st ≡ statement.CreateSchema name → ⊥) → ((tables : List KeyName) → st ≡ statement.DropTables tables → ⊥) →
+    ((from to : KeyName) → st ≡ statement.RenameTable from to → ⊥) → after_commit st ≡ Give reply.Ok
+after-others statement.Begin a b c d e = absurd (a refl)
+after-others statement.Commit a b c d e = refl
+after-others statement.Rollback a b c d e = refl
+after-others (statement.Savepoint name) a b c d e = refl
+after-others (statement.RollbackTo name) a b c d e = refl
+after-others (statement.Select tables) a b c d e = refl
+after-others (statement.Write table priority) a b c d e = refl
+after-others (statement.CreateTable table columns) a b c d e = absurd (b table columns refl)
+after-others (statement.CreateSchema name) a b c d e = absurd (c name refl)
+after-others (statement.DropTables tables) a b c d e = absurd (d tables refl)
+after-others (statement.RenameTable from to) a b c d e = absurd (e from to refl)
+after-others (statement.KillQuery target) a b c d e = refl
+after-others statement.Timeout a b c d e = refl

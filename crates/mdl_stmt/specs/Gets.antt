@@ -103,6 +103,12 @@ IsListed joins locks a before (listed.Waits key mode had) b after =
     (rest : List ℕ → Row Reply) → Waits joins a before (play (lock_rest locks rest)) key mode (λ ticket. lock_rest (with_ticket ticket had) rest) b after
 IsListed joins locks a before (listed.Ends ending) b after = (rest : List ℕ → Row Reply) → Comes joins a before (play (lock_rest locks rest)) b after (closing ending)
 
+-- its keys stay
+abbrev pub KeepsKeys : LockList → Listed → Type 0
+KeepsKeys locks (listed.Had all) = all.keys ≡ locks.keys
+KeepsKeys locks (listed.Waits key mode had) = had.keys ≡ locks.keys
+KeepsKeys locks (listed.Ends ending) = Unit {0}
+
 -- there is a wait only where one has begun
 abbrev pub IdleUnlessListed : Listed → PlayerView → Type 0
 IdleUnlessListed (listed.Had all) player = player.context.wait ≡ None

@@ -1,12 +1,12 @@
 -- A session of statements: its tickets, its state, and what is left of a statement that waits.
-use Rattle.std.specs.Prelude.{ℕ, Bool, List, [], Option, None}
+use Rattle.std.specs.Prelude.{ℕ, Bool, List, Option}
 use Rattle.mdl_context.specs.declared.request.Mark.{Mark}
 use Rattle.mdl_context.specs.Contexts.{ContextView}
 use Rattle.mdl_stmt.specs.declared.reply.Reply.{Reply}
 use Rattle.mdl_stmt.specs.declared.runner.Work.{Work}
 use Rattle.mdl_stmt.specs.declared.savepoint.Savepoint.{Savepoint}
 use Rattle.mdl_stmt.specs.Rows.{Row}
-use Rattle.mdl_stmt.specs.States.{State}
+use Rattle.mdl_stmt.specs.States.{ExplicitLocks, State}
 
 -- what is left once the lock is had that the statement waits for, by the number of its ticket; and where the session stood
 -- as the statement began
@@ -25,14 +25,21 @@ pub record PlayerView : Type 0 where
   pub context : ContextView
   pub state : State
 
--- what a session keeps that has locked no tables and has no global read lock
-abbrev pub without_locked : Bool → Bool → List Savepoint → State
-without_locked is_open has_written savepoints =
-    record { is_open = is_open; has_written = has_written; savepoints = savepoints; locked = []; scopes = []; read_lock = None }
+-- what a session keeps, by what it keeps until it gives it up, and its transaction
+abbrev pub state_of : ExplicitLocks → Bool → Bool → List Savepoint → State
+state_of explicit is_open has_written savepoints =
+    record {
+      is_open = is_open;
+      has_written = has_written;
+      savepoints = savepoints;
+      locked = explicit.locked;
+      scopes = explicit.scopes;
+      read_lock = explicit.read_lock;
+    }
 
--- a session that has locked no tables and has no global read lock
-abbrev pub player_of : ContextView → Bool → Bool → List Savepoint → PlayerView
-player_of context is_open has_written savepoints = record { context = context; state = without_locked is_open has_written savepoints }
+-- a session that keeps this
+abbrev pub player_of : ExplicitLocks → ContextView → Bool → Bool → List Savepoint → PlayerView
+player_of explicit context is_open has_written savepoints = record { context = context; state = state_of explicit is_open has_written savepoints }
 
 -- a session as its runner keeps it
 pub record RunnerView : Type 0 where

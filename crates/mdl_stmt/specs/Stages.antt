@@ -7,11 +7,11 @@ use Rattle.mdl_stmt.specs.declared.reply.Reply.TheVariants as reply
 use Rattle.mdl_stmt.specs.declared.reply.TableShown.{TableShown}
 use Rattle.mdl_stmt.specs.declared.runner.Work.{Work}
 use Rattle.mdl_stmt.specs.declared.stage.Stage.{Stage}
-use Rattle.mdl_stmt.specs.declared.stage.Stage.TheVariants.{Commit, Show, WriteGlobal, WriteTable, CommitWrite, CreateGlobal, CreateSchema, CreateTable, SchemaGlobal, NewSchema, DropScopes, DropTables}
-use Rattle.mdl_stmt.specs.LockLists.{LockList, with_ticket}
+use Rattle.mdl_stmt.specs.declared.stage.Stage.TheVariants.{Commit, Show, WriteGlobal, WriteTable, CommitWrite, CreateGlobal, CreateSchema, CreateTable, SchemaGlobal, NewSchema, DropScopes, DropTables, RenameScopes, RenameTables}
+use Rattle.mdl_stmt.specs.LockLists.{LockList, ticket_of, with_ticket}
 use Rattle.mdl_stmt.specs.Rows.{Row, Give, ◌>>=◌, ◌>>◌, acquire_all}
 use Rattle.mdl_stmt.specs.Sessions.{Left, RunnerView, Session}
-use Rattle.mdl_stmt.specs.Statements.{after_commit, end_under, show, show_all, lock_to_read, lock_and_write, write_under, ddl_lock, lock_schema_and_create, lock_and_create, create_under, lock_and_create_schema, create_schema_under, lock_and_drop, drop_under}
+use Rattle.mdl_stmt.specs.Statements.{after_commit, end_under, show, show_all, lock_to_read, lock_and_write, write_under, ddl_lock, lock_schema_and_create, lock_and_create, create_under, lock_and_create_schema, create_schema_under, lock_and_drop, drop_under, lock_and_rename, rename_under, schema_of}
 
 -- the first of these tables is locked
 abbrev pub show_next : List TableShown → List KeyName → ℕ → Row Reply
@@ -25,6 +25,13 @@ abbrev pub lock_rest : LockList → (List ℕ → Row Reply) → Row Reply
 lock_rest locks rest = do
   more ← acquire_all (map ddl_lock (drop (length locks.tickets) locks.keys))
   rest (locks.tickets ++ more)
+
+-- the locks that are left of both names of a table and of their scopes, and then its other name
+abbrev pub rename_names : KeyName → KeyName → ℕ → LockList → List KeyName → Row Reply
+rename_names from to schema locks keys = lock_rest locks (λ tickets. rename_under schema (ticket_of from keys tickets) (ticket_of to keys tickets))
+
+abbrev pub rename_scopes : KeyName → KeyName → LockList → List KeyName → Row Reply
+rename_scopes from to locks keys = lock_rest locks (λ scopes. lock_and_rename from to (ticket_of (schema_of to) keys scopes))
 
 -- what is left of a statement
 abbrev pub rest_of : Stage → ℕ → Row Reply
@@ -40,6 +47,8 @@ rest_of (SchemaGlobal name) global = lock_and_create_schema name.now
 rest_of NewSchema ticket = create_schema_under ticket
 rest_of (DropScopes tables locks) ticket = lock_rest (with_ticket ticket locks) (λ scopes. lock_and_drop tables.now)
 rest_of (DropTables locks) ticket = lock_rest (with_ticket ticket locks) drop_under
+rest_of (RenameScopes from to locks) ticket = rename_scopes from.now to.now (with_ticket ticket locks) locks.keys
+rest_of (RenameTables from to schema locks) ticket = rename_names from.now to.now schema (with_ticket ticket locks) locks.keys
 
 -- the same with where the session stood as the statement began
 abbrev pub left_of : Work → Left

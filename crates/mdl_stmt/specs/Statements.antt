@@ -1,8 +1,8 @@
 -- What each statement does, after MySQL 5.7: the Reference Manual, "Metadata Locking", "START TRANSACTION, COMMIT, and ROLLBACK
 -- Statements", "SAVEPOINT, ROLLBACK TO SAVEPOINT, and RELEASE SAVEPOINT Statements" and "LOCK TABLES and UNLOCK TABLES Statements".
 -- Checks stand in the order in which they are made. This project's own choice is that CREATE TABLE has its lock before it looks at
--- schema, table and columns, and CREATE SCHEMA before it looks at the schema, that DROP TABLE drops none where one is missing, that changes of definitions take no COMMIT lock of their
--- own and are refused under locked tables, that a savepoint outside a transaction is nothing, that going back releases what was gained
+-- schema, table and columns, and CREATE SCHEMA before it looks at the schema, that DROP TABLE drops none where one is missing, that
+-- RENAME TABLE needs the schema of the new name, that changes of definitions take no COMMIT lock of their own and are refused under locked tables, that a savepoint outside a transaction is nothing, that going back releases what was gained
 -- since, whatever was written, and leaves the transaction one that wrote, and that KILL QUERY is always done.
 use Rattle.std.specs.Prelude.{ℕ, Bool, not, nat_lt, List, [], ◌∷◌, ◌++◌, map, find, is_some, Option, Some, None, if◌then◌else◌}
 use Rattle.mdl_key.specs.declared.mode.Mode.{Mode}
@@ -24,12 +24,14 @@ use Rattle.mdl_context.specs.declared.request.Mark.{Mark}
 use Rattle.mdl_context.specs.Contexts.{beyond_mark, of_transaction}
 use Rattle.mdl_context.specs.Wishes.{Wish}
 use Rattle.mdl_stmt.specs.declared.error_number.ErrorNumber.TheVariants.{SchemaExists, UnknownDatabase, TableExists, DuplicateColumn, TableLockedForRead, TableNotLocked, NoSuchTable, ActiveLocks, ConflictingReadLock, NoSuchSavepoint, VersionLimit}
+use Rattle.mdl_stmt.specs.declared.explicit.Locked.{Locked}
 use Rattle.mdl_stmt.specs.declared.reply.Reply.{Reply}
 use Rattle.mdl_stmt.specs.declared.reply.Reply.TheVariants as reply
 use Rattle.mdl_stmt.specs.declared.reply.TableShown.{TableShown}
 use Rattle.mdl_stmt.specs.KeyOrder.{in_key_order}
+use Rattle.mdl_stmt.specs.LockLists.{ticket_of}
 use Rattle.mdl_stmt.specs.Rows.{Row, Act, Give, Fail, Acquire, ◌>>=◌, ◌>>◌, nothing, room, look, set, here, acquire, give_up, release, read, redefine, kill, check, acquire_all, for_each}
-use Rattle.mdl_stmt.specs.States.{Locked, has_locked, opened, closed, written, unlocked, with_savepoint, savepoint_mark, up_to}
+use Rattle.mdl_stmt.specs.States.{has_locked, opened, closed, written, unlocked, with_savepoint, savepoint_mark, up_to}
 
 -- ---- transactions
 
@@ -181,6 +183,12 @@ lock_held table = do
   locked ← held_lock table
   Give locked.ticket
 
+-- a table is shown under the lock that is held
+abbrev pub show_held : List TableShown → KeyName → Row (List TableShown)
+show_held shown table = do
+  ticket ← lock_held table
+  show shown table ticket
+
 -- SELECT
 abbrev pub select : List KeyName → Row Reply
 select tables = do
@@ -213,12 +221,17 @@ lock_and_write table priority = do
   ticket ← acquire table (write_mode priority) for.Transaction
   write_under ticket
 
+-- all writes are locked, against whoever would keep the data still, and then the table
+abbrev pub lock_writes : KeyName → Priority → Row Reply
+lock_writes table priority = do
+  global ← acquire global_key IX for.Statement
+  lock_and_write table priority
+
 -- a write of a session that has locked no tables
 abbrev pub write_unlocked : KeyName → Priority → Row Reply
 write_unlocked table priority = do
   no_read_lock
-  global ← acquire global_key IX for.Statement
-  lock_and_write table priority
+  lock_writes table priority
 
 -- a write of one that has
 abbrev pub write_locked : KeyName → Row Reply
@@ -364,6 +377,63 @@ drop_after_commit tables = do
   scopes ← acquire_all (map ddl_lock (global_key ∷ in_key_order (map schema_of tables)))
   lock_and_drop tables
 
+-- ---- RENAME TABLE
+
+-- there is no table under this lock
+abbrev pub is_free : ℕ → Act
+is_free ticket = do
+  standing ← read ticket
+  check (not (is_defined standing)) TableExists
+
+-- a definition that has to be there
+abbrev pub has_definition : Option Definition → Row Definition
+has_definition (Some definition) = Give definition
+has_definition None = Fail NoSuchTable
+
+-- the definition of a table, under its lock
+abbrev pub definition_under : ℕ → Row Definition
+definition_under ticket = do
+  standing ← read ticket
+  has_definition standing.definition
+
+-- a definition goes from one table to another; each can be changed once more before the first of them is
+abbrev pub move_definition : Definition → ℕ → ℕ → Row Reply
+move_definition definition from to = do
+  for_each can_change (to ∷ from ∷ [])
+  redefine to (change.Put definition)
+  redefine from change.Drop
+  Give reply.Ok
+
+-- a table is renamed under the locks of both names and of the schema that it comes into
+abbrev pub rename_under : ℕ → ℕ → ℕ → Row Reply
+rename_under schema from to = do
+  is_free to
+  definition ← definition_under from
+  check_schema schema
+  move_definition definition from to
+
+-- both names in key order
+abbrev pub both_names : KeyName → KeyName → List KeyName
+both_names from to = in_key_order (from ∷ to ∷ [])
+
+-- both names are locked in key order, under the locks of their schemas, before the first is looked at
+abbrev pub lock_and_rename : KeyName → KeyName → ℕ → Row Reply
+lock_and_rename from to schema = do
+  room
+  tickets ← acquire_all (map ddl_lock (both_names from to))
+  rename_under schema (ticket_of from (both_names from to) tickets) (ticket_of to (both_names from to) tickets)
+
+-- all writes, and the schemas of both names in key order
+abbrev pub both_scopes : KeyName → KeyName → List KeyName
+both_scopes from to = global_key ∷ in_key_order (map schema_of (from ∷ to ∷ []))
+
+-- RENAME TABLE, once no transaction is open
+abbrev pub rename_after_commit : KeyName → KeyName → Row Reply
+rename_after_commit from to = do
+  room
+  scopes ← acquire_all (map ddl_lock (both_scopes from to))
+  lock_and_rename from to (ticket_of (schema_of to) (both_scopes from to) scopes)
+
 -- ---- the table
 
 -- an open transaction is committed first
@@ -380,6 +450,7 @@ after_commit statement.Begin = begin_after_commit
 after_commit (statement.CreateTable table columns) = create_after_commit table columns
 after_commit (statement.CreateSchema name) = create_schema_after_commit name
 after_commit (statement.DropTables tables) = drop_after_commit tables
+after_commit (statement.RenameTable from to) = rename_after_commit from to
 after_commit _ = Give reply.Ok
 
 -- what a statement does
@@ -394,5 +465,6 @@ row_of (statement.Write table priority) = write table priority
 row_of (statement.CreateTable table columns) = ddl_first (create_after_commit table columns)
 row_of (statement.CreateSchema name) = ddl_first (create_schema_after_commit name)
 row_of (statement.DropTables tables) = ddl_first (drop_after_commit tables)
+row_of (statement.RenameTable from to) = ddl_first (rename_after_commit from to)
 row_of (statement.KillQuery target) = kill target >> Give reply.Ok
 row_of statement.Timeout = Give reply.Ok

@@ -4,15 +4,10 @@ use Rattle.std.specs.Prelude.{ℕ, Bool, true, false, not, List, [], ◌∷◌, 
 use Rattle.std.specs.Option.{option_map}
 use lib.Pointwise.{pointwise}
 use Rattle.std.specs.Prelude.{◌==◌}
-use Rattle.mdl_key.specs.Keys.{KeyName}
 use Rattle.mdl_context.specs.declared.request.Mark.{Mark}
+use Rattle.mdl_stmt.specs.declared.explicit.Locked.{Locked}
+use Rattle.mdl_stmt.specs.declared.explicit.ReadLock.{ReadLock}
 use Rattle.mdl_stmt.specs.declared.savepoint.Savepoint.{Savepoint}
-
--- a table that LOCK TABLES locked, whether it may be written, and the ticket by which it is locked
-pub record Locked : Type 0 where
-  pub key : KeyName
-  pub may_write : Bool
-  pub ticket : ℕ
 
 -- whether a transaction is open, whether it wrote, and its savepoints in order; the locked tables, and the tickets of their
 -- scopes; and the tickets of the global read lock, where the session has it
@@ -22,7 +17,13 @@ pub record State : Type 0 where
   pub savepoints : List Savepoint
   pub locked : List Locked
   pub scopes : List ℕ
-  pub read_lock : Option (ℕ × ℕ)
+  pub read_lock : Option ReadLock
+
+-- what of that a session keeps until it gives it up
+pub record ExplicitLocks : Type 0 where
+  pub locked : List Locked
+  pub scopes : List ℕ
+  pub read_lock : Option ReadLock
 
 -- whether any table is locked
 abbrev pub has_locked : List Locked → Bool

@@ -137,7 +137,7 @@ impl<S: LockSpace> Player<S> {
     }
 
     /// Looks whether a schema is there.
-    fn check_schema(&mut self, space: &mut S, schema: TicketId) -> Result<(), Ending>
+    pub(crate) fn check_schema(&mut self, space: &mut S, schema: TicketId) -> Result<(), Ending>
         requires attends { Attends S.speaks_for S.own S.knows space.old self.old.context }
         requires idle { self.old.context.wait ≡ None }
         ensures run { IsStep S.joins (check_schema schema) space.old self.old result space.new self.new }

@@ -2,7 +2,7 @@
 ghost use Rattle.std.specs.Prelude.{◌≡◌, ◌<◌, ◌∷◌, ◌++◌, None, map, length};
 ghost use Rattle.mdl_context.specs.Contexts.{Attends, LeavesOthers};
 ghost use Rattle.mdl_defs.specs.declared.change.Change.TheVariants as change;
-ghost use Rattle.mdl_stmt.specs.Gets.{IsPlayed, IsStep, IsListed, IdleUnlessPlayed, IdleUnlessListed};
+ghost use Rattle.mdl_stmt.specs.Gets.{IsPlayed, IsStep, IsListed, KeepsKeys, IdleUnlessPlayed, IdleUnlessListed};
 ghost use Rattle.mdl_stmt.specs.Rows.{acquire_all, for_each, redefine};
 ghost use Rattle.mdl_stmt.specs.Stages.{lock_rest};
 ghost use Rattle.mdl_stmt.specs.Statements.{ddl_lock, drop_after_commit, lock_and_drop, drop_under, can_change, stands};
@@ -95,10 +95,11 @@ impl<S: LockSpace> Player<S> {
     }
 
     /// Gets the locks that are left of a list.
-    fn lock_all(&mut self, space: &mut S, locks: LockList) -> Listed
+    pub(crate) fn lock_all(&mut self, space: &mut S, locks: LockList) -> Listed
         requires attends { Attends S.speaks_for S.own S.knows space.old self.old.context }
         requires idle { self.old.context.wait ≡ None }
         ensures run { IsListed S.joins locks space.old self.old result space.new self.new }
+        ensures keys { KeepsKeys locks result }
         ensures attends { Attends S.speaks_for S.own S.knows space.new self.new.context }
         ensures others { LeavesOthers S.speaks_for S.own S.knows self.old.context.who space.old space.new }
         ensures who { self.new.context.who ≡ self.old.context.who }
@@ -178,7 +179,11 @@ impl<S: LockSpace> Player<S> {
     }
 
     /// Looks whether all these tables can be changed once more.
-    fn all_can_change(&mut self, space: &mut S, tickets: &[TicketId]) -> Result<(), Ending>
+    pub(crate) fn all_can_change(
+        &mut self,
+        space: &mut S,
+        tickets: &[TicketId],
+    ) -> Result<(), Ending>
         requires attends { Attends S.speaks_for S.own S.knows space.old self.old.context }
         requires idle { self.old.context.wait ≡ None }
         ensures run { IsStep S.joins (for_each can_change tickets.now) space.old self.old result space.new self.new }

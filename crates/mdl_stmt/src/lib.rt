@@ -6,18 +6,21 @@ mod creating_schemas;
 mod dropping;
 mod ending;
 mod error_number;
+mod explicit;
 mod key_lists;
 mod memory_laws;
 mod out_of_memory;
 mod performing;
 mod player;
 mod reading;
+mod renaming;
 mod reply;
 mod rows;
 mod runner;
 mod savepoint;
 mod stage;
 mod transactions;
+mod unlocking;
 
 pub use error_number::ErrorNumber;
 pub use memory_laws::{

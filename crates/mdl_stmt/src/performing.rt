@@ -10,6 +10,7 @@ ghost use Rattle.mdl_stmt.specs.Statements.{row_of, ddl_first, after_commit};
 
 use crate::ending::{Ending, Played};
 use crate::player::Player;
+use crate::reading::failing;
 use crate::stage::Stage;
 use crate::{ErrorNumber, OutOfMemory, Progress, Reply};
 use mdl_context::Mark;
@@ -33,6 +34,7 @@ impl<S: LockSpace> Player<S> {
             Statement::CreateTable { .. } => self.define(space, statement),
             Statement::CreateSchema(_) => self.define(space, statement),
             Statement::DropTables(_) => self.define(space, statement),
+            Statement::RenameTable { .. } => self.define(space, statement),
             Statement::Rollback => {
                 self.rollback(space);
                 Played::Ends(Ending::Answers(Reply::Ok))
@@ -49,7 +51,7 @@ impl<S: LockSpace> Player<S> {
         }
     }
 
-    // Performs a statement that changes definitions. No transaction is open when it does.
+    // Performs a statement that changes definitions. No transaction is open when it does, and nothing is locked as a whole.
     fn define<'s>(&mut self, space: &mut S, statement: &'s Statement) -> Played<'s>
         requires attends { Attends S.speaks_for S.own S.knows space.old self.old.context }
         requires idle { self.old.context.wait ≡ None }
@@ -59,10 +61,13 @@ impl<S: LockSpace> Player<S> {
         ensures who { self.new.context.who ≡ self.old.context.who }
         ensures idle { IdleUnlessPlayed result self.new }
     {
-        if self.is_open {
-            return self.commit_first(space, statement);
+        if self.explicit.has_read_lock() {
+            return Played::Ends(failing(ErrorNumber::ConflictingReadLock));
         }
-        self.after_commit(space, statement)
+        if self.explicit.has_locked() {
+            return Played::Ends(failing(ErrorNumber::ActiveLocks));
+        }
+        self.commit_first(space, statement)
     }
 
     /// Goes on with a statement that has the lock that it waited for, up to its end or to the next wait.
@@ -107,6 +112,12 @@ impl<S: LockSpace> Player<S> {
                 self.lock_scopes(space, tables, locks.with(ticket))
             }
             Stage::DropTables(locks) => self.lock_tables(space, locks.with(ticket)),
+            Stage::RenameScopes(from, to, locks) => {
+                self.lock_rename_scopes(space, from, to, locks.with(ticket))
+            }
+            Stage::RenameTables(from, to, schema, locks) => {
+                self.lock_names(space, from, to, schema, locks.with(ticket))
+            }
         }
     }
 

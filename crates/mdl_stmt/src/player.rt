@@ -8,6 +8,7 @@ ghost use Rattle.mdl_stmt.specs.States.{at_first};
 
 use crate::ErrorNumber;
 use crate::ending::{Ending, Got};
+use crate::explicit::ExplicitLocks;
 use crate::savepoint::Savepoints;
 use mdl_context::{Acquire, Context, ContextError, Request, Resume};
 use mdl_key::Key;
@@ -15,7 +16,7 @@ use mdl_space::{LockSpace, Settled, SpaceError, TicketId};
 use std::alloc::Global;
 use std::marker::Model;
 
-/// A session's tickets, and its transaction.
+/// A session's tickets, its transaction, and what it keeps until it gives it up.
 #[derive(Drop)]
 pub(crate) struct Player<S: LockSpace> {
     pub(crate) alloc: Global,
@@ -23,6 +24,7 @@ pub(crate) struct Player<S: LockSpace> {
     pub(crate) is_open: bool,
     pub(crate) has_written: bool,
     pub(crate) savepoints: Savepoints,
+    pub(crate) explicit: ExplicitLocks,
 }
 
 impl<S: LockSpace> Model for Player<S> {
@@ -30,7 +32,7 @@ impl<S: LockSpace> Model for Player<S> {
 
     ghost Value = { PlayerView };
 
-    ghost view = { λ player. player_of player.context player.is_open player.has_written player.savepoints };
+    ghost view = { λ player. player_of player.explicit player.context player.is_open player.has_written player.savepoints };
 }
 
 impl<S: LockSpace> Player<S> {
@@ -44,6 +46,7 @@ impl<S: LockSpace> Player<S> {
             is_open: false,
             has_written: false,
             savepoints: Savepoints::new(alloc),
+            explicit: ExplicitLocks::new(alloc),
         }
     }
 

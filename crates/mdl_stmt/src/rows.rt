@@ -1,14 +1,16 @@
 //! SELECT, and INSERT, UPDATE and DELETE.
-ghost use Rattle.std.specs.Prelude.{◌≡◌, None, drop};
+ghost use Rattle.std.specs.Prelude.{◌≡◌, None, [], drop};
 ghost use Rattle.mdl_context.specs.Contexts.{Attends, LeavesOthers};
-ghost use Rattle.mdl_stmt.specs.Gets.{IsPlayed, IdleUnlessPlayed};
+ghost use Rattle.mdl_stmt.specs.Gets.{IsPlayed, IsStep, IdleUnlessPlayed};
 ghost use Rattle.mdl_stmt.specs.Stages.{show_next};
-ghost use Rattle.mdl_stmt.specs.Statements.{lock_to_read, select, show_all, write, write_mode, write_under, wrote, lock_and_write};
+ghost use Rattle.mdl_stmt.specs.Statements.{lock_to_read, lock_held, select, show_held, show_all, write, write_locked, lock_writes, write_mode, write_under, wrote, lock_and_write};
+ghost use Rattle.mdl_stmt.specs.declared.ending.Played.TheVariants as played;
 
 use crate::ending::{Ending, Got, Played};
 use crate::player::Player;
+use crate::reading::failing;
 use crate::stage::Stage;
-use crate::{Reply, TablesShown};
+use crate::{ErrorNumber, Reply, TablesShown};
 use mdl_context::Request;
 use mdl_key::{Duration, Key, Mode};
 use mdl_space::{LockSpace, TicketId};
@@ -25,8 +27,53 @@ impl<S: LockSpace> Player<S> {
         ensures who { self.new.context.who ≡ self.old.context.who }
         ensures idle { IdleUnlessPlayed result self.new }
     {
+        if self.explicit.has_locked() {
+            return Played::Ends(self.show_locked(space, tables));
+        }
         let shown = TablesShown::new(self.alloc);
         self.show_from(space, shown, tables, 0)
+    }
+
+    /// Shows tables that are locked already.
+    fn show_locked(&mut self, space: &mut S, tables: &[Key]) -> Ending
+        requires attends { Attends S.speaks_for S.own S.knows space.old self.old.context }
+        requires idle { self.old.context.wait ≡ None }
+        ensures run { IsPlayed S.joins (show_all lock_held [] tables.now) space.old self.old (played.Ends result) space.new self.new }
+        ensures attends { Attends S.speaks_for S.own S.knows space.new self.new.context }
+        ensures others { LeavesOthers S.speaks_for S.own S.knows self.old.context.who space.old space.new }
+        ensures who { self.new.context.who ≡ self.old.context.who }
+        ensures idle { self.new.context.wait ≡ None }
+    {
+        let mut shown = TablesShown::new(self.alloc);
+        for table in tables {
+            shown = match self.show_held(space, shown, table) {
+                Ok(more) => more,
+                Err(ending) => return ending,
+            };
+        }
+        Ending::Answers(Reply::Columns(shown))
+    }
+
+    /// Shows a table under the lock that is held, behind those that were shown.
+    fn show_held(
+        &mut self,
+        space: &mut S,
+        shown: TablesShown,
+        table: &Key,
+    ) -> Result<TablesShown, Ending>
+        requires attends { Attends S.speaks_for S.own S.knows space.old self.old.context }
+        requires idle { self.old.context.wait ≡ None }
+        ensures run { IsStep S.joins (show_held shown table.now) space.old self.old result space.new self.new }
+        ensures attends { Attends S.speaks_for S.own S.knows space.new self.new.context }
+        ensures others { LeavesOthers S.speaks_for S.own S.knows self.old.context.who space.old space.new }
+        ensures who { self.new.context.who ≡ self.old.context.who }
+        ensures idle { self.new.context.wait ≡ None }
+    {
+        let Some(locked) = self.explicit.find(table) else {
+            return Err(failing(ErrorNumber::TableNotLocked));
+        };
+        let ticket = locked.ticket;
+        self.show(space, shown, table, ticket)
     }
 
     /// Locks and shows each of these tables from one on, behind those that were shown.
@@ -104,6 +151,44 @@ impl<S: LockSpace> Player<S> {
         requires attends { Attends S.speaks_for S.own S.knows space.old self.old.context }
         requires idle { self.old.context.wait ≡ None }
         ensures run { IsPlayed S.joins (write table.now priority) space.old self.old result space.new self.new }
+        ensures attends { Attends S.speaks_for S.own S.knows space.new self.new.context }
+        ensures others { LeavesOthers S.speaks_for S.own S.knows self.old.context.who space.old space.new }
+        ensures who { self.new.context.who ≡ self.old.context.who }
+        ensures idle { IdleUnlessPlayed result self.new }
+    {
+        if self.explicit.has_locked() {
+            return self.write_locked(space, table);
+        }
+        if self.explicit.has_read_lock() {
+            return Played::Ends(failing(ErrorNumber::ConflictingReadLock));
+        }
+        self.lock_writes(space, table, priority)
+    }
+
+    /// Writes to a table that is locked already.
+    fn write_locked<'s>(&mut self, space: &mut S, table: &Key) -> Played<'s>
+        requires attends { Attends S.speaks_for S.own S.knows space.old self.old.context }
+        requires idle { self.old.context.wait ≡ None }
+        ensures run { IsPlayed S.joins (write_locked table.now) space.old self.old result space.new self.new }
+        ensures attends { Attends S.speaks_for S.own S.knows space.new self.new.context }
+        ensures others { LeavesOthers S.speaks_for S.own S.knows self.old.context.who space.old space.new }
+        ensures who { self.new.context.who ≡ self.old.context.who }
+        ensures idle { IdleUnlessPlayed result self.new }
+    {
+        let Some(locked) = self.explicit.find(table) else {
+            return Played::Ends(failing(ErrorNumber::TableNotLocked));
+        };
+        if !locked.may_write {
+            return Played::Ends(failing(ErrorNumber::TableLockedForRead));
+        }
+        self.wrote(space)
+    }
+
+    /// Gets the lock of all writes, and writes to a table.
+    fn lock_writes<'s>(&mut self, space: &mut S, table: &'s Key, priority: Priority) -> Played<'s>
+        requires attends { Attends S.speaks_for S.own S.knows space.old self.old.context }
+        requires idle { self.old.context.wait ≡ None }
+        ensures run { IsPlayed S.joins (lock_writes table.now priority) space.old self.old result space.new self.new }
         ensures attends { Attends S.speaks_for S.own S.knows space.new self.new.context }
         ensures others { LeavesOthers S.speaks_for S.own S.knows self.old.context.who space.old space.new }
         ensures who { self.new.context.who ≡ self.old.context.who }

@@ -1,7 +1,8 @@
 //! What a statement waits for.
-ghost use Rattle.std.specs.Prelude.{◌≡◌, [], length, slice_get, IfOk};
+ghost use Rattle.std.specs.Prelude.{◌≡◌, [], length, position, slice_get, IfOk};
 ghost use Rattle.std.specs.Option.{option_map};
-ghost use Rattle.mdl_stmt.specs.LockLists.{with_ticket};
+ghost use Rattle.mdl_key.specs.Keys.{key_eq};
+ghost use Rattle.mdl_stmt.specs.LockLists.{ticket_of, with_ticket};
 
 use crate::TablesShown;
 use mdl_defs::Columns;
@@ -57,12 +58,32 @@ impl LockList {
         self
     }
 
+    /// The ticket of a key; 0, which is no ticket, where it has none.
+    pub fn ticket_of(&self, key: &Key) -> TicketId
+        ensures { result ≡ ticket_of key.now self.now.keys self.now.tickets }
+    {
+        let Some(at) = place_of(&self.keys, key) else {
+            return 0;
+        };
+        match self.tickets.get(at) {
+            Some(ticket) => *ticket,
+            None => 0,
+        }
+    }
+
     /// The tickets.
     pub fn tickets(&self) -> &[TicketId]
         ensures { result.now ≡ self.now.tickets }
     {
         &self.tickets
     }
+}
+
+// The place of a key.
+fn place_of(keys: &[Key], key: &Key) -> Option<usize>
+    ensures { result ≡ position (key_eq key.now) keys.now }
+{
+    keys.iter().position(|other| key == other)
 }
 
 /// The lock that a statement waits for.
@@ -92,4 +113,8 @@ pub enum Stage<'s> {
     DropScopes(&'s Tables, LockList),
     /// The lock of a table that is to be dropped.
     DropTables(LockList),
+    /// The lock of all writes or that of a schema, for the first table to be renamed as the second.
+    RenameScopes(&'s Key, &'s Key, LockList),
+    /// The lock of one of its names, under that of the schema that it comes into.
+    RenameTables(&'s Key, &'s Key, TicketId, LockList),
 }

@@ -3,7 +3,7 @@ ghost use Rattle.std.specs.Prelude.{◌≡◌, None, Ok};
 ghost use Rattle.mdl_context.specs.Contexts.{Attends, LeavesOthers};
 ghost use Rattle.mdl_stmt.specs.Gets.{IsStep, IsCommitted, IsPlayed, IdleUnlessGot, IdleUnlessPlayed};
 ghost use Rattle.mdl_stmt.specs.declared.ending.Played.TheVariants as played;
-ghost use Rattle.mdl_stmt.specs.Statements.{end_transaction, end_under, commit, commit_writes, rollback, save, rollback_to, after_commit, commit_first};
+ghost use Rattle.mdl_stmt.specs.Statements.{end_transaction, end_under, commit, commit_writes, rollback, save, rollback_to, after_commit, begin_after_commit, commit_first};
 
 use crate::ending::{Ending, Got, Played};
 use crate::player::Player;
@@ -119,15 +119,28 @@ impl<S: LockSpace> Player<S> {
         ensures idle { IdleUnlessPlayed result self.new }
     {
         match statement {
-            Statement::Begin => {
-                self.is_open = true;
-                Played::Ends(Ending::Answers(Reply::Ok))
-            }
+            Statement::Begin => Played::Ends(self.begin(space)),
             Statement::CreateTable { table, columns } => self.create(space, table, columns),
             Statement::CreateSchema(name) => self.create_schema(space, name),
             Statement::DropTables(tables) => self.drop_tables(space, tables),
+            Statement::RenameTable { from, to } => self.rename(space, from, to),
             _ => Played::Ends(Ending::Answers(Reply::Ok)),
         }
+    }
+
+    /// Opens a transaction: tables that are locked are given up.
+    fn begin(&mut self, space: &mut S) -> Ending
+        requires attends { Attends S.speaks_for S.own S.knows space.old self.old.context }
+        requires idle { self.old.context.wait ≡ None }
+        ensures run { IsPlayed S.joins begin_after_commit space.old self.old (played.Ends result) space.new self.new }
+        ensures attends { Attends S.speaks_for S.own S.knows space.new self.new.context }
+        ensures others { LeavesOthers S.speaks_for S.own S.knows self.old.context.who space.old space.new }
+        ensures who { self.new.context.who ≡ self.old.context.who }
+        ensures idle { self.new.context.wait ≡ None }
+    {
+        self.unlock_tables(space);
+        self.is_open = true;
+        Ending::Answers(Reply::Ok)
     }
 
     /// Rolls an open transaction back.

@@ -30,6 +30,7 @@ statement_of-no_text word words bad =
       not_it (codes "DELETE") (codes "DELETE", (refl, refl)),
       not_it (codes "CREATE") (codes "CREATE", (refl, refl)),
       not_it (codes "DROP") (codes "DROP", (refl, refl)),
+      not_it (codes "RENAME") (codes "RENAME", (refl, refl)),
       not_it (codes "KILL") (codes "KILL", (refl, refl)),
       not_it (codes "TIMEOUT") (codes "TIMEOUT", (refl, refl)),
     ) refl where

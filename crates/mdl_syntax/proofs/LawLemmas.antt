@@ -21,12 +21,12 @@ use Rattle.mdl_syntax.specs.declared.script.Line.{Line}
 use Rattle.mdl_syntax.specs.declared.statement.Statement.{Statement}
 use Rattle.mdl_syntax.specs.declared.statement.Priority.{Priority}
 use Rattle.mdl_syntax.specs.declared.statement.Priority.TheVariants.{Normal, Low}
-use Rattle.mdl_syntax.specs.declared.statement.Statement.TheVariants.{Begin, Commit, Rollback, Savepoint, RollbackTo, Select, Write, CreateTable, CreateSchema, DropTables, KillQuery, Timeout}
+use Rattle.mdl_syntax.specs.declared.statement.Statement.TheVariants.{Begin, Commit, Rollback, Savepoint, RollbackTo, Select, Write, CreateTable, CreateSchema, DropTables, RenameTable, KillQuery, Timeout}
 use Rattle.mdl_syntax.specs.KeyWords.{behind}
 use Rattle.mdl_syntax.specs.Laws.{AreColumns, AreTables, IsName, IsTable, IsWithinLimits, RiseFrom}
 use Rattle.mdl_syntax.specs.Names.{is_dot, name_of, table_in, table_of, unless_fault}
 use Rattle.mdl_syntax.specs.Scripts.{line_says, lines_say, words_say}
-use Rattle.mdl_syntax.specs.Forms.{and_then, each_word, Form, forms, listed, makes, more_columns, more_tables, no_more, one_name, one_session, one_table, one_word, or_refuse, read_by, says_in, some_columns, some_tables, statement_of, table_and_columns, writes}
+use Rattle.mdl_syntax.specs.Forms.{and_then, each_word, Form, forms, listed, makes, more_columns, more_tables, no_more, one_name, one_session, one_table, one_word, or_refuse, other_table, read_by, says_in, some_columns, some_tables, statement_of, table_and_columns, table_to_table, writes}
 
 -- a line that says something says it with its number
 abbrev Numbered : ℕ → Line → Type 0
@@ -153,6 +153,31 @@ table_and_columns-hold (word ∷ words) =
     and_then-with IsTable (λ named. IsTable named.0 × AreColumns named.1) (or_refuse BadName (table_of word)) _ (or_refuse-holds IsTable BadName (table_of word) (table_of-IsTable word)) (λ table is.
     and_then-with AreColumns (λ named. IsTable named.0 × AreColumns named.1) (some_columns words) (λ columns. Ok (table, columns)) (some_columns-hold words) (λ columns are. (is, are)))
 
+-- another table than this one
+abbrev IsOther : KeyName → KeyName → Type 0
+IsOther table other = IsTable other × (key_eq table other ≡ false)
+
+other_table-IsOther : (table : KeyName) (word : List ℕ) → IfSome (other_table table word) (IsOther table)
+other_table-IsOther table word = by (table_of word) (table_of-IsTable word) where
+  unless : (other : KeyName) → IsTable other → (same : Bool) → key_eq table other ≡ same → IfSome (cond same None (Some other)) (IsOther table)
+  unless other is true e = tt
+  unless other is false e = (is, e)
+
+  by : (named : Option KeyName) → IfSome named IsTable → IfSome (option_and_then (λ other. cond (key_eq table other) None (Some other)) named) (IsOther table)
+  by None is = tt
+  by (Some other) is = unless other is (key_eq table other) refl
+
+abbrev AreTwo : KeyName × KeyName → Type 0
+AreTwo named = IsTable named.0 × IsTable named.1 × (key_eq named.0 named.1 ≡ false)
+
+table_to_table-hold : (words : List (List ℕ)) → IfOk (table_to_table words) AreTwo
+table_to_table-hold [] = tt
+table_to_table-hold (word ∷ words) =
+    and_then-with IsTable AreTwo (or_refuse BadName (table_of word)) _ (or_refuse-holds IsTable BadName (table_of word) (table_of-IsTable word)) (λ from is.
+    and_then-holds AreTwo (or_refuse BadWord (behind (codes "TO" ∷ []) words)) _ (λ words_behind.
+    and_then-with (IsOther from) AreTwo (one_word BadName (other_table from) words_behind) (λ to. Ok (from, to))
+    (one_word-holds (IsOther from) BadName (other_table from) (other_table-IsOther from) words_behind) (λ to other. (is, other.0, other.1))))
+
 -- the forms, each by itself
 abbrev Reads : (List (List ℕ) → Result Statement LineError) → Type 0
 Reads reads = (words : List (List ℕ)) → IfOk (reads words) IsWithinLimits
@@ -198,8 +223,11 @@ forms-hold =
                                   (
                                     makes-holds AreTables DropTables some_tables some_tables-hold (λ value h. h),
                                     (
-                                      makes-holds IsScriptSession KillQuery one_session (one_word-holds IsScriptSession BadSession session_of session_of-IsScriptSession) (λ value h. h),
-                                      (λ words. no_more-holds IsWithinLimits Timeout words tt, tt),
+                                      makes-holds AreTwo (λ named. RenameTable named.0 named.1) table_to_table table_to_table-hold (λ value h. h),
+                                      (
+                                        makes-holds IsScriptSession KillQuery one_session (one_word-holds IsScriptSession BadSession session_of session_of-IsScriptSession) (λ value h. h),
+                                        (λ words. no_more-holds IsWithinLimits Timeout words tt, tt),
+                                      ),
                                     ),
                                   ),
                                 ),

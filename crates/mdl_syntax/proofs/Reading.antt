@@ -10,6 +10,7 @@ use Rattle.mdl_lines.proofs.ScriptLemmas.{joined, joined-said, pieces}
 use Rattle.mdl_syntax.specs.declared.no_statement.NoStatement.{NoStatement}
 use Rattle.mdl_syntax.specs.declared.no_statement.NoStatement.TheVariants.{Refused, Memory}
 use Rattle.mdl_syntax.specs.declared.script.Line.{Line}
+use Rattle.mdl_syntax.specs.Forms.{and_then}
 use Rattle.mdl_syntax.specs.Reading.{ReadsAs}
 use Rattle.mdl_syntax.specs.Scripts.{line_says, lines_say, parsed}
 
@@ -48,3 +49,10 @@ module _ {A : Type 0} (said : Result A LineError) (result : Result A NoStatement
 
   pub memory_said : result ≡ Err Memory → IsOk said
   memory_said is = subst (ReadsAs said) is reads
+
+-- what refuses a statement refuses its line
+pub line-refused : {A B : Type 0} (said : Result A LineError) (made : A → B) (none : NoStatement) → ReadsAs said (Err none) → ReadsAs (and_then said (λ value. Ok (made value))) (Err none)
+line-refused (Ok value) made (Refused error) reads = cc
+line-refused (Err error) made (Refused other) reads = cc
+line-refused (Ok value) made Memory reads = refl
+line-refused (Err error) made Memory reads = reads

@@ -1,6 +1,7 @@
 -- The forms of statements: key words, and what may stand behind them. The script language is this project's own. Words are
 -- read from left to right, and the first fault counts.
 use Rattle.std.specs.Prelude.{ℕ, nat_le, List, [], ◌∷◌, ◌++◌, length, codes, Option, Some, None, Result, Ok, Err, if◌then◌else◌}
+use Rattle.std.specs.Option.{option_and_then}
 use Rattle.std.specs.List.{list_any}
 use Rattle.mdl_key.specs.Keys.{KeyName, key_eq}
 use Rattle.mdl_lines.specs.declared.fault.LineError.{LineError}
@@ -10,7 +11,7 @@ use Rattle.mdl_lines.specs.Sessions.{session_of}
 use Rattle.mdl_syntax.specs.declared.statement.Priority.{Priority}
 use Rattle.mdl_syntax.specs.declared.statement.Priority.TheVariants.{Normal, Low}
 use Rattle.mdl_syntax.specs.declared.statement.Statement.{Statement}
-use Rattle.mdl_syntax.specs.declared.statement.Statement.TheVariants.{Begin, Commit, Rollback, Savepoint, RollbackTo, Select, Write, CreateTable, CreateSchema, DropTables, KillQuery, Timeout}
+use Rattle.mdl_syntax.specs.declared.statement.Statement.TheVariants.{Begin, Commit, Rollback, Savepoint, RollbackTo, Select, Write, CreateTable, CreateSchema, DropTables, RenameTable, KillQuery, Timeout}
 use Rattle.mdl_syntax.specs.KeyWords.{behind}
 use Rattle.mdl_syntax.specs.Names.{name_of, table_of}
 
@@ -82,6 +83,18 @@ table_and_columns [] = Err BadWord
 table_and_columns (word ∷ words) =
     and_then (or_refuse BadName (table_of word)) (λ table. and_then (some_columns words) (λ columns. Ok (table, columns)))
 
+-- the table that a word names, where it isn't this one
+abbrev pub other_table : KeyName → List ℕ → Option KeyName
+other_table table word = option_and_then (λ other. if key_eq table other then None else Some other) (table_of word)
+
+-- a table, and another one behind the key word TO
+abbrev pub table_to_table : List (List ℕ) → Result (KeyName × KeyName) LineError
+table_to_table [] = Err BadWord
+table_to_table (word ∷ words) =
+    and_then (or_refuse BadName (table_of word)) (λ from.
+    and_then (or_refuse BadWord (behind (codes "TO" ∷ []) words)) (λ words_behind.
+    and_then (one_word BadName (other_table from) words_behind) (λ to. Ok (from, to))))
+
 -- the statement that is made of what words say
 abbrev pub makes : {A : Type 0} → (A → Statement) → (List (List ℕ) → Result A LineError) → List (List ℕ) → Result Statement LineError
 makes statement reads words = and_then (reads words) (λ value. Ok (statement value))
@@ -122,6 +135,7 @@ forms =
     ∷ form (codes "CREATE TABLE") (makes (λ named. CreateTable named.0 named.1) table_and_columns)
     ∷ form (codes "CREATE SCHEMA") (makes CreateSchema one_name)
     ∷ form (codes "DROP TABLE") (makes DropTables some_tables)
+    ∷ form (codes "RENAME TABLE") (makes (λ named. RenameTable named.0 named.1) table_to_table)
     ∷ form (codes "KILL QUERY") (makes KillQuery one_session)
     ∷ form (codes "TIMEOUT") (no_more Timeout)
     ∷ []

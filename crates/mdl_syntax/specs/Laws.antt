@@ -1,12 +1,12 @@
 -- Laws of what is read of a script. The limits are this project's own choice.
-use Rattle.std.specs.Prelude.{◌≡◌, ℕ, ◌+◌, ◌≤◌, List, [], ◌∷◌, length, None, IfOk}
+use Rattle.std.specs.Prelude.{◌≡◌, ℕ, ◌+◌, ◌≤◌, false, List, [], ◌∷◌, length, None, IfOk}
 use Rattle.std.specs.List.{All, IsDistinct}
 use Rattle.mdl_key.specs.declared.namespace.Namespace.TheVariants.{Table}
 use Rattle.mdl_key.specs.Keys.{KeyName, key_eq, name_fault}
 use Rattle.mdl_lines.specs.Sessions.{IsScriptSession}
 use Rattle.mdl_syntax.specs.declared.script.Line.{Line}
 use Rattle.mdl_syntax.specs.declared.statement.Statement.{Statement}
-use Rattle.mdl_syntax.specs.declared.statement.Statement.TheVariants.{Begin, Commit, Rollback, Savepoint, RollbackTo, Select, Write, CreateTable, CreateSchema, DropTables, KillQuery, Timeout}
+use Rattle.mdl_syntax.specs.declared.statement.Statement.TheVariants.{Begin, Commit, Rollback, Savepoint, RollbackTo, Select, Write, CreateTable, CreateSchema, DropTables, RenameTable, KillQuery, Timeout}
 use Rattle.mdl_syntax.specs.Scripts.{parsed}
 
 -- a name of 1 to 64 bytes of a-z, 0-9 and _
@@ -37,6 +37,7 @@ IsWithinLimits (Write table priority) = IsTable table
 IsWithinLimits (CreateTable table columns) = IsTable table × AreColumns columns
 IsWithinLimits (CreateSchema name) = IsName name
 IsWithinLimits (DropTables tables) = AreTables tables
+IsWithinLimits (RenameTable from to) = IsTable from × IsTable to × (key_eq from to ≡ false)
 IsWithinLimits (KillQuery session) = IsScriptSession session
 IsWithinLimits Timeout = Unit {0}
 

@@ -6,8 +6,8 @@ use Rattle.mdl_syntax.specs.declared.no_statement.NoStatement.{NoStatement}
 use Rattle.mdl_syntax.specs.declared.no_statement.NoStatement.TheVariants.{Refused, Memory}
 use Rattle.mdl_syntax.specs.declared.statement.Priority.TheVariants.{Normal, Low}
 use Rattle.mdl_syntax.specs.declared.statement.Statement.{Statement}
-use Rattle.mdl_syntax.specs.declared.statement.Statement.TheVariants.{CreateTable, CreateSchema}
-use Rattle.mdl_syntax.specs.Forms.{form, makes, one_name, read_by, table_and_columns, writes}
+use Rattle.mdl_syntax.specs.declared.statement.Statement.TheVariants.{CreateTable, CreateSchema, RenameTable}
+use Rattle.mdl_syntax.specs.Forms.{form, makes, one_name, read_by, table_and_columns, table_to_table, writes}
 use Rattle.mdl_syntax.specs.KeyWords.{behind}
 
 -- words that say this are read so: what is refused is told as refused, whether or not there is memory
@@ -25,3 +25,8 @@ abbrev pub create_of : List (List ℕ) → Result Statement LineError
 create_of words =
     read_by (form (codes "TABLE") (makes (λ named. CreateTable named.0 named.1) table_and_columns)) (behind (codes "TABLE" ∷ []) words)
     (read_by (form (codes "SCHEMA") (makes CreateSchema one_name)) (behind (codes "SCHEMA" ∷ []) words) (Err BadWord))
+
+-- what the words behind RENAME say
+abbrev pub rename_of : List (List ℕ) → Result Statement LineError
+rename_of words =
+    read_by (form (codes "TABLE") (makes (λ named. RenameTable named.0 named.1) table_to_table)) (behind (codes "TABLE" ∷ []) words) (Err BadWord)

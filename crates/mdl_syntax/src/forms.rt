@@ -2,13 +2,13 @@
 ghost use Rattle.std.specs.Prelude.{◌≡◌, ◌++◌, ◌∷◌, [], Err, map, IfOk};
 ghost use Rattle.mdl_key.specs.Keys.{table_key};
 ghost use Rattle.mdl_lines.specs.Lines.{words_of};
-ghost use Rattle.mdl_syntax.specs.declared.statement.Statement.TheVariants.{Savepoint, RollbackTo, CreateTable, KillQuery};
+ghost use Rattle.mdl_syntax.specs.declared.statement.Statement.TheVariants.{Savepoint, RollbackTo, CreateTable, RenameTable, KillQuery};
 ghost use Rattle.mdl_syntax.specs.Forms as forms;
-ghost use Rattle.mdl_syntax.specs.Reading.{ReadsAs, create_of, write_of};
+ghost use Rattle.mdl_syntax.specs.Reading.{ReadsAs, create_of, rename_of, write_of};
 
 use crate::key_words::behind;
 use crate::no_statement::NoStatement;
-use crate::table_names::{TableName, TableNames, name_of, table_of};
+use crate::table_names::{TableName, TableNames, name_of, other_table, table_of};
 use crate::words::split_word;
 use crate::{Name, Priority, Statement, Tables};
 use mdl_defs::{Column, Columns};
@@ -49,6 +49,7 @@ pub(crate) fn statement_of(alloc: Global, words: &[u8]) -> Result<Statement, NoS
             Some(rest) => Ok(Statement::DropTables(some_tables(alloc, rest)?)),
             None => bad_word(),
         },
+        "RENAME" => rename(alloc, rest),
         "KILL" => match behind("QUERY", rest) {
             Some(rest) => kill_query(rest),
             None => bad_word(),
@@ -221,6 +222,36 @@ fn push_column(alloc: Global, columns: &mut Columns, name: &str) -> Result<(), A
         Ok(column) => columns.push(column),
         Err(_) => Err(AllocError),
     }
+}
+
+// A table that gets another name.
+fn rename(alloc: Global, words: &[u8]) -> Result<Statement, NoStatement>
+    ensures { ReadsAs (rename_of (words_of words.now)) result }
+{
+    match behind("TABLE", words) {
+        Some(rest) => rename_table(alloc, rest),
+        None => bad_word(),
+    }
+}
+
+// A table, and the name that it gets.
+fn rename_table(alloc: Global, words: &[u8]) -> Result<Statement, NoStatement>
+    ensures { ReadsAs (forms.makes (λ named. RenameTable named.0 named.1) forms.table_to_table (words_of words.now)) result }
+{
+    let Some((word, rest)) = split_word(words) else {
+        return bad_word();
+    };
+    let Some(from) = table_of(word) else {
+        return Err(NoStatement::Refused(LineError::BadName));
+    };
+    let Some(rest) = behind("TO", rest) else {
+        return bad_word();
+    };
+    let to = other_table(&from, rest)?;
+    Ok(Statement::RenameTable {
+        from: key_of(alloc, &from)?,
+        to: key_of(alloc, &to)?,
+    })
 }
 
 // A session to kill.

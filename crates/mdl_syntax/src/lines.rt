@@ -64,10 +64,12 @@ fn words_say(alloc: Global, number: u64, line: &[u8]) -> Result<Option<Line>, No
     let Some(session) = session_of(word) else {
         return Err(NoStatement::Refused(LineError::BadSession));
     };
-    let statement = statement_of(alloc, rest)?;
-    Ok(Some(Line {
-        number,
-        session,
-        statement,
-    }))
+    match statement_of(alloc, rest) {
+        Ok(statement) => Ok(Some(Line {
+            number,
+            session,
+            statement,
+        })),
+        Err(none) => Err(none),
+    }
 }

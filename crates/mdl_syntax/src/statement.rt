@@ -36,6 +36,13 @@ pub enum Statement {
     CreateSchema(Name),
     /// `DROP TABLE` of 1 to 8 tables.
     DropTables(Tables),
+    /// `RENAME TABLE` of one table to another name.
+    RenameTable {
+        /// The table, by the name that it has.
+        from: Key,
+        /// The name that it gets.
+        to: Key,
+    },
     /// `KILL QUERY` of a session, from 1 to 64.
     KillQuery(u16),
     /// `TIMEOUT`: the session gives up its own wait.

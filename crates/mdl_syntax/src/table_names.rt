@@ -4,7 +4,8 @@ ghost use Rattle.std.specs.List.{list_any};
 ghost use Rattle.mdl_key.specs.Keys.{KeyName, key_eq, table_key};
 ghost use Rattle.mdl_lines.specs.Lines.{words_of};
 ghost use Rattle.mdl_syntax.specs.Names.{is_dot, name_of, table_in, table_of};
-ghost use Rattle.mdl_syntax.specs.Forms.{more_tables, listed};
+ghost use Rattle.mdl_lines.specs.declared.fault.LineError.TheVariants.{BadName};
+ghost use Rattle.mdl_syntax.specs.Forms.{more_tables, listed, one_word, other_table};
 
 use crate::words::split_word;
 use mdl_key::check_name;
@@ -58,6 +59,37 @@ fn table_in<'a>(schema: &'a [u8], table: &'a [u8]) -> Option<TableName<'a>>
     let schema = name_of(schema)?;
     let table = name_of(table)?;
     Some(TableName { schema, table })
+}
+
+/// The one table that words name, which isn't this one.
+pub(crate) fn other_table<'a>(
+    table: &TableName,
+    words: &'a [u8],
+) -> Result<TableName<'a>, LineError>
+    ensures { MatchResult result
+        (λ other. one_word BadName (other_table (table_key table.now.schema.now table.now.table.now)) (words_of words.now) ≡ Ok (table_key other.schema.now other.table.now))
+        (λ error. one_word BadName (other_table (table_key table.now.schema.now table.now.table.now)) (words_of words.now) ≡ Err error) }
+{
+    let Some((word, rest)) = split_word(words) else {
+        return Err(LineError::BadWord);
+    };
+    let Some(other) = table_of(word) else {
+        return Err(LineError::BadName);
+    };
+    if is_same(table, &other) {
+        return Err(LineError::BadName);
+    }
+    if split_word(rest).is_some() {
+        return Err(LineError::BadWord);
+    }
+    Ok(other)
+}
+
+// Whether two names are of one table.
+fn is_same(one: &TableName, other: &TableName) -> bool
+    ensures { result ≡ key_eq (table_key one.now.schema.now one.now.table.now) (table_key other.now.schema.now other.now.table.now) }
+{
+    one.schema == other.schema && one.table == other.table
 }
 
 /// The tables that a statement names, no two the same.
@@ -123,7 +155,7 @@ impl<'a> TableNames<'a> {
     fn has(&self, name: &TableName) -> bool
         ensures { result ≡ list_any (key_eq (table_key name.now.schema.now name.now.table.now)) self.now }
     {
-        self.as_slice().iter().any(|other| name.schema == other.schema && name.table == other.table)
+        self.as_slice().iter().any(|other| is_same(name, other))
     }
 
     /// The tables, in order.

@@ -18,6 +18,9 @@ const ROWS: &str = "\
 1 CREATE SCHEMA s / 1 CREATE SCHEMA az09_ / 1 CREATE SCHEMA test => 1 1 create schema s / 2 1 create schema az09_ / 3 1 \
     create schema test
 1 DROP TABLE t / 1 DROP TABLE b s.a a => 1 1 drop TABLE test.t / 2 1 drop TABLE test.b TABLE s.a TABLE test.a
+1 RENAME TABLE t TO u / 1 RENAME TABLE t TO s.t / 1 RENAME TABLE s.a TO a / 1 RENAME TABLE to TO table => 1 1 rename TABLE \
+    test.t to TABLE test.u / 2 1 rename TABLE test.t to TABLE s.t / 3 1 rename TABLE s.a to TABLE test.a / 4 1 rename \
+    TABLE test.to to TABLE test.table
 1 KILL QUERY 64 / 9 KILL QUERY 1 / 9 TIMEOUT => 1 1 kill 64 / 2 9 kill 1 / 3 9 time out
 1 SELECT a b c d e f g h => 1 1 read TABLE test.a TABLE test.b TABLE test.c TABLE test.d TABLE test.e TABLE test.f \
     TABLE test.g TABLE test.h
@@ -97,7 +100,23 @@ BEGIN => line 1: BadSession
 1 DROP TABLE => line 1: BadWord
 1 DROP TABLES t => line 1: BadWord
 1 TIMEOUT 1 => line 1: BadWord
-1 RENAME TABLE a TO b => line 1: BadWord
+1 RENAME => line 1: BadWord
+1 RENAME TABLE => line 1: BadWord
+1 RENAME TABLE a => line 1: BadWord
+1 RENAME TABLE A => line 1: BadName
+1 RENAME TABLE a b => line 1: BadWord
+1 RENAME TABLE a to b => line 1: BadWord
+1 RENAME TABLE A b => line 1: BadName
+1 RENAME TABLE a TO => line 1: BadWord
+1 RENAME TABLE a TO B => line 1: BadName
+1 RENAME TABLE a TO b c => line 1: BadWord
+1 RENAME TABLE a TO B c => line 1: BadName
+1 RENAME TABLE a TO a => line 1: BadName
+1 RENAME TABLE a TO test.a x => line 1: BadName
+1 RENAME TABLE s.a TO s.a => line 1: BadName
+1 RENAME TABLE a TO b TO c => line 1: BadWord
+1 RENAME TABLES a TO b => line 1: BadWord
+1 RENAME a TO b => line 1: BadWord
 1 ALTER TABLE t ADD c COPY => line 1: BadWord
 1 CREATE SCHEMA => line 1: BadWord
 1 CREATE SCHEMA s t => line 1: BadWord

@@ -54,6 +54,7 @@ fn statement_text(alloc: Global, statement: &Statement) -> Result<String, Fail> 
             Ok(format!(in alloc; "create schema {name}")?)
         }
         Statement::DropTables(tables) => named(alloc, "drop", tables),
+        Statement::RenameTable { from, to } => Ok(format!(in alloc; "rename {from} to {to}")?),
         Statement::KillQuery(session) => Ok(format!(in alloc; "kill {session}")?),
         Statement::Timeout => Ok(String::from_str(alloc, "time out")?),
     }

@@ -1,6 +1,6 @@
 -- A lock space that speaks for one session alone and has one key: others come and go between its calls, and change what stands
 -- under the key while the session has no ticket, so that what a call answers isn't told by what was before it.
-use Rattle.std.specs.Prelude.{◌≡◌, ◌≢◌, ℕ, ◌≤◌, Bool, true, false, List, [], ◌∷◌, Option, Some, None, is_some}
+use Rattle.std.specs.Prelude.{◌≡◌, ◌≢◌, ℕ, ◌≤◌, Bool, true, false, ◌&&◌, List, [], ◌∷◌, Option, Some, None, is_some, if◌then◌else◌}
 use Rattle.std.specs.Option.{IfSome}
 use Rattle.mdl_key.specs.Keys.{KeyName}
 use Rattle.mdl_key.specs.declared.mode.Mode.TheVariants.{X}
@@ -12,7 +12,7 @@ use Rattle.mdl_calls.specs.declared.answers.Held.{Held}
 use Rattle.mdl_calls.specs.declared.answers.Settled.{Settled}
 use Rattle.mdl_calls.specs.declared.answers.Settled.TheVariants.{Killed, Victim}
 use Rattle.mdl_system.specs.Strength.{covers}
-use Rattle.mdl_calls.specs.Words.{Call, Resolve, Search, End_wait, Wait_of, Kill, Read_definition, Change_definition, Upgrade_now, Tables_of, Key_of, Read_kept, Unpin, caller, Answer, At_place, Would_wait, Key_is, Victim_is, Has_wait, Has_killed, Reads, Changed, Holds, is_answer_of, Own, Numbers, own_after, wait_number, is_waiting, ticket_held, IsRising, Draws, IsExplained, told, IsToldOf, HoldsAt, IsChangeOf, redefined_place}
+use Rattle.mdl_calls.specs.Words.{Call, Resolve, Search, End_wait, Wait_of, Kill, Read_definition, Change_definition, Upgrade_now, Tables_of, Key_of, Read_kept, Unpin, caller, Answer, At_place, Would_wait, Key_is, Tables, Victim_is, Has_wait, Has_killed, Reads, Changed, Holds, is_answer_of, Own, Numbers, own_after, wait_number, is_waiting, ticket_held, IsRising, Draws, IsExplained, told, IsToldOf, HoldsAt, IsChangeOf, is_table_of, redefined_place}
 
 -- what is known of such a space: its session and its key, what the session has, how its wait is settled, the last numbers
 -- that its tickets and waits were given, and what stands under the key
@@ -92,10 +92,13 @@ Pins a who place = (who ≡ a.who) × (place ≡ 1)
 
 -- whether the space has a call. The others are still to come.
 abbrev pub has_call : Call → Bool
-has_call (Tables_of _ _) = false
 has_call (Read_kept _ _) = false
 has_call (Unpin _ _) = false
 has_call _ = true
+
+-- the one place, where a table of this schema has it that has a definition
+abbrev pub tables_at_one : List ℕ → Lone → List ℕ
+tables_at_one schema a = if is_table_of schema a.key && is_some a.standing.definition then 1 ∷ [] else []
 
 -- what comes of a change under an exclusive ticket
 abbrev pub IsRedefined : Lone → ℕ → Change → Answer → Lone → Type 0
@@ -107,6 +110,7 @@ IsRedefined a id change answer b =
 abbrev pub IsTold : Lone → Call → Answer → Lone → Type 0
 IsTold a (Resolve who key) (At_place place) b = (place ≡ 1) × (key ≡ a.key)
 IsTold a (Key_of who place) (Key_is key) b = (place ≡ 1) × (key ≡ a.key)
+IsTold a (Tables_of who schema) (Tables places) b = places ≡ tables_at_one schema b
 IsTold a (Search who) (Victim_is victim) b = (victim ≡ a.who) × (b.settled ≡ Some Victim)
 IsTold a (Wait_of target) (Has_wait number) b = target ≡ a.who → number ≡ wait_number a.own
 IsTold a (Kill target number) (Has_killed true) b =

@@ -121,6 +121,37 @@ impl Plain {
         Taken::Done
     }
 
+    // Gives a table another name, if no table has it, there is the table, and there is the name's schema.
+    pub(super) fn rename(&mut self, from: &Key, to: &Key) -> Result<Taken, AllocError> {
+        if self.is_there(to) {
+            return Ok(Taken::Failed(1050));
+        }
+        if !self.is_there(from) {
+            return Ok(Taken::Failed(1146));
+        }
+        let schema = made(Key::schema(self.alloc, to.schema_name()))?;
+        if !self.is_there(&schema) {
+            return Ok(Taken::Failed(1049));
+        }
+        if self.is_used_up(from) || self.is_used_up(to) {
+            return Ok(Taken::Failed(9003));
+        }
+        let definition = self.taken_from(from);
+        self.change(to, definition);
+        self.change(from, None);
+        Ok(Taken::Done)
+    }
+
+    // What stood under a key, which is gone from there.
+    fn taken_from(&mut self, key: &Key) -> Option<Definition> {
+        for place in &mut self.places {
+            if place.key == *key {
+                return place.definition.take();
+            }
+        }
+        None
+    }
+
     // Lets something stand under a key, or nothing, in a new version.
     fn change(&mut self, key: &Key, definition: Option<Definition>) {
         let mut definition = Some(definition);

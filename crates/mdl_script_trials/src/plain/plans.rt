@@ -45,6 +45,7 @@ impl Plan {
             Statement::CreateTable { table, columns } => self.create(table, columns),
             Statement::CreateSchema(name) => self.create_schema(name),
             Statement::DropTables(tables) => self.drop_tables(tables),
+            Statement::RenameTable { from, to } => self.rename(from, to),
             Statement::KillQuery(_) | Statement::Timeout => Ok(()),
         }
     }
@@ -165,6 +166,17 @@ impl Plan {
         for key in &keys {
             self.push(Step::Drop(key.clone()?))?;
         }
+        self.push(Step::End)
+    }
+
+    // Both names are locked before the first is looked at.
+    fn rename(&mut self, from: &Key, to: &Key) -> Result<(), AllocError> {
+        let mut keys = Vec::new(self.alloc);
+        keys.push(from.clone()?)?;
+        keys.push(to.clone()?)?;
+        keys.sort()?;
+        self.begin_change(&keys)?;
+        self.push(Step::Rename(from.clone()?, to.clone()?))?;
         self.push(Step::End)
     }
 

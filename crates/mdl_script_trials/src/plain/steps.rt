@@ -15,6 +15,7 @@ impl Plain {
             Step::CreateSchema(schema) => Ok(self.create_schema(&schema)),
             Step::CheckVersion(table) => Ok(self.check_version(&table)),
             Step::Drop(table) => Ok(self.drop_table(&table)),
+            Step::Rename(from, to) => self.rename(&from, &to),
             Step::Save(name) => self.save(who, name),
             Step::GoBack(name) => self.go_back(who, &name),
             other => self.take_plain(who, other),

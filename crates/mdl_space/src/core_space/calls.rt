@@ -1,7 +1,7 @@
 //! The space of one thread as a lock space: each call has just one outcome, but that memory may run out.
 ghost use Rattle.mdl_core.specs.CoreJoins.{SpeaksFor, own_at, numbers_at, Knows, IsSettledAs, HasRead, HasSeen, Pins, Joins};
 ghost use Rattle.std.proofs.Common.{refl};
-ghost use Rattle.mdl_core.proofs.CallLaws.{core-allowed, core-keeps, core-changes, core-others, core-draws, core-others_draw, core-rising, core-fits, core-explains, core-lists, core-resolves, core-tells_key, core-remembers};
+ghost use Rattle.mdl_core.proofs.CallLaws.{core-allowed, core-keeps, core-changes, core-others, core-draws, core-others_draw, core-rising, core-fits, core-explains, core-lists, core-resolves, core-tells_key, core-tells_tables, core-remembers};
 ghost use Rattle.mdl_core.proofs.CallLaws.{core-waits_settled, core-settled_once, core-tells, core-stays, core-agrees, core-victims, core-counts, core-kills, core-kills_or_settled, core-upgrades};
 ghost use Rattle.mdl_core.proofs.KnownPlaces.{core-one_key, core-one_place, core-held_places, core-wait_place};
 ghost use Rattle.mdl_core.proofs.CoreSound.{calls_keep-sound};
@@ -109,6 +109,10 @@ impl LockSpace for CoreSpace {
         self.key_at(place)
     }
 
+    fn tables_of(&mut self, _who: u16, schema: &str) -> Result<Vec<Place>, SpaceError> {
+        self.list_tables(schema)
+    }
+
     fn held(&self, who: u16) -> Result<Vec<Held>, SpaceError> {
         self.list_held(who)
     }
@@ -185,7 +189,7 @@ impl LockSpace for CoreSpace {
 
     ghost tells_key = { core-tells_key };
 
-    ghost tells_tables = { λ a b who schema places j. has_not j.1 };
+    ghost tells_tables = { core-tells_tables };
 
     ghost resolved_pinned = { λ a b who place key j. (core-resolves a b who place key j).0 };
 

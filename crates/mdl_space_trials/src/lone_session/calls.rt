@@ -1,7 +1,7 @@
 //! The calls of a space of one session and one key.
 ghost use Rattle.std.proofs.Common.{rules, refl, sym, ◌∙◌};
 ghost use Rattle.mdl_calls.specs.Tests.LoneSessions.{LoneSpeaks, Knows, IsSettled, HasRead, HasSeen, Pins, LoneJoins};
-ghost use Rattle.mdl_calls.proofs.LoneLemmas.{lone-tells_key, held-at_one, wait-at_one, settled-how, lone-reads, lone-redefines, lone-redefines_so, lone-stands, lone-reads_fit, lone-sees, lone-seen_stays, lone-seen_below, lone-upgrades, has_not};
+ghost use Rattle.mdl_calls.proofs.LoneLemmas.{lone-tells_key, lone-tells_tables, held-at_one, wait-at_one, settled-how, lone-reads, lone-redefines, lone-redefines_so, lone-stands, lone-reads_fit, lone-sees, lone-seen_stays, lone-seen_below, lone-upgrades, has_not};
 
 use super::{LoneSession, Waiting};
 use mdl_defs::{Change, Standing};
@@ -105,7 +105,7 @@ impl LockSpace for LoneSession {
 
     ghost tells_key = { lone-tells_key };
 
-    ghost tells_tables = { λ a b who schema places j. has_not j.has };
+    ghost tells_tables = { lone-tells_tables };
 
     ghost resolved_pinned = { Prim.search rules };
 
@@ -355,6 +355,14 @@ impl LockSpace for LoneSession {
             Ok(key) => Ok(key),
             Err(_) => Err(SpaceError::OutOfMemory),
         }
+    }
+
+    fn tables_of(&mut self, _who: u16, schema: &str) -> Result<Vec<Place>, SpaceError> {
+        let mut places = Vec::new(self.alloc);
+        if self.has_table_of(schema) && places.push(1).is_err() {
+            return Err(SpaceError::OutOfMemory);
+        }
+        Ok(places)
     }
 
     fn held(&self, _who: u16) -> Result<Vec<Held>, SpaceError> {

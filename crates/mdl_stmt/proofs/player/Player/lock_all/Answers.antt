@@ -1,7 +1,8 @@
 -- The next lock is had, waited for, or missed.
-use Rattle.std.proofs.Common.{◌∙◌, sym}
+use Rattle.std.proofs.Common.{◌∙◌, ap, sym}
+use Rattle.mdl_stmt.specs.LockLists.{LockList}
 use Rattle.mdl_stmt.proofs.DropLemmas.{leaves-then}
-use Rattle.mdl_stmt.proofs.LockListLemmas.{ddl-so, list-had, list-waits, list-ends, list-over}
+use Rattle.mdl_stmt.proofs.LockListLemmas.{ddl-so, keys-stay, list-had, list-waits, list-ends, list-over}
 use Rattle.mdl_stmt.proofs.player.Player.lock_all.Goals as goal
 
 pub loop-key-preserved : goal.loop-key-preserved
@@ -13,6 +14,7 @@ loop-key-preserved g c = record {
   run = list-had g.S.LockSpace.joins c.args.locks c.args.space.now c.args.self.now c.loop-key.locks c.with-locks.result c.in-Some.key.now _ c.in-Had.ticket c.loop-key.space c.get.new.space c.loop-key.self c.get.new.self
       (sym (rw c.in-Some.is at c.next.ensures)) (ddl-so c.in-Some.key.now c.ddl_mode-mode.result c.ddl_duration.result c.ddl_mode-mode.ensures c.ddl_duration.ensures)
       c.with-locks.ensures c.loop-key.invariant.run (rw c.in-Had.is at c.get.ensures.run);
+  keys = ap (λ (l : LockList). l.keys) c.with-locks.ensures ∙ keys-stay c.in-Had.ticket c.loop-key.locks ∙ c.loop-key.invariant.keys;
 }
 
 pub returns-in-Waits-clause-run : goal.returns-in-Waits-clause-run

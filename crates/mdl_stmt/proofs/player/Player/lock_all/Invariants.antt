@@ -15,6 +15,7 @@ invariant-loop-key g l = record {
   who : l.self.context.who ≡ l.fn.self.context.who;
   others : LeavesOthers g.S.LockSpace.speaks_for g.S.LockSpace.own g.S.LockSpace.knows l.fn.self.context.who l.fn.space l.space;
   run : (rest : List ℕ → Row Reply) → Comes g.S.LockSpace.joins l.fn.space l.fn.self (play (lock_rest l.fn.locks rest)) l.space l.self (play (lock_rest l.locks rest));
+  keys : l.locks.keys ≡ l.fn.locks.keys;
 }
 
 abbrev pub decreases-loop-key : goal.decreases-loop-key

@@ -1,0 +1,26 @@
+-- One ticket after the other goes.
+use Rattle.std.proofs.Common.{◌∙◌, rules}
+use Rattle.std.proofs.Math.ListN.{drop_of_length-le}
+use Rattle.std.proofs.Math.Seq.{drop-cons}
+use Rattle.mdl_stmt.specs.Rows.{release}
+use Rattle.mdl_stmt.proofs.DropLemmas.{leaves-then, each-done, each-over}
+use Rattle.mdl_stmt.proofs.RunLemmas.{released}
+use Rattle.mdl_stmt.proofs.UnlockLemmas.{seat}
+use Rattle.mdl_stmt.proofs.unlocking.release_each.Goals as goal
+
+pub loop-ticket-preserved : goal.loop-ticket-preserved
+loop-ticket-preserved g c = record {
+  attends = c.release-released.ensures.attends;
+  idle = search rules;
+  who = c.release-released.ensures.who ∙ c.loop-ticket.invariant.who;
+  others = leaves-then g.S.LockSpace.speaks_for g.S.LockSpace.own g.S.LockSpace.knows c.args.context.now.who c.loop-ticket.context.who c.args.space.now c.loop-ticket.space c.release-released.new.space c.loop-ticket.invariant.who c.loop-ticket.invariant.others c.release-released.ensures.others;
+  run = λ state.
+      each-done g.S.LockSpace.joins release c.args.tickets.now c.args.space.now (seat state c.args.context.now) c.loop-ticket.ticket-index _ c.loop-ticket.space c.release-released.new.space (seat state c.loop-ticket.context) (seat state c.release-released.new.self)
+      (drop-cons c.args.tickets.now c.loop-ticket.ticket-index 0 c.loop-ticket-test.true) (c.loop-ticket.invariant.run state)
+      (λ rest. released g.S.LockSpace.joins _ (seat state c.loop-ticket.context) c.release-released.result c.release-released.new.self (rest tt) _ _ c.release-released.ensures.run);
+}
+
+pub returns-clause-run : goal.returns-clause-run
+returns-clause-run g c = λ state.
+    each-over g.S.LockSpace.joins release c.args.tickets.now c.args.space.now (seat state c.args.context.now) c.loop-ticket.ticket-index c.loop-ticket.space (seat state c.loop-ticket.context)
+    (drop_of_length-le c.args.tickets.now c.loop-ticket-test.false) (c.loop-ticket.invariant.run state)

@@ -1,0 +1,27 @@
+-- One ticket after the other goes.
+use Rattle.std.proofs.Common.{◌∙◌, ap, rules}
+use Rattle.std.proofs.Math.ListN.{drop_of_length-le}
+use Rattle.std.proofs.lemmas.List.{drop-map}
+use Rattle.mdl_stmt.specs.declared.explicit.Locked.{Locked}
+use Rattle.mdl_stmt.specs.Rows.{release}
+use Rattle.mdl_stmt.proofs.DropLemmas.{leaves-then, each-done, each-over}
+use Rattle.mdl_stmt.proofs.RunLemmas.{released}
+use Rattle.mdl_stmt.proofs.UnlockLemmas.{seat, ticket-at, tickets_of}
+use Rattle.mdl_stmt.proofs.unlocking.release_tables.Goals as goal
+
+pub loop-table-preserved : goal.loop-table-preserved
+loop-table-preserved g c = record {
+  attends = c.release-released.ensures.attends;
+  idle = search rules;
+  who = c.release-released.ensures.who ∙ c.loop-table.invariant.who;
+  others = leaves-then g.S.LockSpace.speaks_for g.S.LockSpace.own g.S.LockSpace.knows c.args.context.now.who c.loop-table.context.who c.args.space.now c.loop-table.space c.release-released.new.space c.loop-table.invariant.who c.loop-table.invariant.others c.release-released.ensures.others;
+  run = λ state.
+      each-done g.S.LockSpace.joins release (tickets_of c.args.tables.now) c.args.space.now (seat state c.args.context.now) c.loop-table.table-index _ c.loop-table.space c.release-released.new.space (seat state c.loop-table.context) (seat state c.release-released.new.self)
+      (ticket-at c.args.tables.now c.loop-table.table-index c.table-item.result c.loop-table-test.true c.table-item.is) (c.loop-table.invariant.run state)
+      (λ rest. released g.S.LockSpace.joins _ (seat state c.loop-table.context) c.release-released.result c.release-released.new.self (rest tt) _ _ c.release-released.ensures.run);
+}
+
+pub returns-clause-run : goal.returns-clause-run
+returns-clause-run g c = λ state.
+    each-over g.S.LockSpace.joins release (tickets_of c.args.tables.now) c.args.space.now (seat state c.args.context.now) c.loop-table.table-index c.loop-table.space (seat state c.loop-table.context)
+    (drop-map (λ (t : Locked). t.ticket) c.loop-table.table-index c.args.tables.now ∙ ap tickets_of (drop_of_length-le c.args.tables.now c.loop-table-test.false)) (c.loop-table.invariant.run state)

@@ -1,0 +1,107 @@
+//! What a session keeps locked until it gives it up.
+ghost use Rattle.std.specs.Prelude.{◌≡◌, [], None, find, is_some};
+ghost use Rattle.std.specs.Option.{option_map};
+ghost use Rattle.mdl_key.specs.Keys.{key_eq};
+ghost use Rattle.mdl_stmt.specs.States.{has_locked};
+
+use mdl_key::Key;
+use mdl_space::TicketId;
+use std::alloc::Global;
+use std::marker::Model;
+
+/// A table that LOCK TABLES locked.
+#[derive(Drop)]
+pub struct Locked {
+    /// The table.
+    pub key: Key,
+    /// Whether it is locked for writing, and not for reading alone.
+    pub may_write: bool,
+    /// The ticket by which it is locked.
+    pub ticket: TicketId,
+}
+
+/// The global read lock: no other session writes or changes definitions, and none commits what it wrote.
+#[derive(Clone, Copy)]
+pub struct ReadLock {
+    /// The ticket of the lock of all writes.
+    pub global: TicketId,
+    /// The ticket of the COMMIT lock, once that is had, too.
+    pub commit: Option<TicketId>,
+}
+
+/// Locked tables, the tickets of their scopes, and the global read lock.
+#[derive(Drop)]
+pub struct ExplicitLocks {
+    locked: Vec<Locked>,
+    scopes: Vec<TicketId>,
+    read_lock: Option<ReadLock>,
+}
+
+impl Model for ExplicitLocks {
+    ghost use Rattle.mdl_stmt.specs.States.{ExplicitLocks};
+
+    ghost Value = { ExplicitLocks };
+
+    ghost view = { λ explicit. record { locked = explicit.locked.items; scopes = explicit.scopes.items; read_lock = explicit.read_lock } };
+}
+
+impl ExplicitLocks {
+    /// None. It takes no memory.
+    pub(crate) fn new(alloc: Global) -> ExplicitLocks
+        ensures { result ≡ record { locked = []; scopes = []; read_lock = None } }
+    {
+        ExplicitLocks {
+            locked: Vec::new(alloc),
+            scopes: Vec::new(alloc),
+            read_lock: None,
+        }
+    }
+
+    /// Whether any table is locked.
+    pub(crate) fn has_locked(&self) -> bool
+        ensures { result ≡ has_locked self.now.locked }
+    {
+        !self.locked.is_empty()
+    }
+
+    /// Whether the session has the global read lock.
+    pub(crate) fn has_read_lock(&self) -> bool
+        ensures { result ≡ is_some self.now.read_lock }
+    {
+        self.read_lock.is_some()
+    }
+
+    /// How a table is locked, if it is.
+    pub(crate) fn find(&self, table: &Key) -> Option<&Locked>
+        ensures { option_map (λ locked. locked.now) result ≡ find (λ locked. key_eq table.now locked.key) self.now.locked }
+    {
+        for locked in &self.locked {
+            if *table == locked.key {
+                return Some(locked);
+            }
+        }
+        None
+    }
+
+    /// The locked tables.
+    pub(crate) fn tables(&self) -> &[Locked]
+        ensures { result.now ≡ self.now.locked }
+    {
+        &self.locked
+    }
+
+    /// The tickets of their scopes.
+    pub(crate) fn scopes(&self) -> &[TicketId]
+        ensures { result.now ≡ self.now.scopes }
+    {
+        &self.scopes
+    }
+
+    /// No table is locked any more.
+    pub(crate) fn clear_tables(&mut self)
+        ensures { self.new ≡ record self.old { locked = []; scopes = [] } }
+    {
+        self.locked.clear();
+        self.scopes.clear();
+    }
+}

@@ -1,0 +1,236 @@
+//! RENAME TABLE.
+ghost use Rattle.std.specs.Prelude.{◌≡◌, [], ◌∷◌, Some, None, IfOk, MatchResult};
+ghost use Rattle.mdl_context.specs.Contexts.{Attends, LeavesOthers};
+ghost use Rattle.mdl_stmt.specs.Gets.{IsPlayed, IsStep, IdleUnlessPlayed};
+ghost use Rattle.mdl_stmt.specs.declared.ending.Ending.TheVariants.{Answers};
+ghost use Rattle.mdl_stmt.specs.declared.error_number.ErrorNumber.TheVariants.{NoSuchTable};
+ghost use Rattle.mdl_stmt.specs.declared.reply.Reply.TheVariants.{Error};
+ghost use Rattle.mdl_stmt.specs.LockLists.{ticket_of};
+ghost use Rattle.mdl_stmt.specs.Stages.{rename_names, rename_scopes};
+ghost use Rattle.mdl_stmt.specs.Statements.{rename_after_commit, lock_and_rename, rename_under, move_definition, is_free, definition_under, schema_of};
+
+use crate::creating::schema_of;
+use crate::ending::{Ending, Listed, Played};
+use crate::key_lists::{in_key_order, scopes_of};
+use crate::player::Player;
+use crate::reading::failing;
+use crate::stage::{LockList, Stage};
+use crate::{ErrorNumber, Reply};
+use mdl_defs::{Change, Definition};
+use mdl_key::Key;
+use mdl_space::{LockSpace, TicketId};
+use std::alloc::AllocError;
+
+impl<S: LockSpace> Player<S> {
+    /// Renames a table, once no transaction is open.
+    pub(crate) fn rename<'s>(&mut self, space: &mut S, from: &'s Key, to: &'s Key) -> Played<'s>
+        requires attends { Attends S.speaks_for S.own S.knows space.old self.old.context }
+        requires idle { self.old.context.wait ≡ None }
+        ensures run { IsPlayed S.joins (rename_after_commit from.now to.now) space.old self.old result space.new self.new }
+        ensures attends { Attends S.speaks_for S.own S.knows space.new self.new.context }
+        ensures others { LeavesOthers S.speaks_for S.own S.knows self.old.context.who space.old space.new }
+        ensures who { self.new.context.who ≡ self.old.context.who }
+        ensures idle { IdleUnlessPlayed result self.new }
+    {
+        let Ok(names) = both(from, to) else {
+            return Played::Ends(Ending::Starves);
+        };
+        match scopes_of(self.alloc, &names) {
+            Ok(locks) => self.lock_rename_scopes(space, from, to, locks),
+            Err(_) => Played::Ends(Ending::Starves),
+        }
+    }
+
+    /// Gets the locks of all writes and of the schemas of both names that are left, and renames the table.
+    pub(crate) fn lock_rename_scopes<'s>(
+        &mut self,
+        space: &mut S,
+        from: &'s Key,
+        to: &'s Key,
+        locks: LockList,
+    ) -> Played<'s>
+        requires attends { Attends S.speaks_for S.own S.knows space.old self.old.context }
+        requires idle { self.old.context.wait ≡ None }
+        ensures run { IsPlayed S.joins (rename_scopes from.now to.now locks locks.keys) space.old self.old result space.new self.new }
+        ensures attends { Attends S.speaks_for S.own S.knows space.new self.new.context }
+        ensures others { LeavesOthers S.speaks_for S.own S.knows self.old.context.who space.old space.new }
+        ensures who { self.new.context.who ≡ self.old.context.who }
+        ensures idle { IdleUnlessPlayed result self.new }
+    {
+        match self.lock_all(space, locks) {
+            Listed::Had(scopes) => self.lock_and_rename(space, from, to, &scopes),
+            Listed::Waits(key, mode, locks) => {
+                Played::Waits(key, mode, Stage::RenameScopes(from, to, locks))
+            }
+            Listed::Ends(ending) => Played::Ends(ending),
+        }
+    }
+
+    /// Locks both names of a table under the locks of their schemas, and renames it.
+    fn lock_and_rename<'s>(
+        &mut self,
+        space: &mut S,
+        from: &'s Key,
+        to: &'s Key,
+        scopes: &LockList,
+    ) -> Played<'s>
+        requires attends { Attends S.speaks_for S.own S.knows space.old self.old.context }
+        requires idle { self.old.context.wait ≡ None }
+        ensures run { IsPlayed S.joins (lock_and_rename from.now to.now (ticket_of (schema_of to.now) scopes.now.keys scopes.now.tickets)) space.old self.old result space.new self.new }
+        ensures attends { Attends S.speaks_for S.own S.knows space.new self.new.context }
+        ensures others { LeavesOthers S.speaks_for S.own S.knows self.old.context.who space.old space.new }
+        ensures who { self.new.context.who ≡ self.old.context.who }
+        ensures idle { IdleUnlessPlayed result self.new }
+    {
+        let Ok(schema) = schema_of(self.alloc, to) else {
+            return Played::Ends(Ending::Starves);
+        };
+        let schema = scopes.ticket_of(&schema);
+        let Ok(names) = both(from, to) else {
+            return Played::Ends(Ending::Starves);
+        };
+        match in_key_order(self.alloc, &names) {
+            Ok(locks) => self.lock_names(space, from, to, schema, locks),
+            Err(_) => Played::Ends(Ending::Starves),
+        }
+    }
+
+    /// Gets the locks of the names that are left, and renames the table.
+    pub(crate) fn lock_names<'s>(
+        &mut self,
+        space: &mut S,
+        from: &'s Key,
+        to: &'s Key,
+        schema: TicketId,
+        locks: LockList,
+    ) -> Played<'s>
+        requires attends { Attends S.speaks_for S.own S.knows space.old self.old.context }
+        requires idle { self.old.context.wait ≡ None }
+        ensures run { IsPlayed S.joins (rename_names from.now to.now schema locks locks.keys) space.old self.old result space.new self.new }
+        ensures attends { Attends S.speaks_for S.own S.knows space.new self.new.context }
+        ensures others { LeavesOthers S.speaks_for S.own S.knows self.old.context.who space.old space.new }
+        ensures who { self.new.context.who ≡ self.old.context.who }
+        ensures idle { IdleUnlessPlayed result self.new }
+    {
+        match self.lock_all(space, locks) {
+            Listed::Had(names) => {
+                self.rename_under(space, schema, names.ticket_of(from), names.ticket_of(to))
+            }
+            Listed::Waits(key, mode, locks) => {
+                Played::Waits(key, mode, Stage::RenameTables(from, to, schema, locks))
+            }
+            Listed::Ends(ending) => Played::Ends(ending),
+        }
+    }
+
+    /// Renames a table under the locks of both names and of the new one's schema.
+    fn rename_under<'s>(
+        &mut self,
+        space: &mut S,
+        schema: TicketId,
+        from: TicketId,
+        to: TicketId,
+    ) -> Played<'s>
+        requires attends { Attends S.speaks_for S.own S.knows space.old self.old.context }
+        requires idle { self.old.context.wait ≡ None }
+        ensures run { IsPlayed S.joins (rename_under schema from to) space.old self.old result space.new self.new }
+        ensures attends { Attends S.speaks_for S.own S.knows space.new self.new.context }
+        ensures others { LeavesOthers S.speaks_for S.own S.knows self.old.context.who space.old space.new }
+        ensures who { self.new.context.who ≡ self.old.context.who }
+        ensures idle { IdleUnlessPlayed result self.new }
+    {
+        if let Err(ending) = self.is_free(space, to) {
+            return Played::Ends(ending);
+        }
+        let definition = match self.definition_under(space, from) {
+            Ok(definition) => definition,
+            Err(ending) => return Played::Ends(ending),
+        };
+        if let Err(ending) = self.check_schema(space, schema) {
+            return Played::Ends(ending);
+        }
+        self.move_definition(space, definition, from, to)
+    }
+
+    /// Looks whether there is no table of a name.
+    fn is_free(&mut self, space: &mut S, ticket: TicketId) -> Result<(), Ending>
+        requires attends { Attends S.speaks_for S.own S.knows space.old self.old.context }
+        requires idle { self.old.context.wait ≡ None }
+        ensures run { IsStep S.joins (is_free ticket) space.old self.old result space.new self.new }
+        ensures attends { Attends S.speaks_for S.own S.knows space.new self.new.context }
+        ensures others { LeavesOthers S.speaks_for S.own S.knows self.old.context.who space.old space.new }
+        ensures who { self.new.context.who ≡ self.old.context.who }
+        ensures idle { self.new.context.wait ≡ None }
+    {
+        match self.read(space, ticket) {
+            Ok(standing) => {
+                if standing.definition.is_some() {
+                    return Err(failing(ErrorNumber::TableExists));
+                }
+                Ok(())
+            }
+            Err(ending) => Err(ending),
+        }
+    }
+
+    /// The definition of a table, if there is such a table.
+    fn definition_under(&mut self, space: &mut S, ticket: TicketId) -> Result<Definition, Ending>
+        requires attends { Attends S.speaks_for S.own S.knows space.old self.old.context }
+        requires idle { self.old.context.wait ≡ None }
+        ensures run { IsStep S.joins (definition_under ticket) space.old self.old result space.new self.new }
+        ensures attends { Attends S.speaks_for S.own S.knows space.new self.new.context }
+        ensures others { LeavesOthers S.speaks_for S.own S.knows self.old.context.who space.old space.new }
+        ensures who { self.new.context.who ≡ self.old.context.who }
+        ensures idle { self.new.context.wait ≡ None }
+    {
+        match self.read(space, ticket) {
+            Ok(standing) => found(standing.definition),
+            Err(ending) => Err(ending),
+        }
+    }
+
+    /// Lets a definition stand under another name. Only the first of the changes takes memory.
+    fn move_definition<'s>(
+        &mut self,
+        space: &mut S,
+        definition: Definition,
+        from: TicketId,
+        to: TicketId,
+    ) -> Played<'s>
+        requires attends { Attends S.speaks_for S.own S.knows space.old self.old.context }
+        requires idle { self.old.context.wait ≡ None }
+        ensures run { IsPlayed S.joins (move_definition definition from to) space.old self.old result space.new self.new }
+        ensures attends { Attends S.speaks_for S.own S.knows space.new self.new.context }
+        ensures others { LeavesOthers S.speaks_for S.own S.knows self.old.context.who space.old space.new }
+        ensures who { self.new.context.who ≡ self.old.context.who }
+        ensures idle { IdleUnlessPlayed result self.new }
+    {
+        if let Err(ending) = self.all_can_change(space, &[to, from]) {
+            return Played::Ends(ending);
+        }
+        if let Err(ending) = self.redefine(space, to, &Change::Put(definition)) {
+            return Played::Ends(ending);
+        }
+        match self.redefine(space, from, &Change::Drop) {
+            Ok(()) => Played::Ends(Ending::Answers(Reply::Ok)),
+            Err(ending) => Played::Ends(ending),
+        }
+    }
+}
+
+/// A definition that has to be there.
+fn found(definition: Option<Definition>) -> Result<Definition, Ending>
+    ensures { MatchResult result (λ it. definition ≡ Some it) (λ ending. (definition ≡ None) × (ending ≡ Answers (Error NoSuchTable))) }
+{
+    match definition {
+        Some(definition) => Ok(definition),
+        None => Err(failing(ErrorNumber::NoSuchTable)),
+    }
+}
+
+/// Both names of a table.
+fn both(from: &Key, to: &Key) -> Result<[Key; 2], AllocError>
+    ensures { IfOk result (λ names. names ≡ from.now ∷ to.now ∷ []) }
+{
+    Ok([from.clone()?, to.clone()?])
+}
