@@ -115,7 +115,7 @@ impl Drawn {
     fn line(&mut self) -> Result<(), AllocError> {
         let who = self.draw_below(self.sessions).wrapping_add(1);
         write!(self.text, "{who} ")?;
-        match self.chance.draw(35) {
+        match self.chance.draw(33) {
             0..=6 => self.alone()?,
             7..=14 => self.some("SELECT", 3)?,
             15..=20 => self.write()?,

@@ -31,6 +31,7 @@ create_of words =
 abbrev pub rename_of : List (List ℕ) → Result Statement LineError
 rename_of words =
     read_by (form (codes "TABLE") (makes (λ named. RenameTable named.0 named.1) table_to_table)) (behind (codes "TABLE" ∷ []) words) (Err BadWord)
+
 -- what the words behind LOCK say
 abbrev pub lock_of : List (List ℕ) → Result Statement LineError
 lock_of words = read_by (form (codes "TABLES") (makes LockTables some_locks)) (behind (codes "TABLES" ∷ []) words) (Err BadWord)
