@@ -1,6 +1,6 @@
 //! Strength between two modes of one kind.
 use mdl_key::Mode;
-use mdl_system::covers;
+use mdl_system::{covers, may_downgrade, may_upgrade};
 
 // SU is as strong as SR and not as SW, SNRW as SRO; S of a scope isn't as strong as IX; S and SH are each as strong as
 // the other.
@@ -16,5 +16,26 @@ fn strength_is_that_of_a_common_kind(rt: HostRuntime) {
         (Mode::SH, Mode::S, true),
     ] {
         assert!(rt; covers(a, b) == wanted, "{a} beside {b}");
+    }
+}
+
+// SU, SNW and SNRW may become each that stands behind them in this order, and X too; X may become each of them, and SNW SU.
+#[test]
+fn few_modes_become_others(rt: HostRuntime) {
+    for (held, mode, up, down) in [
+        (Mode::SU, Mode::SNW, true, false),
+        (Mode::SU, Mode::X, true, false),
+        (Mode::SNW, Mode::SNRW, true, false),
+        (Mode::SNRW, Mode::X, true, false),
+        (Mode::SNW, Mode::SU, false, true),
+        (Mode::X, Mode::SNRW, false, true),
+        (Mode::X, Mode::SU, false, true),
+        (Mode::SNRW, Mode::SU, false, false),
+        (Mode::SR, Mode::X, false, false),
+        (Mode::X, Mode::S, false, false),
+        (Mode::X, Mode::X, false, false),
+    ] {
+        assert!(rt; may_upgrade(held, mode) == up, "{held} up to {mode}");
+        assert!(rt; may_downgrade(held, mode) == down, "{held} down to {mode}");
     }
 }

@@ -2,6 +2,7 @@
 use Rattle.std.proofs.Common.{◌≡◌, ◌≢◌, ◌⊎◌, inl, inr, ℕ, zero, suc, ◌+◌, ◌≤◌, Bool, true, false, ◌&&◌, List, [], ◌∷◌, find, cond, Option, Some, None, option_map, is_some, Contains, MatchOption, IfSome, sym, ap, subst, refl, ◌∙◌, arith, if◌then◌else◌}
 use Rattle.std.proofs.lemmas.List.Elements.{All-nil, All-cons}
 use Rattle.mdl_key.specs.Keys.{KeyName}
+use Rattle.mdl_key.specs.declared.mode.Mode.{Mode}
 use Rattle.mdl_key.specs.declared.mode.Mode.TheVariants.{X}
 use Rattle.mdl_key.specs.Words.{same_mode}
 use Rattle.mdl_defs.specs.declared.change.Change.{Change}
@@ -13,10 +14,11 @@ use Rattle.mdl_calls.specs.declared.answers.Held.{Held}
 use Rattle.mdl_calls.specs.declared.answers.Settled.{Settled}
 use Rattle.mdl_calls.specs.declared.space_error.SpaceError.TheVariants.{OutOfMemory}
 use Rattle.mdl_calls.specs.Tests.LoneSessions.{Lone, LoneSpeaks, LoneJoins, IsSettled, AreAtOne, Knows, HasRead, HasSeen}
+use Rattle.mdl_system.specs.Strength.{covers}
 use Rattle.mdl_calls.specs.Reads.{AreTablesOf, HasTableOf, is_table_of}
 use Rattle.mdl_calls.proofs.TableLemmas.{table-of, both-left}
 use Rattle.mdl_calls.specs.Own.{Own, Wait}
-use Rattle.mdl_calls.specs.Words.{Call, Read_definition, Read_kept, Change_definition, Tables_of, Key_of, caller, Answer, Refused, Key_is, Tables, Reads, Changed, cause_of, OfHeld, IsChangeOf, HoldsAt, is_number, ticket_held, read_under, redefined_place}
+use Rattle.mdl_calls.specs.Words.{Call, Read_definition, Read_kept, Change_definition, Tables_of, Upgrade_now, Key_of, caller, Answer, Refused, Would_wait, Key_is, Tables, Reads, Changed, cause_of, OfHeld, IsChangeOf, HoldsAt, is_number, ticket_held, read_under, redefined_place}
 
 -- each of the tickets is of place 1
 pub held-at_one : (held : List Held) (ticket : Held) → AreAtOne held → Contains held ticket → ticket.place ≡ 1
@@ -177,6 +179,11 @@ lone-seen_stays a b call answer w place version speaks j seen = omega (arith, j.
 pub lone-seen_below : (a : Lone) (w place version : ℕ) (standing : Standing) → LoneSpeaks a w → HasSeen a w place version
     → HasRead a w place standing → version ≤ standing.version
 lone-seen_below a w place version standing speaks seen read = let e = ap (λ (s : Standing). s.version) read.2 in omega (arith, e, seen)
+
+-- an upgrade to a mode that the held one covers never has to wait
+pub lone-upgrades : (a b : Lone) (who id : ℕ) (mode : Mode) (ticket : Held) → ticket_held id a.own ≡ Some ticket
+    → covers ticket.mode mode ≡ true → LoneJoins a (Upgrade_now who id mode) Would_wait b → ⊥
+lone-upgrades a b who id mode ticket its covered j = let isnt = j.told_truly ticket its in cc
 
 -- a call that the space hasn't joins nothing
 pub has_not : {A : Type 0} → false ≡ true → A

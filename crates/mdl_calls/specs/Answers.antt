@@ -19,6 +19,8 @@ use Rattle.mdl_calls.specs.declared.answers.Poll.TheVariants as poll_as
 use Rattle.mdl_calls.specs.declared.answers.TimedOut.{TimedOut}
 use Rattle.mdl_calls.specs.declared.answers.Ended.{Ended}
 use Rattle.mdl_calls.specs.declared.answers.Ended.TheVariants as ended_as
+use Rattle.mdl_calls.specs.declared.answers.Upgrade.{Upgrade}
+use Rattle.mdl_calls.specs.declared.answers.Upgrade.TheVariants as upgrade_as
 use Rattle.mdl_calls.specs.Calls.{Call, Resolve, Try_now, Begin_wait, Search, Poll_wait, Settle_timeout, End_wait, Wait_of, Kill, Release, Clone_ticket, Upgrade_now, Merge, Downgrade, Read_definition, Change_definition, Tables_of, Key_of, Read_kept, List_held, Unpin}
 
 -- what a call answers
@@ -127,6 +129,11 @@ done (Err refusal) = Refused refusal
 abbrev pub cloned : Result ℕ SpaceError → Answer
 cloned (Ok id) = Granted id
 cloned (Err refusal) = Refused refusal
+
+abbrev pub upgrade_tried : Result Upgrade SpaceError → Answer
+upgrade_tried (Ok upgrade_as.Upgraded) = Upgraded
+upgrade_tried (Ok upgrade_as.WouldWait) = Would_wait
+upgrade_tried (Err refusal) = Refused refusal
 
 abbrev pub listed : {Z : Type 0} → Result (Vec Held Z) SpaceError → Answer
 listed (Ok tickets) = Holds tickets.items

@@ -38,6 +38,15 @@ pub enum Begun {
     Waiting(u64),
 }
 
+/// What comes of asking for a stronger mode of a held ticket without waiting.
+#[derive(Clone, Copy, Debug, PartialEq, Eq)]
+pub enum Upgrade {
+    /// The ticket's mode is at least as strong as the one that was asked for.
+    Upgraded,
+    /// The mode can't be had now. Nothing has changed.
+    WouldWait,
+}
+
 /// How a wait is settled. The first way that is met stays.
 ///
 /// After MySQL 5.7, `MDL_wait::enum_wait_status` of `sql/mdl.h`.

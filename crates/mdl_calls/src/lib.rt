@@ -7,5 +7,7 @@
 mod answers;
 mod space_error;
 
-pub use answers::{Attempt, Begun, Ended, Held, Place, Poll, Search, Settled, TicketId, TimedOut};
+pub use answers::{
+    Attempt, Begun, Ended, Held, Place, Poll, Search, Settled, TicketId, TimedOut, Upgrade,
+};
 pub use space_error::SpaceError;

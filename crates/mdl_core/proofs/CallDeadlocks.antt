@@ -5,7 +5,7 @@ use Rattle.std.proofs.lemmas.Bool.{false≢true}
 use Rattle.mdl_key.specs.Keys.{KeyName}
 use Rattle.mdl_defs.specs.declared.change.Change.{Change}
 use Rattle.mdl_calls.specs.declared.answers.TimedOut.TheVariants.{ByThisCall}
-use Rattle.mdl_calls.specs.Words.{Answer, Done, Granted, Waits, Victim_is, Timed_out, Lost, Has_killed, Changed, Call, Try_now, Begin_wait, Search, Settle_timeout, End_wait, Kill, Release, Clone_ticket, Change_definition, Runs, Over, seeking}
+use Rattle.mdl_calls.specs.Words.{Answer, Done, Granted, Waits, Victim_is, Timed_out, Lost, Has_killed, Changed, Upgraded, Call, Try_now, Begin_wait, Search, Settle_timeout, End_wait, Kill, Release, Clone_ticket, Upgrade_now, Merge, Downgrade, Change_definition, Runs, Over, seeking}
 use Rattle.mdl_core.specs.CoreJoins.{Joins, SpeaksFor}
 use Rattle.mdl_core.specs.CoreLaws.{IsEventOf, GrantsInOrder}
 use Rattle.mdl_core.specs.Cores.{Core}
@@ -34,6 +34,9 @@ of-call a (End_wait who) (Lost how) event (key, waiter, own, state, is) session 
 of-call a (Kill target number) (Has_killed true) event (key, waiter, own, wait, is) session = ap (λ e. events.begins_wait e session) is
 of-call a (Release who id) Done event (ticket, own, number, is) session = ap (λ e. events.begins_wait e session) is
 of-call a (Clone_ticket who id mode) (Granted copy) event (ticket, own, number, is) session = ap (λ e. events.begins_wait e session) is
+of-call a (Upgrade_now who id mode) Upgraded event (ticket, own, number, is) session = ap (λ e. events.begins_wait e session) is
+of-call a (Merge who old new) Done event (kept, gone, own, number, also, other, is) session = ap (λ e. events.begins_wait e session) is
+of-call a (Downgrade who id mode) Done event (ticket, own, number, is) session = ap (λ e. events.begins_wait e session) is
 of-call a (Change_definition who id change) (Changed version) event (ticket, own, number, is) session = ap (λ e. events.begins_wait e session) is
 of-call a _ _ event is session = absurd is
 

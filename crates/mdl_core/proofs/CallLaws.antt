@@ -1,30 +1,33 @@
 -- The laws of a lock space, of the space of one thread: what its calls do to the sessions, and what they tell them.
 use Rattle.std.proofs.Common.{◌≡◌, ℕ, Bool, true, false, not, ◌&&◌, List, Option, Some, None, MatchOption, IfSome, is_some, option_map, refl, sym, ap, subst, ◌∙◌, inl, inr, eq-eqb}
+use Rattle.std.proofs.lemmas.Bool.{false≢true}
 use Rattle.std.proofs.lemmas.Bool.Decides.{eqb_tells}
 use Rattle.mdl_key.specs.Keys.{KeyName}
+use Rattle.mdl_key.specs.declared.mode.Mode.{Mode}
 use Rattle.mdl_calls.specs.declared.answers.Held.{Held}
 use Rattle.mdl_calls.specs.declared.answers.Settled.{Settled}
 use Rattle.mdl_calls.specs.declared.answers.Settled.TheVariants as settled_as
 use Rattle.mdl_calls.specs.declared.answers.TimedOut.TheVariants.{ByThisCall, Already}
 use Rattle.mdl_calls.specs.declared.space_error.SpaceError.TheVariants.{OutOfMemory}
-use Rattle.mdl_calls.specs.Words.{Answer, Refused, Done, At_place, Is_settled, Timed_out, Has_wait, Has_killed, Victim_is, Key_is, Tables, Holds, is_answer_of, Call, Resolve, Search, Poll_wait, Settle_timeout, End_wait, Wait_of, Kill, Release, Downgrade, Change_definition, Key_of, Tables_of, List_held, Unpin, caller, takes_memory, AreTablesOf, IsCause, IsExplained, own_after, wait_number, is_waiting, IsRising, Draws, told, IsToldOf}
+use Rattle.mdl_calls.specs.Words.{Answer, Refused, Done, At_place, Would_wait, Upgraded, Is_settled, Timed_out, Has_wait, Has_killed, Victim_is, Key_is, Tables, Holds, is_answer_of, Call, Resolve, Search, Poll_wait, Settle_timeout, End_wait, Wait_of, Kill, Release, Upgrade_now, Downgrade, Change_definition, Key_of, Tables_of, List_held, Unpin, caller, takes_memory, AreTablesOf, IsCause, IsExplained, own_after, wait_number, is_waiting, IsRising, Draws, ticket_held, told, IsToldOf}
 use Rattle.mdl_core.specs.declared.pending.Pending.{Pending}
 use Rattle.mdl_core.specs.Changes.{Change, Settle, seat_after, changing, losing}
 use Rattle.mdl_core.specs.CoreCalls.{outcome, Makes, wait_at, is_open_wait}
 use Rattle.mdl_core.specs.CoreJoins.{SpeaksFor, own_at, numbers_at, Knows, IsSettledAs, Joins}
-use Rattle.mdl_core.specs.CoreLaws.{CallsKeepSound}
+use Rattle.mdl_core.specs.CoreLaws.{CallsKeepSound, UpgradesWhatIsGrantable}
 use Rattle.mdl_core.specs.Cores.{Core, seat_at, has_session, tables_in}
 use Rattle.mdl_core.specs.Seats.{own_of, numbers_of}
 use Rattle.mdl_core.specs.SessionLaws.{RefusesForCause}
 use Rattle.mdl_core.specs.Ties.{IsTied}
+use Rattle.mdl_system.specs.Words.{covers}
 use Rattle.mdl_core.proofs.CallCases.{test_cases}
 use Rattle.mdl_core.proofs.ChangeTies.{tied-changing}
 use Rattle.mdl_core.proofs.CoreServing.{serves}
 use Rattle.mdl_core.proofs.KnownPlaces.{spares-opening}
 use Rattle.mdl_core.proofs.MadeCalls.{number-same, refused, made}
 use Rattle.mdl_core.proofs.SparedSeats.{IsSettledWait, HasSettled, settled-seat, seat-settled, wait-of_session, Spares, spares-same, is_end, own-settling, sessions-changed, seat-changed, seat-other, keys-changed, settled-changed, spares-changing}
+use Rattle.mdl_core.proofs.Ways.{HasAtOnce, HasNotAtOnce, Way, Stay, Open, Settle_wait, Make, makes_room, served_if, space_by, seat_by, IsSo, ServesCaller, IsMade, Made, Comes}
 use Rattle.mdl_core.proofs.TableLists.{are-tables}
-use Rattle.mdl_core.proofs.Ways.{Way, Stay, Open, Settle_wait, Make, makes_room, served_if, space_by, seat_by, IsSo, ServesCaller, IsMade, Made, Comes}
 
 -- ---- calls and what comes of them
 
@@ -251,6 +254,18 @@ refuses-caused a b call refusal joins = (joined a b call (Refused refusal) joins
 -- what is listed is what is held
 pub core-lists : (a b : Core) (who : ℕ) (tickets : List Held) → Joins a (List_held who) (Holds tickets) b → tickets ≡ (own_at a who).held
 core-lists a b who tickets joins = (called a b (List_held who) (Holds tickets) who refl joins).so
+
+-- a held ticket has another mode at once exactly where that can be
+pub upgrades-grantable : UpgradesWhatIsGrantable
+upgrades-grantable a b who id mode ticket its = (
+  (λ joins. subst (λ o. MatchOption o ⊥ (HasAtOnce a who mode)) its (called a b (Upgrade_now who id mode) Upgraded who refl joins).so),
+  λ joins. subst (λ o. MatchOption o ⊥ (HasNotAtOnce a who mode)) its (called a b (Upgrade_now who id mode) Would_wait who refl joins).so,
+)
+
+-- an upgrade to a mode that the held one covers doesn't wait
+pub core-upgrades : (a b : Core) (who id : ℕ) (mode : Mode) (ticket : Held) → ticket_held id (own_at a who) ≡ Some ticket → covers ticket.mode mode ≡ true
+    → Joins a (Upgrade_now who id mode) Would_wait b → ⊥
+core-upgrades a b who id mode ticket its covered joins = false≢true (sym ((upgrades-grantable a b who id mode ticket its).1 joins).0 ∙ covered)
 
 -- ---- keys
 

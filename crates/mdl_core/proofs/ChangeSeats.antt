@@ -1,8 +1,10 @@
 -- What each change makes of what its session has and waits for.
-use Rattle.std.proofs.Common.{◌≡◌, ◌≢◌, ◌⊎◌, ℕ, ◌+◌, ◌<◌, ◌≤◌, Bool, true, false, not, cond, inl, inr, List, [], ◌∷◌, ◌++◌, Option, Some, None, refl, sym, ap, subst, ◌∙◌, arith}
-use Rattle.std.specs.Prelude.{Contains, IsTrue, MatchOption, filter}
+use Rattle.std.proofs.Common.{◌≡◌, ◌≢◌, ◌⊎◌, ℕ, ◌+◌, ◌<◌, ◌≤◌, Bool, true, false, not, ◌&&◌, ◌==◌, cond, eq-eqb, eqb-true, inl, inr, List, [], ◌∷◌, ◌++◌, Option, Some, None, refl, sym, ap, subst, ◌∙◌, arith}
+use Rattle.std.specs.Prelude.{Contains, IsTrue, MatchOption, filter, map, if◌then◌else◌}
+use Rattle.std.proofs.lemmas.Bool.{and_parts}
 use Rattle.std.proofs.lemmas.Bool.Decides.{nat_tests}
 use Rattle.std.specs.List.{before_first, after_first}
+use Rattle.std.proofs.lemmas.List.{map-append}
 use Rattle.std.proofs.lemmas.List.Elements.{Contains-append_left, Contains-append_right, filter-append}
 use Rattle.mdl_key.specs.declared.mode.Mode.{Mode}
 use Rattle.mdl_key.specs.declared.namespace.Kind.{Kind}
@@ -11,21 +13,22 @@ use Rattle.mdl_book.specs.declared.ticket.Ticket.{Ticket}
 use Rattle.mdl_book.specs.Books.{lock_kind}
 use Rattle.mdl_book.specs.Tickets.{ticket_id}
 use Rattle.mdl_calls.specs.Own.{are_rising, is_number}
+use Rattle.mdl_calls.specs.Words.{may_merge}
 use Rattle.mdl_calls.specs.declared.answers.Held.{Held}
 use Rattle.mdl_calls.specs.declared.answers.Settled.{Settled}
 use Rattle.mdl_calls.specs.declared.answers.Settled.TheVariants as settled_as
 use Rattle.mdl_core.specs.declared.pending.Pending.{Pending}
-use Rattle.mdl_core.specs.Changes.{Change, Gain, Lose, Queue, Admit, Settle, Leave, Take_up, Redefine, seat_after, Allows, May}
+use Rattle.mdl_core.specs.Changes.{Change, Gain, Lose, Queue, Admit, Settle, Leave, Take_up, Alter, Fold, Redefine, seat_after, Allows, May}
 use Rattle.mdl_core.specs.Cores.{Core, book_at, seat_at}
 use Rattle.mdl_core.specs.CoreSystems.{waiter_of, unended_at, unended_of}
-use Rattle.mdl_core.specs.Seats.{SeatView, without_ticket, ticket_of_wait}
+use Rattle.mdl_core.specs.Seats.{SeatView, without_ticket, held_in, with_ticket_in, ticket_of_wait}
 use Rattle.mdl_core.specs.Ties.{Has, Awaits, in_book_of, IsNumbered, IsTied}
 use Rattle.mdl_core.proofs.CoreUnended.{not_granted}
-use Rattle.mdl_core.proofs.Effects.{Effect, Stays, Comes, Goes, Turns, Becomes, InOrder, Each, same, through, either, order-members, order-pairs, Joins, after-all, after-beside}
-use Rattle.mdl_core.proofs.PairLemmas.{below, pairs-others, split-at, filter-all, pairs-from_rising, rising-from_pairs}
-use Rattle.mdl_system.specs.Words.{LeavesOrder, granted_wait, GrantedWait}
+use Rattle.mdl_core.proofs.Effects.{Effect, Stays, Comes, Goes, Turns, Unites, Becomes, InOrder, Each, same, through, either, order-members, order-pairs, Joins, after-all, after-beside}
+use Rattle.mdl_core.proofs.PairLemmas.{below, pairs-others, split-at, filter-all, map-same, pairs-from_rising, rising-from_pairs}
+use Rattle.mdl_system.specs.Words.{LeavesOrder, TakesTurn, granted_wait, GrantedWait, covers}
 use Rattle.mdl_system.proofs.MemberLemmas.{AreApart, push-gains}
-use Rattle.mdl_core.proofs.TiedWrites.{held_at, waiting-own}
+use Rattle.mdl_core.proofs.TiedWrites.{held_at, granted-here, waiting-own}
 
 -- ---- the effects
 
@@ -43,6 +46,8 @@ abbrev pub has_effect : ℕ → Change → SeatView → Effect Held
 has_effect place (Gain mode) seat = Comes (new_held place mode seat)
 has_effect place (Lose ticket) seat = Goes ticket
 has_effect place (Admit ticket) seat = Comes (held_at place ticket)
+has_effect place (Alter ticket mode) seat = Turns ticket (held_in mode ticket)
+has_effect place (Fold old new) seat = Unites new old (held_in new.mode old)
 has_effect place _ seat = Stays
 
 -- and on the one that waits
@@ -70,6 +75,7 @@ abbrev pub MayBe : {N : Type 0} → (Ticket → N) → ℕ → (Held → Type 0)
 MayBe name who fits had Stays = Unit {0}
 MayBe name who fits had (Comes new) = fits new × ((ticket : Held) → had ticket → name (in_book_of who ticket) ≢ name (in_book_of who new))
 MayBe name who fits had (Goes old) = had old
+MayBe name who fits had (Unites gone old new) = had gone × had old × fits new × (name (in_book_of who new) ≡ name (in_book_of who old))
 MayBe name who fits had (Turns old new) = had old × fits new × (name (in_book_of who new) ≡ name (in_book_of who old))
 
 -- what becomes, by an effect at one place, of what a session had
@@ -176,6 +182,21 @@ left-out x held apart among =
           ++ cond (not (round.3 i)) (x ∷ filter other round.1) (filter-all other round.1 (λ t there. ap not (round.4 t (Contains-append_right round.0 round.1 t there))) i)),
     )
 
+-- and the ticket of a number gets another mode
+in-turn : (x : Held) (mode : Mode) (held : List Held) → AreApart (λ (h : Held). h.id) held → Contains held x
+    → TakesTurn x (held_in mode x) held (map (λ ticket. if is_number x.id ticket then held_in mode ticket else ticket) held)
+in-turn x mode held apart among =
+    let round = round-number x held apart among in
+    let change : Held → Held = λ ticket. if is_number x.id ticket then held_in mode ticket else ticket in
+    let other : (t : Held) → Contains (round.0 ++ round.1) t → change t ≡ t = λ t there i. if round.4 t there i then held_in mode t else t in (
+      round.0,
+      round.1,
+      round.2,
+      ap (map change) round.2 ∙ map-append change round.0 (x ∷ round.1)
+          ∙ (λ i. map-same change round.0 (λ t there. other t (Contains-append_left round.0 round.1 t there)) i
+          ++ (if round.3 i then held_in mode x else x) ∷ map-same change round.1 (λ t there. other t (Contains-append_right round.0 round.1 t there)) i),
+    )
+
 -- ---- by cases
 
 -- the seat with this wait
@@ -253,6 +274,60 @@ module _ (who place : ℕ) (kind : Kind) (seat : SeatView) where
         keeps = λ ticket waits apart. refl;
         numbered = held-numbered (Goes x) seat.held (without_ticket x.id seat).held order numbered.rising wait seat.last_ticket seat.last_wait tt numbered.held
             (numbered.held x held) (under x held wait numbered.wait);
+      }
+
+  -- and with another mode it has still
+  under_both : (x : Held) (mode : Mode) → Contains seat.held x → (wait : Option Pending)
+      → MatchOption wait (Unit {0}) (WaitNumbered seat.held seat.last_ticket seat.last_wait)
+      → MatchOption wait (Unit {0}) (λ w. WaitNumbered seat.held seat.last_ticket seat.last_wait w × Each (λ (h : Held). h.id < w.id) (Turns x (held_in mode x)))
+  under_both x mode held None q = tt
+  under_both x mode held (Some w) q = (q, (q.2 x held, q.2 x held))
+
+  alter : (x : Held) (mode : Mode) (wait : Option Pending) → Contains seat.held x → x.place ≡ place → IsTrue (is_mode_of kind mode) → Made (Alter x mode) wait
+  alter x mode wait held at fits numbered =
+      let order = in-turn x mode seat.held (by-id seat.held numbered.rising) held in
+      let effect = Turns x (held_in mode x) in
+      let now = (with_ticket_in x.id mode seat).held in
+      let other : (ticket : Held) → Won wait ticket → ticket.id ≢ x.id = λ ticket won.
+      won-other seat.held wait seat.last_ticket seat.last_wait numbered.wait x held ticket won in
+      record {
+        has = record {
+          becomes = held-has effect seat.held now order numbered.rising wait
+              (λ ticket won. ((λ e. other ticket won (ap (λ (h : Held). h.id) e)), λ e. other ticket won (ap (λ (h : Held). h.id) e)));
+          at = (at, at);
+          may = (inl held, inr fits, refl);
+        };
+        waits = stays (λ ticket. same);
+        unended = λ won. same;
+        own = tt;
+        keeps = λ ticket waits apart. refl;
+        numbered = held-numbered effect seat.held now order numbered.rising wait seat.last_ticket seat.last_wait ((λ y lt. lt), λ y lt. lt) numbered.held
+            (numbered.held x held, numbered.held x held) (under_both x mode held wait numbered.wait);
+      }
+
+  fold : (old new : Held) → Contains seat.held old → Contains seat.held new → old.place ≡ place → new.place ≡ place → old.id ≢ new.id
+      → IsTrue (is_mode_of kind new.mode) → Made (Fold old new) None
+  fold old new held going at there two fits numbered =
+      let mid = without_ticket new.id seat in
+      let left = left-out new seat.held (by-id seat.held numbered.rising) going in
+      let stays_held = (order-members (λ (h : Held). h.id) (Goes new) seat.held mid.held (by-id seat.held numbered.rising) left old).1
+      (held, λ e. two (ap (λ (h : Held). h.id) e)) in
+      let rising = (lose new None going there numbered).numbered.rising in
+      let effect = Unites new old (held_in new.mode old) in
+      let now = (with_ticket_in old.id new.mode mid).held in
+      let order : InOrder effect seat.held now = (mid.held, left, in-turn old new.mode mid.held (by-id mid.held rising) stays_held) in
+      record {
+        has = record {
+          becomes = held-has effect seat.held now order numbered.rising None (λ ticket none. absurd none);
+          at = (there, at, at);
+          may = (inl going, inl held, inr fits, refl);
+        };
+        waits = stays (λ ticket. same);
+        unended = λ won. same;
+        own = tt;
+        keeps = λ ticket waits apart. refl;
+        numbered = held-numbered effect seat.held now order numbered.rising None seat.last_ticket seat.last_wait ((λ y lt. lt), λ y lt. lt) numbered.held
+            (numbered.held new going, numbered.held old held, numbered.held old held) tt;
       }
 
   module _ (wait : Pending) (at : wait.place ≡ place) where
@@ -345,6 +420,27 @@ module _ (who place : ℕ) (kind : Kind) (seat : SeatView) where
           numbered.wait.2 numbered.held (let e = numbered.wait.0 in omega arith) tt;
     }
 
+-- two tickets that may be merged have two numbers and one place, and the one that goes is at least as strong
+module _ (old new : Held) (may : may_merge old new ≡ true) where
+  merged_parts : (not (old.id == new.id) ≡ true) × ((old.place == new.place) ≡ true) × (covers new.mode old.mode ≡ true)
+  merged_parts =
+      let whole = and_parts (not (old.id == new.id) && old.place == new.place) (covers new.mode old.mode) may in
+      let both = and_parts (not (old.id == new.id)) (old.place == new.place) whole.0 in
+      (both.0, both.1, whole.1)
+
+  pub merged_numbers : old.id ≢ new.id
+  merged_numbers e = clash (old.id == new.id) (eq-eqb old.id new.id e) merged_parts.0
+    where
+      clash : (b : Bool) → b ≡ true → not b ≡ true → ⊥
+      clash true is apart = cc
+      clash false is apart = cc
+
+  pub merged_place : old.place ≡ new.place
+  merged_place = eqb-true old.place new.place merged_parts.1
+
+  pub merged_mode : covers new.mode old.mode ≡ true
+  merged_mode = merged_parts.2
+
 -- where an option is one, what is so of it is so of that
 pub at-some : {T : Type 0} (P : T → Type 0) (o : Option T) (x : T) → o ≡ Some x → MatchOption o ⊥ P → P x
 at-some P o x is m = subst (λ p. MatchOption p ⊥ P) is m
@@ -376,6 +472,10 @@ module _ (core : Core) (who place : ℕ) (tied : IsTied core) where
       made (Settle how) allows = let wait = allows.0 in with (Settle how) (Some wait.0) wait.1 (settle who place kind seat wait.0 wait.3 how wait.2 allows.1)
       made (Leave wait) allows = with (Leave wait) (Some wait) allows.0 (leave who place kind seat wait allows.2 allows.1)
       made (Take_up wait) allows = with (Take_up wait) (Some wait) allows.0 (take_up who place kind seat wait allows.2 allows.1)
+      made (Alter ticket mode) allows = alter who place kind seat ticket mode seat.wait allows.0 allows.1 allows.2 (tied.numbered who may.session)
+      made (Fold old new) allows =
+          with (Fold old new) None allows.0 (fold who place kind seat old new allows.1 allows.2 allows.3 allows.4 (merged_numbers old new allows.5)
+          (tied.granted_by place may.key (in_book_of who new) ((granted-here core who place tied may.session may.key new allows.4).1 (inl allows.2))).1)
       made (Redefine ticket change) allows = record {
         has = stays (λ ticket. same);
         waits = stays (λ ticket. same);

@@ -2,27 +2,28 @@
 use Rattle.std.proofs.Common.{◌≡◌, ◌≢◌, ◌⊎◌, ◌↔◌, ℕ, ◌-◌, Bool, true, inl, inr, List, [], ◌∷◌, ◌++◌, Some, refl, sym, ap, subst, ◌∙◌, arith}
 use Rattle.std.specs.Prelude.{Contains}
 use Rattle.std.specs.List.{before_first, after_first}
-use Rattle.std.specs.Option.{option_to_list}
+use Rattle.std.specs.Option.{option_map, option_to_list}
 use Rattle.std.proofs.lemmas.Bool.Decides.{nat_tests}
 use Rattle.std.proofs.lemmas.List.{set-get_or}
 use Rattle.mdl_key.specs.Keys.{global_key}
+use Rattle.mdl_key.specs.declared.mode.Mode.{Mode}
 use Rattle.mdl_book.specs.declared.book_view.BookView.{BookView}
 use Rattle.mdl_book.specs.declared.ticket.Ticket.{Ticket}
 use Rattle.mdl_book.specs.Books.{empty_book, lock_kind}
-use Rattle.mdl_book.specs.Tickets.{is_ticket, ticket_id, ticket_of, without}
+use Rattle.mdl_book.specs.Tickets.{is_ticket, ticket_id, ticket_of, without, in_mode, with_mode}
 use Rattle.mdl_defs.specs.Standings.{MayStand}
 use Rattle.mdl_defs.proofs.StandingLemmas.{changes-keep_standing}
 use Rattle.mdl_calls.specs.declared.answers.Held.{Held}
-use Rattle.mdl_core.specs.Changes.{Change, Gain, Lose, Queue, Admit, Settle, Leave, Take_up, Redefine, seat_after, book_after, changing, Allows, May}
+use Rattle.mdl_core.specs.Changes.{Change, Gain, Lose, Queue, Admit, Settle, Leave, Take_up, Alter, Fold, Redefine, seat_after, book_after, changing, Allows, May}
 use Rattle.mdl_core.specs.Cores.{Core, book_at, seat_at, key_at, standing_at, booking, seating}
-use Rattle.mdl_core.specs.Seats.{SeatView, ticket_of_wait}
+use Rattle.mdl_core.specs.Seats.{SeatView, held_in, ticket_of_wait}
 use Rattle.mdl_core.specs.Ties.{Has, Awaits, in_book_of, IsTied, AllMayStand}
-use Rattle.mdl_core.proofs.ChangeSeats.{wait_turned, has_effect, wait_effect, MayBe, Makes, Fitting, SeatMade, seat-made}
-use Rattle.mdl_core.proofs.Effects.{Effect, Stays, Comes, Goes, Turns, Becomes, InOrder, Each, mapped, through, back, each-also, each-mapped, after-other, after-mapped, Joins, order-members, order-pairs}
+use Rattle.mdl_core.proofs.ChangeSeats.{wait_turned, has_effect, wait_effect, MayBe, Makes, Fitting, SeatMade, merged_numbers, seat-made}
+use Rattle.mdl_core.proofs.Effects.{Effect, Stays, Comes, Goes, Turns, Unites, Becomes, InOrder, Each, mapped, through, back, each-also, each-mapped, after-other, after-mapped, Joins, order-members, order-pairs}
 use Rattle.mdl_core.proofs.PairLemmas.{split-at}
 use Rattle.mdl_core.proofs.TiedWrites.{held_at, as-held, granted-here, waiting-here, Follows, had_key, at_place, tied-written}
 use Rattle.mdl_system.proofs.MemberLemmas.{AreApart, find-named}
-use Rattle.mdl_system.specs.Events.{LeavesOrder}
+use Rattle.mdl_system.specs.Events.{LeavesOrder, TakesTurn}
 
 -- ---- a list of a book, by the effect
 
@@ -46,12 +47,14 @@ module _ {N : Type 0} (name : Ticket → N) (told : (one other : Ticket) → nam
       let is : in_book_of who (held_at place ticket) ≡ ticket = λ i. record { session = sym own i; number = ticket.number; mode = ticket.mode } in
       may.1 (held_at place ticket) ((before (held_at place ticket) refl).0 (as-held old who place ticket own among)) (ap name is ∙ e)
   joining (Goes old) at may = tt
+  joining (Unites gone old new) at may = (λ x n e. n (sym may.3 ∙ e), λ x n e. n (e ∙ may.3))
   joining (Turns old new) at may = (λ x n e. n (sym may.2 ∙ e), λ x n e. n (e ∙ may.2))
 
   fitting : (effect : Effect Held) → Becomes effect had has → MayBe name who fits had effect → (ticket : Held) → has ticket → had ticket ⊎ fits ticket
   fitting Stays becomes may ticket now = inl ((becomes ticket).0 now)
   fitting (Comes new) becomes may ticket now = elim ((becomes ticket).0 now) [ inl was ↦ inl was | inr e ↦ inr (subst fits (sym e) may.0) ]
   fitting (Goes old) becomes may ticket now = inl ((becomes ticket).0 now).0
+  fitting (Unites gone old new) becomes may ticket now = elim ((becomes ticket).0 now) [ inl was ↦ inl was.0.0 | inr e ↦ inr (subst fits (sym e) may.2) ]
   fitting (Turns old new) becomes may ticket now = elim ((becomes ticket).0 now) [ inl was ↦ inl was.0 | inr e ↦ inr (subst fits (sym e) may.1) ]
 
   -- a session's ticket is in the book as that and no other
@@ -106,6 +109,14 @@ module _ {N : Type 0} (name : Ticket → N) (names : Names name) (list : List Ti
   finds : ticket_of ticket.session ticket.number list ≡ Some ticket
   finds = find-named name test ticket (that-is ticket) named list apart among
 
+  turns : (mode : Mode) → TakesTurn ticket (in_mode mode ticket) list (with_mode ticket.session ticket.number mode list)
+  turns mode = (
+    before_first test list,
+    after_first test list,
+    split-at name test ticket (that-is ticket) named list apart among,
+    ap (λ o. before_first test list ++ (option_to_list (option_map (in_mode mode) o) ++ after_first test list)) finds,
+  )
+
 -- ---- the book
 
 abbrev pub session_of : Ticket → ℕ
@@ -144,6 +155,11 @@ module _ (core : Core) (who place : ℕ) (tied : IsTied core) where
       gives_up ticket at has = leaves ticket_id by-number book.granted (tied.granted_once place may.key) (in_book_of who ticket)
           ((granted-here core who place tied may.session may.key ticket at).1 has)
 
+      turns_there : (ticket : Held) (mode : Mode) → ticket.place ≡ place → Has seat ticket
+          → TakesTurn (in_book_of who ticket) (in_book_of who (held_in mode ticket)) book.granted (with_mode who ticket.id mode book.granted)
+      turns_there ticket mode at has = turns ticket_id by-number book.granted (tied.granted_once place may.key) (in_book_of who ticket)
+          ((granted-here core who place tied may.session may.key ticket at).1 has) mode
+
       waits_there : (ticket : Held) → ticket.place ≡ place → Awaits seat ticket → LeavesOrder (in_book_of who ticket) book.waiting (without who ticket.id book.waiting)
       waits_there ticket at waits = leaves session_of by-session book.waiting (tied.waiting_once place may.key) (in_book_of who ticket)
           ((waiting-here core who place tied may.session may.key ticket at).1 waits)
@@ -174,6 +190,16 @@ module _ (core : Core) (who place : ℕ) (tied : IsTied core) where
           }
       made (Leave wait) allows seats = record { written = refl; key = refl; granted = refl; waiting = waits_there (ticket_of_wait wait) seats.waits.at seats.waits.may }
       made (Take_up wait) allows seats = record { written = seat-only (seat_after place (Take_up wait) seat); key = refl; granted = refl; waiting = refl }
+      made (Alter ticket mode) allows seats =
+          record { written = refl; key = refl; granted = turns_there ticket mode seats.has.at.0 seats.has.may.0; waiting = refl }
+      made (Fold old new) allows seats =
+          let gone = gives_up new seats.has.at.0 seats.has.may.0 in
+          let left = without who new.id book.granted in
+          let there = (granted-here core who place tied may.session may.key old allows.3).1 seats.has.may.1 in
+          let kept : Contains left (in_book_of who old) = (order-members ticket_id (Goes (in_book_of who new)) book.granted left (tied.granted_once place may.key) gone (in_book_of who old)).1
+          (there, λ e. merged_numbers old new allows.5 (ap (λ (t : Ticket). t.number) e)) in
+          let apart = order-pairs (λ (one other : Ticket). ticket_id one ≢ ticket_id other) (Goes (in_book_of who new)) book.granted left tt (tied.granted_once place may.key) gone in
+          record { written = refl; key = refl; granted = (left, gone, turns ticket_id by-number left apart (in_book_of who old) kept new.mode); waiting = refl }
       made (Redefine ticket change) allows seats = record { written = refl; key = refl; granted = refl; waiting = refl }
 
 -- ---- all of it

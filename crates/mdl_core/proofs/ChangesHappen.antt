@@ -1,28 +1,32 @@
 -- Each change in the space of one thread is an event of the system of locks.
-use Rattle.std.proofs.Common.{◌≡◌, ◌≢◌, ℕ, ◌+◌, true, inl, inr, List, Option, Some, None, refl, sym, ap, subst, ◌∙◌}
+use Rattle.std.proofs.Common.{◌≡◌, ◌≢◌, ◌⊎◌, ◌↔◌, ℕ, ◌+◌, true, inl, inr, List, Option, Some, None, refl, sym, ap, subst, ◌∙◌}
+use Rattle.std.specs.Prelude.{Contains}
 use Rattle.std.specs.Option.{option_map}
-use Rattle.mdl_key.specs.Words.{IsAtLeast, KeyName}
+use Rattle.mdl_key.specs.declared.mode.Mode.{Mode}
+use Rattle.mdl_key.specs.Words.{IsAtLeast, KeyName, is_mode_of}
 use Rattle.mdl_book.specs.declared.ticket.Ticket.{Ticket}
+use Rattle.mdl_calls.specs.declared.answers.Held.{Held}
 use Rattle.mdl_calls.specs.declared.answers.Settled.{Settled}
 use Rattle.mdl_calls.specs.declared.answers.Settled.TheVariants as settled_as
 use Rattle.mdl_defs.specs.declared.change.Change.{Change as Redefinition}
 use Rattle.mdl_defs.specs.declared.definition.Definition.{Definition}
 use Rattle.mdl_defs.proofs.StandingLemmas.{applied-changed}
 use Rattle.mdl_core.specs.declared.pending.Pending.{Pending}
-use Rattle.mdl_core.specs.ChangeEvents.{waiting_ticket, IsChangeEvent}
-use Rattle.mdl_core.specs.Changes.{Change, Gain, Lose, Queue, Admit, Settle, Leave, Take_up, Redefine, book_after, changing, Allows, May}
+use Rattle.mdl_core.specs.ChangeEvents.{holding_of, waiting_ticket, IsChangeEvent}
+use Rattle.mdl_core.specs.Changes.{Change, Gain, Lose, Queue, Admit, Settle, Leave, Take_up, Alter, Fold, Redefine, book_after, changing, Allows, May}
 use Rattle.mdl_core.specs.CoreSystems.{state_of, waiter_of, waiter_in, unended_at, unended_of, defined_in, applies, system_of}
 use Rattle.mdl_core.specs.Cores.{Core, book_at, seat_at, key_at, standing_at, has_session}
-use Rattle.mdl_core.specs.Seats.{SeatView}
+use Rattle.mdl_core.specs.Seats.{SeatView, held_in}
 use Rattle.mdl_core.specs.Ties.{in_book_of, IsTied}
-use Rattle.mdl_core.proofs.ChangeSeats.{wait_turned}
+use Rattle.mdl_core.proofs.ChangeSeats.{wait_turned, merged_numbers, merged_mode}
 use Rattle.mdl_core.proofs.ChangeSystems.{waits_as, SystemMade, system-made, same-at}
 use Rattle.mdl_core.proofs.CoreGranted.{held-in, new_number}
 use Rattle.mdl_core.proofs.CoreUnended.{own-unended}
 use Rattle.mdl_core.proofs.CoreWaiting.{no_wait}
-use Rattle.mdl_core.proofs.Effects.{InOrder, turned}
-use Rattle.mdl_system.specs.Words.{SameMembers, Gains, Loses, LeavesOrder, SameElsewhere, SameAt, SameSystem, ElseSame, Event, GrantWaiter, Happens, granted_wait, Unsettled, Versioned, Waiter, System, lock_kind}
+use Rattle.mdl_core.proofs.Effects.{InOrder, turned, through, either}
+use Rattle.mdl_system.specs.Words.{SameMembers, Gains, Loses, LeavesOrder, SameElsewhere, SameAt, SameSystem, ElseSame, Event, GrantWaiter, Happens, granted_wait, Unsettled, Versioned, Waiter, System, Holding, Replaces, IsGrantable, lock_kind}
 use Rattle.mdl_core.proofs.TiedWrites.{held_at}
+use Rattle.mdl_system.proofs.StrengthLemmas.{covers-at_least, downgrade-listed}
 
 -- ---- what stays
 
@@ -77,6 +81,31 @@ module _ (core : Core) (who place : ℕ) (tied : IsTied core) (session : has_ses
     waits = record { waiting = same-at a.waiting (after change).waiting key same made.elsewhere; unended = unended };
     definitions = defined change made stays;
   }
+
+  -- a ticket is in another mode among those that are granted
+  altered : (ticket : Held) (mode : Mode) → ticket.place ≡ place → Made (Alter ticket mode)
+      → Replaces (holding_of who ticket core) (holding_of who (held_in mode ticket) core) a.granted (after (Alter ticket mode)).granted
+  altered ticket mode at made =
+      subst (λ p. Replaces (record { session = who; number = ticket.id; key = key_at p core; mode = ticket.mode })
+      (record { session = who; number = ticket.id; key = key_at p core; mode = mode }) a.granted (after (Alter ticket mode)).granted) (sym at) made.granted
+
+  -- of two tickets the one is there in the mode of the other, which is gone
+  folded : (old new : Held) → old.place ≡ place → new.place ≡ place → Made (Fold old new) → (x : Holding)
+      → Contains (after (Fold old new)).granted x
+      ↔ ((Contains a.granted x × (x ≢ holding_of who old core) × (x ≢ holding_of who new core)) ⊎ (x ≡ holding_of who (held_in new.mode old) core))
+  folded old new at there made x =
+      let here : ℕ → Held → Holding = λ p ticket. record { session = who; number = ticket.id; key = key_at p core; mode = ticket.mode } in
+      subst (λ p. Contains (after (Fold old new)).granted x
+      ↔ ((Contains a.granted x × (x ≢ here p old) × (x ≢ holding_of who new core)) ⊎ (x ≡ here p (held_in new.mode old)))) (sym at)
+      (subst (λ p. Contains (after (Fold old new)).granted x
+      ↔ ((Contains a.granted x × (x ≢ here place old) × (x ≢ here p new)) ⊎ (x ≡ here place (held_in new.mode old)))) (sym there)
+      (through (made.granted x) (either (λ h. (h.0.0, h.1, h.0.1)) (λ e. e), either (λ h. ((h.0, h.2), h.1)) (λ e. e))))
+
+  -- a held ticket is in a mode of its lock's kind
+  legal : (ticket : Held) → Contains seat.held ticket → is_mode_of (lock_kind (key_at ticket.place core)) ticket.mode ≡ true
+  legal ticket held =
+      let there = tied.placed who ticket session (inl (inl held)) in
+      (tied.granted_by ticket.place there (in_book_of who ticket) ((tied.granted who ticket session there).1 (inl held))).1
 
   happens : (change : Change) (event : Event Redefinition) → Allows who place change seat (book_at place core) → Made change
       → IsChangeEvent who place change core event → Leads change event
@@ -155,6 +184,31 @@ module _ (core : Core) (who place : ℕ) (tied : IsTied core) (session : has_ses
     granted = made.granted;
     waiting = same-at a.waiting (after (Take_up wait)).waiting key made.waiting made.elsewhere;
     definitions = defined (Take_up wait) made refl;
+  })
+  happens (Alter ticket mode) event allows made (inl upgrade) = subst (Leads (Alter ticket mode)) (sym upgrade.0) (record {
+    free = no_wait core who tied session upgrade.1;
+    held = held-in core who ticket tied session allows.0;
+    grantable = subst (λ p. IsGrantable a who (key_at p core) mode) (sym allows.1) upgrade.3;
+    granted = altered ticket mode allows.1 made;
+    rest = rest (Alter ticket mode) made refl made.waiting made.unended;
+  })
+  happens (Alter ticket mode) event allows made (inr downgrade) = subst (Leads (Alter ticket mode)) (sym downgrade.0) (record {
+    held = held-in core who ticket tied session allows.0;
+    weaker = downgrade-listed ticket.mode mode downgrade.1;
+    granted = altered ticket mode allows.1 made;
+    rest = rest (Alter ticket mode) made refl made.waiting made.unended;
+  })
+  happens (Fold old new) event allows made is = subst (Leads (Fold old new)) (sym is) (record {
+    free = no_wait core who tied session allows.0;
+    old_held = held-in core who old tied session allows.1;
+    new_held = held-in core who new tied session allows.2;
+    two = λ e. merged_numbers old new allows.5 (ap (λ (h : Holding). h.number) e);
+    same_key = ap (λ p. key_at p core) (allows.4 ∙ sym allows.3);
+    at_least = covers-at_least (lock_kind (key_at old.place core)) new.mode old.mode
+        (subst (λ p. is_mode_of (lock_kind (key_at p core)) new.mode ≡ true) (allows.4 ∙ sym allows.3) (legal new allows.2)) (legal old allows.1)
+        (merged_mode old new allows.5);
+    granted = folded old new allows.3 allows.4 made;
+    rest = rest (Fold old new) made refl made.waiting made.unended;
   })
   happens (Redefine ticket change) event allows made is = subst (Leads (Redefine ticket change)) (sym is) (record {
     held = held-in core who ticket tied session allows.0;

@@ -1,22 +1,25 @@
 -- Each call of the lock space of one thread is an event of the system, and keeps the space sound; so does all that is asked of it.
 use Rattle.std.proofs.Common.{◌≡◌, ◌⊎◌, ℕ, zero, suc, ◌+◌, Bool, true, false, inl, inr, List, [], ◌∷◌, ◌++◌, None, refl, sym, ap, subst, ◌∙◌, arith}
 use Rattle.std.specs.Prelude.{flat_map, replicate}
+use Rattle.std.proofs.lemmas.Bool.{false≢true}
 use Rattle.std.proofs.lemmas.List.{append-nil}
 use Rattle.std.proofs.lemmas.List.Concat.{flat_map-append}
-use Rattle.mdl_key.specs.Keys.{KeyName}
+use Rattle.mdl_key.specs.declared.mode.Mode.{Mode}
+use Rattle.mdl_key.specs.Words.{KeyName, IsAtLeast, is_mode_of}
 use Rattle.mdl_defs.specs.declared.change.Change.{Change as Redefinition}
 use Rattle.mdl_defs.specs.declared.definition.Definition.{Definition}
 use Rattle.mdl_book.specs.Books.{empty_book}
+use Rattle.mdl_calls.specs.declared.answers.Held.{Held}
 use Rattle.mdl_calls.specs.Words.{Answer, Granted, Would_wait, Waits, Call, Try_now, Begin_wait}
-use Rattle.mdl_system.specs.Words.{IsAbout, FreesNothing, Event, Grant, Happens, SameSystem, GrantsNew, System, empty_system, IsGrantable, IsLawful, NoneForgotten}
+use Rattle.mdl_system.specs.Words.{IsAbout, FreesNothing, Event, Grant, Happens, SameSystem, GrantsNew, System, empty_system, IsGrantable, IsLawful, NoneForgotten, lock_kind, may_upgrade, may_downgrade}
 use Rattle.mdl_core.specs.ChangeEvents.{IsChangeEvent}
-use Rattle.mdl_core.specs.Changes.{Change, Gain, Lose, Queue, Admit, Settle, Leave, Take_up, Redefine, May, changing, opening}
+use Rattle.mdl_core.specs.Changes.{Change, Gain, Lose, Queue, Admit, Settle, Leave, Take_up, Alter, Fold, Redefine, May, changing, opening}
 use Rattle.mdl_core.specs.CoreJoins.{Joins}
 use Rattle.mdl_core.specs.CoreLaws.{is_change, IsEventOf, CallsAreEvents, CallsKeepSound, GrantsWhatIsGrantable, GrantsInOrder, CallsLeadByEvents, Joined}
 use Rattle.mdl_core.specs.Cores.{Core, empty_core, key_at, has_key, index_of}
 use Rattle.mdl_core.specs.CoreSystems.{applies, system_of, granted_in, unended_from}
 use Rattle.mdl_core.specs.Seats.{empty_seat}
-use Rattle.mdl_core.specs.Ties.{IsTied, IsSound, AllMayStand}
+use Rattle.mdl_core.specs.Ties.{in_book_of, IsTied, IsSound, AllMayStand}
 use Rattle.mdl_core.proofs.CallLaws.{joins-comes}
 use Rattle.mdl_core.proofs.ChangesHappen.{change-happens}
 use Rattle.mdl_core.proofs.ChangeTies.{tied-changing, stands-changing}
@@ -26,6 +29,7 @@ use Rattle.mdl_core.proofs.TiedOpening.{tied-empty, stands-empty, opened, stands
 use Rattle.mdl_core.proofs.Ways.{Way, Stay, Open, Settle_wait, Make, makes_room, served_if, space_by, IsMade, Made}
 use Rattle.mdl_system.proofs.ConcernLemmas.{step-forgets, granting-there}
 use Rattle.mdl_system.proofs.LawfulLemmas.{empty-lawful, step-lawful, run-lawful}
+use Rattle.mdl_system.proofs.StrengthLemmas.{covers-at_least, upgrade-raises}
 use Rattle.mdl_system.proofs.RunLemmas.{same_system, Leads, leads-run, leads-then}
 
 -- ---- the event of a change
@@ -35,12 +39,22 @@ abbrev IsOf : KeyName → Bool → Event Redefinition → Type 0
 IsOf key room event = ((other : KeyName) → IsAbout event other → other ≡ key) × (room ≡ false → FreesNothing event)
 
 -- so is the event of a change, of its place's key
-change-of : (a : Core) (who place : ℕ) (change : Change) (event : Event Redefinition) → May who place change a → IsChangeEvent who place change a event
+change-of : (a : Core) (who place : ℕ) (change : Change) (event : Event Redefinition) → IsTied a → May who place change a → IsChangeEvent who place change a event
     → IsOf (key_at place a) (makes_room change) event
-change-of a who place change event may = by change may
+change-of a who place change event tied may = by change may
   where
     told : (room : Bool) (other : Event Redefinition) → event ≡ other → IsOf (key_at place a) room other → IsOf (key_at place a) room event
     told room other is h = subst (IsOf (key_at place a) room) (sym is) h
+
+    -- an upgrade is to a mode that is at least as strong
+    stronger : (ticket : Held) (mode : Mode) → May who place (Alter ticket mode) a → may_upgrade ticket.mode mode ≡ true
+        → IsAtLeast (lock_kind (key_at ticket.place a)) mode ticket.mode
+    stronger ticket mode m up =
+        let key : has_key ticket.place a ≡ true = subst (λ p. has_key p a ≡ true) (sym m.allows.1) m.key in
+        covers-at_least (lock_kind (key_at ticket.place a)) mode ticket.mode
+        (subst (λ p. is_mode_of (lock_kind (key_at p a)) mode ≡ true) (sym m.allows.1) m.allows.2)
+        (tied.granted_by ticket.place key (in_book_of who ticket) ((tied.granted who ticket m.session key).1 (inl m.allows.0))).1
+        (upgrade-raises ticket.mode mode up).0
 
     by : (c : Change) → May who place c a → IsChangeEvent who place c a event → IsOf (key_at place a) (makes_room c) event
     by (Gain mode) m (inl is) = told false _ is.0 ((λ k e. sym e), λ _. tt)
@@ -51,6 +65,10 @@ change-of a who place change event may = by change may
     by (Settle how) m is = told false _ is.2 ((λ k e. sym e), λ _. tt)
     by (Leave wait) m is = told true _ is.0 ((λ k e. sym e), λ e. cc)
     by (Take_up wait) m is = told false _ is ((λ k e. absurd e), λ _. tt)
+    by (Alter ticket mode) m (inl is) = told (may_downgrade ticket.mode mode) _ is.0 ((λ k e. sym e ∙ ap (λ p. key_at p a) m.allows.1), λ _. stronger ticket mode m is.2)
+    by (Alter ticket mode) m (inr is) =
+        told (may_downgrade ticket.mode mode) _ is.0 ((λ k e. sym e ∙ ap (λ p. key_at p a) m.allows.1), λ e. absurd (false≢true (sym e ∙ is.1)))
+    by (Fold old new) m is = told true _ is ((λ k e. sym e ∙ ap (λ p. key_at p a) m.allows.3), λ e. cc)
     by (Redefine ticket change) m is = told false _ is ((λ k e. sym e ∙ ap (λ p. key_at p a) m.allows.1), λ _. tt)
 
 -- a new place is nothing to the system
@@ -103,7 +121,7 @@ module _ (a : Core) (call : Call) (answer : Answer) (sound : IsSound a) where
       happens = change-happens a who place change made.event sound.tied made.may made.change_is
 
       is : IsOf (key_at place a) (makes_room change) made.event
-      is = change-of a who place change made.event made.may made.change_is
+      is = change-of a who place change made.event sound.tied made.may made.change_is
 
       key : (has_key place mid ≡ true) × (key_at place mid ≡ key_at place a)
       key = keys-changed a who place change made.may place made.may.key

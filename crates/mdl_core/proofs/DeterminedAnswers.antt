@@ -1,5 +1,5 @@
 -- What each call of the space of one thread is answered is what its system of locks determines.
-use Rattle.std.proofs.Common.{◌≡◌, ℕ, ◌+◌, ◌<◌, Bool, true, false, not, ◌&&◌, inl, inr, List, Option, Some, None, is_some, nat_le, refl, sym, ap, subst, ◌∙◌, arith}
+use Rattle.std.proofs.Common.{◌≡◌, ◌≢◌, ◌⊎◌, ◌↔◌, ℕ, ◌+◌, ◌==◌, ◌<◌, Bool, true, false, not, ◌&&◌, inl, inr, List, Option, Some, None, is_some, nat_le, eq-eqb, eqb-true, refl, sym, ap, subst, ◌∙◌, arith}
 use Rattle.std.specs.Prelude.{if◌then◌else◌, MatchOption}
 use Rattle.std.specs.Option.{IfSome, option_map}
 use Rattle.std.proofs.lemmas.Bool.{and_parts, false≢true}
@@ -15,19 +15,21 @@ use Rattle.mdl_defs.specs.Standings.{suits}
 use Rattle.mdl_calls.specs.declared.answers.Held.{Held}
 use Rattle.mdl_calls.specs.declared.answers.Settled.{Settled}
 use Rattle.mdl_calls.specs.declared.answers.Settled.TheVariants as settled_as
-use Rattle.mdl_calls.specs.declared.space_error.SpaceError.TheVariants.{NotHeld, NotExclusive, AlreadyWaiting, BadMode, VersionFull, CounterFull, Def, WrongKind}
-use Rattle.mdl_calls.specs.Words.{Answer, Refused, Done, Would_wait, No_cycle, Victim_is, Has_wait, Has_killed, Changed, finds_no_memory, Call, Resolve, Try_now, Begin_wait, Search, Poll_wait, Settle_timeout, End_wait, Wait_of, Kill, Release, Clone_ticket, Read_definition, Change_definition, Key_of, Tables_of, List_held, caller}
+use Rattle.mdl_calls.specs.declared.space_error.SpaceError.TheVariants.{NotHeld, NotUpgradable, NotExclusive, AlreadyWaiting, BadMode, VersionFull, CounterFull, Def, WrongKind}
+use Rattle.mdl_calls.specs.Words.{Answer, Refused, Done, Would_wait, No_cycle, Victim_is, Has_wait, Has_killed, Changed, Upgraded, finds_no_memory, Call, Resolve, Try_now, Begin_wait, Search, Poll_wait, Settle_timeout, End_wait, Wait_of, Kill, Release, Clone_ticket, Upgrade_now, Merge, Downgrade, Read_definition, Change_definition, Key_of, Tables_of, List_held, caller, may_merge}
 use Rattle.mdl_core.specs.declared.pending.Pending.{Pending}
 use Rattle.mdl_core.specs.ChangeEvents.{holding_of}
-use Rattle.mdl_core.specs.CoreCalls.{has_call, outcome, refused_or, first_cause, request_causes, clone_causes, granted_unless_full, queued_unless_full, cloning_of, held_ticket, releasing_of, standing, polling_of, timing_out_at, timing_out_of, ending_at, ending_of, wait_at, is_open_wait, looking_after, killing, searching_of, searching, victim_at, reading_of, redefining_of, redefining_fault, redefined_unless}
+use Rattle.mdl_core.specs.CoreCalls.{has_call, outcome, refused_or, first_cause, request_causes, clone_causes, granted_unless_full, queued_unless_full, cloning_of, upgrade_causes, upgraded_if_free, upgrading_of, is_lower, downgrading_of, merge_causes, merging_of, held_ticket, releasing_of, standing, polling_of, timing_out_at, timing_out_of, ending_at, ending_of, wait_at, is_open_wait, looking_after, killing, searching_of, searching, victim_at, reading_of, redefining_of, redefining_fault, redefined_unless}
 use Rattle.mdl_core.specs.CoreJoins.{SpeaksFor, numbers_at}
 use Rattle.mdl_core.specs.Cores.{Core, book_at, seat_at, key_at, standing_at, has_key, has_session, is_free}
+use Rattle.mdl_core.specs.Changes.{altering, folding, serving}
 use Rattle.mdl_core.specs.CoreSystems.{defined_in, system_of}
-use Rattle.mdl_core.specs.Determined.{Right, Only, Where, Needs, places_of, ToAsk, ToGrant, ToClone, ToRead, ToChange, OfTicket, OfWait, to_poll, to_time_out, to_end, ToSearch, Determines, AnswersAreDetermined}
+use Rattle.mdl_core.specs.Determined.{Right, Only, Where, Needs, places_of, ToAsk, ToGrant, ToClone, ToUpgrade, ToDowngrade, ToMerge, ToRead, ToChange, OfTicket, OfWait, to_poll, to_time_out, to_end, ToSearch, Determines, AnswersAreDetermined}
 use Rattle.mdl_core.specs.SessionLaws.{HasWhatTheSystemSays, WaitsSomewhere}
 use Rattle.mdl_core.specs.Ties.{IsTied, IsSound}
-use Rattle.mdl_system.specs.Words.{Holding, HasNoWait, IsGrantable, IsChosenDeadlock, IsVictimOf}
+use Rattle.mdl_system.specs.Words.{Holding, HasNoWait, IsGrantable, IsChosenDeadlock, IsVictimOf, covers}
 use Rattle.mdl_core.proofs.CallCases.{test_cases, option_cases, cause_cases, not_false, not_true, exclusive-is}
+use Rattle.mdl_core.proofs.ChangeSeats.{merged_numbers, merged_place, merged_mode}
 use Rattle.mdl_core.proofs.CoreGranted.{book_of-at, free-grantable}
 use Rattle.mdl_core.proofs.CoreStandings.{held-place}
 use Rattle.mdl_core.proofs.MadeCalls.{killed_wait}
@@ -54,6 +56,9 @@ none-there (Some x) e = cc
 not-so : (b : Bool) → not b ≡ true → b ≡ true → ⊥
 not-so true e f = cc
 not-so false e f = cc
+
+both_true : (p q : Bool) → p ≡ true → q ≡ true → (p && q) ≡ true
+both_true p q e f = (λ i. e i && f i)
 
 -- ---- the answers that tell how a wait stands
 
@@ -187,9 +192,66 @@ module _ (a : Core) (who : ℕ) (sound : IsSound a) (has : has_session who a ≡
           )),
         ),
       )
+
+  -- a held ticket in a stronger mode
+  upgrades : (mode : Mode) (ticket : Held) → has_key ticket.place a ≡ true
+      → IsAnswer (ToUpgrade (system_of a) who mode (holding_of who ticket a)) (upgrading_of who mode (Some ticket) a).0
+  upgrades mode ticket key =
+      cause_cases (λ (r : Answer × Core). IsAnswer (ToUpgrade (system_of a) who mode (holding_of who ticket a)) r.0) a
+      (upgraded_if_free who mode ticket a) (upgrade_causes who mode ticket a) (
+        (λ unfit. unmet _ NotUpgradable _ (λ both. not-so _ unfit (both_true _ _ both.0 both.1))),
+        λ fits. (let both = and_parts _ _ (not_false _ fits) in (
+          (λ waits. met _ NotUpgradable _ _ both (unmet _ AlreadyWaiting _ (waiting-so waits))),
+          λ idle. met _ NotUpgradable _ _ both (met _ AlreadyWaiting _ _ (idle-so idle) upgraded),
+        )),
+      )
     where
-      both_true : (p q : Bool) → p ≡ true → q ≡ true → (p && q) ≡ true
-      both_true p q e f = (λ i. e i && f i)
+      Had : Type 0
+      Had = (covers ticket.mode mode ≡ true) ⊎ IsGrantable (system_of a) who (key_at ticket.place a) mode
+
+      upgraded : IsAnswer (Where Had (Only Upgraded) (Only Would_wait)) (upgraded_if_free who mode ticket a).0
+      upgraded =
+          test_cases (λ (r : Answer × Core). IsAnswer (Where Had (Only Upgraded) (Only Would_wait)) r.0) (covers ticket.mode mode) (Upgraded, a) _
+          (λ strong. where-so _ _ (Only Would_wait) Upgraded (inl strong) (only Upgraded))
+          (λ weak. test_cases (λ (r : Answer × Core). IsAnswer (Where Had (Only Upgraded) (Only Would_wait)) r.0)
+          (not (is_free who ticket.place mode a)) (Would_wait, a) (Upgraded, altering who ticket mode a)
+          (λ busy. where-not _ (Only Upgraded) _ Would_wait
+          (λ had. elim had [ inl strong ↦ false≢true (sym weak ∙ strong) | inr grantable ↦ not-so _ busy (free.1 grantable) ]) (only Would_wait))
+          (λ may. where-so _ _ (Only Would_wait) Upgraded (inr (free.0 (not_false _ may))) (only Upgraded)))
+        where
+          free : (is_free who ticket.place mode a ≡ true) ↔ IsGrantable (system_of a) who (key_at ticket.place a) mode
+          free = free-grantable a who ticket.place mode sound.tied key
+
+  -- and in a weaker one
+  downgrades_to : (mode : Mode) (ticket : Held) → IsAnswer (ToDowngrade mode (holding_of who ticket a)) (downgrading_of who mode (Some ticket) a).0
+  downgrades_to mode ticket =
+      test_cases (λ (r : Answer × Core). IsAnswer (ToDowngrade mode (holding_of who ticket a)) r.0) (not (is_lower mode ticket a)) (Refused NotUpgradable, a) _
+      (λ unfit. unmet _ NotUpgradable (Only Done) (λ both. not-so _ unfit (both_true _ _ both.0 both.1)))
+      (λ fits. met _ NotUpgradable (Only Done) Done (and_parts _ _ (not_false _ fits)) (only Done))
+
+  -- two held tickets made one
+  merges : (kept gone : Held) → has_key kept.place a ≡ true → has_key gone.place a ≡ true
+      → IsAnswer (ToMerge (system_of a) who (holding_of who kept a) (holding_of who gone a)) (merging_of who (Some kept) (Some gone) a).0
+  merges kept gone here there =
+      cause_cases (λ (r : Answer × Core). IsAnswer (ToMerge (system_of a) who (holding_of who kept a) (holding_of who gone a)) r.0) a
+      (Done, serving kept.place (folding who kept gone a)) (merge_causes who kept gone a) (
+        (λ waits. unmet _ AlreadyWaiting _ (waiting-so waits)),
+        λ idle. (
+          (λ unfit. met _ AlreadyWaiting _ _ (idle-so idle) (unmet _ BadMode (Only Done) (λ each. not-so _ unfit (mergeable each)))),
+          λ fits. (let may = not_false _ fits in
+              met _ AlreadyWaiting _ _ (idle-so idle) (met _ BadMode (Only Done) Done
+              (merged_numbers kept gone may, ap (λ p. key_at p a) (sym (merged_place kept gone may)), merged_mode kept gone may) (only Done))),
+        ),
+      )
+    where
+      mergeable : (kept.id ≢ gone.id) × (key_at gone.place a ≡ key_at kept.place a) × (covers gone.mode kept.mode ≡ true) → may_merge kept gone ≡ true
+      mergeable (two, key, strong) =
+          let same : kept.place ≡ gone.place = sound.tied.keys kept.place gone.place here there (sym key) in
+          both_true _ _ (both_true _ _ (apart (kept.id == gone.id) (λ e. two (eqb-true _ _ e))) (eq-eqb _ _ same)) strong
+        where
+          apart : (b : Bool) → (b ≡ true → ⊥) → not b ≡ true
+          apart true n = absurd (n refl)
+          apart false n = refl
 
   -- by a held ticket, or none
   by-ticket : (id : ℕ) (Then : Holding → Right) (answered : Option Held → Answer × Core) → (answered None).0 ≡ Refused NotHeld
@@ -278,6 +340,13 @@ determined a (Kill target number) sound speaks has = kills a target number sound
 determined a (Release who id) sound speaks has = by-ticket a who sound speaks.0 id _ (λ o. releasing_of who o a) refl (λ ticket key. only Done)
 determined a (Clone_ticket who id mode) sound speaks has =
     by-ticket a who sound speaks.0 id _ (λ o. cloning_of who mode o a) refl (λ ticket key. clones a who sound speaks.0 ticket mode key)
+determined a (Upgrade_now who id mode) sound speaks has =
+    by-ticket a who sound speaks.0 id _ (λ o. upgrading_of who mode o a) refl (upgrades a who sound speaks.0 mode)
+determined a (Merge who old new) sound speaks has =
+    by-ticket a who sound speaks.0 old (λ kept. OfTicket (system_of a) who new (ToMerge (system_of a) who kept)) (λ o. merging_of who o (held_ticket who new a) a) refl
+    (λ kept here. by-ticket a who sound speaks.0 new _ (λ o. merging_of who (Some kept) o a) refl (λ gone there. merges a who sound speaks.0 kept gone here there))
+determined a (Downgrade who id mode) sound speaks has =
+    by-ticket a who sound speaks.0 id _ (λ o. downgrading_of who mode o a) refl (λ ticket key. downgrades_to a who sound speaks.0 mode ticket)
 determined a (Read_definition who id) sound speaks has =
     by-ticket a who sound speaks.0 id _ (λ o. reading_of o a) refl (reads a who sound speaks.0)
 determined a (Change_definition who id change) sound speaks has =

@@ -1,6 +1,7 @@
 -- What comes of each call of the space of one thread, by its causes.
-use Rattle.std.proofs.Common.{◌≡◌, ◌≢◌, ℕ, ◌+◌, ◌<◌, ◌≤◌, Bool, true, false, not, ◌&&◌, ◌==◌, nat_le, length, drop, Option, Some, None, MatchOption, Contains, IfSome, is_some, option_map, if◌then◌else◌, refl, sym, ap, subst, ◌∙◌, arith, inl, inr, eqb-true}
-use Rattle.std.proofs.lemmas.Bool.{and_parts, and_cases}
+use Rattle.std.proofs.Common.{◌≡◌, ◌≢◌, ℕ, ◌+◌, ◌<◌, ◌≤◌, Bool, true, false, not, ◌&&◌, ◌||◌, ◌==◌, nat_le, length, drop, Option, Some, None, MatchOption, Contains, IfSome, is_some, option_map, if◌then◌else◌, refl, sym, ap, subst, ◌∙◌, arith, inl, inr, eqb-true}
+use Rattle.std.specs.Prelude.{AllPairs}
+use Rattle.std.proofs.lemmas.Bool.{and_parts, and_cases, false≢true}
 use Rattle.std.proofs.lemmas.Bool.Decides.{nat_tests}
 use Rattle.mdl_book.specs.Books.{lock_kind, redefining}
 use Rattle.mdl_key.specs.declared.mode.Mode.{Mode}
@@ -15,29 +16,32 @@ use Rattle.mdl_calls.specs.declared.answers.Settled.{Settled}
 use Rattle.mdl_calls.specs.declared.answers.Settled.TheVariants as settled_as
 use Rattle.mdl_calls.specs.declared.answers.TimedOut.TheVariants.{Already}
 use Rattle.mdl_calls.specs.declared.space_error.SpaceError.{SpaceError}
-use Rattle.mdl_calls.specs.declared.space_error.SpaceError.TheVariants.{NoPlace, NotHeld, NotExclusive, AlreadyWaiting, BadMode, VersionFull, NoWait, Unsettled as Not_settled, CounterFull, Full, Def, WrongKind}
-use Rattle.mdl_calls.specs.Words.{Answer, Refused, Granted, Is_settled, Timed_out, Lost, Changed, is_answer_of, Call, Resolve, Try_now, Begin_wait, Search, Poll_wait, Settle_timeout, End_wait, Wait_of, Kill, Release, Clone_ticket, Read_definition, Change_definition, Key_of, Tables_of, List_held, caller, OfHeld, IsFit, IsUnfit, IsUnknown, MayClone, MayNotClone, IsCause, IsExplained, Own, Numbers, is_number, is_waiting, wait_number, own_after, winning, cloning as cloning_own, giving_up, Draws, IsEndOf, IsToldOf, cause_of}
+use Rattle.mdl_calls.specs.declared.space_error.SpaceError.TheVariants.{NoPlace, NotHeld, NotUpgradable, NotExclusive, AlreadyWaiting, BadMode, VersionFull, NoWait, Unsettled as Not_settled, CounterFull, Full, Def, WrongKind}
+use Rattle.mdl_calls.specs.Words.{Answer, Refused, Granted, Is_settled, Done, Timed_out, Lost, Changed, Upgraded, is_answer_of, Call, Resolve, Try_now, Begin_wait, Search, Poll_wait, Settle_timeout, End_wait, Wait_of, Kill, Release, Clone_ticket, Upgrade_now, Merge, Downgrade, Read_definition, Change_definition, Key_of, Tables_of, List_held, caller, OfHeld, IsFit, IsUnfit, IsUnknown, MayClone, MayNotClone, MayUpgrade, MayNotUpgrade, MayDowngrade, MayNotDowngrade, Mergeable, may_merge, IsCause, IsExplained, Own, Numbers, is_number, is_waiting, wait_number, own_after, winning, cloning as cloning_own, holds, giving_up, Draws, IsEndOf, IsToldOf, cause_of}
+use Rattle.mdl_calls.specs.Own.{changing as changing_own, merging as merging_own, upgraded}
 use Rattle.mdl_core.specs.declared.pending.Pending.{Pending}
 use Rattle.mdl_core.specs.ChangeEvents.{holding_of, waiting_ticket, IsChangeEvent}
-use Rattle.mdl_core.specs.Changes.{Change, Gain, Lose, Queue, Leave, Take_up, Redefine, May, next_ticket, losing, leaving, serving}
-use Rattle.mdl_core.specs.CoreCalls.{has_call, outcome, refused_or, first_cause, placing, request_causes, clone_causes, cloning_of, held_ticket, releasing_of, standing, polling_of, timing_out_at, timing_out_of, ending_at, ending_of, wait_at, is_open_wait, victim_at, searching_of, reading_of, redefining_fault, redefined_unless, redefining_of}
+use Rattle.mdl_core.specs.Changes.{Change, Gain, Lose, Queue, Leave, Take_up, Alter, Fold, Redefine, May, next_ticket, losing, leaving, altering, serving}
+use Rattle.mdl_core.specs.CoreCalls.{has_call, outcome, refused_or, first_cause, placing, request_causes, clone_causes, cloning_of, upgrade_causes, upgraded_if_free, upgrading_of, is_lower, downgrading_of, merge_causes, merging_of, held_ticket, releasing_of, standing, polling_of, timing_out_at, timing_out_of, ending_at, ending_of, wait_at, is_open_wait, victim_at, searching_of, reading_of, redefining_fault, redefined_unless, redefining_of}
 use Rattle.mdl_core.specs.CoreJoins.{own_at, numbers_at, Knows}
-use Rattle.mdl_core.specs.CoreLaws.{is_change, IsEventOf}
+use Rattle.mdl_core.specs.CoreLaws.{is_weaker, is_change, IsEventOf}
 use Rattle.mdl_core.specs.Cores.{Core, book_at, seat_at, key_at, standing_at, has_key, has_session, index_of, is_free, booking}
 use Rattle.mdl_core.specs.CoreSystems.{system_of, state_of, waiter_of}
-use Rattle.mdl_system.specs.Words.{WaitsForCause, Event, Grant, Clone, BeginWait, SettleLost, EndGrantedWait, EndLostWait, Release as Give_up, ChangeDefinition, covers, Unsettled, IsGrantable}
-use Rattle.mdl_core.specs.Seats.{SeatView, own_of, numbers_of, settling, with_ticket_of}
+use Rattle.mdl_system.specs.Words.{WaitsForCause, Event, Grant, Clone, BeginWait, SettleLost, EndGrantedWait, EndLostWait, Release as Give_up, Upgrade as Raise, Merge as Unite, Downgrade as Lower, ChangeDefinition, covers, may_upgrade, may_downgrade, Unsettled, IsGrantable}
+use Rattle.mdl_core.specs.Seats.{SeatView, without_ticket, with_ticket_in, own_of, numbers_of, settling, with_ticket_of}
 use Rattle.mdl_core.specs.SessionLaws.{MeetsLimit}
 use Rattle.mdl_core.specs.Ties.{IsTied, IsNumbered, in_book_of}
 use Rattle.mdl_core.proofs.CallCases.{Through, test_cases, option_cases, not_false, not_true, exclusive-is, cause_cases}
+use Rattle.mdl_core.proofs.ChangeSeats.{merged_place}
 use Rattle.mdl_core.proofs.CoreGranted.{free-grantable}
 use Rattle.mdl_core.proofs.CoreReads.{found, seated-same, seat-kept}
 use Rattle.mdl_core.proofs.CoreServing.{found-first}
 use Rattle.mdl_core.proofs.KnownPlaces.{unplaced, new-known, wait_placed}
+use Rattle.mdl_core.proofs.PairLemmas.{below, map-agree, map-same, pairs-from_rising, same-number}
 use Rattle.mdl_core.proofs.SparedSeats.{HasSettled, settled_at, settled-once, none_settled, not_settled, as_wait, is_end}
 use Rattle.mdl_core.proofs.VictimLemmas.{victim-waits}
-use Rattle.mdl_core.proofs.Ways.{Way, Stay, Open, Settle_wait, Make, space_by, seat_by, IsSo, ServesCaller, Comes}
-use Rattle.mdl_system.proofs.StrengthLemmas.{covers-at_least}
+use Rattle.mdl_core.proofs.Ways.{HasAtOnce, HasNotAtOnce, Way, Stay, Open, Settle_wait, Make, served_if, space_by, seat_by, IsSo, ServesCaller, Comes}
+use Rattle.mdl_system.proofs.StrengthLemmas.{covers-at_least, upgrade-raises}
 
 -- ---- tests
 
@@ -84,6 +88,43 @@ killed_wait a target number = go (has_session target a) refl
     go true is e = let h = at (seat_at target a).wait e in (h.0, is, h.1, h.2, h.3)
     go false is e = cc
 
+-- of two answers, one of which is yes
+or-right : (p q : Bool) → (p || q) ≡ true → p ≡ false → q ≡ true
+or-right true q one other = cc
+or-right false q one other = one
+
+-- ---- one ticket in another mode
+
+-- the held ticket of a number gets a mode, and the others stay
+module _ (seat : SeatView) (rising : AllPairs below seat.held) (id : ℕ) (ticket : Held) (held : Contains seat.held ticket) (its : ticket.id ≡ id) (f : Mode → Mode) where
+  -- it alone has that number
+  that-one : (t : Held) → Contains seat.held t → is_number id t ≡ true → t ≡ ticket
+  that-one t among e = same-number seat.held rising t ticket among held (eqb-true _ _ e ∙ sym its)
+
+  -- the mode that it has already
+  own-kept : f ticket.mode ≡ ticket.mode → changing_own id f (own_of seat) ≡ own_of seat
+  own-kept stays = λ i. record (own_of seat) { held = map-same _ seat.held (λ t among. by t among (is_number id t) refl) i }
+    where
+      by : (t : Held) → Contains seat.held t → (b : Bool) → is_number id t ≡ b → (if b then record t { mode = f t.mode } else t) ≡ t
+      by t among true e =
+          let same = that-one t among e in
+          let mode : f t.mode ≡ t.mode = ap (λ (h : Held). f h.mode) same ∙ stays ∙ sym (ap (λ (h : Held). h.mode) same) in
+          λ i. record t { mode = mode i }
+      by t among false e = refl
+
+  -- another
+  own-changed : (mode : Mode) → f ticket.mode ≡ mode → own_of (with_ticket_in ticket.id mode seat) ≡ changing_own id f (own_of seat)
+  own-changed mode is =
+      ap (λ n. own_of (with_ticket_in n mode seat)) its
+      ∙ (λ i. record (own_of seat) { held = map-agree _ _ seat.held (λ t among. by t among (is_number id t) refl) i })
+    where
+      by : (t : Held) → Contains seat.held t → (b : Bool) → is_number id t ≡ b
+          → (if b then record t { mode = mode } else t) ≡ (if b then record t { mode = f t.mode } else t)
+      by t among true e =
+          let now : mode ≡ f t.mode = sym is ∙ ap (λ (h : Held). f h.mode) (sym (that-one t among e)) in
+          λ i. record t { mode = now i }
+      by t among false e = refl
+
 -- a refusal is an answer of the caller's call, and changes nothing
 refusal-plain : (a : Core) (call : Call) (who : ℕ) (refusal : SpaceError) → caller call ≡ Some who
     → (is_answer_of call (Refused refusal) ≡ true) × (is_change a call (Refused refusal) ≡ false)
@@ -125,6 +166,23 @@ module _ (a : Core) where
       | inl uncovered ↦ (let e = uncovered in cc)
       | inr e ↦ unfit ticket.place mode e
     ]
+
+    -- nor have another mode
+    not_upgradable : (mode : Mode) (ticket : Held)
+        → ((covers ticket.mode mode || may_upgrade ticket.mode mode) && is_mode_of (lock_kind (book_at ticket.place a)) mode) ≡ false
+        → MayNotUpgrade (Knows a who) mode ticket
+    not_upgradable mode ticket cannot able =
+        elim (and_cases (covers ticket.mode mode || may_upgrade ticket.mode mode) (is_mode_of (lock_kind (book_at ticket.place a)) mode) cannot) [
+          | inl unable ↦ absurd (false≢true (sym unable ∙ able))
+          | inr e ↦ unfit ticket.place mode e
+        ]
+
+    not_downgradable : (mode : Mode) (ticket : Held) → is_lower mode ticket a ≡ false → MayNotDowngrade (Knows a who) mode ticket
+    not_downgradable mode ticket cannot able =
+        elim (and_cases (may_downgrade ticket.mode mode) (is_mode_of (lock_kind (book_at ticket.place a)) mode) cannot) [
+          | inl unable ↦ absurd (false≢true (sym unable ∙ able))
+          | inr e ↦ unfit ticket.place mode e
+        ]
 
     -- by its wait
     idle_so : (seat_at who a).wait ≡ None → (is_waiting (own_at a who) ≡ false) × ((how : Settled) → HasSettled (seat_at who a) how → ⊥)
@@ -363,6 +421,84 @@ module _ (a : Core) where
                 )),
           ),
         ))
+    made (Upgrade_now who id mode) has is =
+        option_cases (λ o. F (Upgrade_now who id mode) (upgrading_of who mode o a)) (held_ticket who id a)
+        (λ none. refused who NotHeld refl (ap is_some none) (λ _ _. tt) tt)
+        (λ ticket e. cause_cases (F (Upgrade_now who id mode)) a _ (upgrade_causes who mode ticket a) (
+          (λ f. refused who NotUpgradable refl (of_held who id ticket (MayNotUpgrade (Knows a who) mode) e (not_upgradable who mode ticket (not_true _ f))) (λ _ _. tt) tt),
+          λ may. (
+              let able = and_parts (covers ticket.mode mode || may_upgrade ticket.mode mode) (is_mode_of (lock_kind (book_at ticket.place a)) mode) (not_false _ may) in
+              let clear : OfHeld id (own_at a who) (MayUpgrade (Knows a who) mode) =
+              of_held who id ticket (MayUpgrade (Knows a who) mode) e (able.0, fit who ticket.place mode able.1) in (
+                (λ f. refused who AlreadyWaiting refl (waits_so who true f, clear) (λ _ _. tt) tt),
+                λ idle. under ticket e idle able.0 able.1 clear,
+              )),
+        ))
+      where
+        under : (ticket : Held) → held_ticket who id a ≡ Some ticket → is_some (seat_at who a).wait ≡ false
+            → (covers ticket.mode mode || may_upgrade ticket.mode mode) ≡ true → is_mode_of (lock_kind (book_at ticket.place a)) mode ≡ true
+            → OfHeld id (own_at a who) (MayUpgrade (Knows a who) mode) → F (Upgrade_now who id mode) (upgraded_if_free who mode ticket a)
+        under ticket e idle able fits may =
+            let mine = in_hand who id ticket e in
+            let clear : (is_waiting (own_at a who) ≡ false) × OfHeld id (own_at a who) (MayUpgrade (Knows a who) mode) = (waits_so who false idle, may) in
+            let rising = pairs-from_rising (seat_at who a).held (tied.numbered who is).rising in
+            let key : has_key ticket.place a ≡ true = tied.placed who ticket is (inl (inl mine.0)) in
+            let free = free-grantable a who ticket.place mode tied key in
+            tested
+            (λ strong. stays refl (ap (is_weaker mode) e ∙ ap not strong) (of_held who id ticket (HasAtOnce a who mode) e (inl strong))
+            (tells (sym (own-kept (seat_at who a) rising id ticket mine.0 mine.1 (upgraded mode) (ap (λ b. if b then ticket.mode else mode) strong))) refl clear (λ _ _. tt)))
+            (λ weak. tested (λ busy. stays refl refl
+            (of_held who id ticket (HasNotAtOnce a who mode) e (weak, λ grantable. false≢true (sym (not_true _ busy) ∙ free.1 grantable))) (tells refl refl clear (λ _ _. tt)))
+            (λ may_have. (let up = or-right _ _ able weak in
+            subst (λ room. F (Upgrade_now who id mode) (Upgraded, served_if room ticket.place (altering who ticket mode a))) (upgrade-raises ticket.mode mode up).1
+            (makes who ticket.place (Alter ticket mode) (record { session = is; key = key; allows = (mine.0, refl, fits) }) (Raise (holding_of who ticket a) mode)
+            (inl (refl, none_there _ idle, up, free.0 (not_false _ may_have)), (_, refl, mine.1, refl), tt) (refl, λ f. cc) refl
+            (of_held who id ticket (HasAtOnce a who mode) e (inr (free.0 (not_false _ may_have))))
+            (tells (own-changed (seat_at who a) rising id ticket mine.0 mine.1 (upgraded mode) mode (ap (λ b. if b then ticket.mode else mode) weak)) refl clear (λ _ _. tt))))))
+    made (Merge who old new) has is =
+        option_cases (λ o. F (Merge who old new) (merging_of who o (held_ticket who new a) a)) (held_ticket who old a)
+        (λ none. refused who NotHeld refl (ap (λ (o : Option Held). is_some o && holds new (own_at a who)) none) (λ _ _. tt) tt)
+        (λ kept e. option_cases (λ o. F (Merge who old new) (merging_of who (Some kept) o a)) (held_ticket who new a)
+        (λ none. refused who NotHeld refl (λ i. is_some (e i) && is_some (none i)) (λ _ _. tt) tt)
+        (λ gone g. cause_cases (F (Merge who old new)) a _ (merge_causes who kept gone a) (
+          (λ f. refused who AlreadyWaiting refl ((λ i. is_some (e i) && is_some (g i)), waits_so who true f) (λ _ _. tt) tt),
+          λ idle. (
+            (λ f. refused who BadMode refl (waits_so who false idle, both kept gone e g false (not_true _ f)) (λ _ _. tt) tt),
+            λ may. (
+                let mine = in_hand who old kept e in
+                let other = in_hand who new gone g in
+                let fits = not_false _ may in
+                makes who kept.place (Fold kept gone) (record {
+                  session = is;
+                  key = tied.placed who kept is (inl (inl mine.0));
+                  allows = (none_there _ idle, mine.0, other.0, refl, sym (merged_place kept gone fits), fits);
+                }) (Unite (holding_of who kept a) (holding_of who gone a)) (refl, (_, _, refl, mine.1, refl, other.1, refl), tt) (refl, λ f. cc) refl tt
+                (tells (own-merged kept gone mine.1 other.1 ∙ ap (λ o. merging_own old new o (own_at a who)) (sym g)) refl
+                (waits_so who false idle, both kept gone e g true fits) (λ _ _. tt))),
+          ),
+        )))
+      where
+        both : (kept gone : Held) → held_ticket who old a ≡ Some kept → held_ticket who new a ≡ Some gone → (answer : Bool) → may_merge kept gone ≡ answer
+            → Mergeable answer old new (own_at a who)
+        both kept gone e g answer is = of_held who old kept (λ k. OfHeld new (own_at a who) (λ h. may_merge k h ≡ answer)) e
+            (of_held who new gone (λ h. may_merge kept h ≡ answer) g is)
+
+        own-merged : (kept gone : Held) → kept.id ≡ old → gone.id ≡ new
+            → own_of (with_ticket_in kept.id gone.mode (without_ticket gone.id (seat_at who a))) ≡ changing_own old (λ _. gone.mode) (giving_up new (own_at a who))
+        own-merged kept gone one other = λ i. changing_own (one i) (λ _. gone.mode) (giving_up (other i) (own_at a who))
+    made (Downgrade who id mode) has is =
+        option_cases (λ o. F (Downgrade who id mode) (downgrading_of who mode o a)) (held_ticket who id a)
+        (λ none. refused who NotHeld refl (ap is_some none) (λ _ _. tt) tt)
+        (λ ticket e. tested
+        (λ f. refused who NotUpgradable refl (of_held who id ticket (MayNotDowngrade (Knows a who) mode) e (not_downgradable who mode ticket (not_true _ f))) (λ _ _. tt) tt)
+        (λ f. (let able = and_parts (may_downgrade ticket.mode mode) (is_mode_of (lock_kind (book_at ticket.place a)) mode) (not_false _ f) in
+        let mine = in_hand who id ticket e in
+        subst (λ room. F (Downgrade who id mode) (Done, served_if room ticket.place (altering who ticket mode a))) able.0
+        (makes who ticket.place (Alter ticket mode)
+        (record { session = is; key = tied.placed who ticket is (inl (inl mine.0)); allows = (mine.0, refl, able.1) }) (Lower (holding_of who ticket a) mode)
+        (inr (refl, able.0), (_, refl, mine.1, refl), tt) (refl, λ g. cc) refl tt
+        (tells (ap (λ n. changing_own n (λ _. mode) (own_at a who)) mine.1) refl
+        (of_held who id ticket (MayDowngrade (Knows a who) mode) e (able.0, fit who ticket.place mode able.1)) (λ _ _. tt))))))
     made (Read_definition who id) has is =
         option_cases (λ o. F (Read_definition who id) (reading_of o a)) (held_ticket who id a)
         (λ none. refused who NotHeld refl (ap is_some none) (λ _ _. tt) tt)

@@ -62,6 +62,11 @@ pub map-agree : {X Y : Type 0} (f g : X → Y) (xs : List X) → ((x : X) → Co
 map-agree f g [] same = refl
 map-agree f g (x ∷ xs) same = λ i. same x (Contains-here x xs) i ∷ map-agree f g xs (λ y among. same y (Contains-later x xs y among)) i
 
+-- what changes no member changes no list
+pub map-same : {X : Type 0} (f : X → X) (xs : List X) → ((x : X) → Contains xs x → f x ≡ x) → map f xs ≡ xs
+map-same f [] same = refl
+map-same f (x ∷ xs) same = λ i. same x (Contains-here x xs) i ∷ map-same f xs (λ y among. same y (Contains-later x xs y among)) i
+
 -- ---- the one member that passes a test for its name
 
 module _ {T N : Type 0} (name : T → N) (p : T → Bool) (x : T) (passes : p x ≡ true) (named : (y : T) → p y ≡ true → name y ≡ name x)

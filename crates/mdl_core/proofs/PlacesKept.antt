@@ -16,11 +16,11 @@ use Rattle.mdl_calls.specs.declared.answers.Settled.{Settled}
 use Rattle.mdl_calls.specs.declared.answers.Settled.TheVariants as settled_as
 use Rattle.mdl_calls.specs.declared.space_error.SpaceError.{SpaceError}
 use Rattle.mdl_calls.specs.declared.space_error.SpaceError.TheVariants.{OutOfMemory}
-use Rattle.mdl_calls.specs.Words.{Answer, Refused, takes_memory, Call, Resolve, Try_now, Begin_wait, Search, Poll_wait, Settle_timeout, End_wait, Wait_of, Kill, Release, Clone_ticket, Read_definition, Change_definition, Key_of, Tables_of, List_held}
+use Rattle.mdl_calls.specs.Words.{Answer, Refused, takes_memory, Call, Resolve, Try_now, Begin_wait, Search, Poll_wait, Settle_timeout, End_wait, Wait_of, Kill, Release, Clone_ticket, Upgrade_now, Merge, Downgrade, Read_definition, Change_definition, Key_of, Tables_of, List_held}
 use Rattle.mdl_core.specs.declared.pending.Pending.{Pending}
-use Rattle.mdl_core.specs.Changes.{Change, Gain, Lose, Queue, Admit, Settle, Leave, Take_up, Redefine, seat_after, book_after, is_of_book, booked_if, changing, next_ready, admitting_if, serving}
+use Rattle.mdl_core.specs.Changes.{Change, Gain, Lose, Queue, Admit, Settle, Leave, Take_up, Alter, Fold, Redefine, seat_after, book_after, is_of_book, booked_if, changing, next_ready, admitting_if, serving}
 unfoldable use Rattle.mdl_core.specs.Changes.{admitting_up_to}
-use Rattle.mdl_core.specs.CoreCalls.{has_call, outcome, Makes, placing, resolving, refused_or, is_full, granted_unless_full, queued_unless_full, cloning_of, held_ticket, releasing_of, polling_of, timing_out_at, timing_out_of, ending_at, ending_of, is_open_wait, wait_at, searching_of, victim_at, reading_of, redefining_of, redefining_fault, redefined_unless}
+use Rattle.mdl_core.specs.CoreCalls.{has_call, outcome, Makes, placing, resolving, refused_or, is_full, granted_unless_full, queued_unless_full, cloning_of, upgrading_of, is_lower, downgrading_of, merging_of, held_ticket, releasing_of, polling_of, timing_out_at, timing_out_of, ending_at, ending_of, is_open_wait, wait_at, searching_of, victim_at, reading_of, redefining_of, redefining_fault, redefined_unless}
 use Rattle.mdl_core.specs.Cores.{Core, book_at, seat_at, index_of, is_free, has_key}
 use Rattle.mdl_core.specs.Determined.{Places, places_of, PlacesAfter, PlacesAndNumbersFollow}
 use Rattle.mdl_core.specs.Seats.{SeatView}
@@ -29,6 +29,7 @@ use Rattle.mdl_core.proofs.CallCases.{test_cases, option_cases}
 use Rattle.mdl_core.proofs.CallLaws.{core-draws, core-others_draw}
 use Rattle.mdl_core.proofs.CoreReads.{found}
 use Rattle.mdl_core.proofs.PlaceAnswers.{listed, unlisted}
+use Rattle.mdl_system.specs.Strength.{covers}
 
 -- ---- books that are written
 
@@ -48,6 +49,8 @@ key-after who seat (Admit ticket) book = refl
 key-after who seat (Settle how) book = refl
 key-after who seat (Leave wait) book = refl
 key-after who seat (Take_up wait) book = refl
+key-after who seat (Alter ticket mode) book = refl
+key-after who seat (Fold old new) book = refl
 key-after who seat (Redefine ticket change) book = refl
 
 -- the places stay
@@ -111,6 +114,22 @@ module _ (a : Core) where
   release-keeps who (Some ticket) =
       keeps-serving ticket.place (changing who ticket.place (Lose ticket) a) ∙ keeps-changing ticket.place who (Lose ticket) a
 
+  upgrade-keeps : (who : ℕ) (mode : Mode) (o : Option Held) → Stays (upgrading_of who mode o a)
+  upgrade-keeps who mode None = refl
+  upgrade-keeps who mode (Some ticket) = unless-refused _ _ (either (covers ticket.mode mode) _ _ refl
+      (either (not (is_free who ticket.place mode a)) _ _ refl (keeps-changing ticket.place who (Alter ticket mode) a)))
+
+  downgrade-keeps : (who : ℕ) (mode : Mode) (o : Option Held) → Stays (downgrading_of who mode o a)
+  downgrade-keeps who mode None = refl
+  downgrade-keeps who mode (Some ticket) = either (not (is_lower mode ticket a)) _ _ refl
+      (keeps-serving ticket.place (changing who ticket.place (Alter ticket mode) a) ∙ keeps-changing ticket.place who (Alter ticket mode) a)
+
+  merge-keeps : (who : ℕ) (o p : Option Held) → Stays (merging_of who o p a)
+  merge-keeps who None p = refl
+  merge-keeps who (Some old) None = refl
+  merge-keeps who (Some old) (Some new) =
+      unless-refused _ _ (keeps-serving old.place (changing who old.place (Fold old new) a) ∙ keeps-changing old.place who (Fold old new) a)
+
   poll-keeps : (o : Option Pending) → Stays (polling_of o a)
   poll-keeps None = refl
   poll-keeps (Some wait) = refl
@@ -172,6 +191,9 @@ places-kept a (Wait_of target) other has = refl
 places-kept a (Kill target number) other has = either a (is_open_wait number (wait_at target a)) _ _ refl refl
 places-kept a (Release who id) other has = release-keeps a who (held_ticket who id a)
 places-kept a (Clone_ticket who id mode) other has = clone-keeps a who mode (held_ticket who id a)
+places-kept a (Upgrade_now who id mode) other has = upgrade-keeps a who mode (held_ticket who id a)
+places-kept a (Merge who old new) other has = merge-keeps a who (held_ticket who old a) (held_ticket who new a)
+places-kept a (Downgrade who id mode) other has = downgrade-keeps a who mode (held_ticket who id a)
 places-kept a (Read_definition who id) other has = read-keeps a (held_ticket who id a)
 places-kept a (Change_definition who id change) other has = redefine-keeps a change (held_ticket who id a)
 places-kept a (Key_of who place) other has = either a (not (has_key place a)) _ _ refl refl

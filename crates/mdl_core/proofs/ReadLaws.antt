@@ -15,10 +15,10 @@ use Rattle.mdl_book.specs.declared.ticket.Ticket.{Ticket}
 use Rattle.mdl_calls.specs.declared.answers.Held.{Held}
 use Rattle.mdl_calls.specs.declared.space_error.SpaceError.TheVariants.{NotExclusive}
 use Rattle.mdl_calls.specs.declared.answers.TimedOut.TheVariants.{ByThisCall}
-use Rattle.mdl_calls.specs.Words.{Answer, Granted, Waits, Victim_is, Timed_out, Lost, Has_killed, Done, Refused, Reads, Changed, Call, Try_now, Begin_wait, Search, Settle_timeout, End_wait, Kill, Release, Clone_ticket, Unpin, Read_definition, Read_kept, Change_definition, caller, HoldsAt, IsChangeOf, cause_of, is_number, ticket_held, read_under, redefined_place}
+use Rattle.mdl_calls.specs.Words.{Answer, Granted, Waits, Victim_is, Timed_out, Lost, Has_killed, Done, Refused, Reads, Changed, Upgraded, Call, Try_now, Begin_wait, Search, Settle_timeout, End_wait, Kill, Release, Clone_ticket, Upgrade_now, Merge, Downgrade, Unpin, Read_definition, Read_kept, Change_definition, caller, HoldsAt, IsChangeOf, cause_of, is_number, ticket_held, read_under, redefined_place}
 use Rattle.mdl_core.specs.CoreJoins.{SpeaksFor, own_at, Knows, HasRead, HasSeen, Pins, Joins}
 use Rattle.mdl_core.specs.Ties.{IsTied, in_book_of}
-use Rattle.mdl_core.specs.Changes.{Change, Gain, Lose, Queue, Admit, Settle, Leave, Take_up, Redefine, changing, book_after, redefining_at, admitting_if, admitting_up_to, next_ready}
+use Rattle.mdl_core.specs.Changes.{Change, Gain, Lose, Queue, Admit, Settle, Leave, Take_up, Alter, Fold, Redefine, changing, book_after, redefining_at, admitting_if, admitting_up_to, next_ready}
 use Rattle.mdl_core.specs.CoreCalls.{held_ticket, redefining_fault, redefined_unless, redefining_of}
 use Rattle.mdl_core.specs.Cores.{Core, book_at, seat_at, key_at, standing_at, has_key, has_session, booking}
 use Rattle.mdl_core.proofs.CoreReads.{within, has_key-booking, booked-same, booked-other}
@@ -176,6 +176,8 @@ keeps-changing a who place (Admit ticket) key apart other has = keeps-booking a 
 keeps-changing a who place (Settle how) key apart other has = (has, refl)
 keeps-changing a who place (Leave wait) key apart other has = keeps-booking a place (book_after who (seat_at who a) (Leave wait) (book_at place a)) key refl other has
 keeps-changing a who place (Take_up wait) key apart other has = (has, refl)
+keeps-changing a who place (Alter ticket mode) key apart other has = keeps-booking a place (book_after who (seat_at who a) (Alter ticket mode) (book_at place a)) key refl other has
+keeps-changing a who place (Fold old new) key apart other has = keeps-booking a place (book_after who (seat_at who a) (Fold old new) (book_at place a)) key refl other has
 keeps-changing a who place (Redefine ticket change) key apart other has = cc
 
 -- granting waiters
@@ -214,6 +216,9 @@ no_redefinition a (End_wait who) (Lost how) ticket change apart is = let e = is.
 no_redefinition a (Kill target number) (Has_killed true) ticket change apart is = let e = is.4 in cc
 no_redefinition a (Release who id) Done ticket change apart is = let e = is.3 in cc
 no_redefinition a (Clone_ticket who id mode) (Granted copy) ticket change apart is = let e = is.3 in cc
+no_redefinition a (Upgrade_now who id mode) Upgraded ticket change apart is = let e = is.3 in cc
+no_redefinition a (Merge who old new) Done ticket change apart is = let e = is.6 in cc
+no_redefinition a (Downgrade who id mode) Done ticket change apart is = let e = is.3 in cc
 no_redefinition a (Change_definition who id change) (Changed version) ticket other apart is = cc
 no_redefinition a call answer ticket change apart is = is
 

@@ -1,5 +1,5 @@
 -- The first cause that stands against a call is answered.
-use Rattle.std.proofs.Common.{◌≡◌, ◌≢◌, ℕ, ◌-◌, ◌^◌, Bool, true, false, not, List, [], ◌∷◌, is_some, inl, inr, nat_le, Option, Some, option_map, if◌then◌else◌, drop, refl, ap, ◌∙◌}
+use Rattle.std.proofs.Common.{◌≡◌, ◌≢◌, ℕ, ◌-◌, ◌^◌, Bool, true, false, not, List, [], ◌∷◌, is_some, inl, inr, nat_le, Option, Some, None, option_map, if◌then◌else◌, drop, refl, ap, ◌∙◌}
 use Rattle.std.proofs.lemmas.Bool.{le-leb}
 use Rattle.std.proofs.lemmas.Bool.Decides.{leb_tells}
 use Rattle.mdl_key.specs.declared.mode.Mode.{Mode}
@@ -12,12 +12,13 @@ use Rattle.mdl_defs.specs.declared.def_error.DefError.{DefError}
 use Rattle.mdl_defs.specs.Changes.{change_fault}
 use Rattle.mdl_calls.specs.declared.answers.Held.{Held}
 use Rattle.mdl_calls.specs.declared.space_error.SpaceError.{SpaceError}
-use Rattle.mdl_calls.specs.declared.space_error.SpaceError.TheVariants.{NoPlace, NotExclusive, AlreadyWaiting, BadMode, VersionFull, CounterFull, Full, Def, WrongKind}
-use Rattle.mdl_calls.specs.Words.{Answer, Refused, Would_wait}
-use Rattle.mdl_core.specs.CoreCalls.{refused_or, first_cause, request_causes, clone_causes, queued_unless_full, granted_unless_full, is_counted_out, is_full, redefining_fault, redefined_unless, redefining_of}
+use Rattle.mdl_calls.specs.declared.space_error.SpaceError.TheVariants.{NoPlace, NotHeld, NotUpgradable, NotExclusive, AlreadyWaiting, BadMode, VersionFull, CounterFull, Full, Def, WrongKind}
+use Rattle.mdl_calls.specs.Words.{Answer, Refused, Done, Would_wait, may_merge}
+use Rattle.mdl_core.specs.CoreCalls.{refused_or, first_cause, request_causes, clone_causes, held_ticket, upgrade_causes, upgraded_if_free, is_lower, downgrading_of, merge_causes, merging_of, queued_unless_full, granted_unless_full, is_counted_out, is_full, redefining_fault, redefined_unless, redefining_of}
+use Rattle.mdl_core.specs.Changes.{folding, serving}
 use Rattle.mdl_core.specs.Cores.{Core, seat_at, standing_at, has_key, is_free}
 use Rattle.mdl_core.specs.declared.pending.Pending.{Pending}
-use Rattle.mdl_core.specs.RefusalLaws.{IsIdle, is_mode_at, serves_for, suits_place, MayChangeThere, RefusesWishesInOrder, RefusesClonesInOrder, RefusesChangesInOrder}
+use Rattle.mdl_core.specs.RefusalLaws.{IsIdle, is_mode_at, serves_for, is_upgradable, suits_place, MayChangeThere, RefusesWishesInOrder, RefusesClonesInOrder, RefusesNewModesInOrder, RefusesMergesInOrder, RefusesChangesInOrder}
 use Rattle.mdl_core.specs.SessionLaws.{HasWait, HasNoNumber, HasNoRoom, HasNoVersion}
 use Rattle.mdl_core.proofs.CallCases.{not-exclusive}
 
@@ -135,6 +136,63 @@ pub refuses-clones_in_order : RefusesClonesInOrder
 refuses-clones_in_order core who id mode = (
   λ none. rw none refl,
   λ ticket held. rw held (clone-waiting core who id mode ticket, clone-unfit core who id mode ticket, clone-no_number core who id mode ticket, clone-no_room core who id mode ticket),
+)
+
+-- ---- another mode is asked for
+
+-- so many causes are passed over, and else the ticket is upgraded where that can be
+abbrev pub raised : ℕ → Core → ℕ → Mode → Held → Answer × Core
+raised past core who mode ticket = refused_or (first_cause (drop past (upgrade_causes who mode ticket core))) core (upgraded_if_free who mode ticket core)
+
+module _ (core : Core) (who : ℕ) (mode : Mode) (ticket : Held) where
+  raise-unfit : is_upgradable ticket mode core ≡ false → raised 0 core who mode ticket ≡ (Refused NotUpgradable, core)
+  raise-unfit unfit =
+      answered core (upgraded_if_free who mode ticket core) (not (is_upgradable ticket mode core)) NotUpgradable (drop 1 (upgrade_causes who mode ticket core)) (ap not unfit)
+
+  raise-waiting : is_upgradable ticket mode core ≡ true → (wait : Pending) → HasWait core who wait → raised 0 core who mode ticket ≡ (Refused AlreadyWaiting, core)
+  raise-waiting fits wait waits =
+      passed core (upgraded_if_free who mode ticket core) (not (is_upgradable ticket mode core)) NotUpgradable (drop 1 (upgrade_causes who mode ticket core)) (ap not fits)
+      ∙ answered core (upgraded_if_free who mode ticket core) (is_some (seat_at who core).wait) AlreadyWaiting [] (ap is_some waits)
+
+  lower-unfit : is_lower mode ticket core ≡ false → downgrading_of who mode (Some ticket) core ≡ (Refused NotUpgradable, core)
+  lower-unfit unfit = taken (not (is_lower mode ticket core)) _ _ (ap not unfit)
+
+  lower-done : is_lower mode ticket core ≡ true → (downgrading_of who mode (Some ticket) core).0 ≡ Done
+  lower-done fits = ap (λ (x : Answer × Core). x.0) (passed_by (not (is_lower mode ticket core)) _ _ (ap not fits))
+
+pub refuses-new_modes_in_order : RefusesNewModesInOrder
+refuses-new_modes_in_order core who id mode = (
+  λ none. rw none (refl, refl),
+  λ ticket held. rw held (raise-unfit core who mode ticket, raise-waiting core who mode ticket, lower-unfit core who mode ticket, lower-done core who mode ticket),
+)
+
+-- ---- two tickets are to become one
+
+module _ (core : Core) (who : ℕ) (kept gone : Held) where
+  abbrev merged : Answer × Core
+  merged = (Done, serving kept.place (folding who kept gone core))
+
+  merge-waiting : (wait : Pending) → HasWait core who wait → merging_of who (Some kept) (Some gone) core ≡ (Refused AlreadyWaiting, core)
+  merge-waiting wait waits = answered core merged (is_some (seat_at who core).wait) AlreadyWaiting (drop 1 (merge_causes who kept gone core)) (ap is_some waits)
+
+  merge-idle : IsIdle core who → merging_of who (Some kept) (Some gone) core ≡ refused_or (first_cause (drop 1 (merge_causes who kept gone core))) core merged
+  merge-idle idle = passed core merged (is_some (seat_at who core).wait) AlreadyWaiting (drop 1 (merge_causes who kept gone core)) (ap is_some idle)
+
+  merge-unfit : IsIdle core who → may_merge kept gone ≡ false → merging_of who (Some kept) (Some gone) core ≡ (Refused BadMode, core)
+  merge-unfit idle unfit = merge-idle idle ∙ answered core merged (not (may_merge kept gone)) BadMode [] (ap not unfit)
+
+  merge-done : IsIdle core who → may_merge kept gone ≡ true → (merging_of who (Some kept) (Some gone) core).0 ≡ Done
+  merge-done idle fits = ap (λ (x : Answer × Core). x.0) (merge-idle idle ∙ passed core merged (not (may_merge kept gone)) BadMode [] (ap not fits))
+
+lacking : (core : Core) (who : ℕ) (kept : Option Held) → merging_of who kept None core ≡ (Refused NotHeld, core)
+lacking core who None = refl
+lacking core who (Some kept) = refl
+
+pub refuses-merges_in_order : RefusesMergesInOrder
+refuses-merges_in_order core who old new = (
+  λ none. rw none refl,
+  λ none. ap (λ o. merging_of who (held_ticket who old core) o core) none ∙ lacking core who (held_ticket who old core),
+  λ kept gone one other. rw (one, other) (merge-waiting core who kept gone, merge-unfit core who kept gone, merge-done core who kept gone),
 )
 
 -- ---- a change of a definition is asked for

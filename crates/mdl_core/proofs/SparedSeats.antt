@@ -6,7 +6,7 @@ use Rattle.mdl_key.specs.Keys.{KeyName}
 use Rattle.mdl_calls.specs.declared.answers.Settled.{Settled}
 use Rattle.mdl_calls.specs.Own.{Wait}
 use Rattle.mdl_core.specs.declared.pending.Pending.{Pending}
-use Rattle.mdl_core.specs.Changes.{Change, Gain, Lose, Queue, Admit, Settle, Leave, Take_up, Redefine, May, seat_after, book_after, is_of_book, booked_if, changing}
+use Rattle.mdl_core.specs.Changes.{Change, Gain, Lose, Queue, Admit, Settle, Leave, Take_up, Alter, Fold, Redefine, May, seat_after, book_after, is_of_book, booked_if, changing}
 use Rattle.mdl_core.specs.CoreCalls.{wait_at}
 use Rattle.mdl_core.specs.CoreJoins.{own_at, numbers_at, Knows, IsSettledAs}
 use Rattle.mdl_core.specs.Cores.{Core, book_at, seat_at, key_at, has_key, has_session, booking, seating}
@@ -170,6 +170,8 @@ module _ (a : Core) (who place : ℕ) (change : Change) (may : May who place cha
       by (Settle other) m stays how has = absurd (not_settled (seat_at who a) m.allows.0.0 how m.allows.0.1 m.allows.0.2 has)
       by (Leave wait) m stays how has = cc
       by (Take_up wait) m stays how has = cc
+      by (Alter ticket mode) m stays how has = has
+      by (Fold old new) m stays how has = has
       by (Redefine ticket change) m stays how has = has
 
   -- where its session has the same after it, all do

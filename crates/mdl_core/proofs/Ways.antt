@@ -1,22 +1,24 @@
 -- What comes of a call in the space of one thread: the way that it goes, what is asked of it, and what it leaves to the sessions.
-use Rattle.std.proofs.Common.{◌≡◌, ℕ, Bool, true, false, Some, None, IfSome, option_map}
+use Rattle.std.proofs.Common.{◌≡◌, ◌⊎◌, ℕ, Bool, true, false, Some, None, MatchOption, IfSome, option_map}
 use Rattle.mdl_key.specs.Keys.{KeyName}
+use Rattle.mdl_key.specs.declared.mode.Mode.{Mode}
 use Rattle.mdl_defs.specs.declared.change.Change.{Change as Redefinition}
+use Rattle.mdl_calls.specs.declared.answers.Held.{Held}
 use Rattle.mdl_calls.specs.declared.answers.Settled.{Settled}
 use Rattle.mdl_calls.specs.declared.answers.Settled.TheVariants as settled_as
 use Rattle.mdl_calls.specs.declared.answers.TimedOut.TheVariants.{ByThisCall, Already}
-use Rattle.mdl_calls.specs.Words.{Answer, Refused, At_place, Would_wait, Waits, Victim_is, Is_settled, Timed_out, Has_wait, Has_killed, Key_is, Tables, Holds, is_answer_of, Call, Resolve, Try_now, Begin_wait, Search, Poll_wait, Settle_timeout, End_wait, Wait_of, Kill, Key_of, Tables_of, List_held, caller, IsExplained, own_after, wait_number, Draws, IsToldOf}
+use Rattle.mdl_calls.specs.Words.{Answer, Refused, At_place, Would_wait, Waits, Victim_is, Is_settled, Timed_out, Has_wait, Has_killed, Key_is, Tables, Upgraded, Holds, is_answer_of, Call, Resolve, Try_now, Begin_wait, Search, Poll_wait, Settle_timeout, End_wait, Wait_of, Kill, Upgrade_now, Key_of, Tables_of, List_held, caller, IsExplained, own_after, wait_number, Draws, IsToldOf}
 use Rattle.mdl_core.specs.declared.pending.Pending.{Pending}
 use Rattle.mdl_core.specs.ChangeEvents.{IsChangeEvent}
-use Rattle.mdl_core.specs.Changes.{Change, Lose, Settle, Leave, May, seat_after, changing, opening, serving}
-use Rattle.mdl_core.specs.CoreCalls.{wait_at, is_open_wait}
+use Rattle.mdl_core.specs.Changes.{Change, Lose, Settle, Leave, Alter, Fold, May, seat_after, changing, opening, serving}
+use Rattle.mdl_core.specs.CoreCalls.{wait_at, is_open_wait, held_ticket}
 use Rattle.mdl_core.specs.CoreJoins.{own_at, numbers_at, Knows}
 use Rattle.mdl_core.specs.CoreLaws.{is_change, IsEventOf}
 use Rattle.mdl_core.specs.Cores.{Core, seat_at, key_at, index_of, tables_in}
 use Rattle.mdl_core.specs.CoreSystems.{system_of}
 use Rattle.mdl_core.specs.Seats.{SeatView, own_of, numbers_of}
 use Rattle.mdl_core.specs.SessionLaws.{MeetsLimit}
-use Rattle.mdl_system.specs.Words.{WaitsForCause, Event, IsGrantable}
+use Rattle.mdl_system.specs.Words.{WaitsForCause, Event, IsGrantable, covers, may_downgrade}
 use Rattle.mdl_core.proofs.SparedSeats.{HasSettled, is_end}
 
 -- ---- ways
@@ -32,6 +34,8 @@ pub data Way : Type 0 where
 abbrev pub makes_room : Change → Bool
 makes_room (Lose ticket) = true
 makes_room (Leave wait) = true
+makes_room (Alter ticket mode) = may_downgrade ticket.mode mode
+makes_room (Fold old new) = true
 makes_room _ = false
 
 abbrev pub served_if : Bool → ℕ → Core → Core
@@ -57,12 +61,22 @@ seat_by way w a = seat_at w a
 
 -- ---- what is asked of a way
 
+-- a session's ticket has a mode at once: it is as strong already, or the wish is grantable
+abbrev pub HasAtOnce : Core → ℕ → Mode → Held → Type 0
+HasAtOnce a who mode ticket = (covers ticket.mode mode ≡ true) ⊎ IsGrantable (system_of a) who (key_at ticket.place a) mode
+
+-- it hasn't: neither is so
+abbrev pub HasNotAtOnce : Core → ℕ → Mode → Held → Type 0
+HasNotAtOnce a who mode ticket = (covers ticket.mode mode ≡ false) × (IsGrantable (system_of a) who (key_at ticket.place a) mode → ⊥)
+
 -- what an answer says of the space is so
 abbrev pub IsSo : Core → Call → Answer → Core → Type 0
 IsSo a call (Refused refusal) b = MeetsLimit a call refusal
 IsSo a (Resolve who key) (At_place place) b = Knows b who place key
 IsSo a (Try_now who place mode) Would_wait b = IsGrantable (system_of a) who (key_at place a) mode → ⊥
 IsSo a (Begin_wait who place mode) (Waits number) b = IsGrantable (system_of a) who (key_at place a) mode → ⊥
+IsSo a (Upgrade_now who id mode) Upgraded b = MatchOption (held_ticket who id a) ⊥ (HasAtOnce a who mode)
+IsSo a (Upgrade_now who id mode) Would_wait b = MatchOption (held_ticket who id a) ⊥ (HasNotAtOnce a who mode)
 IsSo a (Search who) (Victim_is victim) b = HasSettled (seat_at victim b) settled_as.Victim
 IsSo a (Poll_wait who) (Is_settled how) b = HasSettled (seat_at who b) how
 IsSo a (Settle_timeout who) (Timed_out ByThisCall) b = HasSettled (seat_at who b) settled_as.Timeout

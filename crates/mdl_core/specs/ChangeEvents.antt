@@ -1,14 +1,14 @@
 -- Which event of the system of locks a change in the space of one thread is.
-use Rattle.std.specs.Prelude.{◌≡◌, ◌≢◌, ◌⊎◌, ℕ, ◌+◌, None, Some, Contains}
+use Rattle.std.specs.Prelude.{◌≡◌, ◌≢◌, ◌⊎◌, ℕ, ◌+◌, true, None, Some, Contains}
 use Rattle.mdl_key.specs.Classes.{IsAtLeast}
 use Rattle.mdl_book.specs.declared.ticket.Ticket.{Ticket}
 use Rattle.mdl_defs.specs.declared.change.Change.{Change as Redefinition}
 use Rattle.mdl_calls.specs.declared.answers.Held.{Held}
 use Rattle.mdl_core.specs.declared.pending.Pending.{Pending}
-use Rattle.mdl_core.specs.Changes.{Change, Gain, Lose, Queue, Admit, Settle, Leave, Take_up, Redefine, next_ticket}
+use Rattle.mdl_core.specs.Changes.{Change, Gain, Lose, Queue, Admit, Settle, Leave, Take_up, Alter, Fold, Redefine, next_ticket}
 use Rattle.mdl_core.specs.Cores.{Core, seat_at, key_at}
 use Rattle.mdl_core.specs.CoreSystems.{system_of, state_of, waiter_of, waiter_in}
-use Rattle.mdl_system.specs.Words.{Event, Grant, Clone, BeginWait, GrantWaiter, SettleLost, EndGrantedWait, EndLostWait, Release, ChangeDefinition, Unsettled, Holding, lock_kind, IsGrantable}
+use Rattle.mdl_system.specs.Words.{Event, Grant, Clone, BeginWait, GrantWaiter, SettleLost, EndGrantedWait, EndLostWait, Release, Upgrade, Merge, Downgrade, ChangeDefinition, Unsettled, Holding, lock_kind, IsGrantable, may_upgrade, may_downgrade}
 
 -- a held ticket as a granted one of the system
 abbrev pub holding_of : ℕ → Held → Core → Holding
@@ -19,7 +19,8 @@ abbrev pub waiting_ticket : ℕ → Pending → Ticket
 waiting_ticket who wait = record { session = who; number = wait.id; mode = wait.mode }
 
 -- the event that a change is, and what the event asks beyond what the change asks: a new ticket has a grantable wish, or is a
--- clone of a held one that is at least as strong, and a wait that ends is settled
+-- clone of a held one that is at least as strong, a wait that ends is settled, and a held ticket gets a stronger mode, where the
+-- wish for it is grantable and the session has no wait, or a weaker one
 abbrev pub IsChangeEvent : ℕ → ℕ → Change → Core → Event Redefinition → Type 0
 IsChangeEvent who place (Gain mode) core event =
     ((event ≡ Grant (record { session = who; number = (seat_at who core).last_ticket + 1; key = key_at place core; mode = mode }))
@@ -37,4 +38,9 @@ IsChangeEvent who place (Settle how) core event =
 IsChangeEvent who place (Leave wait) core event =
     (event ≡ EndLostWait (key_at place core) (waiter_of (waiting_ticket who wait) (Some wait))) × (wait.settled ≢ None)
 IsChangeEvent who place (Take_up wait) core event = event ≡ EndGrantedWait (record { session = who; wait = wait.number; ticket = wait.id })
+IsChangeEvent who place (Alter ticket mode) core event =
+    ((event ≡ Upgrade (holding_of who ticket core) mode) × ((seat_at who core).wait ≡ None) × (may_upgrade ticket.mode mode ≡ true)
+    × IsGrantable (system_of core) who (key_at place core) mode)
+    ⊎ ((event ≡ Downgrade (holding_of who ticket core) mode) × (may_downgrade ticket.mode mode ≡ true))
+IsChangeEvent who place (Fold old new) core event = event ≡ Merge (holding_of who old core) (holding_of who new core)
 IsChangeEvent who place (Redefine ticket change) core event = event ≡ ChangeDefinition (holding_of who ticket core) change

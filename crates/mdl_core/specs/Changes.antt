@@ -5,14 +5,15 @@ use Rattle.mdl_key.specs.declared.mode.Mode.TheVariants.{X}
 use Rattle.mdl_key.specs.Words.{KeyName, is_mode_of}
 use Rattle.mdl_book.specs.declared.book_view.BookView.{BookView}
 use Rattle.mdl_book.specs.declared.ticket.Ticket.{Ticket}
-use Rattle.mdl_book.specs.Books.{lock_kind, empty_book, granting, enqueueing, admitting, cancelling, removing, redefining}
+use Rattle.mdl_book.specs.Books.{lock_kind, empty_book, granting, enqueueing, admitting, cancelling, removing, changing as changing_mode, redefining}
 use Rattle.mdl_defs.specs.declared.change.Change.{Change as Redefinition}
 use Rattle.mdl_defs.specs.Standings.{standing_fault}
 use Rattle.mdl_calls.specs.declared.answers.Held.{Held}
 use Rattle.mdl_calls.specs.declared.answers.Settled.{Settled}
 use Rattle.mdl_calls.specs.declared.answers.Settled.TheVariants as settled_as
+use Rattle.mdl_calls.specs.Words.{may_merge}
 use Rattle.mdl_core.specs.declared.pending.Pending.{Pending}
-use Rattle.mdl_core.specs.Seats.{SeatView, holding, without_ticket, beginning_wait, is_open, settling, without_wait, with_ticket_of}
+use Rattle.mdl_core.specs.Seats.{SeatView, holding, without_ticket, beginning_wait, is_open, settling, without_wait, with_ticket_of, with_ticket_in}
 use Rattle.mdl_core.specs.Cores.{Core, book_at, seat_at, has_key, has_session, is_free, booking, seating}
 
 -- ---- one change
@@ -33,6 +34,10 @@ pub data Change : Type 0 where
   Leave : Pending → Change
   -- a granted wait ends, and its ticket is held
   Take_up : Pending → Change
+  -- a held ticket gets another mode
+  Alter : Held → Mode → Change
+  -- two held tickets become one: the first takes the mode of the second, which goes
+  Fold : Held → Held → Change
   -- what stands under the key is changed, under a held ticket
   Redefine : Held → Redefinition → Change
 
@@ -49,6 +54,8 @@ seat_after place (Admit ticket) seat = settling settled_as.Granted seat
 seat_after place (Settle how) seat = settling how seat
 seat_after place (Leave wait) seat = without_wait seat
 seat_after place (Take_up wait) seat = with_ticket_of wait seat
+seat_after place (Alter ticket mode) seat = with_ticket_in ticket.id mode seat
+seat_after place (Fold old new) seat = with_ticket_in old.id new.mode (without_ticket new.id seat)
 seat_after place (Redefine ticket change) seat = seat
 
 -- the place's book after it
@@ -60,6 +67,8 @@ book_after who seat (Admit ticket) book = admitting ticket.session ticket.number
 book_after who seat (Settle how) book = book
 book_after who seat (Leave wait) book = cancelling who wait.id book
 book_after who seat (Take_up wait) book = book
+book_after who seat (Alter ticket mode) book = changing_mode who ticket.id mode book
+book_after who seat (Fold old new) book = changing_mode who old.id new.mode (removing who new.id book)
 book_after who seat (Redefine ticket change) book = redefining change book
 
 -- whether it is one of the book, too, and not of the seat alone
@@ -89,6 +98,11 @@ Allows who place (Settle how) seat book =
     ((wait : Pending) × (seat.wait ≡ Some wait) × (wait.settled ≡ None) × (wait.place ≡ place)) × (how ≢ settled_as.Granted)
 Allows who place (Leave wait) seat book = (seat.wait ≡ Some wait) × (wait.settled ≢ Some settled_as.Granted) × (wait.place ≡ place)
 Allows who place (Take_up wait) seat book = (seat.wait ≡ Some wait) × (wait.settled ≡ Some settled_as.Granted) × (wait.place ≡ place)
+Allows who place (Alter ticket mode) seat book =
+    Contains seat.held ticket × (ticket.place ≡ place) × (is_mode_of (lock_kind book) mode ≡ true)
+Allows who place (Fold old new) seat book =
+    (seat.wait ≡ None) × Contains seat.held old × Contains seat.held new
+    × (old.place ≡ place) × (new.place ≡ place) × (may_merge old new ≡ true)
 Allows who place (Redefine ticket change) seat book =
     Contains seat.held ticket × (ticket.place ≡ place) × (ticket.mode ≡ X)
     × (standing_fault book.key.namespace change book.standing ≡ None)
@@ -132,6 +146,14 @@ leaving who wait core = changing who wait.place (Leave wait) core
 -- a session gives up a ticket, which it holds at its place
 abbrev pub freeing : ℕ → Held → Core → Core
 freeing who ticket core = changing who ticket.place (Lose ticket) core
+
+-- a ticket of a session gets another mode, at its place
+abbrev pub altering : ℕ → Held → Mode → Core → Core
+altering who ticket mode core = changing who ticket.place (Alter ticket mode) core
+
+-- of two tickets of a session at a place the first takes the mode of the second, which goes
+abbrev pub folding : ℕ → Held → Held → Core → Core
+folding who old new core = changing who old.place (Fold old new) core
 
 -- what stands under the key of a place is changed
 abbrev pub redefining_at : ℕ → Redefinition → Core → Core

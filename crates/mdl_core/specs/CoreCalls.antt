@@ -1,5 +1,5 @@
 -- What each call of the lock space of one thread answers, and what it does to the space.
-use Rattle.std.specs.Prelude.{◌≡◌, ℕ, ◌+◌, ◌-◌, ◌^◌, ◌⊎◌, Bool, true, false, not, ◌&&◌, ◌==◌, nat_le, List, [], ◌∷◌, length, find, Option, Some, None, is_some, if◌then◌else◌}
+use Rattle.std.specs.Prelude.{◌≡◌, ℕ, ◌+◌, ◌-◌, ◌^◌, ◌⊎◌, Bool, true, false, not, ◌&&◌, ◌||◌, ◌==◌, nat_le, List, [], ◌∷◌, length, find, Option, Some, None, is_some, if◌then◌else◌}
 use Rattle.std.specs.Option.{option_map}
 use Rattle.mdl_key.specs.declared.mode.Mode.{Mode}
 use Rattle.mdl_key.specs.declared.mode.Mode.TheVariants.{X}
@@ -14,17 +14,17 @@ use Rattle.mdl_graph.specs.Graphs.{victim_in}
 use Rattle.mdl_core.specs.declared.new_error.NewError.{NewError}
 use Rattle.mdl_core.specs.declared.new_error.NewError.TheVariants.{BadPlaces, BadSessions}
 use Rattle.mdl_calls.specs.declared.space_error.SpaceError.{SpaceError}
-use Rattle.mdl_calls.specs.declared.space_error.SpaceError.TheVariants.{NoPlace, NotHeld, NotExclusive, AlreadyWaiting, BadMode, NoWait, Unsettled, CounterFull, Full, OutOfMemory}
+use Rattle.mdl_calls.specs.declared.space_error.SpaceError.TheVariants.{NoPlace, NotHeld, NotUpgradable, NotExclusive, AlreadyWaiting, BadMode, NoWait, Unsettled, CounterFull, Full, OutOfMemory}
 use Rattle.mdl_calls.specs.declared.answers.Held.{Held}
 use Rattle.mdl_calls.specs.declared.answers.Settled.{Settled}
 use Rattle.mdl_calls.specs.declared.answers.Settled.TheVariants as settled_as
 use Rattle.mdl_calls.specs.declared.answers.TimedOut.TheVariants.{ByThisCall, Already}
 use Rattle.mdl_core.specs.declared.pending.Pending.{Pending}
-use Rattle.mdl_calls.specs.Words.{Answer, Refused, Done, At_place, Granted, Would_wait, Waits, No_cycle, Victim_is, Pending as Is_pending, Is_settled, Timed_out, Lost, Has_wait, Has_killed, Holds, Reads, Changed, Key_is, Tables, Call, Resolve, Try_now, Begin_wait, Search, Poll_wait, Settle_timeout, End_wait, Wait_of, Kill, Release, Clone_ticket, Read_definition, Change_definition, Key_of, Tables_of, List_held, is_number, cause_of}
+use Rattle.mdl_calls.specs.Words.{Answer, Refused, Done, At_place, Granted, Would_wait, Waits, No_cycle, Victim_is, Pending as Is_pending, Is_settled, Timed_out, Lost, Has_wait, Has_killed, Holds, Reads, Changed, Key_is, Tables, Upgraded, Call, Resolve, Try_now, Begin_wait, Search, Poll_wait, Settle_timeout, End_wait, Wait_of, Kill, Release, Clone_ticket, Upgrade_now, Merge, Downgrade, Read_definition, Change_definition, Key_of, Tables_of, List_held, is_number, may_merge, cause_of}
 use Rattle.mdl_core.specs.Cores.{Core, book_at, seat_at, key_at, standing_at, has_key, has_session, index_of, is_free, tables_in}
-use Rattle.mdl_core.specs.Changes.{opening, granting_to, queueing, losing, taking_up, leaving, freeing, redefining_at, serving}
+use Rattle.mdl_core.specs.Changes.{opening, granting_to, queueing, losing, taking_up, leaving, freeing, altering, folding, redefining_at, serving}
 use Rattle.mdl_core.specs.Seats.{is_open, is_closed}
-use Rattle.mdl_system.specs.Strength.{covers}
+use Rattle.mdl_system.specs.Strength.{covers, may_upgrade, may_downgrade}
 
 -- why there can't be such a space
 abbrev pub new_fault : ℕ → ℕ → Option NewError
@@ -138,6 +138,59 @@ releasing_of who (Some ticket) core = (Done, serving ticket.place (freeing who t
 -- the ticket of a number is given up
 abbrev pub releasing : ℕ → ℕ → Core → Answer × Core
 releasing who id core = releasing_of who (held_ticket who id core) core
+
+-- ---- modes of held tickets
+
+-- why a held ticket can't be upgraded
+abbrev pub upgrade_causes : ℕ → Mode → Held → Core → List (Bool × SpaceError)
+upgrade_causes who mode ticket core =
+    (not ((covers ticket.mode mode || may_upgrade ticket.mode mode) && is_mode_of (lock_kind (book_at ticket.place core)) mode), NotUpgradable)
+    ∷ (is_some (seat_at who core).wait, AlreadyWaiting)
+    ∷ []
+
+-- this ticket in a stronger mode, where it can be had without waiting; one that is as strong already stays as it is
+abbrev pub upgraded_if_free : ℕ → Mode → Held → Core → Answer × Core
+upgraded_if_free who mode ticket core =
+    if covers ticket.mode mode then (Upgraded, core)
+    else (if not (is_free who ticket.place mode core) then (Would_wait, core) else (Upgraded, altering who ticket mode core))
+
+-- if it is held
+abbrev pub upgrading_of : ℕ → Mode → Option Held → Core → Answer × Core
+upgrading_of who mode None core = (Refused NotHeld, core)
+upgrading_of who mode (Some ticket) core =
+    refused_or (first_cause (upgrade_causes who mode ticket core)) core (upgraded_if_free who mode ticket core)
+
+-- the ticket of a number in a stronger mode
+abbrev pub upgrading : ℕ → ℕ → Mode → Core → Answer × Core
+upgrading who id mode core = upgrading_of who mode (held_ticket who id core) core
+
+-- whether a held ticket may be brought down to a mode
+abbrev pub is_lower : Mode → Held → Core → Bool
+is_lower mode ticket core = may_downgrade ticket.mode mode && is_mode_of (lock_kind (book_at ticket.place core)) mode
+
+-- this ticket in a weaker mode, and then waiters of its place are granted
+abbrev pub downgrading_of : ℕ → Mode → Option Held → Core → Answer × Core
+downgrading_of who mode None core = (Refused NotHeld, core)
+downgrading_of who mode (Some ticket) core =
+    if not (is_lower mode ticket core) then (Refused NotUpgradable, core) else (Done, serving ticket.place (altering who ticket mode core))
+
+-- the ticket of a number in a weaker mode
+abbrev pub downgrading : ℕ → ℕ → Mode → Core → Answer × Core
+downgrading who id mode core = downgrading_of who mode (held_ticket who id core) core
+
+-- why two held tickets can't become one
+abbrev pub merge_causes : ℕ → Held → Held → Core → List (Bool × SpaceError)
+merge_causes who old new core = (is_some (seat_at who core).wait, AlreadyWaiting) ∷ (not (may_merge old new), BadMode) ∷ []
+
+-- the first of two tickets takes the mode of the second, which goes, and then waiters of their place are granted
+abbrev pub merging_of : ℕ → Option Held → Option Held → Core → Answer × Core
+merging_of who (Some old) (Some new) core =
+    refused_or (first_cause (merge_causes who old new core)) core (Done, serving old.place (folding who old new core))
+merging_of who _ _ core = (Refused NotHeld, core)
+
+-- the tickets of two numbers become one
+abbrev pub merging : ℕ → ℕ → ℕ → Core → Answer × Core
+merging who old new core = merging_of who (held_ticket who old core) (held_ticket who new core) core
 
 -- ---- waits
 
@@ -273,6 +326,9 @@ has_call (Wait_of _) = true
 has_call (Kill _ _) = true
 has_call (Release _ _) = true
 has_call (Clone_ticket _ _ _) = true
+has_call (Upgrade_now _ _ _) = true
+has_call (Merge _ _ _) = true
+has_call (Downgrade _ _ _) = true
 has_call (Read_definition _ _) = true
 has_call (Change_definition _ _ _) = true
 has_call (Key_of _ _) = true
@@ -293,6 +349,9 @@ outcome (Wait_of target) core = looking_after target core
 outcome (Kill target number) core = killing target number core
 outcome (Release who id) core = releasing who id core
 outcome (Clone_ticket who id mode) core = cloning who id mode core
+outcome (Upgrade_now who id mode) core = upgrading who id mode core
+outcome (Merge who old new) core = merging who old new core
+outcome (Downgrade who id mode) core = downgrading who id mode core
 outcome (Read_definition who id) core = reading who id core
 outcome (Change_definition who id change) core = redefining who id change core
 outcome (Key_of who place) core = naming place core

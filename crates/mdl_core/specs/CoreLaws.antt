@@ -1,17 +1,24 @@
 -- Laws of the lock space of one thread: its calls are events of the system of locks, whose definitions are those of schemas and
 -- tables.
-use Rattle.std.specs.Prelude.{◌≡◌, ◌⊎◌, ℕ, Bool, true, false, List, [], ◌∷◌, ◌++◌, Option, Some, Contains}
+use Rattle.std.specs.Prelude.{◌≡◌, ◌⊎◌, ℕ, Bool, true, false, not, List, [], ◌∷◌, ◌++◌, Option, Some, None, Contains}
 use Rattle.mdl_key.specs.Keys.{KeyName}
 use Rattle.mdl_key.specs.declared.mode.Mode.{Mode}
 use Rattle.mdl_defs.specs.declared.change.Change.{Change}
 use Rattle.mdl_defs.specs.declared.definition.Definition.{Definition}
+use Rattle.mdl_calls.specs.declared.answers.Held.{Held}
 use Rattle.mdl_calls.specs.declared.answers.TimedOut.TheVariants.{ByThisCall}
-use Rattle.mdl_calls.specs.Words.{Answer, Done, Granted, Would_wait, Waits, Victim_is, Timed_out, Lost, Has_killed, Changed, Call, Try_now, Begin_wait, Search, Settle_timeout, End_wait, Kill, Release, Clone_ticket, Change_definition}
-use Rattle.mdl_system.specs.Words.{IsAbout, Event, Grant, Clone, BeginWait, GrantWaiter, SettleLost, EndGrantedWait, EndLostWait, Release as Give_up, ChangeDefinition, Happens, Run, SameSystem, Unsettled, Victim, TimedOut, Killed, Holding, Waiter, System, empty_system, IsLawful, IsGrantable, NoneForgotten}
+use Rattle.mdl_calls.specs.Words.{Answer, Done, Granted, Would_wait, Waits, Victim_is, Timed_out, Lost, Has_killed, Changed, Upgraded, Call, Try_now, Begin_wait, Search, Settle_timeout, End_wait, Kill, Release, Clone_ticket, Upgrade_now, Merge, Downgrade, Change_definition}
+use Rattle.mdl_system.specs.Words.{IsAbout, Event, Grant, Clone, BeginWait, GrantWaiter, SettleLost, EndGrantedWait, EndLostWait, Release as Give_up, Upgrade, Merge as Unite, Downgrade as Lower, ChangeDefinition, Happens, Run, SameSystem, Unsettled, Victim, TimedOut, Killed, Holding, Waiter, System, empty_system, IsLawful, IsGrantable, NoneForgotten, covers}
+use Rattle.mdl_core.specs.CoreCalls.{held_ticket}
 use Rattle.mdl_core.specs.CoreJoins.{Joins}
 use Rattle.mdl_core.specs.Cores.{Core, empty_core, key_at}
 use Rattle.mdl_core.specs.CoreSystems.{system_of, state_of, applies}
 use Rattle.mdl_core.specs.Ties.{IsSound}
+
+-- whether a ticket, where there is one, isn't as strong as a mode
+abbrev pub is_weaker : Mode → Option Held → Bool
+is_weaker mode None = false
+is_weaker mode (Some ticket) = not (covers ticket.mode mode)
 
 -- whether a call with this answer changes who holds what, who waits for what, how a wait is settled, or what is defined
 abbrev pub is_change : Core → Call → Answer → Bool
@@ -25,6 +32,9 @@ is_change a (End_wait _) (Lost _) = true
 is_change a (Kill _ _) (Has_killed true) = true
 is_change a (Release _ _) Done = true
 is_change a (Clone_ticket _ _ _) (Granted _) = true
+is_change a (Upgrade_now who id mode) Upgraded = is_weaker mode (held_ticket who id a)
+is_change a (Merge _ _ _) Done = true
+is_change a (Downgrade _ _ _) Done = true
 is_change a (Change_definition _ _ _) (Changed _) = true
 is_change a _ _ = false
 
@@ -51,6 +61,12 @@ IsEventOf a (Release who id) Done event =
 IsEventOf a (Clone_ticket who id mode) (Granted copy) event =
     (ticket : Holding) × (ticket.session ≡ who) × (ticket.number ≡ id)
     × (event ≡ Clone ticket (record { session = who; number = copy; key = ticket.key; mode = mode }))
+IsEventOf a (Upgrade_now who id mode) Upgraded event =
+    (ticket : Holding) × (ticket.session ≡ who) × (ticket.number ≡ id) × (event ≡ Upgrade ticket mode)
+IsEventOf a (Merge who old new) Done event =
+    (kept gone : Holding) × (kept.session ≡ who) × (kept.number ≡ old) × (gone.session ≡ who) × (gone.number ≡ new) × (event ≡ Unite kept gone)
+IsEventOf a (Downgrade who id mode) Done event =
+    (ticket : Holding) × (ticket.session ≡ who) × (ticket.number ≡ id) × (event ≡ Lower ticket mode)
 IsEventOf a (Change_definition who id change) (Changed version) event =
     (ticket : Holding) × (ticket.session ≡ who) × (ticket.number ≡ id) × (event ≡ ChangeDefinition ticket change)
 IsEventOf a _ _ event = ⊥
@@ -90,6 +106,14 @@ GrantsWhatIsGrantable =
     × (Joins a (Try_now who place mode) Would_wait b → IsGrantable (system_of a) who (key_at place a) mode → ⊥)
     × ((id : ℕ) → Joins a (Begin_wait who place mode) (Granted id) b → IsGrantable (system_of a) who (key_at place a) mode)
     × ((number : ℕ) → Joins a (Begin_wait who place mode) (Waits number) b → IsGrantable (system_of a) who (key_at place a) mode → ⊥)
+
+-- a held ticket has another mode at once exactly where it is as strong already or the wish for the mode is grantable
+abbrev pub UpgradesWhatIsGrantable : Type 0
+UpgradesWhatIsGrantable =
+    (a b : Core) (who id : ℕ) (mode : Mode) (ticket : Held) → held_ticket who id a ≡ Some ticket →
+    (Joins a (Upgrade_now who id mode) Upgraded b → (covers ticket.mode mode ≡ true) ⊎ IsGrantable (system_of a) who (key_at ticket.place a) mode)
+    × (Joins a (Upgrade_now who id mode) Would_wait b →
+    (covers ticket.mode mode ≡ false) × (IsGrantable (system_of a) who (key_at ticket.place a) mode → ⊥))
 
 -- calls, each with its answer, lead from one space to another
 abbrev pub Joined : List (Call × Answer) → Core → Core → Type 0

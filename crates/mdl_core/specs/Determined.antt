@@ -1,6 +1,6 @@
 -- What each call is answered, by the system of locks: who holds what, who waits for what and what is defined; by the places of its
 -- keys; and by the numbers that were given last. How the space of one thread is kept doesn't stand here but in the laws at the end.
-use Rattle.std.specs.Prelude.{◌≡◌, ◌≢◌, ◌⊎◌, ◌↔◌, ℕ, zero, suc, ◌+◌, ◌-◌, ◌<◌, ◌^◌, true, false, List, [], ◌∷◌, ◌++◌, length, map, slice_get, Option, Some, None, MatchOption, IsSome, Contains, AllPairs}
+use Rattle.std.specs.Prelude.{◌≡◌, ◌≢◌, ◌⊎◌, ◌↔◌, ℕ, zero, suc, ◌+◌, ◌-◌, ◌<◌, ◌^◌, true, false, ◌||◌, List, [], ◌∷◌, ◌++◌, length, map, slice_get, Option, Some, None, MatchOption, IsSome, Contains, AllPairs}
 use Rattle.std.specs.declared.cmp.Ordering.TheVariants.{Less}
 use Rattle.mdl_key.specs.Keys.{table_key, key_cmp}
 use Rattle.mdl_key.specs.declared.mode.Mode.{Mode}
@@ -16,15 +16,15 @@ use Rattle.mdl_calls.specs.declared.answers.Settled.{Settled}
 use Rattle.mdl_calls.specs.declared.answers.Settled.TheVariants as settled_as
 use Rattle.mdl_calls.specs.declared.answers.TimedOut.TheVariants.{ByThisCall, Already}
 use Rattle.mdl_calls.specs.declared.space_error.SpaceError.{SpaceError}
-use Rattle.mdl_calls.specs.declared.space_error.SpaceError.TheVariants.{NoPlace, NotHeld, NotExclusive, AlreadyWaiting, BadMode, VersionFull, NoWait, Unsettled, CounterFull, Full, Def, WrongKind}
-use Rattle.mdl_calls.specs.Words.{Answer, Refused, Done, At_place, Granted, Would_wait, Waits, No_cycle, Victim_is, Pending, Is_settled, Timed_out, Lost, Has_wait, Has_killed, Holds, Reads, Changed, Key_is, Tables, finds_no_memory, Call, Resolve, Try_now, Begin_wait, Search, Poll_wait, Settle_timeout, End_wait, Wait_of, Kill, Release, Clone_ticket, Read_definition, Change_definition, Key_of, Tables_of, List_held, caller, Numbers, Draws}
+use Rattle.mdl_calls.specs.declared.space_error.SpaceError.TheVariants.{NoPlace, NotHeld, NotUpgradable, NotExclusive, AlreadyWaiting, BadMode, VersionFull, NoWait, Unsettled, CounterFull, Full, Def, WrongKind}
+use Rattle.mdl_calls.specs.Words.{Answer, Refused, Done, At_place, Granted, Would_wait, Waits, No_cycle, Victim_is, Pending, Is_settled, Timed_out, Lost, Has_wait, Has_killed, Holds, Reads, Changed, Key_is, Tables, Upgraded, finds_no_memory, Call, Resolve, Try_now, Begin_wait, Search, Poll_wait, Settle_timeout, End_wait, Wait_of, Kill, Release, Clone_ticket, Upgrade_now, Merge, Downgrade, Read_definition, Change_definition, Key_of, Tables_of, List_held, caller, Numbers, Draws}
 use Rattle.mdl_core.specs.CoreJoins.{Joins, numbers_at}
 use Rattle.mdl_core.specs.Cores.{Core, has_session}
 use Rattle.mdl_core.specs.CoreSystems.{state_of, system_of}
 use Rattle.mdl_core.specs.SessionLaws.{WaitsSomewhere}
 use Rattle.mdl_core.specs.Ties.{IsSound}
 use Rattle.mdl_system.specs.Deadlocks.{IsDeadlock, IsChosenDeadlock, IsVictimOf}
-use Rattle.mdl_system.specs.Strength.{covers}
+use Rattle.mdl_system.specs.Strength.{covers, may_upgrade, may_downgrade}
 use Rattle.mdl_system.specs.Systems.{Holding, System, Versioned, Held as IsHeld, HasNoWait, IsGrantable, lock_kind}
 
 -- ---- which answer is right
@@ -132,6 +132,25 @@ ToClone system numbers who mode ticket =
     Needs ((covers ticket.mode mode ≡ true) × (is_mode_of (lock_kind ticket.key) mode ≡ true)) BadMode (
     Needs (HasNumber numbers) CounterFull (ToGrant system numbers ticket.key)))
 
+-- a held ticket in another mode: one that it may be upgraded to or is as strong as already, and of the key's kind; by a session
+-- that has no wait; had at once where the ticket is as strong already or the wish for the mode is grantable
+abbrev pub ToUpgrade : {D : Type 0} → System D → ℕ → Mode → Holding → Right
+ToUpgrade system who mode ticket =
+    Needs (((covers ticket.mode mode || may_upgrade ticket.mode mode) ≡ true) × (is_mode_of (lock_kind ticket.key) mode ≡ true)) NotUpgradable (
+    Needs (HasNoWait system who) AlreadyWaiting (
+    Where ((covers ticket.mode mode ≡ true) ⊎ IsGrantable system who ticket.key mode) (Only Upgraded) (Only Would_wait)))
+
+-- a held ticket in a weaker mode: one that it may be downgraded to, and of the key's kind
+abbrev pub ToDowngrade : Mode → Holding → Right
+ToDowngrade mode ticket =
+    Needs ((may_downgrade ticket.mode mode ≡ true) × (is_mode_of (lock_kind ticket.key) mode ≡ true)) NotUpgradable (Only Done)
+
+-- two held tickets made one: by a session that has no wait; two of one key, the one that goes at least as strong as the other
+abbrev pub ToMerge : {D : Type 0} → System D → ℕ → Holding → Holding → Right
+ToMerge system who kept gone =
+    Needs (HasNoWait system who) AlreadyWaiting (
+    Needs ((kept.number ≢ gone.number) × (gone.key ≡ kept.key) × (covers gone.mode kept.mode ≡ true)) BadMode (Only Done))
+
 -- what is defined under a key, with its version
 abbrev pub ToRead : Versioned Definition → Right
 ToRead standing = Only (Reads standing.version standing.definition)
@@ -213,6 +232,9 @@ Determines system places numbers (Wait_of target) =
 Determines system places numbers (Kill target number) = Where (WaitsSomewhere system target number) (Only (Has_killed true)) (Only (Has_killed false))
 Determines system places numbers (Release who id) = OfTicket system who id (λ ticket. Only Done)
 Determines system places numbers (Clone_ticket who id mode) = OfTicket system who id (ToClone system (numbers who) who mode)
+Determines system places numbers (Upgrade_now who id mode) = OfTicket system who id (ToUpgrade system who mode)
+Determines system places numbers (Merge who old new) = OfTicket system who old (λ kept. OfTicket system who new (ToMerge system who kept))
+Determines system places numbers (Downgrade who id mode) = OfTicket system who id (ToDowngrade mode)
 Determines system places numbers (Read_definition who id) = OfTicket system who id (λ ticket. ToRead (system.definitions ticket.key))
 Determines system places numbers (Change_definition who id change) =
     OfTicket system who id (λ ticket. Needs (ticket.mode ≡ X) NotExclusive (ToChange ticket.key change (system.definitions ticket.key)))

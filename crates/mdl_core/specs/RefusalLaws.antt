@@ -1,5 +1,5 @@
 -- Which refusal the space of one thread answers where more than one could be: the first cause in the order of the refusals.
-use Rattle.std.specs.Prelude.{◌≡◌, ◌≢◌, ◌⊎◌, ℕ, Bool, true, false, ◌&&◌, Some, None}
+use Rattle.std.specs.Prelude.{◌≡◌, ◌≢◌, ◌⊎◌, ℕ, Bool, true, false, ◌&&◌, ◌||◌, Some, None}
 use Rattle.mdl_key.specs.declared.mode.Mode.{Mode}
 use Rattle.mdl_key.specs.declared.mode.Mode.TheVariants.{X}
 use Rattle.mdl_key.specs.Words.{kind_of, is_mode_of}
@@ -9,13 +9,13 @@ use Rattle.mdl_defs.specs.Changes.{change_fault}
 use Rattle.mdl_defs.specs.Standings.{suits}
 use Rattle.mdl_calls.specs.declared.answers.Held.{Held}
 use Rattle.mdl_calls.specs.declared.space_error.SpaceError.{SpaceError}
-use Rattle.mdl_calls.specs.declared.space_error.SpaceError.TheVariants.{NoPlace, NotHeld, NotExclusive, AlreadyWaiting, BadMode, VersionFull, CounterFull, Full, Def, WrongKind}
-use Rattle.mdl_calls.specs.Words.{Refused, Call, Try_now, Begin_wait, Clone_ticket, Change_definition}
+use Rattle.mdl_calls.specs.declared.space_error.SpaceError.TheVariants.{NoPlace, NotHeld, NotUpgradable, NotExclusive, AlreadyWaiting, BadMode, VersionFull, CounterFull, Full, Def, WrongKind}
+use Rattle.mdl_calls.specs.Words.{Refused, Done, Call, Try_now, Begin_wait, Clone_ticket, Upgrade_now, Merge, Downgrade, Change_definition, may_merge}
 use Rattle.mdl_core.specs.declared.pending.Pending.{Pending}
-use Rattle.mdl_core.specs.CoreCalls.{outcome, held_ticket}
+use Rattle.mdl_core.specs.CoreCalls.{outcome, held_ticket, is_lower}
 use Rattle.mdl_core.specs.Cores.{Core, seat_at, has_key, key_at, standing_at}
 use Rattle.mdl_core.specs.SessionLaws.{HasWait, HasNoNumber, HasNoRoom, HasNoVersion}
-use Rattle.mdl_system.specs.Strength.{covers}
+use Rattle.mdl_system.specs.Strength.{covers, may_upgrade}
 
 -- the call is refused so, and nothing changes
 abbrev pub IsRefused : Core → Call → SpaceError → Type 0
@@ -61,6 +61,34 @@ RefusesClonesInOrder =
     × (IsIdle core who → serves_for ticket mode core ≡ true → HasNoNumber core who → IsRefused core call CounterFull)
     × (IsIdle core who → serves_for ticket mode core ≡ true → (HasNoNumber core who → ⊥) → HasNoRoom core ticket.place →
     IsRefused core call Full))
+
+-- whether a held ticket has a mode already or may be upgraded to it, and the place's kind has it
+abbrev pub is_upgradable : Held → Mode → Core → Bool
+is_upgradable ticket mode core = (covers ticket.mode mode || may_upgrade ticket.mode mode) && is_mode_at ticket.place mode core
+
+-- another mode is refused where the ticket isn't held; then where it may not become that; and an upgrade then to a session that
+-- waits. A downgrade is made also for one that waits
+abbrev pub RefusesNewModesInOrder : Type 0
+RefusesNewModesInOrder =
+    (core : Core) (who id : ℕ) (mode : Mode) → let up = Upgrade_now who id mode in let down = Downgrade who id mode in
+    (held_ticket who id core ≡ None → IsRefused core up NotHeld × IsRefused core down NotHeld)
+    × ((ticket : Held) → held_ticket who id core ≡ Some ticket →
+    (is_upgradable ticket mode core ≡ false → IsRefused core up NotUpgradable)
+    × (is_upgradable ticket mode core ≡ true → (wait : Pending) → HasWait core who wait → IsRefused core up AlreadyWaiting)
+    × (is_lower mode ticket core ≡ false → IsRefused core down NotUpgradable)
+    × (is_lower mode ticket core ≡ true → (outcome down core).0 ≡ Done))
+
+-- a merge is refused where one of the two tickets isn't held; then to a session that waits; and last of tickets that may not
+-- become one
+abbrev pub RefusesMergesInOrder : Type 0
+RefusesMergesInOrder =
+    (core : Core) (who old new : ℕ) → let call = Merge who old new in
+    (held_ticket who old core ≡ None → IsRefused core call NotHeld)
+    × (held_ticket who new core ≡ None → IsRefused core call NotHeld)
+    × ((kept gone : Held) → held_ticket who old core ≡ Some kept → held_ticket who new core ≡ Some gone →
+    ((wait : Pending) → HasWait core who wait → IsRefused core call AlreadyWaiting)
+    × (IsIdle core who → may_merge kept gone ≡ false → IsRefused core call BadMode)
+    × (IsIdle core who → may_merge kept gone ≡ true → (outcome call core).0 ≡ Done))
 
 -- a change of what stands under the key of a ticket's place isn't refused for the ticket's mode, nor for want of a version
 abbrev pub MayChangeThere : Core → Held → Type 0

@@ -1,5 +1,5 @@
 -- What a lock space keeps of one session.
-use Rattle.std.specs.Prelude.{ℕ, ◌+◌, Bool, false, not, List, [], ◌∷◌, ◌++◌, filter, Option, None, Some, is_some}
+use Rattle.std.specs.Prelude.{ℕ, ◌+◌, Bool, false, not, List, [], ◌∷◌, ◌++◌, map, filter, Option, None, Some, is_some, if◌then◌else◌}
 use Rattle.std.specs.Option.{option_map}
 use Rattle.mdl_key.specs.declared.mode.Mode.{Mode}
 use Rattle.mdl_calls.specs.declared.answers.Held.{Held}
@@ -39,6 +39,16 @@ holding place mode seat = record seat {
 -- without the ticket of a number
 abbrev pub without_ticket : ℕ → SeatView → SeatView
 without_ticket id seat = record seat { held = filter (λ ticket. not (is_number id ticket)) seat.held }
+
+-- a held ticket in another mode
+abbrev pub held_in : Mode → Held → Held
+held_in mode ticket = record ticket { mode = mode }
+
+-- with the ticket of a number in another mode
+abbrev pub with_ticket_in : ℕ → Mode → SeatView → SeatView
+with_ticket_in id mode seat = record seat {
+  held = map (λ ticket. if is_number id ticket then held_in mode ticket else ticket) seat.held;
+}
 
 -- with a wait for a new ticket
 abbrev pub beginning_wait : ℕ → Mode → SeatView → SeatView

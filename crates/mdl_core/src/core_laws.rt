@@ -1,6 +1,6 @@
 //! Laws of the lock space of one thread: its calls are events of the system of locks. Each is proved as the contract of a
 //! function that does nothing.
-ghost use Rattle.mdl_core.specs.CoreLaws.{CallsAreEvents, CallsKeepSound, GrantsWhatIsGrantable, CallsLeadByEvents};
+ghost use Rattle.mdl_core.specs.CoreLaws.{CallsAreEvents, CallsKeepSound, GrantsWhatIsGrantable, UpgradesWhatIsGrantable, CallsLeadByEvents};
 ghost use Rattle.mdl_core.specs.Determined.{AnswersAreDetermined, PlacesAndNumbersFollow};
 ghost use Rattle.mdl_core.specs.SearchLaws.{SearchesFindDeadlocks, SearchesSuffice, SearchesLeaveNoDeadlock, OnlyNewWaitsMakeDeadlocks, SearchingEndsDeadlocks, WaitingLeavesNoDeadlock};
 
@@ -30,6 +30,11 @@ pub fn places_and_numbers_follow()
 /// A lock is had at once exactly where the wish for it is grantable.
 pub fn grants_what_is_grantable()
     ensures { GrantsWhatIsGrantable }
+{}
+
+/// A held ticket has another mode at once exactly where it is as strong already or the wish for the mode is grantable.
+pub fn upgrades_what_is_grantable()
+    ensures { UpgradesWhatIsGrantable }
 {}
 
 /// Whatever is asked of an empty space, events have led from the empty system to what it is in the end.

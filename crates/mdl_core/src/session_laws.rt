@@ -1,7 +1,7 @@
 //! Laws of what a session has in the space of one thread, and of what its calls are told. Each is proved as the contract of a
 //! function that does nothing.
 ghost use Rattle.mdl_core.specs.SessionLaws.{SessionsHaveWhatTheSystemSays, KillsJustThatWait, ReadsTellWhatStands, ChangesTellTheVersion, RefusesForCause};
-ghost use Rattle.mdl_core.specs.RefusalLaws.{RefusesWishesInOrder, RefusesClonesInOrder, RefusesChangesInOrder};
+ghost use Rattle.mdl_core.specs.RefusalLaws.{RefusesWishesInOrder, RefusesClonesInOrder, RefusesNewModesInOrder, RefusesMergesInOrder, RefusesChangesInOrder};
 
 /// What a session holds, and how its wait stands, is what the system of locks says of it, and nothing there is of what is no
 /// session.
@@ -42,6 +42,18 @@ pub fn refuses_wishes_in_order()
 /// serve; then where the session has used up its numbers; and last of a full lock.
 pub fn refuses_clones_in_order()
     ensures { RefusesClonesInOrder }
+{}
+
+/// An upgrade or a downgrade is refused where the ticket isn't held; then where it may not become that; and an upgrade then where
+/// the session waits.
+pub fn refuses_new_modes_in_order()
+    ensures { RefusesNewModesInOrder }
+{}
+
+/// A merge is refused where one of the two tickets isn't held; then where the session waits; and last of tickets that may not
+/// become one.
+pub fn refuses_merges_in_order()
+    ensures { RefusesMergesInOrder }
 {}
 
 /// A change of a definition is refused where the ticket isn't held; then where that isn't exclusive; then where no version is

@@ -1,4 +1,4 @@
-//! A space of one thread: locks that are had and waited for, deadlocks, and what stands under a key. Where a call is refused for
+//! A space of one thread: locks that are had and waited for, deadlocks, other modes, and what stands under a key. Where a call is refused for
 //! want of memory, everything is as before, and the call is made again.
 ghost use Rattle.std.specs.Prelude.{◌≡◌, ℕ, ◌≤◌, IfSome};
 ghost use Rattle.mdl_core.specs.Words.{SpeaksFor, empty_core};
@@ -8,7 +8,7 @@ use mdl_defs::Change;
 use mdl_key::{Key, KeyError, Mode};
 use mdl_space::{
     Attempt, Begun, CoreSpace, Ended, Held, LockSpace, NewError, Place, Poll, Search, Settled,
-    SpaceError, TicketId,
+    SpaceError, TicketId, Upgrade,
 };
 use std::alloc::Global;
 use std::marker::Model;
@@ -29,6 +29,9 @@ enum Act {
     Search,
     EndWait,
     Clone(TicketId, Mode),
+    Upgrade(TicketId, Mode),
+    Merge(TicketId, TicketId),
+    Downgrade(TicketId, Mode),
     Release(TicketId),
     // Under the first ticket, a table of two columns is created, or gains a third one.
     Create,
@@ -41,6 +44,7 @@ enum Reply {
     At(Place),
     Granted(TicketId),
     WouldWait,
+    Upgraded,
     Waiting(u64),
     Victim(u16),
     NoCycle,
@@ -53,7 +57,10 @@ enum Reply {
 impl Act {
     // Whether it never takes memory.
     fn takes_none(self) -> bool {
-        matches!(self, Act::Release(_) | Act::EndWait)
+        matches!(
+            self,
+            Act::Release(_) | Act::Downgrade(_, _) | Act::EndWait
+        )
     }
 }
 
@@ -177,6 +184,9 @@ fn call<S: LockSpace>(space: &mut S, alloc: Global, who: u16, act: Act) -> Reply
         Act::Search => searched(space.search(who)),
         Act::EndWait => ended(space.end_wait(who)),
         Act::Clone(id, mode) => cloned(space.clone_ticket(who, id, mode)),
+        Act::Upgrade(id, mode) => upgraded(space.upgrade_now(who, id, mode)),
+        Act::Merge(old, new) => done(space.merge(who, old, new)),
+        Act::Downgrade(id, mode) => done(space.downgrade(who, id, mode)),
         Act::Release(id) => done(space.release(who, id)),
         Act::Create => redefine(space, who, creation(alloc)),
         Act::AddColumn => redefine(space, who, gain(alloc)),
@@ -268,6 +278,14 @@ fn cloned(outcome: Result<TicketId, SpaceError>) -> Reply {
     }
 }
 
+fn upgraded(outcome: Result<Upgrade, SpaceError>) -> Reply {
+    match outcome {
+        Ok(Upgrade::Upgraded) => Reply::Upgraded,
+        Ok(Upgrade::WouldWait) => Reply::WouldWait,
+        Err(error) => Reply::Refused(error),
+    }
+}
+
 fn done(outcome: Result<(), SpaceError>) -> Reply {
     match outcome {
         Ok(()) => Reply::Done,
@@ -296,6 +314,17 @@ const FIRST: &[(u16, Act, Reply)] = &[
     (3, Act::EndWait, Reply::Granted(1)),
 ];
 
+// A ticket beside readers gets other modes, and becomes one with another.
+const MODES: &[(u16, Act, Reply)] = &[
+    (2, Act::TryNow(2, Mode::SU), Reply::Granted(3)),
+    (2, Act::Upgrade(3, Mode::SNW), Reply::Upgraded),
+    (2, Act::Upgrade(3, Mode::X), Reply::WouldWait),
+    (2, Act::TryNow(2, Mode::SR), Reply::Granted(4)),
+    (2, Act::Merge(4, 3), Reply::Done),
+    (2, Act::Downgrade(4, Mode::SU), Reply::Done),
+    (2, Act::Release(4), Reply::Done),
+];
+
 // The first lock is given up but for the clones, and another session waits for it.
 const LAST: &[(u16, Act, Reply)] = &[
     (1, Act::Release(1), Reply::Done),
@@ -308,6 +337,7 @@ const LAST: &[(u16, Act, Reply)] = &[
 pub fn calls_are_answered(alloc: Global) -> bool {
     match Room::new(alloc) {
         Some(mut room) => all_outlive(&mut room, FIRST)
+            && all_outlive(&mut room, MODES)
             && clones(&mut room)
             && all_outlive(&mut room, LAST),
         None => false,

@@ -1,6 +1,7 @@
 pub mod DeadlockLemmas
 pub mod DefinitionLemmas
 pub mod KnownKeyLemmas
+pub mod ModeLemmas
 pub mod SearchLemmas
 pub mod ServingLemmas
 pub mod SpeakingLemmas

@@ -424,5 +424,6 @@ impl CoreSpace {
 mod calls;
 mod deadlocks;
 mod definitions;
+mod modes;
 mod serving;
 mod tables;

@@ -1,11 +1,12 @@
-//! Granting a lock: a ticket in the lock's book, and the same ticket in the session's hands.
-ghost use Rattle.std.specs.Prelude.{◌≡◌, ◌+◌, ◌<◌, ◌^◌, ◌⊎◌, None, OnErr, MatchResult, nat_le, true, false};
-ghost use Rattle.mdl_book.specs.Books.{lock_kind, granting, enqueueing, ticket_count};
+//! Granting a lock: a ticket in the lock's book, and the same ticket in the session's hands. And two tickets that become one.
+ghost use Rattle.std.specs.Prelude.{◌≡◌, ◌≢◌, ◌+◌, ◌<◌, ◌^◌, ◌⊎◌, None, IsSome, OnErr, MatchResult, nat_le, true, false};
+ghost use Rattle.mdl_book.specs.Books.{lock_kind, granting, enqueueing, changing, removing, ticket_count};
 ghost use Rattle.mdl_book.specs.Granting.{is_compatible, is_grantable};
+ghost use Rattle.mdl_book.specs.Tickets.{ticket_of};
 ghost use Rattle.mdl_core.specs.Words.{cause_in, holding, beginning_wait};
 
 use crate::seat::Seat;
-use crate::{Place, SpaceError, TicketId};
+use crate::{Held, Place, SpaceError, TicketId};
 use mdl_book::{Book, BookError, Ticket};
 use mdl_key::Mode;
 use mdl_word::Word;
@@ -86,6 +87,18 @@ pub(crate) fn queue(
             Err(cause_of(error))
         }
     }
+}
+
+/// Lets one of a session's granted tickets have the mode of another, which goes.
+pub(crate) fn fold(book: &mut Book, who: u16, kept: TicketId, gone: Held)
+    requires kept { IsSome (ticket_of who kept book.old.granted) }
+    requires gone { IsSome (ticket_of who gone.id book.old.granted) }
+    requires two { kept ≢ gone.id }
+    requires compatible { is_compatible (lock_kind book.old) book.old.granted who gone.mode ≡ true }
+    ensures { book.new ≡ changing who kept gone.mode (removing who gone.id book.old) }
+{
+    book.remove(who, gone.id).unwrap();
+    book.set_mode(who, kept, gone.mode, NO_FAST).unwrap();
 }
 
 // Why a book can't take a ticket that may stand there.

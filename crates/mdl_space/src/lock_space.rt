@@ -12,9 +12,11 @@ ghost use Rattle.mdl_system.specs.Strength.{covers};
 ghost use Rattle.mdl_calls.specs.declared.space_error.SpaceError.{SpaceError};
 ghost use Rattle.mdl_calls.specs.declared.answers.Settled.{Settled};
 ghost use Rattle.mdl_calls.specs.declared.answers.Held.{Held};
-ghost use Rattle.mdl_calls.specs.Words.{Call, Resolve, Try_now, Begin_wait, Search as Search_by, Poll_wait, Settle_timeout, End_wait, Wait_of, Kill, Release, Clone_ticket, Upgrade_now, List_held, Read_definition, Change_definition, Tables_of, Key_of, Unpin, caller, Answer, Refused, Would_wait, Changed, Done, Reads, Tables, Key_is, At_place, Victim_is, Has_wait, Has_killed, Holds, is_answer_of, placed, attempted, begun, searched, polled, timed_out, ended, done, cloned, listed, Own, Wait, Numbers, own_after, wait_number, is_waiting, IsRising, Draws, IsExplained, told, IsToldOf, HoldsAt, AwaitsAt, AreTablesOf, IsChangeOf, keyed, read, read_under, redefined, redefined_place, tables_told, ticket_held};
+ghost use Rattle.mdl_calls.specs.Words.{Call, Resolve, Try_now, Begin_wait, Search as Search_by, Poll_wait, Settle_timeout, End_wait, Wait_of, Kill, Release, Clone_ticket, Upgrade_now, Merge, Downgrade, List_held, Read_definition, Change_definition, Tables_of, Key_of, Unpin, caller, Answer, Refused, Would_wait, Changed, Done, Reads, Tables, Key_is, At_place, Victim_is, Has_wait, Has_killed, Holds, is_answer_of, placed, attempted, begun, searched, polled, timed_out, ended, done, cloned, upgrade_tried, listed, Own, Wait, Numbers, own_after, wait_number, is_waiting, IsRising, Draws, IsExplained, told, IsToldOf, HoldsAt, AwaitsAt, AreTablesOf, IsChangeOf, keyed, read, read_under, redefined, redefined_place, tables_told, ticket_held};
 
-use crate::{Attempt, Begun, Ended, Held, Place, Poll, Search, SpaceError, TicketId, TimedOut};
+use crate::{
+    Attempt, Begun, Ended, Held, Place, Poll, Search, SpaceError, TicketId, TimedOut, Upgrade,
+};
 use mdl_defs::{Change, Standing};
 use mdl_key::{Key, Mode};
 
@@ -113,6 +115,29 @@ pub trait LockSpace {
     fn clone_ticket(&mut self, who: u16, id: TicketId, mode: Mode) -> Result<TicketId, SpaceError>
         requires { speaks_for self.old who }
         ensures { joins self.old (Clone_ticket who id mode) (cloned result) self.new };
+
+    /// Asks for a stronger mode of a held ticket, without waiting: of SU for SNW, SNRW or X, of SNW for SNRW or X, of SNRW for X.
+    /// A mode that the held one covers it has already, and nothing changes. The session's other tickets don't stand in the way.
+    ///
+    /// After MySQL 5.7, `MDL_context::upgrade_shared_lock` of `sql/mdl.cc`, which waits.
+    fn upgrade_now(&mut self, who: u16, id: TicketId, mode: Mode) -> Result<Upgrade, SpaceError>
+        requires { speaks_for self.old who }
+        ensures { joins self.old (Upgrade_now who id mode) (upgrade_tried result) self.new };
+
+    /// Lets a held ticket have the mode of another one of its place, which is at least as strong, and gives that one up. The
+    /// first ticket keeps its number.
+    ///
+    /// After MySQL 5.7, the end of `MDL_context::upgrade_shared_lock` of `sql/mdl.cc`.
+    fn merge(&mut self, who: u16, old: TicketId, new: TicketId) -> Result<(), SpaceError>
+        requires { speaks_for self.old who }
+        ensures { joins self.old (Merge who old new) (done result) self.new };
+
+    /// Lets a held ticket have a weaker mode: X becomes SU, SNW or SNRW, and SNW becomes SU. It takes no memory.
+    ///
+    /// After MySQL 5.7, `MDL_ticket::downgrade_lock` of `sql/mdl.cc`.
+    fn downgrade(&mut self, who: u16, id: TicketId, mode: Mode) -> Result<(), SpaceError>
+        requires { speaks_for self.old who }
+        ensures { joins self.old (Downgrade who id mode) (done result) self.new };
 
     /// What stands under the key of a held ticket's place, and its version.
     fn read_definition(&mut self, who: u16, id: TicketId) -> Result<Standing, SpaceError>

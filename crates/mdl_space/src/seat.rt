@@ -2,7 +2,7 @@
 ghost use Rattle.std.specs.Prelude.{◌≡◌, ℕ, ◌+◌, ◌<◌, ◌^◌, find, position, Some, None, IsTrue, OnOk, OnErr, IsOkUnless};
 ghost use Rattle.mdl_key.specs.declared.mode.Mode.{Mode};
 ghost use Rattle.mdl_calls.specs.Own.{are_rising, is_number};
-ghost use Rattle.mdl_core.specs.Seats.{SeatView, empty_seat, holding, without_ticket, beginning_wait, is_closed, is_open, settling, without_wait, with_ticket_of};
+ghost use Rattle.mdl_core.specs.Seats.{SeatView, empty_seat, holding, without_ticket, beginning_wait, is_closed, is_open, settling, without_wait, with_ticket_in, with_ticket_of};
 
 use crate::{Held, Place, Settled, SpaceError, TicketId};
 use mdl_core::Pending;
@@ -207,6 +207,25 @@ impl Seat {
         if let Some(at) = place_of(&self.held, id) {
             self.held.remove(at);
         }
+    }
+
+    /// Lets the ticket of a number, if it is held, have another mode.
+    pub(crate) fn set_mode(&mut self, id: TicketId, mode: Mode)
+        requires { IsTrue (are_rising self.old.held) }
+        ensures { self.new ≡ with_ticket_in id mode self.old }
+    {
+        if let Some(at) = place_of(&self.held, id) {
+            self.held[at].mode = mode;
+        }
+    }
+
+    /// Lets the ticket of a number, if it is held, have the mode of another one, which is given up.
+    pub(crate) fn fold(&mut self, kept: TicketId, gone: Held)
+        requires { IsTrue (are_rising self.old.held) }
+        ensures { self.new ≡ with_ticket_in kept gone.mode (without_ticket gone.id self.old) }
+    {
+        self.give_up(gone.id);
+        self.set_mode(kept, gone.mode);
     }
 }
 

@@ -6,6 +6,7 @@ use mdl_defs::Standing;
 use mdl_key::{Key, Mode};
 use mdl_space::{
     Attempt, Begun, Ended, LockSpace, Place, Poll, Search, Settled, SpaceError, TicketId, TimedOut,
+    Upgrade,
 };
 use std::alloc::Global;
 
@@ -22,6 +23,9 @@ pub(crate) enum Act {
     Kill(u16, u64),
     Release(u16, TicketId),
     Clone(u16, TicketId, Mode),
+    Upgrade(u16, TicketId, Mode),
+    Merge(u16, TicketId, TicketId),
+    Downgrade(u16, TicketId, Mode),
     Read(u16, TicketId),
     Redefine(u16, TicketId, Wish),
 }
@@ -33,6 +37,7 @@ pub(crate) enum Reply {
     Refused(SpaceError),
     Granted(TicketId),
     WouldWait,
+    Upgraded,
     Waiting(u64),
     NoCycle,
     Victim(u16),
@@ -60,6 +65,9 @@ impl Act {
             | Act::EndWait(who)
             | Act::Release(who, _)
             | Act::Clone(who, _, _)
+            | Act::Upgrade(who, _, _)
+            | Act::Merge(who, _, _)
+            | Act::Downgrade(who, _, _)
             | Act::Read(who, _)
             | Act::Redefine(who, _, _) => who,
             Act::WaitOf(_) | Act::Kill(_, _) => anyone,
@@ -111,6 +119,9 @@ pub(crate) fn call<S: LockSpace>(space: &mut S, alloc: Global, who: u16, act: Ac
         Act::Kill(target, number) => Reply::Killed(space.kill(target, number)),
         Act::Release(_, id) => done(space.release(who, id)),
         Act::Clone(_, id, mode) => cloned(space.clone_ticket(who, id, mode)),
+        Act::Upgrade(_, id, mode) => upgraded(space.upgrade_now(who, id, mode)),
+        Act::Merge(_, old, new) => done(space.merge(who, old, new)),
+        Act::Downgrade(_, id, mode) => done(space.downgrade(who, id, mode)),
         Act::Read(_, id) => read(space.read_definition(who, id)),
         Act::Redefine(_, id, wish) => redefine(space, alloc, who, id, wish),
     }
@@ -190,6 +201,14 @@ fn numbered(outcome: Option<u64>) -> Reply {
 fn cloned(outcome: Result<TicketId, SpaceError>) -> Reply {
     match outcome {
         Ok(id) => Reply::Granted(id),
+        Err(error) => Reply::Refused(error),
+    }
+}
+
+fn upgraded(outcome: Result<Upgrade, SpaceError>) -> Reply {
+    match outcome {
+        Ok(Upgrade::Upgraded) => Reply::Upgraded,
+        Ok(Upgrade::WouldWait) => Reply::WouldWait,
         Err(error) => Reply::Refused(error),
     }
 }

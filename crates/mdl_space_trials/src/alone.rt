@@ -338,7 +338,50 @@ const A_CLONE: &[(Act, Reply)] = &[
     (Act::Release(3, 2), NOT_HELD),
 ];
 
+const NOT_UPGRADABLE: Reply = Reply::Refused(SpaceError::NotUpgradable);
+
+// A stronger mode is had as the other session gives the lock up.
+const OTHER_MODES: &[(Act, Reply)] = &[
+    (Act::Upgrade(3, 1, Mode::X), NOT_HELD),
+    (Act::Downgrade(3, 1, Mode::SU), NOT_HELD),
+    (Act::Merge(3, 1, 2), NOT_HELD),
+    (Act::TryNow(3, 1, Mode::SU), Reply::WouldWait),
+    (Act::TryNow(3, 1, Mode::SU), Reply::Granted(1)),
+    (Act::Upgrade(3, 1, Mode::SR), Reply::Upgraded),
+    (Act::Upgrade(3, 1, Mode::IX), NOT_UPGRADABLE),
+    (Act::Upgrade(3, 1, Mode::SNW), Reply::WouldWait),
+    (Act::Upgrade(3, 1, Mode::SNW), Reply::Upgraded),
+    (Act::Clone(3, 1, Mode::SNW), Reply::Granted(2)),
+    (Act::Upgrade(3, 2, Mode::X), Reply::WouldWait),
+    (
+        Act::Redefine(3, 2, Wish::CreateTable),
+        Reply::Refused(SpaceError::NotExclusive),
+    ),
+    (Act::Upgrade(3, 2, Mode::X), Reply::Upgraded),
+    (Act::Merge(3, 1, 3), NOT_HELD),
+    (Act::Merge(3, 1, 1), Reply::Refused(SpaceError::BadMode)),
+    (Act::Merge(3, 2, 1), Reply::Refused(SpaceError::BadMode)),
+    (Act::Merge(3, 1, 2), Reply::Done),
+    (Act::Release(3, 2), NOT_HELD),
+    (Act::Redefine(3, 1, Wish::CreateTable), Reply::Changed(1)),
+    (Act::Downgrade(3, 1, Mode::SR), NOT_UPGRADABLE),
+    (Act::Downgrade(3, 1, Mode::SU), Reply::Done),
+    (
+        Act::Redefine(3, 1, Wish::Drop),
+        Reply::Refused(SpaceError::NotExclusive),
+    ),
+    (Act::Release(3, 1), Reply::Done),
+];
+
 // The place of the first call that answers something else than it should.
+fn first_wrong_of_table(alloc: Global, rows: &[(Act, Reply)]) -> Option<usize> {
+    match Alone::new(alloc, "t") {
+        Ok(mut alone) => alone.first_wrong(rows),
+        Err(_) => Some(rows.len()),
+    }
+}
+
+// Likewise.
 fn first_wrong_of_schema(alloc: Global, rows: &[(Act, Reply)]) -> Option<usize> {
     match Alone::of_schema(alloc, "s") {
         Ok(mut alone) => alone.first_wrong(rows),
@@ -349,6 +392,11 @@ fn first_wrong_of_schema(alloc: Global, rows: &[(Act, Reply)]) -> Option<usize> 
 #[test]
 fn others_change_what_stands_while_nothing_is_held(rt: HostRuntime) {
     assert_eq!(rt; first_wrong_of_schema(rt.alloc(), A_SCHEMA_OF_OTHERS), None);
+}
+
+#[test]
+fn tickets_get_other_modes(rt: HostRuntime) {
+    assert_eq!(rt; first_wrong_of_table(rt.alloc(), OTHER_MODES), None);
 }
 
 #[test]

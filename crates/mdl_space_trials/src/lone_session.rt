@@ -1,16 +1,17 @@
 //! A lock space for tests: one session, one key, and one ticket and its clone at most, while another session comes and goes, and
 //! changes what stands under the key.
-ghost use Rattle.std.specs.Prelude.{◌&&◌, ◌≡◌, ◌≢◌, ◌≤◌, ◌+◌, [], true, false, MatchResult, IfOk, OnErr, Err, is_some};
+ghost use Rattle.std.specs.Prelude.{◌&&◌, ◌||◌, ◌≡◌, ◌≢◌, ◌≤◌, ◌+◌, [], true, false, MatchResult, IfOk, IfSome, OnErr, Err, is_some};
 ghost use Rattle.mdl_key.specs.Words.{kind_of, is_mode_of};
-ghost use Rattle.mdl_system.specs.Strength.{covers};
+ghost use Rattle.mdl_system.specs.Strength.{covers, may_upgrade, may_downgrade};
 ghost use Rattle.mdl_defs.specs.Standings.{MayStand, standing_after};
 ghost use Rattle.mdl_calls.specs.Words.{Begin_wait, IsClear, IsCause, IsChangeOf, is_table_of, ticket_drawn, is_waiting, ticket_held, redefined, change_takes_memory};
-ghost use Rattle.mdl_calls.specs.Tests.LoneSessions.{Knows, alone, numbering, having};
+ghost use Rattle.mdl_calls.specs.Own.{changing};
+ghost use Rattle.mdl_calls.specs.Tests.LoneSessions.{Knows, alone, numbering, owning, having};
 
 use mdl_defs::{Change, Definition, Standing};
 use mdl_key::{Key, Mode, Namespace};
 use mdl_space::{Held, Place, Settled, SpaceError, TicketId};
-use mdl_system::covers;
+use mdl_system::{covers, may_downgrade, may_upgrade};
 use std::alloc::Global;
 use std::marker::Model;
 
@@ -156,7 +157,8 @@ impl LoneSession {
 
     // The held ticket of a number.
     fn ticket(&self, id: TicketId) -> Option<Held>
-        ensures { result ≡ ticket_held id self.now.own }
+        ensures found { result ≡ ticket_held id self.now.own }
+        ensures idle { IfSome result (λ _. is_waiting self.now.own ≡ false) }
     {
         match self.tickets {
             Some((ticket, _)) if ticket.id == id => Some(ticket),
@@ -179,6 +181,32 @@ impl LoneSession {
         ensures { result ≡ (covers ticket.mode mode && is_mode_of (kind_of self.now.key.namespace) mode) }
     {
         covers(ticket.mode, mode) && self.key.kind().has_mode(mode)
+    }
+
+    // Whether a ticket has the mode already, or may be upgraded to it.
+    fn may_upgrade(&self, ticket: Held, mode: Mode) -> bool
+        ensures { result ≡ ((covers ticket.mode mode || may_upgrade ticket.mode mode) && is_mode_of (kind_of self.now.key.namespace) mode) }
+    {
+        (covers(ticket.mode, mode) || may_upgrade(ticket.mode, mode))
+            && self.key.kind().has_mode(mode)
+    }
+
+    // Whether a ticket may be downgraded to the mode.
+    fn may_downgrade(&self, ticket: Held, mode: Mode) -> bool
+        ensures { result ≡ (may_downgrade ticket.mode mode && is_mode_of (kind_of self.now.key.namespace) mode) }
+    {
+        may_downgrade(ticket.mode, mode) && self.key.kind().has_mode(mode)
+    }
+
+    // Lets the ticket of a number, if it is held, have another mode.
+    fn set_mode(&mut self, id: TicketId, mode: Mode)
+        ensures { self.new ≡ owning (changing id (λ _. mode) self.old.own) self.old }
+    {
+        match &mut self.tickets {
+            Some((ticket, _)) if ticket.id == id => ticket.mode = mode,
+            Some((_, Some(copy))) if copy.id == id => copy.mode = mode,
+            _ => {}
+        }
     }
 }
 

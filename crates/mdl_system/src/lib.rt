@@ -16,4 +16,4 @@ pub use laws::{
     runs_make_deadlocks_by_waiting, searches_end_debts, steps_keep_lawful,
     steps_keep_well_numbered, waits_leave_held,
 };
-pub use strength::covers;
+pub use strength::{covers, may_downgrade, may_upgrade};

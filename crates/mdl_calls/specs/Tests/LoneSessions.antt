@@ -11,7 +11,8 @@ use Rattle.mdl_defs.specs.Standings.{nothing_yet, standing_after, MayStand}
 use Rattle.mdl_calls.specs.declared.answers.Held.{Held}
 use Rattle.mdl_calls.specs.declared.answers.Settled.{Settled}
 use Rattle.mdl_calls.specs.declared.answers.Settled.TheVariants.{Killed, Victim}
-use Rattle.mdl_calls.specs.Words.{Call, Resolve, Search, End_wait, Wait_of, Kill, Read_definition, Change_definition, Upgrade_now, Merge, Downgrade, Tables_of, Key_of, Read_kept, Unpin, caller, Answer, At_place, Key_is, Tables, Victim_is, Has_wait, Has_killed, Reads, Changed, Holds, is_answer_of, Own, Numbers, own_after, wait_number, is_waiting, ticket_held, IsRising, Draws, IsExplained, told, IsToldOf, HoldsAt, IsChangeOf, is_table_of, redefined_place}
+use Rattle.mdl_system.specs.Strength.{covers}
+use Rattle.mdl_calls.specs.Words.{Call, Resolve, Search, End_wait, Wait_of, Kill, Read_definition, Change_definition, Upgrade_now, Tables_of, Key_of, Read_kept, Unpin, caller, Answer, At_place, Would_wait, Key_is, Tables, Victim_is, Has_wait, Has_killed, Reads, Changed, Holds, is_answer_of, Own, Numbers, own_after, wait_number, is_waiting, ticket_held, IsRising, Draws, IsExplained, told, IsToldOf, HoldsAt, IsChangeOf, is_table_of, redefined_place}
 
 -- what is known of such a space: its session and its key, what the session has, how its wait is settled, the last numbers
 -- that its tickets and waits were given, and what stands under the key
@@ -37,6 +38,10 @@ alone who key = record {
 -- with other numbers
 abbrev pub numbering : Numbers → Lone → Lone
 numbering numbers a = record a { numbers = numbers }
+
+-- with other tickets
+abbrev pub owning : Own → Lone → Lone
+owning own a = record a { own = own }
 
 -- with something else under the key
 abbrev pub having : Standing → Lone → Lone
@@ -87,9 +92,6 @@ Pins a who place = (who ≡ a.who) × (place ≡ 1)
 
 -- whether the space has a call. The others are still to come.
 abbrev pub has_call : Call → Bool
-has_call (Upgrade_now _ _ _) = false
-has_call (Merge _ _ _) = false
-has_call (Downgrade _ _ _) = false
 has_call (Read_kept _ _) = false
 has_call (Unpin _ _) = false
 has_call _ = true
@@ -116,6 +118,8 @@ IsTold a (Kill target number) (Has_killed true) b =
 IsTold a (Kill target number) (Has_killed false) b =
     target ≡ a.who → wait_number a.own ≡ Some number → is_some b.settled ≡ true
 IsTold a (Read_definition who id) (Reads version definition) b = b.standing ≡ record { version = version; definition = definition }
+IsTold a (Upgrade_now who id mode) Would_wait b =
+    (ticket : Held) → ticket_held id a.own ≡ Some ticket → covers ticket.mode mode ≡ false
 IsTold a (Change_definition who id change) answer b = IsRedefined a id change answer b
 IsTold a call (Holds tickets) b = tickets ≡ a.own.held
 IsTold a _ _ b = Unit {0}

@@ -2,7 +2,7 @@
 ghost use Rattle.mdl_core.specs.CoreJoins.{SpeaksFor, own_at, numbers_at, Knows, IsSettledAs, HasRead, HasSeen, Pins, Joins};
 ghost use Rattle.std.proofs.Common.{refl};
 ghost use Rattle.mdl_core.proofs.CallLaws.{core-allowed, core-keeps, core-changes, core-others, core-draws, core-others_draw, core-rising, core-fits, core-explains, core-lists, core-resolves, core-tells_key, core-tells_tables, core-remembers};
-ghost use Rattle.mdl_core.proofs.CallLaws.{core-waits_settled, core-settled_once, core-tells, core-stays, core-agrees, core-victims, core-counts, core-kills, core-kills_or_settled};
+ghost use Rattle.mdl_core.proofs.CallLaws.{core-waits_settled, core-settled_once, core-tells, core-stays, core-agrees, core-victims, core-counts, core-kills, core-kills_or_settled, core-upgrades};
 ghost use Rattle.mdl_core.proofs.KnownPlaces.{core-one_key, core-one_place, core-held_places, core-wait_place};
 ghost use Rattle.mdl_core.proofs.CoreSound.{calls_keep-sound};
 ghost use Rattle.mdl_core.proofs.ReadLaws.{core-reads, core-redefines, core-redefines_so, core-reads_one, core-stands, core-reads_fit, core-sees, core-seen_stays, core-seen_below, core-pins_stay, has_not};
@@ -10,6 +10,7 @@ ghost use Rattle.mdl_core.proofs.ReadLaws.{core-reads, core-redefines, core-rede
 use super::CoreSpace;
 use crate::{
     Attempt, Begun, Ended, Held, LockSpace, Place, Poll, Search, SpaceError, TicketId, TimedOut,
+    Upgrade,
 };
 use mdl_defs::{Change, Standing};
 use mdl_key::{Key, Mode};
@@ -77,6 +78,18 @@ impl LockSpace for CoreSpace {
 
     fn clone_ticket(&mut self, who: u16, id: TicketId, mode: Mode) -> Result<TicketId, SpaceError> {
         self.clone_held(who, id, mode)
+    }
+
+    fn upgrade_now(&mut self, who: u16, id: TicketId, mode: Mode) -> Result<Upgrade, SpaceError> {
+        self.upgrade_held(who, id, mode)
+    }
+
+    fn merge(&mut self, who: u16, old: TicketId, new: TicketId) -> Result<(), SpaceError> {
+        self.merge_held(who, old, new)
+    }
+
+    fn downgrade(&mut self, who: u16, id: TicketId, mode: Mode) -> Result<(), SpaceError> {
+        self.downgrade_held(who, id, mode)
     }
 
     fn read_definition(&mut self, who: u16, id: TicketId) -> Result<Standing, SpaceError> {
@@ -172,7 +185,7 @@ impl LockSpace for CoreSpace {
 
     ghost seen_below = { core-seen_below };
 
-    ghost upgrades = { λ a b who id mode ticket its covered j. has_not j.1 };
+    ghost upgrades = { core-upgrades };
 
     ghost tells_key = { core-tells_key };
 

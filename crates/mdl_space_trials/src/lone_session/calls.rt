@@ -1,15 +1,16 @@
 //! The calls of a space of one session and one key.
 ghost use Rattle.std.proofs.Common.{rules, refl, sym, ◌∙◌};
 ghost use Rattle.mdl_calls.specs.Tests.LoneSessions.{LoneSpeaks, Knows, IsSettled, HasRead, HasSeen, Pins, LoneJoins};
-ghost use Rattle.mdl_calls.proofs.LoneLemmas.{lone-tells_key, lone-tells_tables, held-at_one, wait-at_one, settled-how, lone-reads, lone-redefines, lone-redefines_so, lone-stands, lone-reads_fit, lone-sees, lone-seen_stays, lone-seen_below, has_not};
+ghost use Rattle.mdl_calls.proofs.LoneLemmas.{lone-tells_key, lone-tells_tables, held-at_one, wait-at_one, settled-how, lone-reads, lone-redefines, lone-redefines_so, lone-stands, lone-reads_fit, lone-sees, lone-seen_stays, lone-seen_below, lone-upgrades, has_not};
 
 use super::{LoneSession, Waiting};
 use mdl_defs::{Change, Standing};
 use mdl_key::{Key, Mode};
 use mdl_space::{
     Attempt, Begun, Ended, Held, LockSpace, Place, Poll, Search, Settled, SpaceError, TicketId,
-    TimedOut,
+    TimedOut, Upgrade,
 };
+use mdl_system::covers;
 
 impl LockSpace for LoneSession {
     ghost speaks_for = { LoneSpeaks };
@@ -100,7 +101,7 @@ impl LockSpace for LoneSession {
 
     ghost seen_below = { lone-seen_below };
 
-    ghost upgrades = { λ a b who id mode ticket its covers j. has_not j.has };
+    ghost upgrades = { lone-upgrades };
 
     ghost tells_key = { lone-tells_key };
 
@@ -276,6 +277,49 @@ impl LockSpace for LoneSession {
         let place = ticket.place;
         self.tickets = Some((ticket, Some(Held { id, place, mode })));
         Ok(id)
+    }
+
+    fn upgrade_now(&mut self, _who: u16, id: TicketId, mode: Mode) -> Result<Upgrade, SpaceError> {
+        let Some(ticket) = self.ticket(id) else {
+            return Err(SpaceError::NotHeld);
+        };
+        if !self.may_upgrade(ticket, mode) {
+            return Err(SpaceError::NotUpgradable);
+        }
+        if covers(ticket.mode, mode) {
+            return Ok(Upgrade::Upgraded);
+        }
+        if self.meet() {
+            return Ok(Upgrade::WouldWait);
+        }
+        self.set_mode(id, mode);
+        Ok(Upgrade::Upgraded)
+    }
+
+    fn merge(&mut self, _who: u16, old: TicketId, new: TicketId) -> Result<(), SpaceError> {
+        let Some(kept) = self.ticket(old) else {
+            return Err(SpaceError::NotHeld);
+        };
+        let Some(gone) = self.ticket(new) else {
+            return Err(SpaceError::NotHeld);
+        };
+        if old == new || !covers(gone.mode, kept.mode) {
+            return Err(SpaceError::BadMode);
+        }
+        let mode = gone.mode;
+        self.tickets = Some((Held { mode, ..kept }, None));
+        Ok(())
+    }
+
+    fn downgrade(&mut self, _who: u16, id: TicketId, mode: Mode) -> Result<(), SpaceError> {
+        let Some(ticket) = self.ticket(id) else {
+            return Err(SpaceError::NotHeld);
+        };
+        if !self.may_downgrade(ticket, mode) {
+            return Err(SpaceError::NotUpgradable);
+        }
+        self.set_mode(id, mode);
+        Ok(())
     }
 
     fn read_definition(&mut self, _who: u16, id: TicketId) -> Result<Standing, SpaceError> {

@@ -31,5 +31,14 @@ returns-in-Release g c = λ w speaks. g.met.S.LockSpace.keeps _ _ _ _ w speaks c
 pub returns-in-Clone : goal.returns-in-Clone
 returns-in-Clone g c = λ w speaks. g.met.S.LockSpace.keeps _ _ _ _ w speaks c.clone_ticket.ensures
 
+pub returns-in-Upgrade : goal.returns-in-Upgrade
+returns-in-Upgrade g c = λ w speaks. g.met.S.LockSpace.keeps _ _ _ _ w speaks c.upgrade_now.ensures
+
+pub returns-in-Merge : goal.returns-in-Merge
+returns-in-Merge g c = λ w speaks. g.met.S.LockSpace.keeps _ _ _ _ w speaks c.merge.ensures
+
+pub returns-in-Downgrade : goal.returns-in-Downgrade
+returns-in-Downgrade g c = λ w speaks. g.met.S.LockSpace.keeps _ _ _ _ w speaks c.downgrade.ensures
+
 pub returns-in-Read : goal.returns-in-Read
 returns-in-Read g c = λ w speaks. g.met.S.LockSpace.keeps _ _ _ _ w speaks c.read_definition.ensures

@@ -8,7 +8,7 @@ use Rattle.mdl_space_trials.proofs.lone_session.calls.LoneSessionLockSpace.chang
 
 pub returns : goal.returns
 returns c =
-    let its : ticket_held c.args.id c.args.self.now.own ≡ Some c.in-Some.ticket = (let e = c.ticket.ensures in let f = c.in-Some.is in cc) in
+    let its : ticket_held c.args.id c.args.self.now.own ≡ Some c.in-Some.ticket = (let e = c.ticket.ensures.found in let f = c.in-Some.is in cc) in
     let exclusive : same_mode c.in-Some.ticket.mode X ≡ true = search (rules, c.if-ne.ensures) in
     redefined-joins c.args.self.now c.args._who c.args.id c.args.change.now c.in-Some.ticket c.requires its exclusive c.redefine.new.self c.redefine.result
     c.redefine.ensures.is c.redefine.ensures.done c.redefine.ensures.unchanged c.redefine.ensures.drop c.redefine.ensures.fits

@@ -1,0 +1,27 @@
+-- A held ticket stands in the book of its place.
+use Rattle.std.proofs.Common.{◌≡◌, ap}
+use Rattle.mdl_core.specs.Cores.{Core, seat_at}
+use Rattle.mdl_space.proofs.ServingLemmas.{seat_here}
+use Rattle.mdl_space.proofs.SpeakingLemmas.{held-stands}
+use Rattle.mdl_space.proofs.core_space.CoreSpace.upgrade_held.Goals as goal
+
+pub check_upgrade-requires-clause-key : goal.check_upgrade-requires-clause-key
+check_upgrade-requires-clause-key c =
+    let core : Core = c.args.self.now in
+    let seat : c.index.result.now ≡ seat_at c.args.who core =
+    seat_here core _ c.args.who c.from.result c.index.result.now (ap (λ (k : Core). k.seats) c.self.view_is) c.requires.0 c.from.ensures c.index.ensures in
+    (held-stands core c.args.who c.args.id c.requires c.index.result.now c.ticket.result c.in-Some.ticket seat c.ticket.ensures c.in-Some.is).0
+
+pub alter_if_free-requires-clause-key : goal.alter_if_free-requires-clause-key
+alter_if_free-requires-clause-key c =
+    let core : Core = c.args.self.now in
+    let seat : c.index.result.now ≡ seat_at c.args.who core =
+    seat_here core _ c.args.who c.from.result c.index.result.now (ap (λ (k : Core). k.seats) c.self.view_is) c.requires.0 c.from.ensures c.index.ensures in
+    (held-stands core c.args.who c.args.id c.requires c.index.result.now c.ticket.result c.in-Some.ticket seat c.ticket.ensures c.in-Some.is).0
+
+pub alter_if_free-requires-clause-stands : goal.alter_if_free-requires-clause-stands
+alter_if_free-requires-clause-stands c =
+    let core : Core = c.args.self.now in
+    let seat : c.index.result.now ≡ seat_at c.args.who core =
+    seat_here core _ c.args.who c.from.result c.index.result.now (ap (λ (k : Core). k.seats) c.self.view_is) c.requires.0 c.from.ensures c.index.ensures in
+    (held-stands core c.args.who c.args.id c.requires c.index.result.now c.ticket.result c.in-Some.ticket seat c.ticket.ensures c.in-Some.is).1

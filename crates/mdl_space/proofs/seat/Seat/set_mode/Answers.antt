@@ -1,0 +1,28 @@
+-- To write the ticket in its mode at its place is to change that one alone.
+use Rattle.std.proofs.Common.{List, sym, ap, ◌∙◌}
+use Rattle.std.specs.Prelude.{IsTrue}
+use Rattle.mdl_calls.specs.declared.answers.Held.{Held}
+use Rattle.mdl_calls.specs.Own.{are_rising}
+use Rattle.mdl_core.specs.Seats.{SeatView}
+use Rattle.mdl_space.proofs.ModeLemmas.{with_mode_at, with_mode_none}
+use Rattle.mdl_space.proofs.seat.Seat.set_mode.Goals as goal
+
+abbrev with_held : SeatView → List Held → SeatView
+with_held seat held = record { held = held; wait = seat.wait; last_ticket = seat.last_ticket; last_wait = seat.last_wait }
+
+pub returns-in-Some : goal.returns-in-Some
+returns-in-Some c =
+    let inside = c.self.inside in
+    let seat : SeatView = record { held = inside.held.items; wait = inside.wait; last_ticket = inside.last_ticket; last_wait = inside.last_wait } in
+    let place = rw c.deref.ensures.value at (sym c.in-Some.is ∙ c.place_of.ensures) in
+    let rising : IsTrue (are_rising inside.held.items) = rw (← c.self.view_is) at c.requires in
+    let changed = with_mode_at c.args.id c.args.mode inside.held.items c.in-Some.at c.index_mut.result.now rising place c.index_mut.ensures.value in
+    rw (← c.self.view_is) (ap (with_held seat) changed)
+
+pub returns-in_default : goal.returns-in_default
+returns-in_default c =
+    let inside = c.self.inside in
+    let seat : SeatView = record { held = inside.held.items; wait = inside.wait; last_ticket = inside.last_ticket; last_wait = inside.last_wait } in
+    let place = rw c.deref.ensures.value at (sym c.in_default.is ∙ c.place_of.ensures) in
+    let same = sym (with_mode_none c.args.id c.args.mode inside.held.items place) in
+    rw (← c.self.view_is) (ap (with_held seat) same)
