@@ -77,7 +77,7 @@ leads-starting old statement a session may rests = by (leaves_transaction statem
         })
       where
         nothing_old : (x : TableShown) → old x → ⊥
-        nothing_old x is = elim may [ | inl leaves ↦ false≢true (sym other ∙ leaves) | inr nothing ↦ nothing x is ]
+        nothing_old x is = elim may [ inl leaves ↦ false≢true (sym other ∙ leaves) | inr nothing ↦ nothing x is ]
 
 -- ---- a session that others leave alone
 

@@ -119,19 +119,18 @@ impl Drawn {
     fn line(&mut self) -> Result<(), AllocError> {
         let who = self.draw_below(self.sessions).wrapping_add(1);
         write!(self.text, "{who} ")?;
-        match self.chance.draw(35) {
+        match self.chance.draw(37) {
             0..=6 => self.alone()?,
             7..=14 => self.some("SELECT", 3)?,
             15..=20 => self.write()?,
-            21..=22 => self.some("DROP TABLE", 3)?,
-            23..=24 => self.rename()?,
-            25 => self.schema("DROP SCHEMA")?,
+            21..=23 => self.some("DROP TABLE", 3)?,
+            24..=25 => self.rename()?,
             26..=27 => self.create()?,
             28 => self.schema("CREATE SCHEMA")?,
             29..=31 => self.alter()?,
             32 => self.kill()?,
-            33..=35 => self.lock()?,
-            36 => self.schema("DROP SCHEMA")?,
+            33 => self.lock()?,
+            34 => self.schema("DROP SCHEMA")?,
             _ => self.text.push_str("TIMEOUT")?,
         }
         self.text.push('\n')

@@ -38,7 +38,7 @@ module _ {A : Type 0} (shows : A → KeyName) (names : List A) (count : ℕ) (ta
       let few : length tables < 8 = omega (arith, ap length shown, length-map (take count names) shows, taken, room) in (
         next_table-new tables word (shows name) few named new,
         ap (λ n. map shows (take n (set names count name))) (add-one count)
-        ∙ ap (map shows) (take-suc-set names count name (omega (arith, eight, room)))
-        ∙ map-append shows (take count names) (name ∷ [])
-        ∙ ap (λ before. before ++ shows name ∷ []) (sym shown),
+            ∙ ap (map shows) (take-suc-set names count name (omega (arith, eight, room)))
+            ∙ map-append shows (take count names) (name ∷ [])
+            ∙ ap (λ before. before ++ shows name ∷ []) (sym shown),
       )

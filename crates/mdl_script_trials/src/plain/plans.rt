@@ -321,7 +321,11 @@ impl Plan<'_> {
             self.ask(schema, Mode::IX, Duration::Transaction)?;
         }
         for key in &keys {
-            let mode = if written.contains(key) { Mode::SNRW } else { Mode::SRO };
+            let mode = if written.contains(key) {
+                Mode::SNRW
+            } else {
+                Mode::SRO
+            };
             self.ask_table(key, mode)?;
         }
         for key in &keys {
