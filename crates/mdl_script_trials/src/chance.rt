@@ -119,11 +119,10 @@ impl Drawn {
             0..=6 => self.alone()?,
             7..=14 => self.some("SELECT", 3)?,
             15..=20 => self.write()?,
-            21..=22 => self.some("DROP TABLE", 3)?,
-            23..=24 => self.rename()?,
-            25 => self.schema("DROP SCHEMA")?,
+            21..=23 => self.some("DROP TABLE", 3)?,
+            24..=25 => self.rename()?,
             26..=27 => self.create()?,
-            28 => self.schema("CREATE SCHEMA")?,
+            28 => self.create_schema()?,
             29 => self.kill()?,
             _ => self.text.push_str("TIMEOUT")?,
         }
@@ -178,14 +177,14 @@ impl Drawn {
         }
     }
 
-    // A form with a schema, at times the one that is there from the start.
-    fn schema(&mut self, word: &str) -> Result<(), AllocError> {
+    // A new schema, or at times one that is there from the start.
+    fn create_schema(&mut self) -> Result<(), AllocError> {
         let name = match self.chance.draw(4) {
             0 => "test",
             1 => "r",
             _ => "s",
         };
-        write!(self.text, "{word} {name}")
+        write!(self.text, "CREATE SCHEMA {name}")
     }
 
     // A table renamed, mostly as another one of those that were there at first, and at times from or into a schema that
