@@ -156,12 +156,7 @@ impl<S: LockSpace> Player<S> {
     }
 
     /// Drops a schema behind its tables, under all their locks.
-    fn drop_with<'s>(
-        &mut self,
-        space: &mut S,
-        schema: TicketId,
-        tables: &[TicketId],
-    ) -> Played<'s>
+    fn drop_with<'s>(&mut self, space: &mut S, schema: TicketId, tables: &[TicketId]) -> Played<'s>
         requires attends { Attends S.speaks_for S.own S.knows space.old self.old.context }
         requires idle { self.old.context.wait ≡ None }
         ensures run { IsPlayed S.joins (drop_with schema tables.now) space.old self.old result space.new self.new }

@@ -130,11 +130,10 @@ impl Plain {
             return Ok(Taken::Failed(1049));
         }
         let mut steps = self.steps_of_drop(schema)?;
+        steps.reverse();
         for session in &mut self.sessions {
             if session.number == who {
-                while let Some(step) = steps.pop() {
-                    session.steps.push(step)?;
-                }
+                session.steps.append(&mut steps)?;
             }
         }
         Ok(Taken::Done)
