@@ -169,7 +169,7 @@ module _ (F : ErrorNumber → Type 0) (late : (number : ErrorNumber) → is_earl
   keeps-definition None = late NoSuchTable refl
   keeps-fault : (fault : Option DefError) → KeepsTo F Any (rows.unless_fault fault)
   keeps-fault None = tt
-  keeps-fault (Some fault) = by fault where
+  keeps-fault (Some one) = by one where
     by : (one : DefError) → F (rows.fault_number one)
     by fault.DuplicateColumn = late DuplicateColumn refl
     by fault.NoColumn = late CantDropColumn refl

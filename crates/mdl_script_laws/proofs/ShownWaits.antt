@@ -77,12 +77,12 @@ lost-so a b context fits spares = followed-waiting a b context None fits spares 
 
 ended-so : (a b : Core) (context : ContextView) (answer : Answer) → upgrade_of context.wait ≡ None → Fits a context → Joins a (End_wait context.who) answer b
     → Leads (Resumed a context) (waits.end_answered context answer) b
-ended-so a b context (Granted id) gains fits joins =
-    subst (λ upgrade. Leads (Resumed a context) (waits.wait_won upgrade id context) b) (sym gains) (taken-up a b context id context.wait refl fits joins)
-ended-so a b context (Lost how) gains fits joins =
+ended-so a b context (Granted id) plain fits joins =
+    subst (λ upgrade. Leads (Resumed a context) (waits.wait_won upgrade id context) b) (sym plain) (taken-up a b context id context.wait refl fits joins)
+ended-so a b context (Lost how) plain fits joins =
     let stays = stays-call context.who none a b (End_wait context.who) (Lost how) fits.speaks (refl, tt, refl) joins in
     (lost-so a b context fits stays.0, tt)
-ended-so a b context answer gains fits joins =
+ended-so a b context answer plain fits joins =
     (followed-same a b context fits (stays-call context.who none a b (End_wait context.who) answer fits.speaks (refl, tt, refl) joins), tt)
 
 -- after calls that change nothing of it
@@ -97,17 +97,17 @@ resumed-late a b context program spares leads =
     )) leads
 
 ending-so : (a : Core) (context : ContextView) → upgrade_of context.wait ≡ None → Fits a context → Leads (Resumed a context) (waits.ending context) a
-ending-so a context gains fits = λ answer b joins. ended-so a b context answer gains fits joins
+ending-so a context plain fits = λ answer b joins. ended-so a b context answer plain fits joins
 
 polled-so : (a b : Core) (context : ContextView) (answer : Answer) → upgrade_of context.wait ≡ None → Fits a context → Stays context.who none a b
     → Leads (Resumed a context) (waits.poll_answered context answer) b
-polled-so a b context Pending gains fits stays = (followed-same a b context fits stays, λ wanted e. (wanted, e, refl, refl, refl))
-polled-so a b context (Is_settled how) gains fits stays = resumed-late a b context (waits.ending context) stays.0 (ending-so b context gains (fits-same a b context fits stays))
-polled-so a b context answer gains fits stays = (followed-same a b context fits stays, tt)
+polled-so a b context Pending plain fits stays = (followed-same a b context fits stays, λ wanted e. (wanted, e, refl, refl, refl))
+polled-so a b context (Is_settled how) plain fits stays = resumed-late a b context (waits.ending context) stays.0 (ending-so b context plain (fits-same a b context fits stays))
+polled-so a b context answer plain fits stays = (followed-same a b context fits stays, tt)
 
 looking-so : (a : Core) (context : ContextView) → upgrade_of context.wait ≡ None → Fits a context → Leads (Resumed a context) (waits.looking context) a
-looking-so a context gains fits = λ answer b joins.
-    polled-so a b context answer gains fits (stays-call context.who none a b (Poll_wait context.who) answer fits.speaks (refl, tt, refl) joins)
+looking-so a context plain fits = λ answer b joins.
+    polled-so a b context answer plain fits (stays-call context.who none a b (Poll_wait context.who) answer fits.speaks (refl, tt, refl) joins)
 
 -- its searches are over
 pub searched-fits : (a : Core) (context : ContextView) → Fits a context → Fits a (waits.searched context)
@@ -137,37 +137,37 @@ searched-comes context (Err error, after) b comes = tt
 
 sought-so : (a b : Core) (context : ContextView) (end : SearchEnd) → upgrade_of context.wait ≡ None → Fits a context → Stays context.who none a b
     → Leads (Resumed a context) (waits.wait_sought context end) b
-sought-so a b context Over gains fits stays =
+sought-so a b context Over plain fits stays =
     leads-map (Resumed b (waits.searched context)) (Resumed a context) (waits.looking (waits.searched context)) b
     (λ outcome c resumed. (
       followed-late a b c context.who context.kept context.known context.known context.wait (option_map search_over context.wait) outcome.1 stays.0 resumed.0,
       searched-comes context outcome c resumed.1,
     ))
-    (looking-so b (waits.searched context) (searched-upgrades context.wait ∙ gains) (searched-fits b context (fits-same a b context fits stays)))
-sought-so a b context Cut_off gains fits stays = resumed-late a b context (waits.looking context) stays.0 (looking-so b context gains (fits-same a b context fits stays))
-sought-so a b context (Failed refusal) gains fits stays =
+    (looking-so b (waits.searched context) (searched-upgrades context.wait ∙ plain) (searched-fits b context (fits-same a b context fits stays)))
+sought-so a b context Cut_off plain fits stays = resumed-late a b context (waits.looking context) stays.0 (looking-so b context plain (fits-same a b context fits stays))
+sought-so a b context (Failed refusal) plain fits stays =
     leads-bind (λ x c. Spares context.who none a c) (Resumed a context) (gains.abandoning context.who)
     (λ _. Give (Err (Space refusal), waits.without_wait context)) b
     (leads-abandoning a b context.who stays.0) (λ x c spares. (lost-so a c context fits spares, tt))
 
 cut_off-so : (a b : Core) (context : ContextView) (answer : Answer) → upgrade_of context.wait ≡ None → Fits a context → Stays context.who none a b
     → Leads (Resumed a context) (waits.cut_off_answered context answer) b
-cut_off-so a b context Pending gains fits stays =
+cut_off-so a b context Pending plain fits stays =
     leads-bind (λ x c. Stays context.who none a c) (Resumed a context) (seeking most_searches context.who) (waits.wait_sought context) b
     (leads-quiet (seeking most_searches context.who) a b context.who none stays (quiet-seeking context.who most_searches))
-    (λ end c later. sought-so a c context end gains fits later)
-cut_off-so a b context (Is_settled how) gains fits stays = polled-so a b context (Is_settled how) gains fits stays
-cut_off-so a b context answer gains fits stays = (followed-same a b context fits stays, tt)
+    (λ end c later. sought-so a c context end plain fits later)
+cut_off-so a b context (Is_settled how) plain fits stays = polled-so a b context (Is_settled how) plain fits stays
+cut_off-so a b context answer plain fits stays = (followed-same a b context fits stays, tt)
 
 going_on-so : (a : Core) (context : ContextView) (searched : Option Bool) → upgrade_of context.wait ≡ None → Fits a context → Leads (Resumed a context) (waits.going_on searched context) a
-going_on-so a context None gains fits = (followed-here a context fits, tt)
-going_on-so a context (Some true) gains fits = looking-so a context gains fits
-going_on-so a context (Some false) gains fits = λ answer b joins.
-    cut_off-so a b context answer gains fits (stays-call context.who none a b (Poll_wait context.who) answer fits.speaks (refl, tt, refl) joins)
+going_on-so a context None plain fits = (followed-here a context fits, tt)
+going_on-so a context (Some true) plain fits = looking-so a context plain fits
+going_on-so a context (Some false) plain fits = λ answer b joins.
+    cut_off-so a b context answer plain fits (stays-call context.who none a b (Poll_wait context.who) answer fits.speaks (refl, tt, refl) joins)
 
 -- a wait for a new ticket goes on
 pub leads-resuming : (a : Core) (context : ContextView) → upgrade_of context.wait ≡ None → Fits a context → Leads (Resumed a context) (waits.resuming context) a
-leads-resuming a context gains fits = going_on-so a context (waits.is_searched context.wait) gains fits
+leads-resuming a context plain fits = going_on-so a context (waits.is_searched context.wait) plain fits
 
 -- ---- tickets that are given up
 

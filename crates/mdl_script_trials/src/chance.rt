@@ -207,7 +207,10 @@ impl Drawn {
         let change = ["ADD", "DROP"][usize::from(self.chance.draw(2))];
         let column = ["x", "y", "z"][usize::from(self.chance.draw(3))];
         let algorithm = ["COPY", "INPLACE"][usize::from(self.chance.draw(2))];
-        write!(self.text, "ALTER TABLE {name} {change} {column} {algorithm}")
+        write!(
+            self.text,
+            "ALTER TABLE {name} {change} {column} {algorithm}"
+        )
     }
 
     // A form with a schema, at times the one that is there from the start.

@@ -2,10 +2,11 @@
 -- Statements", "SAVEPOINT, ROLLBACK TO SAVEPOINT, and RELEASE SAVEPOINT Statements" and "LOCK TABLES and UNLOCK TABLES Statements".
 -- Checks stand in the order in which they are made. This project's own choice is that CREATE TABLE has its lock before it looks at
 -- schema, table and columns, and CREATE SCHEMA and DROP SCHEMA before they look at the schema, that DROP TABLE drops none where one is
--- missing, that RENAME TABLE looks for the schema of the new name, that changes of definitions take no COMMIT lock of their own and are refused
--- under locked tables, that LOCK TABLES has all its locks before it looks whether a table is missing, that a savepoint outside a
--- transaction is nothing, that going back releases what was gained since, whatever was written, and leaves the transaction one that
--- wrote, and that KILL QUERY is always done.
+-- missing, that RENAME TABLE looks for the schema of the new name, that changes of definitions take no COMMIT lock of their own, and all
+-- but ALTER TABLE are refused under locked tables, that ALTER TABLE clones the lock of a locked table and raises the clone, that
+-- LOCK TABLES has all its locks before it looks whether a table is missing, that a savepoint outside a transaction is nothing, that
+-- going back releases what was gained since, whatever was written, and leaves the transaction one that wrote, and that KILL QUERY is
+-- always done.
 use Rattle.std.specs.Prelude.{ℕ, Bool, true, false, not, ◌&&◌, nat_lt, List, [], ◌∷◌, ◌++◌, filter, map, find, is_some, Option, Some, None, if◌then◌else◌}
 use Rattle.std.specs.List.{list_any}
 use Rattle.mdl_key.specs.declared.mode.Mode.{Mode}

@@ -426,11 +426,7 @@ impl<S: LockSpace> Player<S> {
 }
 
 /// Looks whether what stands can be changed so.
-fn can_become(
-    alloc: Global,
-    definition: &Option<Definition>,
-    change: &Change,
-) -> Result<(), Ending>
+fn can_become(alloc: Global, definition: &Option<Definition>, change: &Change) -> Result<(), Ending>
     ensures { MatchResult result
         (λ _. change_fault definition.now change.now ≡ None)
         (λ ending. (ending ≡ Starves) ⊎ ((fault : DefError) × (change_fault definition.now change.now ≡ Some fault) × (ending ≡ Answers (Error (fault_number fault))))) }

@@ -209,6 +209,7 @@ table_to_table-hold (word ∷ words) =
     and_then-holds AreTwo (or_refuse BadWord (behind (codes "TO" ∷ []) words)) _ (λ words_behind.
     and_then-with (IsOther from) AreTwo (one_word BadName (other_table from) words_behind) (λ to. Ok (from, to))
     (one_word-holds (IsOther from) BadName (other_table from) (other_table-IsOther from) words_behind) (λ to other. (is, other.0, other.1))))
+
 column_and_algorithm-hold : (words : List (List ℕ)) → IfOk (column_and_algorithm words) (λ said. IsName said.0)
 column_and_algorithm-hold [] = tt
 column_and_algorithm-hold (word ∷ words) =

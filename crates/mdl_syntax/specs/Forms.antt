@@ -127,6 +127,7 @@ table_to_table (word ∷ words) =
     and_then (or_refuse BadName (table_of word)) (λ from.
     and_then (or_refuse BadWord (behind (codes "TO" ∷ []) words)) (λ words_behind.
     and_then (one_word BadName (other_table from) words_behind) (λ to. Ok (from, to))))
+
 -- the algorithm of a name
 abbrev pub algorithm_of : List ℕ → Option Algorithm
 algorithm_of word = if same_text word (codes "COPY") then Some Copy else (if same_text word (codes "INPLACE") then Some Inplace else None)

@@ -136,7 +136,6 @@ BEGIN => line 1: BadSession
 1 RENAME TABLE a TO b TO c => line 1: BadWord
 1 RENAME TABLES a TO b => line 1: BadWord
 1 RENAME a TO b => line 1: BadWord
-1 ALTER TABLE t ADD c COPY => line 1: BadWord
 1 ALTER => line 1: BadWord
 1 ALTER t ADD c COPY => line 1: BadWord
 1 ALTER TABLE => line 1: BadWord
