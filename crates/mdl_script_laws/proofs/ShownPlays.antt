@@ -33,6 +33,7 @@ use Rattle.mdl_context.specs.declared.request.Resume.TheVariants as resume
 use Rattle.mdl_context.specs.Contexts.{ContextView, beyond, duration_rank, held_for, lasts, mark_of}
 use Rattle.mdl_context.specs.Gains.{refusal_of}
 use Rattle.mdl_context.specs.Releases.{giving_up, releasing}
+use Rattle.mdl_context.specs.Holdings.{wanted_of}
 use Rattle.mdl_context.specs.Requests.{Outcome, acquiring}
 use Rattle.mdl_context.specs.Waits.{resuming}
 use Rattle.mdl_context.specs.WishLaws.{IsMet}
@@ -391,7 +392,7 @@ module _ (old : TableShown → Type 0) (live : Bool) (locks : List (ℕ × KeyNa
         locks = locks;
         seen = seen;
         key = wish.key;
-        wanted = record { place = met.0; mode = wish.mode; duration = wish.duration; searched = met.1 };
+        wanted = wanted_of met.0 wish met.1;
         wait = met.3;
         at = followed.fits.known wish.key met.0 met.2;
         point = now;
