@@ -15,13 +15,13 @@ pub use core_laws::{
     answers_are_determined, calls_are_events, calls_keep_sound, calls_lead_by_events,
     grants_what_is_grantable, only_new_waits_make_deadlocks, places_and_numbers_follow,
     searches_find_deadlocks, searches_leave_no_deadlock, searches_suffice,
-    searching_ends_deadlocks, waiting_leaves_no_deadlock,
+    searching_ends_deadlocks, upgrades_what_is_grantable, waiting_leaves_no_deadlock,
 };
 pub use new_error::NewError;
 pub use pending::Pending;
 pub use run_laws::{frugal_runs, outcomes_are_runs, sure_runs};
 pub use session_laws::{
     changes_tell_the_version, kills_just_that_wait, reads_tell_what_stands,
-    refuses_changes_in_order, refuses_clones_in_order, refuses_for_cause, refuses_wishes_in_order,
-    sessions_have_what_the_system_says,
+    refuses_changes_in_order, refuses_clones_in_order, refuses_for_cause, refuses_merges_in_order,
+    refuses_new_modes_in_order, refuses_wishes_in_order, sessions_have_what_the_system_says,
 };

@@ -3,7 +3,8 @@
 //!
 //! Whatever stands on the locks stands on the trait [`LockSpace`]: a session resolves a key to its place
 //! ([`LockSpace::resolve`]), asks for a lock there ([`LockSpace::try_now`], [`LockSpace::begin_wait`]), sees its wait
-//! through, reads and changes the key's definition under its tickets ([`LockSpace::read_definition`],
+//! through, lets a ticket have another mode ([`LockSpace::upgrade_now`], [`LockSpace::downgrade`], [`LockSpace::merge`]), reads and
+//! changes the key's definition under its tickets ([`LockSpace::read_definition`],
 //! [`LockSpace::change_definition`]), and gives them up ([`LockSpace::release`]). It is told the key of a place, too
 //! ([`LockSpace::key_of`]), and the tables of a schema ([`LockSpace::tables_of`]). Contracts see a call as what joins the space
 //! before it to the space after it, and what a session has as its own tickets and wait. Some calls that the laws of the trait
@@ -28,9 +29,10 @@ pub use mdl_calls::{
 pub use mdl_core::{
     NewError, calls_are_events, calls_keep_sound, calls_lead_by_events, changes_tell_the_version,
     grants_what_is_grantable, kills_just_that_wait, only_new_waits_make_deadlocks,
-    reads_tell_what_stands, refuses_changes_in_order, refuses_for_cause, searches_find_deadlocks,
-    searches_leave_no_deadlock, searches_suffice, searching_ends_deadlocks,
-    sessions_have_what_the_system_says, waiting_leaves_no_deadlock,
+    reads_tell_what_stands, refuses_changes_in_order, refuses_for_cause, refuses_merges_in_order,
+    refuses_new_modes_in_order, searches_find_deadlocks, searches_leave_no_deadlock,
+    searches_suffice, searching_ends_deadlocks, sessions_have_what_the_system_says,
+    upgrades_what_is_grantable, waiting_leaves_no_deadlock,
 };
 pub use mdl_system::{
     changes_by_lists, covers_by_kind, definitions_change_exclusively, definitions_stand_still,

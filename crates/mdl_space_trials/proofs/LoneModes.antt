@@ -1,5 +1,5 @@
 -- What comes of another mode of a held ticket in a space of one session and one key.
-use Rattle.std.proofs.Common.{◌≡◌, ◌≢◌, ℕ, ◌≤◌, Bool, true, false, List, [], ◌∷◌, map, find, Option, Some, None, IfSome, MatchOption, refl, sym, ap, subst, ◌∙◌, arith}
+use Rattle.std.proofs.Common.{◌≡◌, ◌≢◌, ℕ, ◌≤◌, true, false, List, [], ◌∷◌, map, find, Option, Some, None, IfSome, MatchOption, refl, sym, ap, subst, ◌∙◌, arith}
 use Rattle.std.specs.Prelude.{◌&&◌, ◌||◌, nat_lt, IsTrue, if◌then◌else◌}
 use Rattle.std.specs.List.{list_all}
 use Rattle.std.proofs.lemmas.Bool.{and_parts}
@@ -7,14 +7,13 @@ use Rattle.std.proofs.lemmas.Bool.Decides.{nat_tests}
 use Rattle.mdl_key.specs.declared.mode.Mode.{Mode}
 use Rattle.mdl_key.specs.Keys.{KeyName}
 use Rattle.mdl_key.specs.Words.{kind_of, is_mode_of}
-use Rattle.mdl_defs.specs.declared.standing.Standing.{Standing}
 use Rattle.mdl_defs.specs.Standings.{MayStand}
 use Rattle.mdl_system.specs.Strength.{covers, may_upgrade, may_downgrade}
 use Rattle.mdl_calls.specs.declared.answers.Held.{Held}
 use Rattle.mdl_calls.specs.declared.answers.Settled.{Settled}
 use Rattle.mdl_calls.specs.Causes.{MayUpgrade, MayDowngrade}
 use Rattle.mdl_calls.specs.Own.{changing, upgraded}
-use Rattle.mdl_calls.specs.Words.{Answer, Done, Upgraded, Would_wait, Call, Upgrade_now, Downgrade, Own, are_rising, is_number, is_waiting, ticket_held, IsFit, OfHeld, IsToldOf}
+use Rattle.mdl_calls.specs.Words.{Answer, Done, Upgraded, Would_wait, Upgrade_now, Downgrade, are_rising, is_number, is_waiting, ticket_held, IsFit, OfHeld, IsToldOf}
 use Rattle.mdl_calls.specs.Tests.LoneSessions.{Lone, LoneSpeaks, LoneJoins, IsWhole, AreAtOne, Knows, Stays, having, owning}
 
 -- ---- tickets in other modes
