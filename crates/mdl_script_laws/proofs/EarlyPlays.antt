@@ -19,7 +19,7 @@ use Rattle.mdl_context.specs.declared.request.Mark.{Mark}
 use Rattle.mdl_context.specs.declared.request.Resume.{Resume}
 use Rattle.mdl_context.specs.Contexts.{ContextView, mark_of, without}
 use Rattle.mdl_context.specs.Gains.{refusal_of}
-use Rattle.mdl_context.specs.Releases.{giving_up}
+use Rattle.mdl_context.specs.Releases.{giving_up, releasing}
 use Rattle.mdl_context.specs.Requests.{Outcome}
 use Rattle.mdl_context.specs.Waits.{resuming}
 use Rattle.mdl_context.proofs.BeyondLemmas.{without-none}
@@ -27,12 +27,13 @@ use Rattle.mdl_stmt.specs.declared.ending.Ending.{Ending}
 use Rattle.mdl_stmt.specs.declared.ending.Ending.TheVariants.{Answers, Misses, Falls, Starves}
 use Rattle.mdl_stmt.specs.declared.reply.Reply.{Reply}
 use Rattle.mdl_stmt.specs.declared.reply.Reply.TheVariants as reply
-use Rattle.mdl_stmt.specs.Endings.{Pause, Ends, Begins_to_wait, Waits_on, Faults, closing, ended, ending_of_error, ending_of_loss, ending_of_refusal, gone_at, state_after}
+use Rattle.mdl_stmt.specs.Endings.{Pause, Ends, Begins_to_wait, Waits_on, Faults, closing, ended, ending_of_error, ending_of_loss, ending_of_refusal, gone_at, letting_go, state_after, without_half}
 use Rattle.mdl_stmt.specs.Playing as playing
 use Rattle.mdl_stmt.specs.Playing.{play, with_context}
 use Rattle.mdl_stmt.specs.Rows.{Row}
 use Rattle.mdl_stmt.specs.Rows as row
 use Rattle.mdl_stmt.specs.Sessions.{Left, Session}
+use Rattle.mdl_stmt.specs.States.{half_lock, without_read_lock}
 use Rattle.mdl_stmt.specs.Statements.{row_of}
 use Rattle.mdl_syntax.specs.declared.statement.Statement.{Statement}
 use Rattle.mdl_script_laws.specs.RefusalsFirst.{IsTidy, EarlyErrorsChangeNothing, is_early}
@@ -83,11 +84,20 @@ late_loss settled.Timeout = refl
 late_loss settled.Killed = refl
 late_loss _ = tt
 
-late_closing : (ending : Ending) (mark : Mark) (session : Session) → IsLateEnding ending → AllLate (closing ending mark session)
-late_closing ending mark session so =
+late_letting_go : (ending : Ending) (mark : Mark) (session : Session) → IsLateEnding ending → AllLate (letting_go ending mark session)
+late_letting_go ending mark session so =
     each_then {A = Outcome (Unit {0})} {B = Pause} IsLatePause (giving_up (gone_at ending session.state.is_open mark session.context.kept) session.context)
     (λ outcome. Give (ended ending (record { context = outcome.1; state = state_after ending session.state; left = None })))
     (λ outcome. late_ended ending (record { context = outcome.1; state = state_after ending session.state; left = None }) so)
+
+late_closing : (ending : Ending) (mark : Mark) (session : Session) → IsLateEnding ending → AllLate (closing ending mark session)
+late_closing ending mark session so = by (half_lock (state_after ending session.state)) where
+  by : (half : Option ℕ) → AllLate (without_half half ending mark (record session { left = None }))
+  by None = late_letting_go ending mark (record session { left = None }) so
+  by (Some global) =
+      let after : Outcome (Unit {0}) → Session = λ outcome. record { context = outcome.1; state = without_read_lock session.state; left = None } in
+      each_then {A = Outcome (Unit {0})} {B = Pause} IsLatePause (releasing global session.context) (λ outcome. letting_go ending mark (after outcome))
+      (λ outcome. late_letting_go ending mark (after outcome) so)
 
 -- ---- what never fails so
 
@@ -149,7 +159,8 @@ answered_tidy answer mark session a b pause tidy run =
     done : (Ends answer (after (record session.context { kept = without [] session.context.kept })) ≡ pause) × (a ≡ b)
     done =
         subst (λ gone. Runs Joins a (giving_up gone session.context >>= (λ outcome. Give (Ends answer (after outcome.1)))) pause b)
-        (none-gone session.state.is_open answer mark session.context.kept tidy.statement tidy.transaction) run
+        (none-gone session.state.is_open answer mark session.context.kept tidy.statement tidy.transaction)
+        (subst (λ half. Runs Joins a (without_half half (Answers answer) mark (record session { left = None })) pause b) tidy.whole run)
 
 answered_untouched : (answer : Reply) (mark : Mark) (session : Session) (a b : Core) (pause : Pause) → IsTidy session
     → Runs Joins a (closing (Answers answer) mark session) pause b

@@ -20,7 +20,7 @@ use Rattle.mdl_stmt.specs.States.{State, has_locked, savepoint_mark, written}
 use Rattle.mdl_stmt.specs.Statements as rows
 use Rattle.mdl_stmt.specs.Statements.{row_of}
 use Rattle.mdl_script_laws.specs.RefusalsFirst.{is_early}
-use Rattle.mdl_script_laws.proofs.RowRules.{Any, KeepsTo, keeps-begin, keeps-bind, keeps-commit, keeps-create, keeps-create_schema, keeps-drop, keeps-either, keeps-exists, keeps-rename, keeps-rollback}
+use Rattle.mdl_script_laws.proofs.RowRules.{Any, KeepsTo, keeps-begin, keeps-bind, keeps-commit, keeps-create, keeps-create_schema, keeps-drop, keeps-either, keeps-exists, keeps-rename, keeps-flush, keeps-rollback, keeps-unlock_all}
 
 -- a failure by another error
 abbrev pub IsOther : ErrorNumber → Type 0
@@ -226,5 +226,10 @@ statements_check (statement.DropTables tables) = checks_ddl_first (rows.drop_aft
     (keeps-drop IsOther (λ number other. other) IsLate tt tables)
 statements_check (statement.RenameTable from to) = checks_ddl_first (rows.rename_after_commit from to)
     (keeps-rename IsOther (λ number other. other) IsLate tt from to)
+statements_check statement.UnlockTables = late_first IsLate rows.unlock (keeps-unlock_all IsOther (λ number other. other) IsLate tt)
+statements_check statement.FlushTablesWithReadLock =
+    checks_then rows.no_locked_tables (rows.commit_first rows.flush_after_commit) checks_no_locked
+    (late_first IsLate (rows.commit_first rows.flush_after_commit) (late_commit_first rows.flush_after_commit
+    (keeps-flush IsOther (λ number other. other) IsLate tt)))
 statements_check (statement.KillQuery target) = tt
 statements_check statement.Timeout = tt

@@ -18,13 +18,14 @@ use Rattle.mdl_stmt.specs.declared.ending.Ending.{Ending}
 use Rattle.mdl_stmt.specs.declared.ending.Ending.TheVariants.{Answers}
 use Rattle.mdl_stmt.specs.declared.reply.Reply.{Reply}
 use Rattle.mdl_stmt.specs.declared.reply.Reply.TheVariants as reply
-use Rattle.mdl_stmt.specs.Endings.{Pause, closing, ended, ending_of_error, ending_of_loss, ending_of_refusal, gone_at, state_after}
+use Rattle.mdl_stmt.specs.Endings.{Pause, closing, ended, ending_of_error, ending_of_loss, ending_of_refusal, gone_at, letting_go, state_after, without_half}
 use Rattle.mdl_stmt.specs.MemoryLaws.{EachPlay}
 use Rattle.mdl_stmt.specs.Playing as playing
 use Rattle.mdl_stmt.specs.Playing.{play, with_context}
 use Rattle.mdl_stmt.specs.Rows.{Row}
 use Rattle.mdl_stmt.specs.Rows as row
 use Rattle.mdl_stmt.specs.Sessions.{Left, Session}
+use Rattle.mdl_stmt.specs.States.{half_lock, without_read_lock}
 use Rattle.mdl_stmt.specs.Statements.{row_of}
 use Rattle.mdl_script_laws.proofs.NoDeadlockContexts.{calm-acquiring, calm-ask, calm-giving_up, calm-releasing, calm-resuming}
 use Rattle.mdl_script_laws.proofs.NoDeadlockPrograms.{LeavesCalm, calm-then}
@@ -35,12 +36,21 @@ IsCalmFor who program = LeavesCalm who program
 
 -- ---- ends
 
-calm-closing : (ending : Ending) (mark : Mark) (session : Session) → IsCalmFor session.context.who (closing ending mark session)
-calm-closing ending mark session =
+calm-letting_go : (ending : Ending) (mark : Mark) (session : Session) → IsCalmFor session.context.who (letting_go ending mark session)
+calm-letting_go ending mark session =
     let gone = gone_at ending session.state.is_open mark session.context.kept in
     calm-then {A = Unit {0}} {B = Pause} session.context.who (giving_up gone session.context)
     (λ outcome. Give (ended ending (record { context = outcome.1; state = state_after ending session.state; left = None })))
     (calm-giving_up gone session.context) (of_giving_up gone session.context) (λ outcome a calm. calm)
+
+calm-closing : (ending : Ending) (mark : Mark) (session : Session) → IsCalmFor session.context.who (closing ending mark session)
+calm-closing ending mark session = by (half_lock (state_after ending session.state)) where
+  by : (half : Option ℕ) → IsCalmFor session.context.who (without_half half ending mark (record session { left = None }))
+  by None = calm-letting_go ending mark (record session { left = None })
+  by (Some global) =
+      let after : Outcome (Unit {0}) → Session = λ outcome. record { context = outcome.1; state = without_read_lock session.state; left = None } in
+      calm-then {A = Unit {0}} {B = Pause} session.context.who (releasing global session.context) (λ outcome. letting_go ending mark (after outcome))
+      (calm-releasing global session.context) (of_releasing global session.context) (λ outcome. calm-letting_go ending mark (after outcome))
 
 -- ---- locks
 

@@ -1,23 +1,24 @@
 -- However far a statement comes, its session is tidy once it has ended, and underway until then.
-use Rattle.std.proofs.Common.{◌≡◌, None, Ok, List, length, refl, sym, ap, subst}
+use Rattle.std.proofs.Common.{◌≡◌, ℕ, Bool, true, false, Option, Some, None, if◌then◌else◌, Ok, List, length, refl, sym, ap, subst}
 use Rattle.mdl_calls.specs.Words.{Program, Give, Each}
 use Rattle.mdl_calls.proofs.FaithfulLemmas.{each_bind, each_then}
 use Rattle.mdl_context.specs.declared.kept.Kept.{Kept}
 use Rattle.mdl_context.specs.declared.request.Mark.{Mark}
 use Rattle.mdl_context.specs.declared.request.Resume.{Resume}
 use Rattle.mdl_context.specs.Contexts.{ContextView, mark_of, without}
-use Rattle.mdl_context.specs.Releases.{giving_up, releasing_all}
+use Rattle.mdl_context.specs.Releases.{giving_up, releasing, releasing_all}
 use Rattle.mdl_context.specs.Requests.{Outcome}
 use Rattle.mdl_context.specs.Waits.{resuming}
 use Rattle.mdl_stmt.specs.declared.ending.Ending.{Ending}
 use Rattle.mdl_stmt.specs.declared.ending.Ending.TheVariants.{Answers, Misses, Falls, Starves}
 use Rattle.mdl_stmt.specs.declared.reply.Reply.{Reply}
-use Rattle.mdl_stmt.specs.Endings.{Pause, closing, ended, gone_at, state_after}
+use Rattle.mdl_stmt.specs.Endings.{Pause, closing, ended, gone_at, letting_go, state_after, without_half}
 use Rattle.mdl_stmt.specs.Playing as playing
 use Rattle.mdl_stmt.specs.Playing.{play, with_context}
 use Rattle.mdl_stmt.specs.Rows.{Row}
 use Rattle.mdl_stmt.specs.Rows as row
 use Rattle.mdl_stmt.specs.Sessions.{Session}
+use Rattle.mdl_stmt.specs.States.{State, half_lock, without_read_lock}
 use Rattle.mdl_stmt.specs.Statements.{row_of}
 use Rattle.mdl_script_laws.specs.RefusalsFirst.{IsOrderly, IsTidy, IsUnderway, SessionsStayTidy}
 use Rattle.mdl_script_laws.proofs.RowPauses.{AnyEnding, Follows, Rules, any-endings, so-play, so-resumed}
@@ -48,8 +49,9 @@ each_left gone context =
     each_then {A = Unit {0}} {B = Outcome (Unit {0})} (λ outcome. outcome.1 ≡ left_of gone context) (releasing_all context.who gone)
     (λ _. Give (Ok tt, left_of gone context)) (λ _. refl)
 
-orderly_closing : (ending : Ending) (mark : Mark) (session : Session) → IsAtStart mark → AllOrderly (closing ending mark session)
-orderly_closing ending mark session start =
+orderly_letting_go : (ending : Ending) (mark : Mark) (session : Session) → IsAtStart mark → half_lock (state_after ending session.state) ≡ None
+    → AllOrderly (letting_go ending mark session)
+orderly_letting_go ending mark session start whole =
     each_bind {A = Outcome (Unit {0})} {B = Pause} (λ outcome. outcome.1 ≡ left_of gone session.context) IsOrderly (giving_up gone session.context)
     (λ outcome. Give (ended ending (after outcome.1))) (each_left gone session.context)
     (λ outcome same. orderly_ended ending (after outcome.1) (subst (λ context. IsTidy (after context)) (sym same) tidy))
@@ -65,7 +67,30 @@ orderly_closing ending mark session start =
       over = refl;
       statement = none-of_statement ending session.state.is_open mark session.context.kept start;
       transaction = none-of_transaction ending mark session.context.kept session.state;
+      whole = whole;
     }
+
+-- without the global read lock there is no half of it
+no_half : (ending : Ending) (state : State) → half_lock (state_after ending (without_read_lock state)) ≡ None
+no_half ending state = by ending where
+  either : (opened : Bool) → (if opened then None else None) ≡ (let none : Option ℕ = None in none)
+  either true = refl
+  either false = refl
+
+  by : (e : Ending) → half_lock (state_after e (without_read_lock state)) ≡ None
+  by (Answers reply) = either state.is_open
+  by (Misses number) = either state.is_open
+  by Falls = refl
+  by Starves = either state.is_open
+
+orderly_closing : (ending : Ending) (mark : Mark) (session : Session) → IsAtStart mark → AllOrderly (closing ending mark session)
+orderly_closing ending mark session start = by (half_lock (state_after ending session.state)) refl where
+  by : (half : Option ℕ) → half_lock (state_after ending session.state) ≡ half → AllOrderly (without_half half ending mark (record session { left = None }))
+  by None is = orderly_letting_go ending mark (record session { left = None }) start is
+  by (Some global) is =
+      let after : Outcome (Unit {0}) → Session = λ outcome. record { context = outcome.1; state = without_read_lock session.state; left = None } in
+      each_then {A = Outcome (Unit {0})} {B = Pause} IsOrderly (releasing global session.context) (λ outcome. letting_go ending mark (after outcome))
+      (λ outcome. orderly_letting_go ending mark (after outcome) start (no_half ending session.state))
 
 -- ---- all that may be asked for
 

@@ -68,7 +68,7 @@ goes-late session (inr (underway, late)) = ((stay_tidy session).1 underway, late
 goes-late session (inl tidy) =
     let resting : Session = record session { left = None } in
     subst (λ left. Each IsOrderly (going_on_with left resting) × Each IsLatePause (going_on_with left resting)) (sym tidy.over)
-    (record { over = refl; statement = tidy.statement; transaction = tidy.transaction }, tt)
+    (record { over = refl; statement = tidy.statement; transaction = tidy.transaction; whole = tidy.whole }, tt)
 
 told-late : (line who : ℕ) (pause : Pause) → IsLatePause pause → All IsNoRefusal (told_of line who pause)
 told-late line who (Ends reply.Ok session) late = All-cons IsNoRefusal _ [] refl (All-nil IsNoRefusal)
@@ -218,7 +218,7 @@ told-lines (line ∷ lines) world is kept =
 
 ready-first : AreReady first_world
 ready-first who is =
-    subst (λ (p : Player). IsReady p.session) (sym (new-session who is)) (inl (record { over = refl; statement = refl; transaction = λ _. refl }))
+    subst (λ (p : Player). IsReady p.session) (sym (new-session who is)) (inl (record { over = refl; statement = refl; transaction = λ _. refl; whole = refl }))
 
 kept-first : IsKept AreReady first_world
 kept-first = record { staffed = staffed-first; so = ready-first }

@@ -1,6 +1,6 @@
 -- Rows that keep to a rule, whatever they are told: how they fail, what they give, and that they lock no tables for their session.
 use Rattle.std.proofs.Common.{◌≡◌, ℕ, Bool, true, false, List, [], ◌∷◌, refl}
-use Rattle.std.specs.Prelude.{if◌then◌else◌, map, not, ◌++◌, Option, Some, None}
+use Rattle.std.specs.Prelude.{if◌then◌else◌, is_some, map, not, ◌++◌, Option, Some, None}
 use Rattle.mdl_key.specs.Keys.{KeyName, global_key}
 use Rattle.mdl_defs.specs.declared.change.Change.TheVariants as change
 use Rattle.mdl_defs.specs.Columns.{names_twice}
@@ -12,12 +12,13 @@ use Rattle.mdl_context.specs.Wishes.{Wish}
 use Rattle.mdl_stmt.specs.declared.error_number.ErrorNumber.{ErrorNumber}
 use Rattle.mdl_stmt.specs.declared.error_number.ErrorNumber.TheVariants.{SchemaExists, UnknownDatabase, TableExists, DuplicateColumn, NoSuchTable, VersionLimit}
 use Rattle.mdl_stmt.specs.declared.explicit.Locked.{Locked}
+use Rattle.mdl_stmt.specs.declared.explicit.ReadLock.{ReadLock}
 use Rattle.mdl_stmt.specs.declared.reply.Reply.{Reply}
 use Rattle.mdl_stmt.specs.declared.reply.Reply.TheVariants as reply
 use Rattle.mdl_stmt.specs.KeyOrder.{in_key_order}
 use Rattle.mdl_stmt.specs.LockLists.{ticket_of}
 use Rattle.mdl_stmt.specs.Rows.{Row, Act, Give, Fail, Room, Look, Set, Here, Acquire, Give_up, Release, Read, Redefine, Kill, ◌>>=◌, ◌>>◌, acquire_all, check, for_each, nothing, redefine, release, set}
-use Rattle.mdl_stmt.specs.States.{State, has_locked, opened, unlocked}
+use Rattle.mdl_stmt.specs.States.{State, has_locked, opened, unlocked, without_read_lock}
 use Rattle.mdl_stmt.specs.Statements as rows
 use Rattle.mdl_script_laws.specs.RefusalsFirst.{is_early}
 
@@ -98,6 +99,18 @@ module _ (F : ErrorNumber → Type 0) (late : (number : ErrorNumber) → is_earl
       let tickets = map (λ (table : Locked). table.ticket) state.locked ++ state.scopes in
       keeps-then F Any (for_each release tickets) (set unlocked) (keeps-each F release (λ _. tt) tickets) ((λ s u. refl), tt)
 
+  keeps-release_commits : (commit : Option ℕ) → KeepsTo F Any (rows.release_commits commit)
+  keeps-release_commits None = tt
+  keeps-release_commits (Some commit) = tt
+
+  keeps-release_read_lock : (lock : Option ReadLock) → KeepsTo F Any (rows.release_read_lock lock)
+  keeps-release_read_lock None = tt
+  keeps-release_read_lock (Some lock) = keeps-then F Any (rows.release_commits lock.commit) (release lock.global) (keeps-release_commits lock.commit) tt
+
+  keeps-give_up : KeepsTo F Any rows.give_up_read_lock
+  keeps-give_up = λ state.
+      keeps-then F Any (rows.release_read_lock state.read_lock) (set without_read_lock) (keeps-release_read_lock state.read_lock) ((λ s u. u), tt)
+
   pub keeps-exists : (ticket : ℕ) → KeepsTo F Any (rows.exists ticket)
   keeps-exists ticket = λ standing.
       keeps-bind F Any Any (check (rows.is_defined standing) NoSuchTable) (λ _. Give standing)
@@ -130,6 +143,15 @@ module _ (F : ErrorNumber → Type 0) (late : (number : ErrorNumber) → is_earl
   module _ (P : Reply → Type 0) (ok : P reply.Ok) where
     pub keeps-begin : KeepsTo F P rows.begin_after_commit
     keeps-begin = keeps-then F P rows.unlock_tables (set opened >> Give reply.Ok) keeps-unlock ((λ s u. u), ok)
+
+    pub keeps-unlock_all : KeepsTo F P rows.unlock
+    keeps-unlock_all =
+        keeps-then F P rows.unlock_tables (rows.give_up_read_lock >> Give reply.Ok) keeps-unlock
+        (keeps-then F P rows.give_up_read_lock (Give reply.Ok) keeps-give_up ok)
+
+    pub keeps-flush : KeepsTo F P rows.flush_after_commit
+    keeps-flush = λ state.
+        keeps-either F P (is_some state.read_lock) (Give reply.Ok) rows.get_read_lock ok (λ global. ((λ s u. u), λ commit. ((λ s u. u), ok)))
 
     pub keeps-create : (table : KeyName) (columns : List (List ℕ)) → KeepsTo F P (rows.create_after_commit table columns)
     keeps-create table columns = λ global schema ticket.

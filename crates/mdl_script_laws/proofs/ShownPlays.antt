@@ -1,6 +1,7 @@
 -- Whatever a statement asks for, what was shown in its transaction before stands on, and what it shows in the end stands too.
 use Rattle.std.proofs.Common.{◌≡◌, ◌⊎◌, inl, inr, ℕ, Bool, true, false, List, [], ◌∷◌, ◌++◌, Option, Some, None, Ok, Err, Contains, filter, map, refl, sym, ap, ◌∙◌, subst}
-use Rattle.std.specs.Prelude.{◌==◌}
+use Rattle.std.specs.Prelude.{◌==◌, if◌then◌else◌}
+use Rattle.std.proofs.lemmas.Bool.{false≢true}
 use Rattle.std.proofs.lemmas.List.Elements.{Contains-append_cases}
 use Rattle.mdl_key.specs.declared.mode.Duration.{Duration}
 use Rattle.mdl_key.specs.declared.mode.Duration.TheVariants.{Statement, Transaction, Explicit}
@@ -45,13 +46,13 @@ use Rattle.mdl_stmt.specs.declared.ending.Ending.TheVariants.{Answers, Misses, F
 use Rattle.mdl_stmt.specs.declared.reply.Reply.{Reply}
 use Rattle.mdl_stmt.specs.declared.reply.Reply.TheVariants as reply
 use Rattle.mdl_stmt.specs.declared.reply.TableShown.{TableShown}
-use Rattle.mdl_stmt.specs.Endings.{Pause, Ends, Begins_to_wait, Waits_on, Faults, closing, ended, ending_of_error, ending_of_loss, ending_of_refusal, gone_at, state_after}
+use Rattle.mdl_stmt.specs.Endings.{Pause, Ends, Begins_to_wait, Waits_on, Faults, closing, ended, ending_of_error, ending_of_loss, ending_of_refusal, gone_at, letting_go, state_after, without_half}
 use Rattle.mdl_stmt.specs.Playing as playing
 use Rattle.mdl_stmt.specs.Playing.{play, with_context}
 use Rattle.mdl_stmt.specs.Rows.{Row}
 use Rattle.mdl_stmt.specs.Rows as row
 use Rattle.mdl_stmt.specs.Sessions.{Left, Session}
-use Rattle.mdl_stmt.specs.States.{State, has_locked}
+use Rattle.mdl_stmt.specs.States.{State, half_lock, has_locked, lone_ticket, without_read_lock}
 use Rattle.mdl_script_laws.proofs.ListLemmas.{among-filter}
 use Rattle.mdl_script_laws.proofs.ShownCalls.{Leads, Stays, leads-bind, leads-each, none, stays-call, stays-other}
 use Rattle.mdl_script_laws.proofs.ShownContexts.{Fits, Followed, followed-same}
@@ -312,12 +313,67 @@ module _ (old : TableShown → Type 0) (live : Bool) (locks : List (ℕ × KeyNa
       by Falls told rests tells = (rests, tells)
       by Starves told rests tells = rests
 
-  pub leads-closing : (ending : Ending) → ((x : TableShown) → TellsAt ending x → Contains seen x) → Leads (Comes old) (closing ending mark session) a
-  leads-closing ending told =
+  leads-letting_go : (ending : Ending) → ((x : TableShown) → TellsAt ending x → Contains seen x) → Leads (Comes old) (letting_go ending mark session) a
+  leads-letting_go ending told =
       let gone = gone_at ending session.state.is_open mark kept_before in
       leads-bind (λ (outcome : Outcome (Unit {0})) b. GaveUp a gone session.context b outcome.1) (Comes old) (giving_up gone session.context)
       (λ outcome. Give (ended ending (record { context = outcome.1; state = state_after ending session.state; left = None }))) a
       (leads-giving_up a gone session.context point.fits) (λ outcome b gave. came-to ending b outcome.1 told gave)
+
+-- a statement ended, and no transaction is open
+came-shut : (old : TableShown → Type 0) (ending : Ending) (b : Core) (after : ContextView) (state : State) → Fits b after → IsUnlocked (state_after ending state)
+    → (state_after ending state).is_open ≡ false → Comes old (ended ending (record { context = after; state = state_after ending state; left = None })) b
+came-shut old ending b after state fits unlocked shut = by ending
+  where
+    rests : Rests old b (record { context = after; state = state_after ending state; left = None })
+    rests = record { left = refl; fits = fits; unlocked = unlocked; kept = λ x is opens. absurd (false≢true (sym shut ∙ opens)) }
+
+    by : (e : Ending) → Comes old (ended e (record { context = after; state = state_after ending state; left = None })) b
+    by (Answers reply) = (rests, λ x tell opens. absurd (false≢true (sym shut ∙ opens)))
+    by (Misses number) = (rests, λ x tell opens. absurd (false≢true (sym shut ∙ opens)))
+    by Falls = (rests, λ x tell opens. absurd (false≢true (sym shut ∙ opens)))
+    by Starves = rests
+
+-- half of the global read lock is had only where no transaction is open
+half-shut : (state : State) (global : ℕ) → half_lock state ≡ Some global → state.is_open ≡ false
+half-shut state global is = by state.is_open is where
+  by : (opened : Bool) → (if opened then None else lone_ticket state.read_lock) ≡ Some global → opened ≡ false
+  by true e = absurd (cc)
+  by false e = refl
+
+-- to give the global read lock up opens no transaction, and locks no table
+opens-same : (ending : Ending) (state : State) → (state_after ending (without_read_lock state)).is_open ≡ (state_after ending state).is_open
+opens-same (Answers reply) state = refl
+opens-same (Misses number) state = refl
+opens-same Falls state = refl
+opens-same Starves state = refl
+
+unlocked-same : (ending : Ending) (state : State) → IsUnlocked state → IsUnlocked (state_after ending (without_read_lock state))
+unlocked-same (Answers reply) state e = e
+unlocked-same (Misses number) state e = e
+unlocked-same Falls state e = e
+unlocked-same Starves state e = e
+
+pub leads-closing : (old : TableShown → Type 0) (live : Bool) (locks : List (ℕ × KeyName)) (seen : List TableShown) (mark : Mark) (a : Core) (session : Session)
+    → Point old live locks seen mark a session.context session.state
+    → (ending : Ending) → ((x : TableShown) → TellsAt ending x → Contains seen x) → Leads (Comes old) (closing ending mark session) a
+leads-closing old live locks seen mark a session point ending told = by (half_lock (state_after ending session.state)) refl
+  where
+    by : (half : Option ℕ) → half_lock (state_after ending session.state) ≡ half
+        → Leads (Comes old) (without_half half ending mark (record session { left = None })) a
+    by None is = leads-letting_go old live locks seen mark a (record session { left = None }) point ending told
+    by (Some global) is =
+        let state = without_read_lock session.state in
+        let after : ContextView → Session = λ context. record { context = context; state = state; left = None } in
+        let shut = opens-same ending session.state ∙ half-shut (state_after ending session.state) global is in
+        leads-bind (λ (outcome : Outcome (Unit {0})) b. Fits b outcome.1 × (outcome.1.who ≡ session.context.who)) (Comes old)
+        (releasing global session.context) (λ outcome. letting_go ending mark (after outcome.1)) a (leads-releasing a global session.context point.fits)
+        (λ outcome b left. (
+            let gone = gone_at ending state.is_open mark outcome.1.kept in
+            leads-bind (λ (next : Outcome (Unit {0})) c. GaveUp b gone outcome.1 c next.1) (Comes old) (giving_up gone outcome.1)
+            (λ next. Give (ended ending (record { context = next.1; state = state_after ending state; left = None }))) b
+            (leads-giving_up b gone outcome.1 left.0)
+            (λ next c gave. came-shut old ending c next.1 state gave.fits (unlocked-same ending session.state point.unlocked) shut)))
 
 tells_no_loss : (how : Settled) (x : TableShown) → TellsAt (ending_of_loss how) x → ⊥
 tells_no_loss settled.Timeout x tell = tell

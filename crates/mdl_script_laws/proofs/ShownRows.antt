@@ -22,7 +22,7 @@ use Rattle.mdl_stmt.specs.States.{has_locked, savepoint_mark, written}
 use Rattle.mdl_stmt.specs.Statements as does
 use Rattle.mdl_script_laws.specs.Shown.{leaves_transaction}
 use Rattle.mdl_script_laws.proofs.ListLemmas.{filter-among, only-one}
-use Rattle.mdl_script_laws.proofs.RowRules.{Any, KeepsTo, keeps-begin, keeps-check, keeps-commit, keeps-create, keeps-create_schema, keeps-drop, keeps-rename, keeps-rollback, keeps-then}
+use Rattle.mdl_script_laws.proofs.RowRules.{Any, KeepsTo, keeps-begin, keeps-check, keeps-commit, keeps-create, keeps-create_schema, keeps-drop, keeps-rename, keeps-flush, keeps-rollback, keeps-then, keeps-unlock_all}
 use Rattle.mdl_script_laws.proofs.ShownPlays.{IsFair, Tells, seen_under}
 use Rattle.mdl_script_laws.proofs.ShownPoints.{shown_as}
 
@@ -175,6 +175,13 @@ fair-any old (statement.DropTables tables) none =
 fair-any old (statement.RenameTable from to) none =
     fair-tidy old [] [] (does.row_of (statement.RenameTable from to)) none
     (keeps-then Any ShowsNone does.ddl (does.rename_after_commit from to) tidy-ddl (keeps-rename Any (λ _ _. tt) ShowsNone (λ x tell. absurd tell) from to))
+fair-any old statement.UnlockTables none =
+    fair-tidy old [] [] (does.row_of statement.UnlockTables) none (keeps-unlock_all Any (λ _ _. tt) ShowsNone (λ x tell. absurd tell))
+fair-any old statement.FlushTablesWithReadLock none =
+    fair-tidy old [] [] (does.row_of statement.FlushTablesWithReadLock) none
+    (keeps-then Any ShowsNone does.no_locked_tables (does.commit_first does.flush_after_commit)
+    (λ state. keeps-check Any (not (has_locked state.locked)) ActiveLocks tt)
+    (keeps-then Any ShowsNone does.commit does.flush_after_commit tidy-commit (keeps-flush Any (λ _ _. tt) ShowsNone (λ x tell. absurd tell))))
 fair-any old (statement.Savepoint name) none = fair-leaving old true (statement.Savepoint name) refl
 fair-any old (statement.Select tables) none = fair-leaving old true (statement.Select tables) refl
 fair-any old (statement.Write table priority) none = fair-leaving old true (statement.Write table priority) refl

@@ -16,7 +16,7 @@ use Rattle.mdl_context.specs.declared.request.Resume.{Resume}
 use Rattle.mdl_context.specs.declared.request.Resume.TheVariants as resume
 use Rattle.mdl_context.specs.Contexts.{ContextView}
 use Rattle.mdl_context.specs.Holdings.{upgrade_of}
-use Rattle.mdl_context.specs.Releases.{giving_up}
+use Rattle.mdl_context.specs.Releases.{giving_up, releasing}
 use Rattle.mdl_context.specs.Requests.{Outcome}
 use Rattle.mdl_context.specs.Upgrades as upgrades
 use Rattle.mdl_context.specs.Waits as waits
@@ -24,14 +24,14 @@ use Rattle.mdl_context.specs.Waits.{giving_up_wait, resuming}
 use Rattle.mdl_stmt.specs.declared.ending.Ending.{Ending}
 use Rattle.mdl_stmt.specs.declared.ending.Ending.TheVariants.{Answers, Misses, Falls, Starves}
 use Rattle.mdl_stmt.specs.declared.reply.Reply.{Reply}
-use Rattle.mdl_stmt.specs.Endings.{Pause, Ends, Begins_to_wait, Waits_on, Faults, closing, ended, ending_of_error, ending_of_loss, gone_at, state_after}
+use Rattle.mdl_stmt.specs.Endings.{Pause, Ends, Begins_to_wait, Waits_on, Faults, closing, ended, ending_of_error, ending_of_loss, gone_at, letting_go, state_after, without_half}
 use Rattle.mdl_stmt.specs.MemoryLaws.{session_at}
 use Rattle.mdl_stmt.specs.Playing as playing
 use Rattle.mdl_stmt.specs.Playing.{going_on, play, with_context}
 use Rattle.mdl_stmt.specs.Rows.{Row}
 use Rattle.mdl_stmt.specs.Rows as row
 use Rattle.mdl_stmt.specs.Sessions.{Left, Session}
-use Rattle.mdl_stmt.specs.States.{State}
+use Rattle.mdl_stmt.specs.States.{State, half_lock, without_read_lock}
 use Rattle.mdl_script_laws.specs.Turns.{AsksForAtMost}
 use Rattle.mdl_script_laws.proofs.OutcomeLemmas.{each-outcome, outcome-then}
 use Rattle.mdl_script_laws.proofs.RowPauses.{AnyEnding, Follows, Rules, any-endings, so-play}
@@ -62,12 +62,21 @@ within-ended most (Misses number) context state = tt
 within-ended most Falls context state = tt
 within-ended most Starves context state = tt
 
-within-closing : (most : ℕ) (ending : Ending) (mark : Mark) (session : Session) → Each (PausesWithin most) (closing ending mark session)
-within-closing most ending mark session =
+within-letting_go : (most : ℕ) (ending : Ending) (mark : Mark) (session : Session) → Each (PausesWithin most) (letting_go ending mark session)
+within-letting_go most ending mark session =
     each_then {A = Outcome (Unit {0})} {B = Pause} (PausesWithin most) (giving_up
     (gone_at ending session.state.is_open mark session.context.kept) session.context)
     (λ outcome. Give (ended ending (record { context = outcome.1; state = state_after ending session.state; left = None })))
     (λ outcome. within-ended most ending outcome.1 (state_after ending session.state))
+
+within-closing : (most : ℕ) (ending : Ending) (mark : Mark) (session : Session) → Each (PausesWithin most) (closing ending mark session)
+within-closing most ending mark session = by (half_lock (state_after ending session.state)) where
+  by : (half : Option ℕ) → Each (PausesWithin most) (without_half half ending mark (record session { left = None }))
+  by None = within-letting_go most ending mark (record session { left = None })
+  by (Some global) =
+      let after : Outcome (Unit {0}) → Session = λ outcome. record { context = outcome.1; state = without_read_lock session.state; left = None } in
+      each_then {A = Outcome (Unit {0})} {B = Pause} (PausesWithin most) (releasing global session.context) (λ outcome. letting_go ending mark (after outcome))
+      (λ outcome. within-letting_go most ending mark (after outcome))
 
 follows-within : (most : ℕ) (asked : Row Reply) → AsksForAtMost most asked → Follows (AsksForAtMost most) AnyEnding asked
 follows-within most (row.Give reply) is = tt

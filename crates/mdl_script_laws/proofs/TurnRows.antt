@@ -17,6 +17,7 @@ use Rattle.mdl_syntax.specs.Laws.{IsWithinLimits}
 use Rattle.mdl_stmt.specs.declared.error_number.ErrorNumber.{ErrorNumber}
 use Rattle.mdl_stmt.specs.declared.error_number.ErrorNumber.TheVariants.{NoSuchTable, ConflictingReadLock, ActiveLocks, SchemaExists, UnknownDatabase, TableExists, DuplicateColumn, VersionLimit, TableLockedForRead}
 use Rattle.mdl_stmt.specs.declared.explicit.Locked.{Locked}
+use Rattle.mdl_stmt.specs.declared.explicit.ReadLock.{ReadLock}
 use Rattle.mdl_stmt.specs.declared.reply.Reply.{Reply}
 use Rattle.mdl_stmt.specs.declared.reply.Reply.TheVariants as reply
 use Rattle.mdl_stmt.specs.declared.reply.TableShown.{TableShown}
@@ -119,6 +120,19 @@ few-unlock : AsksForAtMost 0 stm.unlock_tables
 few-unlock state =
     let ids = map (λ (table : Locked). table.ticket) state.locked ++ state.scopes in
     few-then 0 0 0 (for_each row.release ids) (λ _. row.set _) (omega arith) (few-for_each row.release ids (λ id. tt)) (λ _. tt)
+
+few-release_commits : (commit : Option ℕ) → AsksForAtMost 0 (stm.release_commits commit)
+few-release_commits None = tt
+few-release_commits (Some commit) = tt
+
+few-release_read_lock : (lock : Option ReadLock) → AsksForAtMost 0 (stm.release_read_lock lock)
+few-release_read_lock None = tt
+few-release_read_lock (Some lock) =
+    few-then 0 0 0 (stm.release_commits lock.commit) (λ _. row.release lock.global) (omega arith) (few-release_commits lock.commit) (λ _. tt)
+
+few-give_up : AsksForAtMost 0 stm.give_up_read_lock
+few-give_up state =
+    few-then 0 0 0 (stm.release_read_lock state.read_lock) (λ _. row.set _) (omega arith) (few-release_read_lock state.read_lock) (λ _. tt)
 
 few-no_read_lock : AsksForAtMost 0 stm.no_read_lock
 few-no_read_lock state = few-checked (not (is_some state.read_lock)) ConflictingReadLock
@@ -327,6 +341,14 @@ few-rename from to =
 few-begin : AsksForAtMost 0 stm.begin_after_commit
 few-begin = few-then 0 0 0 stm.unlock_tables _ (omega arith) few-unlock (λ _. tt)
 
+few-unlock_all : AsksForAtMost 0 stm.unlock
+few-unlock_all =
+    few-then 0 0 0 stm.unlock_tables _ (omega arith) few-unlock
+    (λ _. few-then 0 0 0 stm.give_up_read_lock (λ _. row.Give reply.Ok) (omega arith) few-give_up (λ _. tt))
+
+few-flush : AsksForAtMost 2 stm.flush_after_commit
+few-flush state = few-either 2 (is_some state.read_lock) (row.Give reply.Ok) stm.get_read_lock tt (1, refl, λ global. (0, refl, λ commit. tt))
+
 few-asked : (asked : Statement) → AsksForAtMost (locks_of asked) (stm.row_of asked)
 few-asked statement.Begin = few-commit_first 0 stm.begin_after_commit few-begin
 few-asked statement.Commit = few-commit_first 0 (row.Give reply.Ok) tt
@@ -342,6 +364,9 @@ few-asked (statement.DropTables tables) =
     few-more (suc (1 + n + n)) (2 + 2 * n) (stm.row_of (statement.DropTables tables)) (omega arith)
     (few-ddl_first (1 + n + n) (stm.drop_after_commit tables) (few-drop tables))
 few-asked (statement.RenameTable from to) = few-ddl_first 5 (stm.rename_after_commit from to) (few-rename from to)
+few-asked statement.UnlockTables = few-unlock_all
+few-asked statement.FlushTablesWithReadLock =
+    few-then 0 3 3 stm.no_locked_tables _ (omega arith) few-no_locked (λ _. few-commit_first 2 stm.flush_after_commit few-flush)
 few-asked (statement.KillQuery target) = tt
 few-asked statement.Timeout = tt
 

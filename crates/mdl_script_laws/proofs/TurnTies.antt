@@ -22,14 +22,14 @@ use Rattle.mdl_stmt.specs.declared.ending.Ending.{Ending}
 use Rattle.mdl_stmt.specs.declared.ending.Ending.TheVariants.{Answers, Misses, Falls, Starves}
 use Rattle.mdl_stmt.specs.declared.reply.Reply.{Reply}
 use Rattle.mdl_stmt.specs.declared.reply.Reply.TheVariants as reply
-use Rattle.mdl_stmt.specs.Endings.{Pause, closing, ended, ending_of_error, ending_of_refusal, gone_at, state_after}
+use Rattle.mdl_stmt.specs.Endings.{Pause, closing, ended, ending_of_error, ending_of_refusal, gone_at, letting_go, state_after, without_half}
 use Rattle.mdl_stmt.specs.MemoryLaws.{session_at}
 use Rattle.mdl_stmt.specs.Playing as playing
 use Rattle.mdl_stmt.specs.Playing.{play, with_context}
 use Rattle.mdl_stmt.specs.Rows.{Row}
 use Rattle.mdl_stmt.specs.Rows as row
 use Rattle.mdl_stmt.specs.Sessions.{Session}
-use Rattle.mdl_stmt.specs.States.{State}
+use Rattle.mdl_stmt.specs.States.{State, half_lock, without_read_lock}
 use Rattle.mdl_script_laws.proofs.TurnTracks.{IsAnswer, Tracks, tracks-then, wait_after}
 
 -- a statement is left waiting exactly where the session has a wait, and then its context has it too
@@ -70,12 +70,22 @@ tied-ended (Misses number) context state waits none = record { left = sym none; 
 tied-ended Falls context state waits none = record { left = sym none; wait = λ some. cc }
 tied-ended Starves context state waits none = record { left = sym none; wait = λ some. cc }
 
-pub tied-closing : (ending : Ending) (mark : Mark) (session : Session) → Tracks PausesTied (closing ending mark session) false
-tied-closing ending mark session =
+tied-letting_go : (ending : Ending) (mark : Mark) (session : Session) → Tracks PausesTied (letting_go ending mark session) false
+tied-letting_go ending mark session =
     let gone = gone_at ending session.state.is_open mark session.context.kept in
     tracks-then {A = Outcome (Unit {0})} {B = Pause} (Stays false) PausesTied (releases.giving_up gone session.context)
     (λ outcome. Give (ended ending (record { context = outcome.1; state = state_after ending session.state; left = None }))) false
     (stays-giving_up gone session.context false) (λ outcome waits none. tied-ended ending outcome.1 (state_after ending session.state) waits none)
+
+pub tied-closing : (ending : Ending) (mark : Mark) (session : Session) → Tracks PausesTied (closing ending mark session) false
+tied-closing ending mark session = by (half_lock (state_after ending session.state)) where
+  by : (half : Option ℕ) → Tracks PausesTied (without_half half ending mark (record session { left = None })) false
+  by None = tied-letting_go ending mark (record session { left = None })
+  by (Some global) =
+      let after : Outcome (Unit {0}) → Session = λ outcome. record { context = outcome.1; state = without_read_lock session.state; left = None } in
+      tracks-then {A = Outcome (Unit {0})} {B = Pause} (Stays false) PausesTied (releases.releasing global session.context)
+      (λ outcome. letting_go ending mark (after outcome)) false (stays-released global session.context false)
+      (λ outcome waits none. subst (λ w. Tracks PausesTied (letting_go ending mark (after outcome)) w) (sym none) (tied-letting_go ending mark (after outcome)))
 
 -- ---- locks
 

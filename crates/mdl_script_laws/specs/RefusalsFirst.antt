@@ -14,6 +14,7 @@ use Rattle.mdl_stmt.specs.declared.reply.Reply.TheVariants as reply
 use Rattle.mdl_stmt.specs.Endings.{Pause, Ends, Begins_to_wait, Waits_on, Faults}
 use Rattle.mdl_stmt.specs.Playing.{starting, going_on}
 use Rattle.mdl_stmt.specs.Sessions.{Left, Session}
+use Rattle.mdl_stmt.specs.States.{half_lock}
 
 -- whether an error is of a check that comes before a statement's first lock: tables that its session has locked are in its way, or
 -- the global read lock that it has; or it has no such savepoint
@@ -26,11 +27,12 @@ is_early NoSuchSavepoint = true
 is_early _ = false
 
 -- a session between statements is tidy: it has nothing left to do, it keeps no ticket for a statement, and none for a transaction
--- unless one is open
+-- unless one is open, nor has it then locked all writes without all commits
 pub record IsTidy (session : Session) : Type 0 where
   pub over : session.left ≡ None
   pub statement : held_for for.Statement session.context.kept ≡ []
   pub transaction : session.state.is_open ≡ false → held_for for.Transaction session.context.kept ≡ []
+  pub whole : half_lock session.state ≡ None
 
 -- in the midst of a statement, it has something left to do, and it kept no ticket for a statement as that began
 abbrev pub IsUnderway : Session → Type 0

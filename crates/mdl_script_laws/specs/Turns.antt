@@ -9,7 +9,7 @@ use Rattle.mdl_context.specs.declared.request.Mark.{Mark}
 use Rattle.mdl_defs.specs.declared.standing.Standing.{Standing}
 use Rattle.mdl_syntax.specs.declared.script.Line.{Line}
 use Rattle.mdl_syntax.specs.declared.statement.Statement.{Statement}
-use Rattle.mdl_syntax.specs.declared.statement.Statement.TheVariants.{Begin, Commit, Select, Write, CreateTable, CreateSchema, DropTables, RenameTable}
+use Rattle.mdl_syntax.specs.declared.statement.Statement.TheVariants.{Begin, Commit, Select, Write, CreateTable, CreateSchema, DropTables, RenameTable, FlushTablesWithReadLock}
 use Rattle.mdl_syntax.specs.Laws.{IsWithinLimits}
 use Rattle.mdl_syntax.specs.Scripts.{parsed}
 use Rattle.mdl_stmt.specs.Rows.{Row}
@@ -37,7 +37,8 @@ AsksForAtMost most (row.Redefine id change rest) = AsksForAtMost most rest
 AsksForAtMost most (row.Kill target rest) = AsksForAtMost most rest
 
 -- the most locks that a statement asks for: the COMMIT lock where it has to commit, the global lock where it writes or changes
--- definitions, and the tables or the schema that it names, with the tables' schemas where these are created, dropped or renamed
+-- definitions, and the tables or the schema that it names, with the tables' schemas where these are created, dropped or renamed; and
+-- for the global read lock the global lock and once more the COMMIT lock
 abbrev pub locks_of : Statement → ℕ
 locks_of Begin = 1
 locks_of Commit = 1
@@ -47,6 +48,7 @@ locks_of (CreateTable table columns) = 4
 locks_of (CreateSchema name) = 3
 locks_of (DropTables tables) = 2 + 2 * length tables
 locks_of (RenameTable from to) = 6
+locks_of FlushTablesWithReadLock = 3
 locks_of _ = 0
 
 -- that of a DROP TABLE of eight tables is the most that the language has

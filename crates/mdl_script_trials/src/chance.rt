@@ -7,7 +7,7 @@ use std::alloc::{AllocError, Global};
 const TABLES: [&str; 5] = ["a", "b", "c", "d", "e"];
 
 // Forms that name no table, the likely ones more than once.
-const ALONE: [&str; 8] = [
+const ALONE: [&str; 12] = [
     "BEGIN",
     "BEGIN",
     "BEGIN",
@@ -16,6 +16,10 @@ const ALONE: [&str; 8] = [
     "SAVEPOINT",
     "SAVEPOINT",
     "ROLLBACK TO",
+    "FLUSH TABLES WITH READ LOCK",
+    "UNLOCK TABLES",
+    "UNLOCK TABLES",
+    "COMMIT",
 ];
 
 // Forms of a write.
@@ -116,8 +120,8 @@ impl Drawn {
         let who = self.draw_below(self.sessions).wrapping_add(1);
         write!(self.text, "{who} ")?;
         match self.chance.draw(32) {
-            0..=6 => self.alone()?,
-            7..=14 => self.some("SELECT", 3)?,
+            0..=7 => self.alone()?,
+            8..=14 => self.some("SELECT", 3)?,
             15..=20 => self.write()?,
             21..=23 => self.some("DROP TABLE", 3)?,
             24..=25 => self.rename()?,
@@ -131,7 +135,7 @@ impl Drawn {
 
     // A form without a table.
     fn alone(&mut self) -> Result<(), AllocError> {
-        let word = ALONE[usize::from(self.chance.draw(8))];
+        let word = ALONE[usize::from(self.chance.draw(12))];
         self.text.push_str(word)?;
         match word {
             "SAVEPOINT" | "ROLLBACK TO" => {

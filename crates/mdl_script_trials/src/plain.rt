@@ -101,6 +101,14 @@ enum Step {
     Drop(Key),
     // Gives a table another name, if it can get it.
     Rename(Key, Key),
+    // Fails with this error.
+    Refuse(u32),
+    // The lock that was asked for last goes unless the session gets the global read lock.
+    HalfLock,
+    // The session has the global read lock from now on.
+    HaveReadLock,
+    // All locks go that the session has kept until it gives them up.
+    Unlock,
 }
 
 // How it goes on behind a step.
@@ -125,6 +133,9 @@ struct Session {
     // Whether the transaction has written.
     has_written: bool,
     savepoints: Vec<Savepoint>,
+    // Whether it has the global read lock, and a ticket that is of no use without it.
+    has_read_lock: bool,
+    half_lock: Option<Ticket>,
     wait: Option<Wait>,
     // The line of the statement, and where the session stood at its start.
     line: u64,

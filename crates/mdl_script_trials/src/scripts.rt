@@ -110,6 +110,28 @@ const ROWS: &str = "\
     ERR 1317 / 6 4 WAIT SCHEMA s X / 7 4 OK / 6 4 ERR 1205 / 8 1 OK / 3 2 ERR 1146 / 9 4 OK
 1 CREATE SCHEMA S => line 1: BadName
 1 CREATE SCHEMA s t => line 1: BadWord
+1 CREATE TABLE t x / 2 BEGIN / 2 INSERT t / 1 FLUSH TABLES WITH READ LOCK / 1 INSERT t / 2 COMMIT / 1 UNLOCK TABLES => 1 1 \
+    OK / 2 2 OK / 3 2 OK / 4 1 OK / 5 1 ERR 1223 / 6 2 WAIT COMMIT IX / 7 1 OK / 6 2 OK
+1 CREATE TABLE t x / 1 BEGIN / 1 SELECT t / 2 DROP TABLE t / 3 FLUSH TABLES WITH READ LOCK / 1 INSERT t => 1 1 OK / 2 1 \
+    OK / 3 1 OK test.t@1(x) / 4 2 WAIT TABLE test.t X / 5 3 WAIT GLOBAL S / 6 1 WAIT GLOBAL IX / 5 3 ERR 1213 / 6 1 \
+    WAIT TABLE test.t SW / 6 1 ERR 1213 / 4 2 OK
+1 CREATE TABLE t x / 1 BEGIN / 1 INSERT t / 2 BEGIN / 2 INSERT t / 3 FLUSH TABLES WITH READ LOCK / 2 COMMIT / 1 FLUSH \
+    TABLES WITH READ LOCK / 3 UNLOCK TABLES => 1 1 OK / 2 1 OK / 3 1 OK / 4 2 OK / 5 2 OK / 6 3 OK / 7 2 WAIT COMMIT \
+    IX / 8 1 WAIT COMMIT IX / 9 3 OK / 8 1 WAIT COMMIT S / 7 2 OK / 8 1 OK
+1 CREATE TABLE t x / 1 BEGIN / 1 INSERT t / 1 SAVEPOINT p / 2 FLUSH TABLES WITH READ LOCK / 1 DROP TABLE t / 1 TIMEOUT / 1 \
+    ROLLBACK TO p / 2 UNLOCK TABLES / 2 DROP TABLE t => 1 1 OK / 2 1 OK / 3 1 OK / 4 1 OK / 5 2 OK / 6 1 WAIT COMMIT IX \
+    / 7 1 OK / 6 1 ERR 1205 / 8 1 OK / 9 2 OK / 10 2 WAIT TABLE test.t X / END 2 WAIT
+5 FLUSH TABLES WITH READ LOCK / 3 CREATE TABLE t x / 2 INSERT t / 5 UNLOCK TABLES => 1 5 OK / 2 3 WAIT GLOBAL IX / 3 2 \
+    WAIT GLOBAL IX / 4 5 OK / 3 2 ERR 1146 / 2 3 OK
+1 CREATE TABLE t x / 1 BEGIN / 1 SAVEPOINT p / 1 INSERT t / 1 ROLLBACK TO p / 2 FLUSH TABLES WITH READ LOCK / 1 COMMIT / 1 \
+    TIMEOUT / 1 ROLLBACK => 1 1 OK / 2 1 OK / 3 1 OK / 4 1 OK / 5 1 OK / 6 2 OK / 7 1 WAIT COMMIT IX / 8 1 OK / 7 1 \
+    ERR 1205 / 9 1 OK
+1 CREATE TABLE t x / 1 BEGIN / 1 SELECT t / 2 FLUSH TABLES WITH READ LOCK / 2 DROP TABLE t / 2 CREATE SCHEMA s / 2 BEGIN / 2 \
+    SELECT t / 2 INSERT t / 2 UNLOCK TABLES / 2 INSERT t / 3 DROP TABLE t => 1 1 OK / 2 1 OK / 3 1 OK test.t@1(x) / 4 2 \
+    OK / 5 2 ERR 1223 / 6 2 ERR 1223 / 7 2 OK / 8 2 OK test.t@1(x) / 9 2 ERR 1223 / 10 2 OK / 11 2 OK / 12 3 WAIT \
+    TABLE test.t X / END 3 WAIT
+1 CREATE TABLE t x / 1 FLUSH TABLES WITH READ LOCK / 1 FLUSH TABLES WITH READ LOCK / 2 INSERT t / 1 UNLOCK TABLES / 1 UNLOCK \
+    TABLES => 1 1 OK / 2 1 OK / 3 1 OK / 4 2 WAIT GLOBAL IX / 5 1 OK / 4 2 OK / 6 1 OK
 1 SELECT a b c d e f g h T => line 1: BadWord
 1 SELECT a b c d e f g T => line 1: BadName
 1 SELECT a b c d e f g h i => line 1: BadWord
@@ -311,6 +333,24 @@ fn the_257th_key_has_no_place(rt: HostRuntime) -> Result<(), Fail> {
     }
     script.push_str("1 SELECT t256\n1 SELECT t1\n1 INSERT t1\n")?;
     answers.push_str("256 1 ERR 9004\n257 1 ERR 1146\n258 1 ERR 9004\n")?;
+    let told = told(rt.alloc(), script.as_bytes())?;
+    assert_eq!(rt; told.as_str(), answers.as_str());
+    let replayed = replayed(rt.alloc(), script.as_bytes())?;
+    assert_eq!(rt; replayed.as_str(), answers.as_str());
+    Ok(())
+}
+
+// Where the COMMIT lock finds no place, the lock of all writes that was had before it is given up again.
+#[test]
+fn the_global_read_lock_is_had_whole_or_not_at_all(rt: HostRuntime) -> Result<(), Fail> {
+    let mut script = String::from_str(rt.alloc(), "1 BEGIN\n")?;
+    let mut answers = String::from_str(rt.alloc(), "1 1 OK\n")?;
+    for number in 2..=255 {
+        writeln!(script, "1 SELECT t{number}")?;
+        writeln!(answers, "{number} 1 ERR 1146")?;
+    }
+    script.push_str("2 FLUSH TABLES WITH READ LOCK\n3 INSERT t2\n2 INSERT t2\n")?;
+    answers.push_str("256 2 ERR 9004\n257 3 ERR 1146\n258 2 ERR 1146\n")?;
     let told = told(rt.alloc(), script.as_bytes())?;
     assert_eq!(rt; told.as_str(), answers.as_str());
     let replayed = replayed(rt.alloc(), script.as_bytes())?;

@@ -12,7 +12,7 @@ use Rattle.mdl_context.specs.Releases.{giving_up}
 use Rattle.mdl_context.specs.Waits.{resuming}
 use Rattle.mdl_stmt.specs.declared.ending.Ending.{Ending}
 use Rattle.mdl_stmt.specs.declared.runner.Work.{Work}
-use Rattle.mdl_stmt.specs.Endings.{Pause, Waits_on, closing, ended, ending_of_error, ending_of_loss, gone_at, state_after}
+use Rattle.mdl_stmt.specs.Endings.{Pause, Waits_on, closing, ended, ending_of_error, ending_of_loss, gone_at, letting_go, state_after}
 use Rattle.mdl_stmt.specs.Playing.{going_on, play, resumed}
 use Rattle.mdl_stmt.specs.Sessions.{PlayerView, RunnerView}
 use Rattle.mdl_stmt.specs.Stages.{left_of, rest_of, session_of}
@@ -23,9 +23,9 @@ module _ {S : Type 0} (joins : S → Call → Answer → S → Type 0) where
   -- its tickets go, and what is left is how it ended
   pub closes : (ending : Ending) (mark : Mark) (before after : PlayerView) (a b : S) → after.state ≡ before.state →
       Runs joins a (giving_up (gone_at ending before.state.is_open mark before.context.kept) before.context) (Ok tt, after.context) b →
-      Runs joins a (closing ending mark (at_rest before)) (ended ending (record { context = after.context; state = state_after ending after.state; left = None })) b
+      Runs joins a (letting_go ending mark (at_rest before)) (ended ending (record { context = after.context; state = state_after ending after.state; left = None })) b
   closes ending mark before after a b same run =
-      subst (λ (s : State). Runs joins a (closing ending mark (at_rest before)) (ended ending (record { context = after.context; state = state_after ending s; left = None })) b) (sym same)
+      subst (λ (s : State). Runs joins a (letting_go ending mark (at_rest before)) (ended ending (record { context = after.context; state = state_after ending s; left = None })) b) (sym same)
       (runs_bind joins (giving_up (gone_at ending before.state.is_open mark before.context.kept) before.context)
       (λ outcome. Give (ended ending (record { context = outcome.1; state = state_after ending before.state; left = None }))) a b b _ _ run (refl, refl))
 

@@ -20,13 +20,14 @@ use Rattle.mdl_stmt.specs.declared.ending.Ending.{Ending}
 use Rattle.mdl_stmt.specs.declared.ending.Ending.TheVariants.{Answers, Misses, Falls, Starves}
 use Rattle.mdl_stmt.specs.declared.reply.Reply.{Reply}
 use Rattle.mdl_stmt.specs.declared.reply.Reply.TheVariants as reply
-use Rattle.mdl_stmt.specs.Endings.{Pause, Begins_to_wait, Waits_on, Faults, closing, ended, ending_of_error, ending_of_loss, ending_of_refusal, gone_at, state_after}
+use Rattle.mdl_stmt.specs.Endings.{Pause, Begins_to_wait, Waits_on, Faults, closing, ended, ending_of_error, ending_of_loss, ending_of_refusal, gone_at, letting_go, state_after, without_half}
 use Rattle.mdl_stmt.specs.MemoryLaws.{session_at, SessionsKeepTheirNumber, StatementsCallForTheirSession}
 use Rattle.mdl_stmt.specs.Playing as playing
 use Rattle.mdl_stmt.specs.Playing.{play, with_context}
 use Rattle.mdl_stmt.specs.Rows.{Row}
 use Rattle.mdl_stmt.specs.Rows as row
 use Rattle.mdl_stmt.specs.Sessions.{Left, Session}
+use Rattle.mdl_stmt.specs.States.{half_lock, without_read_lock}
 use Rattle.mdl_stmt.specs.Statements.{row_of}
 use Rattle.mdl_context.proofs.WhoLemmas.{StaysOf, of_acquiring, of_resuming, of_giving_up_wait, of_giving_up, of_releasing}
 
@@ -67,12 +68,21 @@ own_ended (Misses number) session = own_give (ended (Misses number) session)
 own_ended Falls session = own_give (ended Falls session)
 own_ended Starves session = own_give (ended Starves session)
 
-own_closing : (ending : Ending) (mark : Mark) (session : Session) → IsOwn session.context.who (closing ending mark session)
-own_closing ending mark session =
+own_letting_go : (ending : Ending) (mark : Mark) (session : Session) → IsOwn session.context.who (letting_go ending mark session)
+own_letting_go ending mark session =
     let gone = gone_at ending session.state.is_open mark session.context.kept in
     let after : Outcome (Unit {0}) → Session = λ outcome. record { context = outcome.1; state = state_after ending session.state; left = None } in
     own_bind {A = Unit {0}} session.context.who (giving_up gone session.context) (λ outcome. Give (ended ending (after outcome)))
     (own_giving_up gone session.context) (of_giving_up gone session.context) (λ outcome. own_ended ending (after outcome))
+
+own_closing : (ending : Ending) (mark : Mark) (session : Session) → IsOwn session.context.who (closing ending mark session)
+own_closing ending mark session = by (half_lock (state_after ending session.state)) where
+  by : (half : Option ℕ) → IsOwn session.context.who (without_half half ending mark (record session { left = None }))
+  by None = own_letting_go ending mark (record session { left = None })
+  by (Some global) =
+      let after : Outcome (Unit {0}) → Session = λ outcome. record { context = outcome.1; state = without_read_lock session.state; left = None } in
+      own_bind {A = Unit {0}} session.context.who (releasing global session.context) (λ outcome. letting_go ending mark (after outcome))
+      (own_releasing global session.context) (of_releasing global session.context) (λ outcome. own_letting_go ending mark (after outcome))
 
 -- ---- locks
 

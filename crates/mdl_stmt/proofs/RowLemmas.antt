@@ -47,17 +47,11 @@ read_lock-so x rest test e mark = sym (ap (λ (t : Bool). play (check (not t) Co
 -- all others are done once the transaction is committed
 pub after-others : (st : Statement) → (st ≡ statement.Begin → ⊥) → ((table : KeyName) (columns : List (List ℕ)) → st ≡ statement.CreateTable table columns → ⊥) →
     ((name : List ℕ) → st ≡ statement.CreateSchema name → ⊥) → ((tables : List KeyName) → st ≡ statement.DropTables tables → ⊥) →
-    ((from to : KeyName) → st ≡ statement.RenameTable from to → ⊥) → after_commit st ≡ Give reply.Ok
-after-others statement.Begin a b c d e = absurd (a refl)
-after-others statement.Commit a b c d e = refl
-after-others statement.Rollback a b c d e = refl
-after-others (statement.Savepoint name) a b c d e = refl
-after-others (statement.RollbackTo name) a b c d e = refl
-after-others (statement.Select tables) a b c d e = refl
-after-others (statement.Write table priority) a b c d e = refl
-after-others (statement.CreateTable table columns) a b c d e = absurd (b table columns refl)
-after-others (statement.CreateSchema name) a b c d e = absurd (c name refl)
-after-others (statement.DropTables tables) a b c d e = absurd (d tables refl)
-after-others (statement.RenameTable from to) a b c d e = absurd (e from to refl)
-after-others (statement.KillQuery target) a b c d e = refl
-after-others statement.Timeout a b c d e = refl
+    ((from to : KeyName) → st ≡ statement.RenameTable from to → ⊥) → (st ≡ statement.FlushTablesWithReadLock → ⊥) → after_commit st ≡ Give reply.Ok
+after-others statement.Begin a b c d e f = absurd (a refl)
+after-others (statement.CreateTable table columns) a b c d e f = absurd (b table columns refl)
+after-others (statement.CreateSchema name) a b c d e f = absurd (c name refl)
+after-others (statement.DropTables tables) a b c d e f = absurd (d tables refl)
+after-others (statement.RenameTable from to) a b c d e f = absurd (e from to refl)
+after-others statement.FlushTablesWithReadLock a b c d e f = absurd (f refl)
+after-others _ a b c d e f = refl

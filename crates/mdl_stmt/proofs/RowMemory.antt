@@ -20,13 +20,14 @@ use Rattle.mdl_stmt.specs.declared.ending.Ending.{Ending}
 use Rattle.mdl_stmt.specs.declared.ending.Ending.TheVariants.{Answers, Starves}
 use Rattle.mdl_stmt.specs.declared.reply.Reply.{Reply}
 use Rattle.mdl_stmt.specs.declared.reply.Reply.TheVariants as reply
-use Rattle.mdl_stmt.specs.Endings.{Pause, closing, ended, ending_of_error, ending_of_loss, ending_of_refusal, gone_at, state_after}
+use Rattle.mdl_stmt.specs.Endings.{Pause, closing, ended, ending_of_error, ending_of_loss, ending_of_refusal, gone_at, letting_go, state_after, without_half}
 use Rattle.mdl_stmt.specs.MemoryLaws.{IsFault, StatementsTellOfWant}
 use Rattle.mdl_stmt.specs.Playing as playing
 use Rattle.mdl_stmt.specs.Playing.{play, with_context}
 use Rattle.mdl_stmt.specs.Rows.{Row}
 use Rattle.mdl_stmt.specs.Rows as row
 use Rattle.mdl_stmt.specs.Sessions.{Left, Session}
+use Rattle.mdl_stmt.specs.States.{half_lock, without_read_lock}
 use Rattle.mdl_stmt.specs.Statements.{row_of}
 
 -- first what takes no memory, and then what tells of want of it
@@ -38,19 +39,37 @@ frugal_first {A} first next made later =
 -- ---- ends
 
 -- an end takes no memory
-faithful_closing : (ending : Ending) (mark : Mark) (session : Session) → IsFaithful IsFault (closing ending mark session)
-faithful_closing ending mark session =
+faithful_letting_go : (ending : Ending) (mark : Mark) (session : Session) → IsFaithful IsFault (letting_go ending mark session)
+faithful_letting_go ending mark session =
     let gone = gone_at ending session.state.is_open mark session.context.kept in
     frugal_first {A = Outcome (Unit {0})} (giving_up gone session.context)
     (λ outcome. Give (ended ending (record { context = outcome.1; state = state_after ending session.state; left = None })))
     (frugal_giving_up gone session.context) (λ _. tt)
 
+faithful_closing : (ending : Ending) (mark : Mark) (session : Session) → IsFaithful IsFault (closing ending mark session)
+faithful_closing ending mark session = by (half_lock (state_after ending session.state)) where
+  by : (half : Option ℕ) → IsFaithful IsFault (without_half half ending mark (record session { left = None }))
+  by None = faithful_letting_go ending mark (record session { left = None })
+  by (Some global) =
+      let after : Outcome (Unit {0}) → Session = λ outcome. record { context = outcome.1; state = without_read_lock session.state; left = None } in
+      frugal_first {A = Outcome (Unit {0})} (releasing global session.context) (λ outcome. letting_go ending mark (after outcome))
+      (frugal_releasing global session.context) (λ outcome. faithful_letting_go ending mark (after outcome))
+
 -- an end for want of memory is told
-each_starves : (mark : Mark) (session : Session) → Each IsFault (closing Starves mark session)
-each_starves mark session =
+each_letting_go : (mark : Mark) (session : Session) → Each IsFault (letting_go Starves mark session)
+each_letting_go mark session =
     each_then {A = Outcome (Unit {0})} {B = Pause} IsFault
     (giving_up (gone_at Starves session.state.is_open mark session.context.kept) session.context)
     (λ outcome. Give (ended Starves (record { context = outcome.1; state = state_after Starves session.state; left = None }))) (λ _. tt)
+
+each_starves : (mark : Mark) (session : Session) → Each IsFault (closing Starves mark session)
+each_starves mark session = by (half_lock session.state) where
+  by : (half : Option ℕ) → Each IsFault (without_half half Starves mark (record session { left = None }))
+  by None = each_letting_go mark (record session { left = None })
+  by (Some global) =
+      let after : Outcome (Unit {0}) → Session = λ outcome. record { context = outcome.1; state = without_read_lock session.state; left = None } in
+      each_then {A = Outcome (Unit {0})} {B = Pause} IsFault (releasing global session.context) (λ outcome. letting_go Starves mark (after outcome))
+      (λ outcome. each_letting_go mark (after outcome))
 
 -- ---- locks
 

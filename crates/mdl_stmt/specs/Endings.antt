@@ -1,7 +1,7 @@
 -- How a statement ends, and what goes then. That a statement whose check failed keeps the locks of its transaction is after MySQL
 -- 5.7, the Reference Manual, "Metadata Locking"; that one which misses a lock goes back to where it began, and that a transaction
 -- stays open whose COMMIT lock was missed, is this project's own choice.
-use Rattle.std.specs.Prelude.{Bool, true, List, None}
+use Rattle.std.specs.Prelude.{ℕ, Bool, true, List, Option, Some, None}
 use Rattle.mdl_key.specs.declared.mode.Mode.{Mode}
 use Rattle.mdl_key.specs.declared.mode.Duration.TheVariants as for
 use Rattle.mdl_key.specs.Keys.{KeyName}
@@ -15,14 +15,14 @@ use Rattle.mdl_context.specs.declared.context_error.ContextError.TheVariants.{Sp
 use Rattle.mdl_context.specs.declared.kept.Kept.{Kept}
 use Rattle.mdl_context.specs.declared.request.Mark.{Mark}
 use Rattle.mdl_context.specs.Contexts.{held_for, beyond_mark, of_transaction}
-use Rattle.mdl_context.specs.Releases.{giving_up}
+use Rattle.mdl_context.specs.Releases.{giving_up, releasing}
 use Rattle.mdl_stmt.specs.declared.ending.Ending.{Ending}
 use Rattle.mdl_stmt.specs.declared.ending.Ending.TheVariants.{Answers, Misses, Falls, Starves}
 use Rattle.mdl_stmt.specs.declared.error_number.ErrorNumber.TheVariants.{LockWaitTimeout, Deadlock, Interrupted, NoPlace, Full}
 use Rattle.mdl_stmt.specs.declared.reply.Reply.{Reply}
 use Rattle.mdl_stmt.specs.declared.reply.Reply.TheVariants as reply
 use Rattle.mdl_stmt.specs.Sessions.{Session}
-use Rattle.mdl_stmt.specs.States.{State, closed}
+use Rattle.mdl_stmt.specs.States.{State, closed, half_lock, without_read_lock}
 
 -- how far a statement comes: it ends with a reply; it begins to wait, for a lock of this key in this mode; it waits on; or it
 -- ends for want of memory
@@ -71,8 +71,19 @@ ended (Misses number) session = Ends (reply.Error number) session
 ended Falls session = Ends (reply.Error Deadlock) session
 ended Starves session = Faults session
 
--- a statement ends
-abbrev pub closing : Ending → Mark → Session → Program Pause
-closing ending mark session =
+-- the tickets go that go as a statement ends
+abbrev pub letting_go : Ending → Mark → Session → Program Pause
+letting_go ending mark session =
     giving_up (gone_at ending session.state.is_open mark session.context.kept) session.context
     >>= λ outcome. Give (ended ending (record { context = outcome.1; state = state_after ending session.state; left = None }))
+
+-- the lock of all writes goes first, where it was to become the global read lock
+abbrev pub without_half : Option ℕ → Ending → Mark → Session → Program Pause
+without_half None ending mark session = letting_go ending mark session
+without_half (Some global) ending mark session =
+    releasing global session.context
+    >>= λ outcome. letting_go ending mark (record session { context = outcome.1; state = without_read_lock session.state })
+
+-- a statement ends
+abbrev pub closing : Ending → Mark → Session → Program Pause
+closing ending mark session = without_half (half_lock (state_after ending session.state)) ending mark (record session { left = None })

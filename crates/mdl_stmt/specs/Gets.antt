@@ -21,7 +21,7 @@ use Rattle.mdl_stmt.specs.declared.ending.Played.TheVariants as played
 use Rattle.mdl_stmt.specs.declared.reply.Progress.{Progress}
 use Rattle.mdl_stmt.specs.declared.reply.Progress.TheVariants.{Waiting, Pending, Done}
 use Rattle.mdl_stmt.specs.declared.reply.Reply.{Reply}
-use Rattle.mdl_stmt.specs.Endings.{Pause, Ends, Begins_to_wait, Waits_on, Faults, closing}
+use Rattle.mdl_stmt.specs.Endings.{Pause, Ends, Begins_to_wait, Waits_on, Faults, closing, letting_go}
 use Rattle.mdl_stmt.specs.LockLists.{LockList, with_ticket}
 use Rattle.mdl_stmt.specs.Playing.{play, untold, with_left}
 use Rattle.mdl_stmt.specs.Rows.{Row, Act, Acquire, ◌>>=◌, ◌>>◌}
@@ -82,6 +82,11 @@ IdleUnlessPlayed (played.Waits key mode stage) player = Unit {0}
 pub record IsDropped {S : Type 0} (joins : S → Call → Answer → S → Type 0) (a : S) (before : PlayerView) (b : S) (after : PlayerView) : Type 0 where
   pub so : (mark : Mark) (pause : Pause) (c : S) → Runs joins b (closing Starves mark (at_rest after)) pause c
       → Runs joins a (call.◌>>=◌ (giving_up_wait before.context) (untold mark (at_rest before))) pause c
+
+-- the lock of all writes was given up that was to become the global read lock, where there was one, and what else goes is to go
+abbrev pub IsWithoutHalf : {S : Type 0} → (S → Call → Answer → S → Type 0) → Ending → S → PlayerView → S → PlayerView → Type 0
+IsWithoutHalf {S} joins ending a before b after =
+    (mark : Mark) (pause : Pause) (c : S) → Runs joins b (letting_go ending mark (at_rest after)) pause c → Runs joins a (closing ending mark (at_rest before)) pause c
 
 -- a wait has begun, and is to be told
 abbrev pub IsTold : {S : Type 0} → (S → Call → Answer → S → Type 0) → KeyName → S → PlayerView → Got ℕ → S → PlayerView → Type 0

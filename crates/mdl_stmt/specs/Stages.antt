@@ -7,11 +7,11 @@ use Rattle.mdl_stmt.specs.declared.reply.Reply.TheVariants as reply
 use Rattle.mdl_stmt.specs.declared.reply.TableShown.{TableShown}
 use Rattle.mdl_stmt.specs.declared.runner.Work.{Work}
 use Rattle.mdl_stmt.specs.declared.stage.Stage.{Stage}
-use Rattle.mdl_stmt.specs.declared.stage.Stage.TheVariants.{Commit, Show, WriteGlobal, WriteTable, CommitWrite, CreateGlobal, CreateSchema, CreateTable, SchemaGlobal, NewSchema, DropScopes, DropTables, RenameScopes, RenameTables}
+use Rattle.mdl_stmt.specs.declared.stage.Stage.TheVariants.{Commit, Show, WriteGlobal, WriteTable, CommitWrite, CreateGlobal, CreateSchema, CreateTable, SchemaGlobal, NewSchema, DropScopes, DropTables, RenameScopes, RenameTables, FlushGlobal, FlushCommit}
 use Rattle.mdl_stmt.specs.LockLists.{LockList, ticket_of, with_ticket}
 use Rattle.mdl_stmt.specs.Rows.{Row, Give, ◌>>=◌, ◌>>◌, acquire_all}
 use Rattle.mdl_stmt.specs.Sessions.{Left, RunnerView, Session}
-use Rattle.mdl_stmt.specs.Statements.{after_commit, end_under, show, show_all, lock_to_read, lock_and_write, write_under, ddl_lock, lock_schema_and_create, lock_and_create, create_under, lock_and_create_schema, create_schema_under, lock_and_drop, drop_under, lock_and_rename, rename_under, schema_of}
+use Rattle.mdl_stmt.specs.Statements.{after_commit, end_under, show, show_all, lock_to_read, lock_and_write, write_under, ddl_lock, lock_schema_and_create, lock_and_create, create_under, lock_and_create_schema, create_schema_under, lock_and_drop, drop_under, lock_and_rename, rename_under, schema_of, lock_commits, read_lock_under}
 
 -- the first of these tables is locked
 abbrev pub show_next : List TableShown → List KeyName → ℕ → Row Reply
@@ -49,6 +49,8 @@ rest_of (DropScopes tables locks) ticket = lock_rest (with_ticket ticket locks) 
 rest_of (DropTables locks) ticket = lock_rest (with_ticket ticket locks) drop_under
 rest_of (RenameScopes from to locks) ticket = rename_scopes from.now to.now (with_ticket ticket locks) locks.keys
 rest_of (RenameTables from to schema locks) ticket = rename_names from.now to.now schema (with_ticket ticket locks) locks.keys
+rest_of FlushGlobal global = lock_commits global
+rest_of FlushCommit commit = read_lock_under commit
 
 -- the same with where the session stood as the statement began
 abbrev pub left_of : Work → Left

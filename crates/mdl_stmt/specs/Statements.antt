@@ -6,7 +6,7 @@
 -- since, whatever was written, and leaves the transaction one that wrote, and that KILL QUERY is always done.
 use Rattle.std.specs.Prelude.{ℕ, Bool, not, nat_lt, List, [], ◌∷◌, ◌++◌, map, find, is_some, Option, Some, None, if◌then◌else◌}
 use Rattle.mdl_key.specs.declared.mode.Mode.{Mode}
-use Rattle.mdl_key.specs.declared.mode.Mode.TheVariants.{IX, SR, SW, SWLP, X}
+use Rattle.mdl_key.specs.declared.mode.Mode.TheVariants.{IX, S, SR, SW, SWLP, X}
 use Rattle.mdl_key.specs.declared.mode.Duration.TheVariants as for
 use Rattle.mdl_key.specs.declared.namespace.Namespace.{Namespace}
 use Rattle.mdl_key.specs.declared.namespace.Namespace.TheVariants as of
@@ -25,13 +25,14 @@ use Rattle.mdl_context.specs.Contexts.{beyond_mark, of_transaction}
 use Rattle.mdl_context.specs.Wishes.{Wish}
 use Rattle.mdl_stmt.specs.declared.error_number.ErrorNumber.TheVariants.{SchemaExists, UnknownDatabase, TableExists, DuplicateColumn, TableLockedForRead, TableNotLocked, NoSuchTable, ActiveLocks, ConflictingReadLock, NoSuchSavepoint, VersionLimit}
 use Rattle.mdl_stmt.specs.declared.explicit.Locked.{Locked}
+use Rattle.mdl_stmt.specs.declared.explicit.ReadLock.{ReadLock}
 use Rattle.mdl_stmt.specs.declared.reply.Reply.{Reply}
 use Rattle.mdl_stmt.specs.declared.reply.Reply.TheVariants as reply
 use Rattle.mdl_stmt.specs.declared.reply.TableShown.{TableShown}
 use Rattle.mdl_stmt.specs.KeyOrder.{in_key_order}
 use Rattle.mdl_stmt.specs.LockLists.{ticket_of}
 use Rattle.mdl_stmt.specs.Rows.{Row, Act, Give, Fail, Acquire, ◌>>=◌, ◌>>◌, nothing, room, look, set, here, acquire, give_up, release, read, redefine, kill, check, acquire_all, for_each}
-use Rattle.mdl_stmt.specs.States.{has_locked, opened, closed, written, unlocked, with_savepoint, savepoint_mark, up_to}
+use Rattle.mdl_stmt.specs.States.{has_locked, opened, closed, written, unlocked, with_commits_locked, with_savepoint, with_writes_locked, without_read_lock, savepoint_mark, up_to}
 
 -- ---- transactions
 
@@ -433,6 +434,60 @@ rename_after_commit from to = do
   room
   scopes ← acquire_all (map ddl_lock (both_scopes from to))
   lock_and_rename from to (ticket_of (schema_of to) (both_scopes from to) scopes)
+-- ---- UNLOCK TABLES
+
+-- the ticket of the COMMIT lock goes, where there is one
+abbrev pub release_commits : Option ℕ → Act
+release_commits None = nothing
+release_commits (Some commit) = release commit
+
+-- the tickets of a global read lock go
+abbrev pub release_read_lock : Option ReadLock → Act
+release_read_lock None = nothing
+release_read_lock (Some lock) = do
+  release_commits lock.commit
+  release lock.global
+
+-- the global read lock is given up
+abbrev pub give_up_read_lock : Act
+give_up_read_lock = do
+  state ← look
+  release_read_lock state.read_lock
+  set without_read_lock
+
+-- UNLOCK TABLES: a transaction that is open stays so
+abbrev pub unlock : Row Reply
+unlock = do
+  unlock_tables
+  give_up_read_lock
+  Give reply.Ok
+
+-- ---- FLUSH TABLES WITH READ LOCK
+
+-- with the COMMIT lock the session has the global read lock
+abbrev pub read_lock_under : ℕ → Row Reply
+read_lock_under commit = do
+  set (with_commits_locked commit)
+  Give reply.Ok
+
+-- all commits are locked beside all writes. Where that lock isn't had, the other one goes as the statement ends
+abbrev pub lock_commits : ℕ → Row Reply
+lock_commits global = do
+  set (with_writes_locked global)
+  commit ← acquire commit_key S for.Explicit
+  read_lock_under commit
+
+-- all writes are locked, and then all commits
+abbrev pub get_read_lock : Row Reply
+get_read_lock = do
+  global ← acquire global_key S for.Explicit
+  lock_commits global
+
+-- FLUSH TABLES WITH READ LOCK, once no transaction is open: nothing more, where the session has the global read lock
+abbrev pub flush_after_commit : Row Reply
+flush_after_commit = do
+  state ← look
+  if is_some state.read_lock then Give reply.Ok else get_read_lock
 
 -- ---- the table
 
@@ -444,6 +499,10 @@ commit_first rest = commit >> rest
 abbrev pub ddl_first : Row Reply → Row Reply
 ddl_first rest = ddl >> rest
 
+-- tables that are locked are looked at before
+abbrev pub flush_first : Row Reply → Row Reply
+flush_first rest = no_locked_tables >> commit_first rest
+
 -- what is left of a statement once no transaction is open that it has to commit
 abbrev pub after_commit : Statement → Row Reply
 after_commit statement.Begin = begin_after_commit
@@ -451,6 +510,7 @@ after_commit (statement.CreateTable table columns) = create_after_commit table c
 after_commit (statement.CreateSchema name) = create_schema_after_commit name
 after_commit (statement.DropTables tables) = drop_after_commit tables
 after_commit (statement.RenameTable from to) = rename_after_commit from to
+after_commit statement.FlushTablesWithReadLock = flush_after_commit
 after_commit _ = Give reply.Ok
 
 -- what a statement does
@@ -466,5 +526,7 @@ row_of (statement.CreateTable table columns) = ddl_first (create_after_commit ta
 row_of (statement.CreateSchema name) = ddl_first (create_schema_after_commit name)
 row_of (statement.DropTables tables) = ddl_first (drop_after_commit tables)
 row_of (statement.RenameTable from to) = ddl_first (rename_after_commit from to)
+row_of statement.UnlockTables = unlock
+row_of statement.FlushTablesWithReadLock = flush_first flush_after_commit
 row_of (statement.KillQuery target) = kill target >> Give reply.Ok
 row_of statement.Timeout = Give reply.Ok

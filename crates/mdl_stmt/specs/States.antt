@@ -1,6 +1,6 @@
 -- What a session keeps beside its tickets, after MySQL 5.7: `THD::locked_tables_list` and `Global_read_lock` of sql/sql_class.h, and
 -- the Reference Manual, "START TRANSACTION, COMMIT, and ROLLBACK Statements".
-use Rattle.std.specs.Prelude.{ℕ, Bool, true, false, not, List, [], ◌∷◌, ◌++◌, filter, find, Option, None, if◌then◌else◌}
+use Rattle.std.specs.Prelude.{ℕ, Bool, true, false, not, List, [], ◌∷◌, ◌++◌, filter, find, is_some, Option, Some, None, if◌then◌else◌}
 use Rattle.std.specs.Option.{option_map}
 use lib.Pointwise.{pointwise}
 use Rattle.std.specs.Prelude.{◌==◌}
@@ -49,6 +49,31 @@ written state = record state { has_written = true }
 -- without locked tables
 abbrev pub unlocked : State → State
 unlocked state = record state { locked = []; scopes = [] }
+
+-- with the lock of all writes, which is to become the global read lock
+abbrev pub with_writes_locked : ℕ → State → State
+with_writes_locked global state = record state { read_lock = Some (record { global = global; commit = None }) }
+
+-- a read lock with this ticket of the COMMIT lock
+abbrev pub with_commit : ℕ → ReadLock → ReadLock
+with_commit commit lock = record { global = lock.global; commit = Some commit }
+
+-- with the COMMIT lock beside it
+abbrev pub with_commits_locked : ℕ → State → State
+with_commits_locked commit state = record state { read_lock = option_map (with_commit commit) state.read_lock }
+
+-- without the global read lock
+abbrev pub without_read_lock : State → State
+without_read_lock state = record state { read_lock = None }
+
+-- the ticket of the lock of all writes, where the COMMIT lock isn't had beside it
+abbrev pub lone_ticket : Option ReadLock → Option ℕ
+lone_ticket None = None
+lone_ticket (Some lock) = if is_some lock.commit then None else Some lock.global
+
+-- that of a session that is about to get the global read lock: no transaction is open meanwhile
+abbrev pub half_lock : State → Option ℕ
+half_lock state = if state.is_open then None else lone_ticket state.read_lock
 
 -- whether a savepoint has this name
 abbrev pub is_named : List ℕ → Savepoint → Bool

@@ -1,8 +1,8 @@
 //! What a session keeps locked until it gives it up.
-ghost use Rattle.std.specs.Prelude.{◌≡◌, [], None, find, is_some};
+ghost use Rattle.std.specs.Prelude.{◌≡◌, [], Some, None, find, is_some};
 ghost use Rattle.std.specs.Option.{option_map};
 ghost use Rattle.mdl_key.specs.Keys.{key_eq};
-ghost use Rattle.mdl_stmt.specs.States.{has_locked};
+ghost use Rattle.mdl_stmt.specs.States.{has_locked, lone_ticket, with_commit};
 
 use mdl_key::Key;
 use mdl_space::TicketId;
@@ -69,6 +69,52 @@ impl ExplicitLocks {
         ensures { result ≡ is_some self.now.read_lock }
     {
         self.read_lock.is_some()
+    }
+
+    /// The global read lock, if the session has it.
+    pub(crate) fn read_lock(&self) -> Option<ReadLock>
+        ensures { result ≡ self.now.read_lock }
+    {
+        self.read_lock
+    }
+
+    /// The ticket of the lock of all writes, where the COMMIT lock isn't had beside it.
+    pub(crate) fn lone_ticket(&self) -> Option<TicketId>
+        ensures { result ≡ lone_ticket self.now.read_lock }
+    {
+        match self.read_lock {
+            Some(ReadLock {
+                global,
+                commit: None,
+            }) => Some(global),
+            _ => None,
+        }
+    }
+
+    /// Notes that all writes are locked.
+    pub(crate) fn lock_writes(&mut self, global: TicketId)
+        ensures { self.new ≡ record self.old { read_lock = Some (record { global = global; commit = None }) } }
+    {
+        self.read_lock = Some(ReadLock {
+            global,
+            commit: None,
+        });
+    }
+
+    /// Notes that all commits are locked beside all writes.
+    pub(crate) fn lock_commits(&mut self, commit: TicketId)
+        ensures { self.new ≡ record self.old { read_lock = option_map (with_commit commit) self.old.read_lock } }
+    {
+        if let Some(lock) = &mut self.read_lock {
+            lock.commit = Some(commit);
+        }
+    }
+
+    /// The session has no global read lock any more.
+    pub(crate) fn clear_read_lock(&mut self)
+        ensures { self.new ≡ record self.old { read_lock = None } }
+    {
+        self.read_lock = None;
     }
 
     /// How a table is locked, if it is.

@@ -7,6 +7,7 @@ mod dropping;
 mod ending;
 mod error_number;
 mod explicit;
+mod flushing;
 mod key_lists;
 mod memory_laws;
 mod out_of_memory;

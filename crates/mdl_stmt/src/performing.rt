@@ -43,6 +43,8 @@ impl<S: LockSpace> Player<S> {
             Statement::RollbackTo(name) => Played::Ends(self.rollback_to(space, name)),
             Statement::Select(tables) => self.select(space, tables.as_slice()),
             Statement::Write { table, priority } => self.write(space, table, *priority),
+            Statement::UnlockTables => Played::Ends(self.unlock(space)),
+            Statement::FlushTablesWithReadLock => self.flush(space, statement),
             Statement::KillQuery(target) => {
                 self.kill(space, *target);
                 Played::Ends(Ending::Answers(Reply::Ok))
@@ -118,6 +120,8 @@ impl<S: LockSpace> Player<S> {
             Stage::RenameTables(from, to, schema, locks) => {
                 self.lock_names(space, from, to, schema, locks.with(ticket))
             }
+            Stage::FlushGlobal => self.lock_commits(space, ticket),
+            Stage::FlushCommit => Played::Ends(self.read_lock_under(space, ticket)),
         }
     }
 
@@ -136,6 +140,7 @@ impl<S: LockSpace> Player<S> {
         ensures who { self.new.context.who ≡ self.old.context.who }
         ensures idle { self.new.context.wait ≡ None }
     {
+        self.drop_half(space, &ending);
         self.let_go(space, &ending, mark);
         match ending {
             Ending::Answers(reply) => Ok(Progress::Done(reply)),

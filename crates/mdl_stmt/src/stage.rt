@@ -117,4 +117,8 @@ pub enum Stage<'s> {
     RenameScopes(&'s Key, &'s Key, LockList),
     /// The lock of one of its names, under that of the schema that it comes into.
     RenameTables(&'s Key, &'s Key, TicketId, LockList),
+    /// The lock of all writes, for the global read lock.
+    FlushGlobal,
+    /// The COMMIT lock beside it.
+    FlushCommit,
 }

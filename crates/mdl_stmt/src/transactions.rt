@@ -124,6 +124,7 @@ impl<S: LockSpace> Player<S> {
             Statement::CreateSchema(name) => self.create_schema(space, name),
             Statement::DropTables(tables) => self.drop_tables(space, tables),
             Statement::RenameTable { from, to } => self.rename(space, from, to),
+            Statement::FlushTablesWithReadLock => self.flush_after_commit(space),
             _ => Played::Ends(Ending::Answers(Reply::Ok)),
         }
     }

@@ -1,12 +1,15 @@
-//! Locks given up that a session kept until it gave them up.
+//! UNLOCK TABLES, and what else a session gives up that it has kept until then.
 ghost use Rattle.std.specs.Prelude.{◌≡◌, None, Ok, map};
 ghost use Rattle.mdl_context.specs.Contexts.{Attends, LeavesOthers};
-ghost use Rattle.mdl_stmt.specs.Gets.{IsStep};
+ghost use Rattle.mdl_stmt.specs.Gets.{IsPlayed, IsStep};
 ghost use Rattle.mdl_stmt.specs.Rows.{for_each, release};
-ghost use Rattle.mdl_stmt.specs.Statements.{unlock_tables};
+ghost use Rattle.mdl_stmt.specs.Statements.{give_up_read_lock, release_commits, release_read_lock, unlock, unlock_tables};
 ghost use Rattle.mdl_stmt.specs.States.{State};
+ghost use Rattle.mdl_stmt.specs.declared.ending.Played.TheVariants as played;
 
-use crate::explicit::Locked;
+use crate::Reply;
+use crate::ending::Ending;
+use crate::explicit::{Locked, ReadLock};
 use crate::player::Player;
 use mdl_context::Context;
 use mdl_space::{LockSpace, TicketId};
@@ -25,6 +28,80 @@ impl<S: LockSpace> Player<S> {
         release_tables(&mut self.context, space, self.explicit.tables());
         release_each(&mut self.context, space, self.explicit.scopes());
         self.explicit.clear_tables();
+    }
+
+    /// Gives locked tables up, and the global read lock.
+    pub(crate) fn unlock(&mut self, space: &mut S) -> Ending
+        requires attends { Attends S.speaks_for S.own S.knows space.old self.old.context }
+        requires idle { self.old.context.wait ≡ None }
+        ensures run { IsPlayed S.joins unlock space.old self.old (played.Ends result) space.new self.new }
+        ensures attends { Attends S.speaks_for S.own S.knows space.new self.new.context }
+        ensures others { LeavesOthers S.speaks_for S.own S.knows self.old.context.who space.old space.new }
+        ensures who { self.new.context.who ≡ self.old.context.who }
+        ensures idle { self.new.context.wait ≡ None }
+    {
+        self.unlock_tables(space);
+        self.give_up_read_lock(space);
+        Ending::Answers(Reply::Ok)
+    }
+
+    /// Gives the global read lock up.
+    fn give_up_read_lock(&mut self, space: &mut S)
+        requires attends { Attends S.speaks_for S.own S.knows space.old self.old.context }
+        requires idle { self.old.context.wait ≡ None }
+        ensures run { IsStep S.joins give_up_read_lock space.old self.old (Ok tt) space.new self.new }
+        ensures attends { Attends S.speaks_for S.own S.knows space.new self.new.context }
+        ensures others { LeavesOthers S.speaks_for S.own S.knows self.old.context.who space.old space.new }
+        ensures who { self.new.context.who ≡ self.old.context.who }
+        ensures idle { self.new.context.wait ≡ None }
+    {
+        let lock = self.explicit.read_lock();
+        self.release_read_lock(space, lock);
+        self.explicit.clear_read_lock();
+    }
+
+    /// Releases the tickets of a global read lock.
+    fn release_read_lock(&mut self, space: &mut S, lock: Option<ReadLock>)
+        requires attends { Attends S.speaks_for S.own S.knows space.old self.old.context }
+        requires idle { self.old.context.wait ≡ None }
+        ensures run { IsStep S.joins (release_read_lock lock) space.old self.old (Ok tt) space.new self.new }
+        ensures attends { Attends S.speaks_for S.own S.knows space.new self.new.context }
+        ensures others { LeavesOthers S.speaks_for S.own S.knows self.old.context.who space.old space.new }
+        ensures who { self.new.context.who ≡ self.old.context.who }
+        ensures idle { self.new.context.wait ≡ None }
+    {
+        if let Some(lock) = lock {
+            self.release_commits(space, lock.commit);
+            self.release(space, lock.global);
+        }
+    }
+
+    /// Releases the ticket of the COMMIT lock, if there is one.
+    fn release_commits(&mut self, space: &mut S, commit: Option<TicketId>)
+        requires attends { Attends S.speaks_for S.own S.knows space.old self.old.context }
+        requires idle { self.old.context.wait ≡ None }
+        ensures run { IsStep S.joins (release_commits commit) space.old self.old (Ok tt) space.new self.new }
+        ensures attends { Attends S.speaks_for S.own S.knows space.new self.new.context }
+        ensures others { LeavesOthers S.speaks_for S.own S.knows self.old.context.who space.old space.new }
+        ensures who { self.new.context.who ≡ self.old.context.who }
+        ensures idle { self.new.context.wait ≡ None }
+    {
+        if let Some(commit) = commit {
+            self.release(space, commit);
+        }
+    }
+
+    /// Releases a ticket.
+    fn release(&mut self, space: &mut S, ticket: TicketId)
+        requires attends { Attends S.speaks_for S.own S.knows space.old self.old.context }
+        requires idle { self.old.context.wait ≡ None }
+        ensures run { IsStep S.joins (release ticket) space.old self.old (Ok tt) space.new self.new }
+        ensures attends { Attends S.speaks_for S.own S.knows space.new self.new.context }
+        ensures others { LeavesOthers S.speaks_for S.own S.knows self.old.context.who space.old space.new }
+        ensures who { self.new.context.who ≡ self.old.context.who }
+        ensures idle { self.new.context.wait ≡ None }
+    {
+        let _released = self.context.release(space, ticket);
     }
 }
 

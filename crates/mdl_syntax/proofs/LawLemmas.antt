@@ -21,7 +21,7 @@ use Rattle.mdl_syntax.specs.declared.script.Line.{Line}
 use Rattle.mdl_syntax.specs.declared.statement.Statement.{Statement}
 use Rattle.mdl_syntax.specs.declared.statement.Priority.{Priority}
 use Rattle.mdl_syntax.specs.declared.statement.Priority.TheVariants.{Normal, Low}
-use Rattle.mdl_syntax.specs.declared.statement.Statement.TheVariants.{Begin, Commit, Rollback, Savepoint, RollbackTo, Select, Write, CreateTable, CreateSchema, DropTables, RenameTable, KillQuery, Timeout}
+use Rattle.mdl_syntax.specs.declared.statement.Statement.TheVariants.{Begin, Commit, Rollback, Savepoint, RollbackTo, Select, Write, CreateTable, CreateSchema, DropTables, RenameTable, UnlockTables, FlushTablesWithReadLock, KillQuery, Timeout}
 use Rattle.mdl_syntax.specs.KeyWords.{behind}
 use Rattle.mdl_syntax.specs.Laws.{AreColumns, AreTables, IsName, IsTable, IsWithinLimits, RiseFrom}
 use Rattle.mdl_syntax.specs.Names.{is_dot, name_of, table_in, table_of, unless_fault}
@@ -225,8 +225,14 @@ forms-hold =
                                     (
                                       makes-holds AreTwo (λ named. RenameTable named.0 named.1) table_to_table table_to_table-hold (λ value h. h),
                                       (
-                                        makes-holds IsScriptSession KillQuery one_session (one_word-holds IsScriptSession BadSession session_of session_of-IsScriptSession) (λ value h. h),
-                                        (λ words. no_more-holds IsWithinLimits Timeout words tt, tt),
+                                        λ words. no_more-holds IsWithinLimits UnlockTables words tt,
+                                        (
+                                          λ words. no_more-holds IsWithinLimits FlushTablesWithReadLock words tt,
+                                          (
+                                            makes-holds IsScriptSession KillQuery one_session (one_word-holds IsScriptSession BadSession session_of session_of-IsScriptSession) (λ value h. h),
+                                            (λ words. no_more-holds IsWithinLimits Timeout words tt, tt),
+                                          ),
+                                        ),
                                       ),
                                     ),
                                   ),

@@ -11,7 +11,7 @@ use Rattle.mdl_lines.specs.Sessions.{session_of}
 use Rattle.mdl_syntax.specs.declared.statement.Priority.{Priority}
 use Rattle.mdl_syntax.specs.declared.statement.Priority.TheVariants.{Normal, Low}
 use Rattle.mdl_syntax.specs.declared.statement.Statement.{Statement}
-use Rattle.mdl_syntax.specs.declared.statement.Statement.TheVariants.{Begin, Commit, Rollback, Savepoint, RollbackTo, Select, Write, CreateTable, CreateSchema, DropTables, RenameTable, KillQuery, Timeout}
+use Rattle.mdl_syntax.specs.declared.statement.Statement.TheVariants.{Begin, Commit, Rollback, Savepoint, RollbackTo, Select, Write, CreateTable, CreateSchema, DropTables, RenameTable, UnlockTables, FlushTablesWithReadLock, KillQuery, Timeout}
 use Rattle.mdl_syntax.specs.KeyWords.{behind}
 use Rattle.mdl_syntax.specs.Names.{name_of, table_of}
 
@@ -136,6 +136,8 @@ forms =
     ∷ form (codes "CREATE SCHEMA") (makes CreateSchema one_name)
     ∷ form (codes "DROP TABLE") (makes DropTables some_tables)
     ∷ form (codes "RENAME TABLE") (makes (λ named. RenameTable named.0 named.1) table_to_table)
+    ∷ form (codes "UNLOCK TABLES") (no_more UnlockTables)
+    ∷ form (codes "FLUSH TABLES WITH READ LOCK") (no_more FlushTablesWithReadLock)
     ∷ form (codes "KILL QUERY") (makes KillQuery one_session)
     ∷ form (codes "TIMEOUT") (no_more Timeout)
     ∷ []

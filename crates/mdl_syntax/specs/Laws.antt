@@ -6,7 +6,7 @@ use Rattle.mdl_key.specs.Keys.{KeyName, key_eq, name_fault}
 use Rattle.mdl_lines.specs.Sessions.{IsScriptSession}
 use Rattle.mdl_syntax.specs.declared.script.Line.{Line}
 use Rattle.mdl_syntax.specs.declared.statement.Statement.{Statement}
-use Rattle.mdl_syntax.specs.declared.statement.Statement.TheVariants.{Begin, Commit, Rollback, Savepoint, RollbackTo, Select, Write, CreateTable, CreateSchema, DropTables, RenameTable, KillQuery, Timeout}
+use Rattle.mdl_syntax.specs.declared.statement.Statement.TheVariants.{Begin, Commit, Rollback, Savepoint, RollbackTo, Select, Write, CreateTable, CreateSchema, DropTables, RenameTable, UnlockTables, FlushTablesWithReadLock, KillQuery, Timeout}
 use Rattle.mdl_syntax.specs.Scripts.{parsed}
 
 -- a name of 1 to 64 bytes of a-z, 0-9 and _
@@ -38,6 +38,8 @@ IsWithinLimits (CreateTable table columns) = IsTable table × AreColumns columns
 IsWithinLimits (CreateSchema name) = IsName name
 IsWithinLimits (DropTables tables) = AreTables tables
 IsWithinLimits (RenameTable from to) = IsTable from × IsTable to × (key_eq from to ≡ false)
+IsWithinLimits UnlockTables = Unit {0}
+IsWithinLimits FlushTablesWithReadLock = Unit {0}
 IsWithinLimits (KillQuery session) = IsScriptSession session
 IsWithinLimits Timeout = Unit {0}
 

@@ -6,8 +6,8 @@ use Rattle.mdl_syntax.specs.declared.no_statement.NoStatement.{NoStatement}
 use Rattle.mdl_syntax.specs.declared.no_statement.NoStatement.TheVariants.{Refused, Memory}
 use Rattle.mdl_syntax.specs.declared.statement.Priority.TheVariants.{Normal, Low}
 use Rattle.mdl_syntax.specs.declared.statement.Statement.{Statement}
-use Rattle.mdl_syntax.specs.declared.statement.Statement.TheVariants.{CreateTable, CreateSchema, RenameTable}
-use Rattle.mdl_syntax.specs.Forms.{form, makes, one_name, read_by, table_and_columns, table_to_table, writes}
+use Rattle.mdl_syntax.specs.declared.statement.Statement.TheVariants.{CreateTable, CreateSchema, RenameTable, UnlockTables, FlushTablesWithReadLock}
+use Rattle.mdl_syntax.specs.Forms.{form, makes, no_more, one_name, read_by, table_and_columns, table_to_table, writes}
 use Rattle.mdl_syntax.specs.KeyWords.{behind}
 
 -- words that say this are read so: what is refused is told as refused, whether or not there is memory
@@ -30,3 +30,11 @@ create_of words =
 abbrev pub rename_of : List (List ℕ) → Result Statement LineError
 rename_of words =
     read_by (form (codes "TABLE") (makes (λ named. RenameTable named.0 named.1) table_to_table)) (behind (codes "TABLE" ∷ []) words) (Err BadWord)
+-- what the words behind UNLOCK say
+abbrev pub unlock_of : List (List ℕ) → Result Statement LineError
+unlock_of words = read_by (form (codes "TABLES") (no_more UnlockTables)) (behind (codes "TABLES" ∷ []) words) (Err BadWord)
+
+-- what the words behind FLUSH say
+abbrev pub flush_of : List (List ℕ) → Result Statement LineError
+flush_of words =
+    read_by (form (codes "TABLES WITH READ LOCK") (no_more FlushTablesWithReadLock)) (behind (codes "TABLES" ∷ codes "WITH" ∷ codes "READ" ∷ codes "LOCK" ∷ []) words) (Err BadWord)

@@ -4,7 +4,7 @@ ghost use Rattle.mdl_key.specs.Keys.{table_key};
 ghost use Rattle.mdl_lines.specs.Lines.{words_of};
 ghost use Rattle.mdl_syntax.specs.declared.statement.Statement.TheVariants.{Savepoint, RollbackTo, CreateTable, RenameTable, KillQuery};
 ghost use Rattle.mdl_syntax.specs.Forms as forms;
-ghost use Rattle.mdl_syntax.specs.Reading.{ReadsAs, create_of, rename_of, write_of};
+ghost use Rattle.mdl_syntax.specs.Reading.{ReadsAs, create_of, rename_of, flush_of, unlock_of, write_of};
 
 use crate::key_words::behind;
 use crate::no_statement::NoStatement;
@@ -50,6 +50,8 @@ pub(crate) fn statement_of(alloc: Global, words: &[u8]) -> Result<Statement, NoS
             None => bad_word(),
         },
         "RENAME" => rename(alloc, rest),
+        "UNLOCK" => unlock(rest),
+        "FLUSH" => flush(rest),
         "KILL" => match behind("QUERY", rest) {
             Some(rest) => kill_query(rest),
             None => bad_word(),
@@ -252,6 +254,35 @@ fn rename_table(alloc: Global, words: &[u8]) -> Result<Statement, NoStatement>
         from: key_of(alloc, &from)?,
         to: key_of(alloc, &to)?,
     })
+}
+
+// Locks given up.
+fn unlock(words: &[u8]) -> Result<Statement, NoStatement>
+    ensures { ReadsAs (unlock_of (words_of words.now)) result }
+{
+    match behind("TABLES", words) {
+        Some(rest) => no_more(Statement::UnlockTables, rest),
+        None => bad_word(),
+    }
+}
+
+// The global read lock.
+fn flush(words: &[u8]) -> Result<Statement, NoStatement>
+    ensures { ReadsAs (flush_of (words_of words.now)) result }
+{
+    let Some(words) = behind("TABLES", words) else {
+        return bad_word();
+    };
+    let Some(words) = behind("WITH", words) else {
+        return bad_word();
+    };
+    let Some(words) = behind("READ", words) else {
+        return bad_word();
+    };
+    match behind("LOCK", words) {
+        Some(words) => no_more(Statement::FlushTablesWithReadLock, words),
+        None => bad_word(),
+    }
 }
 
 // A session to kill.

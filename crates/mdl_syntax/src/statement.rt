@@ -43,6 +43,10 @@ pub enum Statement {
         /// The name that it gets.
         to: Key,
     },
+    /// `UNLOCK TABLES`: locked tables and the global read lock are given up.
+    UnlockTables,
+    /// `FLUSH TABLES WITH READ LOCK`: the session gets the global read lock.
+    FlushTablesWithReadLock,
     /// `KILL QUERY` of a session, from 1 to 64.
     KillQuery(u16),
     /// `TIMEOUT`: the session gives up its own wait.

@@ -21,6 +21,7 @@ const ROWS: &str = "\
 1 RENAME TABLE t TO u / 1 RENAME TABLE t TO s.t / 1 RENAME TABLE s.a TO a / 1 RENAME TABLE to TO table => 1 1 rename TABLE \
     test.t to TABLE test.u / 2 1 rename TABLE test.t to TABLE s.t / 3 1 rename TABLE s.a to TABLE test.a / 4 1 rename \
     TABLE test.to to TABLE test.table
+1 UNLOCK TABLES / 2 FLUSH TABLES WITH READ LOCK => 1 1 unlock tables / 2 2 flush tables with read lock
 1 KILL QUERY 64 / 9 KILL QUERY 1 / 9 TIMEOUT => 1 1 kill 64 / 2 9 kill 1 / 3 9 time out
 1 SELECT a b c d e f g h => 1 1 read TABLE test.a TABLE test.b TABLE test.c TABLE test.d TABLE test.e TABLE test.f \
     TABLE test.g TABLE test.h
@@ -55,6 +56,15 @@ const ROWS: &str = "\
 BEGIN => line 1: BadSession
  # x => line 1: BadSession
 0 SELECT T => line 1: BadSession
+1 UNLOCK => line 1: BadWord
+1 UNLOCK TABLE => line 1: BadWord
+1 UNLOCK TABLES t => line 1: BadWord
+1 FLUSH => line 1: BadWord
+1 FLUSH TABLES => line 1: BadWord
+1 FLUSH TABLES WITH READ => line 1: BadWord
+1 FLUSH TABLES READ LOCK => line 1: BadWord
+1 FLUSH TABLES WITH READ LOCK t => line 1: BadWord
+1 FLUSH TABLES WITH READ LOCKS => line 1: BadWord
 1 KILL QUERY 0 => line 1: BadSession
 1 KILL QUERY 01 => line 1: BadSession
 1 KILL QUERY 65 => line 1: BadSession

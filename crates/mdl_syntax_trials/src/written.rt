@@ -55,6 +55,10 @@ fn statement_text(alloc: Global, statement: &Statement) -> Result<String, Fail> 
         }
         Statement::DropTables(tables) => named(alloc, "drop", tables),
         Statement::RenameTable { from, to } => Ok(format!(in alloc; "rename {from} to {to}")?),
+        Statement::UnlockTables => Ok(String::from_str(alloc, "unlock tables")?),
+        Statement::FlushTablesWithReadLock => {
+            Ok(String::from_str(alloc, "flush tables with read lock")?)
+        }
         Statement::KillQuery(session) => Ok(format!(in alloc; "kill {session}")?),
         Statement::Timeout => Ok(String::from_str(alloc, "time out")?),
     }

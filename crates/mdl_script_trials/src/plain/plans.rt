@@ -11,6 +11,7 @@ struct Plan {
     alloc: Global,
     is_open: bool,
     has_written: bool,
+    has_read_lock: bool,
     steps: Vec<Step>,
 }
 
@@ -21,6 +22,7 @@ impl Plain {
             alloc: self.alloc,
             is_open: self.is_open(who),
             has_written: self.has_written(who),
+            has_read_lock: self.has_read_lock(who),
             steps: Vec::new(self.alloc),
         };
         plan.add(statement)?;
@@ -46,6 +48,8 @@ impl Plan {
             Statement::CreateSchema(name) => self.create_schema(name),
             Statement::DropTables(tables) => self.drop_tables(tables),
             Statement::RenameTable { from, to } => self.rename(from, to),
+            Statement::UnlockTables => self.push(Step::Unlock),
+            Statement::FlushTablesWithReadLock => self.flush(),
             Statement::KillQuery(_) | Statement::Timeout => Ok(()),
         }
     }
@@ -86,6 +90,26 @@ impl Plan {
         self.push(Step::EndCommitted)
     }
 
+    // A session that has the global read lock changes nothing.
+    fn refuse_own_read_lock(&mut self) -> Result<(), AllocError> {
+        if self.has_read_lock {
+            self.push(Step::Refuse(1223))?;
+        }
+        Ok(())
+    }
+
+    // The global read lock: first no session writes, and then none commits what it wrote.
+    fn flush(&mut self) -> Result<(), AllocError> {
+        self.commit()?;
+        if self.has_read_lock {
+            return Ok(());
+        }
+        self.ask(Key::global(self.alloc), Mode::S, Duration::Explicit)?;
+        self.push(Step::HalfLock)?;
+        self.ask(Key::commit(self.alloc), Mode::S, Duration::Explicit)?;
+        self.push(Step::HaveReadLock)
+    }
+
     // Each table is looked at under its lock before the next one is asked for.
     fn select(&mut self, tables: &Tables) -> Result<(), AllocError> {
         for table in tables.as_slice() {
@@ -108,6 +132,7 @@ impl Plan {
             Priority::Normal => Mode::SW,
             Priority::Low => Mode::SWLP,
         };
+        self.refuse_own_read_lock()?;
         self.ask_global()?;
         self.ask_table(table, mode)?;
         self.push(Step::Look(table.clone()?))?;
@@ -122,6 +147,7 @@ impl Plan {
     // What begins each change of definitions: it commits, and then asks for the global lock, the schemas and the
     // tables, both in the order of keys. A schema that is asked for again is had already.
     fn begin_change(&mut self, keys: &Vec<Key>) -> Result<(), AllocError> {
+        self.refuse_own_read_lock()?;
         self.commit()?;
         self.ask_global()?;
         for key in keys {
@@ -146,6 +172,7 @@ impl Plan {
     // A new schema, which nobody else is in.
     fn create_schema(&mut self, name: &Name) -> Result<(), AllocError> {
         let schema = made(Key::schema(self.alloc, name.as_str()))?;
+        self.refuse_own_read_lock()?;
         self.commit()?;
         self.ask_global()?;
         self.ask(schema.clone()?, Mode::X, Duration::Transaction)?;

@@ -11,6 +11,8 @@ impl Session {
             is_open: false,
             has_written: false,
             savepoints: Vec::new(alloc),
+            has_read_lock: false,
+            half_lock: None,
             wait: None,
             line: 0,
             start: Mark {
@@ -41,6 +43,14 @@ impl Plain {
     pub(super) fn has_written(&self, who: u16) -> bool {
         match self.session(who) {
             Some(session) => session.has_written,
+            None => false,
+        }
+    }
+
+    // Whether it has the global read lock.
+    pub(super) fn has_read_lock(&self, who: u16) -> bool {
+        match self.session(who) {
+            Some(session) => session.has_read_lock,
             None => false,
         }
     }

@@ -18,6 +18,7 @@ impl Plain {
             Step::Rename(from, to) => self.rename(&from, &to),
             Step::Save(name) => self.save(who, name),
             Step::GoBack(name) => self.go_back(who, &name),
+            Step::Refuse(number) => Ok(Taken::Failed(number)),
             other => self.take_plain(who, other),
         }
     }
@@ -30,6 +31,9 @@ impl Plain {
             Step::EndCommitted => self.end_committed(who)?,
             Step::Open => self.set_open(who, true),
             Step::Write => self.set_written(who),
+            Step::HalfLock => self.set_half_lock(who, false),
+            Step::HaveReadLock => self.set_half_lock(who, true),
+            Step::Unlock => self.unlock(who)?,
             _ => {}
         }
         Ok(Taken::Done)
@@ -47,6 +51,7 @@ impl Plain {
 
     // Want of a lock: a statement in an open transaction keeps nothing that it locked.
     pub(super) fn get_nothing(&mut self, who: u16, number: u32) -> Result<(), AllocError> {
+        self.drop_half_lock(who);
         match self.session(who) {
             Some(session) if session.is_open => {
                 let start = session.start;
@@ -59,6 +64,7 @@ impl Plain {
 
     // The victim of a deadlock keeps nothing that it locked for a transaction.
     pub(super) fn lose_all(&mut self, who: u16) -> Result<(), AllocError> {
+        self.drop_half_lock(who);
         self.end_transaction(who)?;
         self.tell_error(who, 1213)
     }
@@ -82,6 +88,41 @@ impl Plain {
         self.end_transaction(who)?;
         if let Some(ticket) = commit {
             self.let_go(ticket);
+        }
+        Ok(())
+    }
+
+    // The newest ticket is of no use without the global read lock; or the session has that.
+    fn set_half_lock(&mut self, who: u16, is_whole: bool) {
+        let newest = self.newest(who);
+        for session in &mut self.sessions {
+            if session.number == who {
+                session.has_read_lock = is_whole;
+                session.half_lock = if is_whole { None } else { newest };
+            }
+        }
+    }
+
+    // Gives up the ticket that is of no use without the global read lock.
+    fn drop_half_lock(&mut self, who: u16) {
+        let mut half = None;
+        for session in &mut self.sessions {
+            if session.number == who {
+                half = session.half_lock.take();
+            }
+        }
+        if let Some(ticket) = half {
+            self.let_go(ticket);
+        }
+    }
+
+    // Gives up all that is kept until it is given up.
+    fn unlock(&mut self, who: u16) -> Result<(), AllocError> {
+        self.release_all(who, Duration::Explicit)?;
+        for session in &mut self.sessions {
+            if session.number == who {
+                session.has_read_lock = false;
+            }
         }
         Ok(())
     }

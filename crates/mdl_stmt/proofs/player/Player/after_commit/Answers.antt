@@ -9,7 +9,7 @@ use Rattle.mdl_stmt.proofs.player.Player.after_commit.Goals as goal
 
 pub returns-in_default : goal.returns-in_default
 returns-in_default g c = record {
-  run = comes-row (after_commit c.args.statement.now) (Give reply.Ok) (after-others c.args.statement.now c.in_default.not-Begin c.in_default.not-CreateTable c.in_default.not-CreateSchema c.in_default.not-DropTables c.in_default.not-RenameTable);
+  run = comes-row (after_commit c.args.statement.now) (Give reply.Ok) (after-others c.args.statement.now c.in_default.not-Begin c.in_default.not-CreateTable c.in_default.not-CreateSchema c.in_default.not-DropTables c.in_default.not-RenameTable c.in_default.not-FlushTablesWithReadLock);
   attends = c.requires.attends;
   others = λ w other speaks. (speaks, refl, λ place key known. known);
   who = refl;

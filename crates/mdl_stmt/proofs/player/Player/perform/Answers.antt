@@ -1,13 +1,14 @@
 -- Each statement does what its row says.
-use Rattle.std.proofs.Common.{sym, subst}
+use Rattle.std.proofs.Common.{sym, subst, ap, ◌∙◌}
 use Rattle.mdl_syntax.specs.declared.statement.Statement.{Statement}
 use Rattle.mdl_stmt.specs.declared.ending.Ending.TheVariants.{Answers}
+use Rattle.mdl_stmt.specs.declared.reply.Reply.{Reply}
 use Rattle.mdl_stmt.specs.declared.reply.Reply.TheVariants as reply
 use Rattle.mdl_stmt.specs.Endings.{closing}
 use Rattle.mdl_stmt.specs.Gets.{Comes, IsPlayed}
 use Rattle.mdl_stmt.specs.Playing.{play}
-use Rattle.mdl_stmt.specs.Rows.{Give}
-use Rattle.mdl_stmt.specs.Statements.{row_of}
+use Rattle.mdl_stmt.specs.Rows.{Row, Give}
+use Rattle.mdl_stmt.specs.Statements.{after_commit, flush_first, row_of}
 use Rattle.mdl_stmt.proofs.player.Player.perform.Goals as goal
 
 pub returns-in-Rollback-clause-run : goal.returns-in-Rollback-clause-run
@@ -23,3 +24,9 @@ pub returns-in-KillQuery-clause-run : goal.returns-in-KillQuery-clause-run
 returns-in-KillQuery-clause-run g c =
     subst (λ (s : Statement). Comes g.S.LockSpace.joins c.args.space.now c.args.self.now (play (row_of s)) c.kill.new.space c.kill.new.self (closing (Answers reply.Ok))) (sym c.in-KillQuery.is)
     (c.kill.ensures.run (λ _. Give reply.Ok))
+
+pub returns-in-FlushTablesWithReadLock-clause-run : goal.returns-in-FlushTablesWithReadLock-clause-run
+returns-in-FlushTablesWithReadLock-clause-run g c =
+    let is = c.in-FlushTablesWithReadLock.is in
+    subst (λ (r : Row Reply). IsPlayed g.S.LockSpace.joins r c.args.space.now c.args.self.now c.flush.result c.flush.new.space c.flush.new.self)
+    (ap (λ (s : Statement). flush_first (after_commit s)) is ∙ sym (ap row_of is)) c.flush.ensures.run

@@ -1,0 +1,143 @@
+//! FLUSH TABLES WITH READ LOCK.
+ghost use Rattle.std.specs.Prelude.{◌≡◌, None};
+ghost use Rattle.mdl_context.specs.Contexts.{Attends, LeavesOthers};
+ghost use Rattle.mdl_stmt.specs.Endings.{state_after};
+ghost use Rattle.mdl_stmt.specs.Gets.{IsPlayed, IsWithoutHalf, IdleUnlessPlayed};
+ghost use Rattle.mdl_stmt.specs.States.{half_lock};
+ghost use Rattle.mdl_stmt.specs.Statements.{after_commit, flush_after_commit, flush_first, get_read_lock, lock_commits, read_lock_under};
+ghost use Rattle.mdl_stmt.specs.declared.ending.Played.TheVariants as played;
+
+use crate::ending::{Ending, Got, Played};
+use crate::player::Player;
+use crate::reading::failing;
+use crate::stage::Stage;
+use crate::{ErrorNumber, Reply};
+use mdl_context::Request;
+use mdl_key::{Duration, Key, Mode};
+use mdl_space::{LockSpace, TicketId};
+use mdl_syntax::Statement;
+
+impl<S: LockSpace> Player<S> {
+    /// Performs a statement that is refused where tables are locked, and before which an open transaction is committed.
+    pub(crate) fn flush<'s>(&mut self, space: &mut S, statement: &'s Statement) -> Played<'s>
+        requires attends { Attends S.speaks_for S.own S.knows space.old self.old.context }
+        requires idle { self.old.context.wait ≡ None }
+        ensures run { IsPlayed S.joins (flush_first (after_commit statement.now)) space.old self.old result space.new self.new }
+        ensures attends { Attends S.speaks_for S.own S.knows space.new self.new.context }
+        ensures others { LeavesOthers S.speaks_for S.own S.knows self.old.context.who space.old space.new }
+        ensures who { self.new.context.who ≡ self.old.context.who }
+        ensures idle { IdleUnlessPlayed result self.new }
+    {
+        if self.explicit.has_locked() {
+            return Played::Ends(failing(ErrorNumber::ActiveLocks));
+        }
+        self.commit_first(space, statement)
+    }
+
+    /// Gets the global read lock, once no transaction is open, unless the session has it.
+    pub(crate) fn flush_after_commit<'s>(&mut self, space: &mut S) -> Played<'s>
+        requires attends { Attends S.speaks_for S.own S.knows space.old self.old.context }
+        requires idle { self.old.context.wait ≡ None }
+        ensures run { IsPlayed S.joins flush_after_commit space.old self.old result space.new self.new }
+        ensures attends { Attends S.speaks_for S.own S.knows space.new self.new.context }
+        ensures others { LeavesOthers S.speaks_for S.own S.knows self.old.context.who space.old space.new }
+        ensures who { self.new.context.who ≡ self.old.context.who }
+        ensures idle { IdleUnlessPlayed result self.new }
+    {
+        if self.explicit.has_read_lock() {
+            return Played::Ends(Ending::Answers(Reply::Ok));
+        }
+        self.get_read_lock(space)
+    }
+
+    /// Locks all writes, and then all commits.
+    fn get_read_lock<'s>(&mut self, space: &mut S) -> Played<'s>
+        requires attends { Attends S.speaks_for S.own S.knows space.old self.old.context }
+        requires idle { self.old.context.wait ≡ None }
+        ensures run { IsPlayed S.joins get_read_lock space.old self.old result space.new self.new }
+        ensures attends { Attends S.speaks_for S.own S.knows space.new self.new.context }
+        ensures others { LeavesOthers S.speaks_for S.own S.knows self.old.context.who space.old space.new }
+        ensures who { self.new.context.who ≡ self.old.context.who }
+        ensures idle { IdleUnlessPlayed result self.new }
+    {
+        let writes = Key::global(self.alloc);
+        let request = Request {
+            key: &writes,
+            mode: Mode::S,
+            duration: Duration::Explicit,
+        };
+        match self.get(space, request) {
+            Got::Had(global) => self.lock_commits(space, global),
+            Got::Waits(key) => Played::Waits(key, Mode::S, Stage::FlushGlobal),
+            Got::Ends(ending) => Played::Ends(ending),
+        }
+    }
+
+    /// Locks all commits beside all writes.
+    pub(crate) fn lock_commits<'s>(&mut self, space: &mut S, global: TicketId) -> Played<'s>
+        requires attends { Attends S.speaks_for S.own S.knows space.old self.old.context }
+        requires idle { self.old.context.wait ≡ None }
+        ensures run { IsPlayed S.joins (lock_commits global) space.old self.old result space.new self.new }
+        ensures attends { Attends S.speaks_for S.own S.knows space.new self.new.context }
+        ensures others { LeavesOthers S.speaks_for S.own S.knows self.old.context.who space.old space.new }
+        ensures who { self.new.context.who ≡ self.old.context.who }
+        ensures idle { IdleUnlessPlayed result self.new }
+    {
+        self.explicit.lock_writes(global);
+        let commits = Key::commit(self.alloc);
+        let request = Request {
+            key: &commits,
+            mode: Mode::S,
+            duration: Duration::Explicit,
+        };
+        match self.get(space, request) {
+            Got::Had(commit) => Played::Ends(self.read_lock_under(space, commit)),
+            Got::Waits(key) => Played::Waits(key, Mode::S, Stage::FlushCommit),
+            Got::Ends(ending) => Played::Ends(ending),
+        }
+    }
+
+    /// Notes that the session has the global read lock, with this ticket of the COMMIT lock.
+    pub(crate) fn read_lock_under(&mut self, space: &mut S, commit: TicketId) -> Ending
+        requires attends { Attends S.speaks_for S.own S.knows space.old self.old.context }
+        requires idle { self.old.context.wait ≡ None }
+        ensures run { IsPlayed S.joins (read_lock_under commit) space.old self.old (played.Ends result) space.new self.new }
+        ensures attends { Attends S.speaks_for S.own S.knows space.new self.new.context }
+        ensures others { LeavesOthers S.speaks_for S.own S.knows self.old.context.who space.old space.new }
+        ensures who { self.new.context.who ≡ self.old.context.who }
+        ensures idle { self.new.context.wait ≡ None }
+    {
+        self.explicit.lock_commits(commit);
+        Ending::Answers(Reply::Ok)
+    }
+
+    /// Gives up the lock of all writes that was to become the global read lock, as a statement ends before it had the other one.
+    pub(crate) fn drop_half(&mut self, space: &mut S, ending: &Ending)
+        requires attends { Attends S.speaks_for S.own S.knows space.old self.old.context }
+        requires idle { self.old.context.wait ≡ None }
+        ensures run { IsWithoutHalf S.joins ending.now space.old self.old space.new self.new }
+        ensures attends { Attends S.speaks_for S.own S.knows space.new self.new.context }
+        ensures others { LeavesOthers S.speaks_for S.own S.knows self.old.context.who space.old space.new }
+        ensures who { self.new.context.who ≡ self.old.context.who }
+        ensures idle { self.new.context.wait ≡ None }
+    {
+        match self.half_lock(ending) {
+            Some(global) => {
+                let _released = self.context.release(space, global);
+                self.explicit.clear_read_lock();
+            }
+            None => {}
+        }
+    }
+
+    /// The ticket of that lock, if there is one: no transaction is open then.
+    fn half_lock(&self, ending: &Ending) -> Option<TicketId>
+        ensures { result ≡ half_lock (state_after ending.now self.now.state) }
+    {
+        match ending {
+            Ending::Falls => self.explicit.lone_ticket(),
+            _ if self.is_open => None,
+            _ => self.explicit.lone_ticket(),
+        }
+    }
+}
