@@ -35,6 +35,7 @@ use Rattle.mdl_context.specs.Contexts.{ContextView, beyond, duration_rank, held_
 use Rattle.mdl_context.specs.Gains.{refusal_of}
 use Rattle.mdl_context.specs.Holdings.{upgrade_of, wanted_of}
 use Rattle.mdl_context.specs.Releases.{giving_up, releasing}
+use Rattle.mdl_context.specs.Holdings.{wanted_of}
 use Rattle.mdl_context.specs.Requests.{Outcome, acquiring}
 use Rattle.mdl_context.specs.Upgrades.{upgrading, downgrading}
 use Rattle.mdl_context.specs.Waits.{resuming}

@@ -60,12 +60,7 @@ impl<S: LockSpace> Context<S> {
     /// Lets a held ticket have a weaker mode: X becomes SU, SNW or SNRW, and SNW becomes SU. It takes no memory.
     ///
     /// After MySQL 5.7, `MDL_ticket::downgrade_lock` of `sql/mdl.cc`.
-    pub fn downgrade(
-        &mut self,
-        space: &mut S,
-        id: TicketId,
-        mode: Mode,
-    ) -> Result<(), ContextError>
+    pub fn downgrade(&mut self, space: &mut S, id: TicketId, mode: Mode) -> Result<(), ContextError>
         requires { Attends S.speaks_for S.own S.knows space.old self.old }
         ensures refused { IfSome (release_fault id self.old) (λ fault. result ≡ Err fault) }
         ensures run { Runs S.joins space.old (downgrading id mode self.old) (result, self.new) space.new }

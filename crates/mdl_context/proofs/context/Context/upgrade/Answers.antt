@@ -53,9 +53,11 @@ returns-in-Ok-Upgraded-clause-run g c =
     let after = context_of c.self.inside.who c.strengthen.new.self in
     subst (λ (v : ContextView). Runs g.S.LockSpace.joins c.args.space.now (upgrading c.args.id c.args.mode v) (Ok (Acquired c.args.id), after) c.upgrade_now.new.self) c.self.view_is
     (run-upgrading g.S.LockSpace.joins c.args.id c.args.mode (context_of c.self.inside.who c.self.inside.holdings) its.0 Upgraded _ _ _ _ its.1 (sym c.is_waiting.ensures ∙ c.if-is_waiting.false)
-    (rw (c.in-Ok-Upgraded.is, c.in-Ok-Upgraded.field-0-is) at c.upgrade_now.ensures)
-    (rw (kept-number c.args.id c.self.inside.holdings.kept its.0 its.1) (ap (λ (v : ContextView). let o : Outcome Acquire = (Ok (Acquired c.args.id), v) in o)
-    (sym (same-context c.self.inside.who _ _ _ _ _ _ c.strengthen.ensures.kept c.strengthen.ensures.known c.strengthen.ensures.wait))), refl))
+    (rw (c.in-Ok-Upgraded.is, c.in-Ok-Upgraded.field-0-is) at c.upgrade_now.ensures) (
+      rw (kept-number c.args.id c.self.inside.holdings.kept its.0 its.1) (ap (λ (v : ContextView). let o : Outcome Acquire = (Ok (Acquired c.args.id), v) in o)
+          (sym (same-context c.self.inside.who _ _ _ _ _ _ c.strengthen.ensures.kept c.strengthen.ensures.known c.strengthen.ensures.wait))),
+      refl,
+    ))
 
 pub returns-in-Ok-Upgraded-clause-attends : goal.returns-in-Ok-Upgraded-clause-attends
 returns-in-Ok-Upgraded-clause-attends g c =
