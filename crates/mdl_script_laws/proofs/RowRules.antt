@@ -27,7 +27,7 @@ use Rattle.mdl_stmt.specs.declared.explicit.ReadLock.{ReadLock}
 use Rattle.mdl_stmt.specs.declared.reply.Reply.{Reply}
 use Rattle.mdl_stmt.specs.declared.reply.Reply.TheVariants as reply
 use Rattle.mdl_stmt.specs.KeyOrder.{in_key_order}
-use Rattle.mdl_stmt.specs.Rows.{Row, Act, Give, Fail, Room, Look, Set, Here, Acquire, Give_up, Release, Read, Redefine, Tables_of, Key_of, Kill, ◌>>=◌, ◌>>◌, acquire_all, check, for_each, nothing, redefine, release, room, set}
+use Rattle.mdl_stmt.specs.Rows.{Row, Act, Give, Fail, Room, Look, Set, Here, Acquire, Give_up, Release, Read, Redefine, Tables_of, Key_of, Kill, ◌>>=◌, ◌>>◌, acquire_all, check, for_each, nothing, redefine, release, room, set, Keep, keep, Upgrade, Downgrade}
 use Rattle.mdl_stmt.specs.LockLists.{ticket_of}
 use Rattle.mdl_stmt.specs.States.{State, has_locked, opened, unlocked, without_read_lock, locking}
 use Rattle.mdl_stmt.specs.Statements as rows

@@ -119,8 +119,8 @@ read id = Read id Give
 abbrev pub redefine : ℕ → Change → Act
 redefine id change = Redefine id change nothing
 
-abbrev pub tables_of : List ℕ → Row (List ℕ)
-tables_of schema = Tables_of schema Give
+abbrev pub tables_within : List ℕ → Row (List ℕ)
+tables_within schema = Tables_of schema Give
 
 abbrev pub key_of : ℕ → Row KeyName
 key_of place = Key_of place Give

@@ -46,7 +46,7 @@ use Rattle.mdl_stmt.specs.declared.reply.Reply.{Reply}
 use Rattle.mdl_stmt.specs.declared.reply.Reply.TheVariants as reply
 use Rattle.mdl_stmt.specs.declared.reply.TableShown.{TableShown}
 use Rattle.mdl_stmt.specs.KeyOrder.{in_key_order}
-use Rattle.mdl_stmt.specs.Rows.{Row, Act, Give, Fail, Acquire, ◌>>=◌, ◌>>◌, nothing, room, look, set, here, acquire, give_up, release, read, redefine, tables_of, key_of, kill, check, acquire_all, for_each}
+use Rattle.mdl_stmt.specs.Rows.{Row, Act, Give, Fail, Acquire, ◌>>=◌, ◌>>◌, nothing, room, look, set, here, acquire, give_up, release, read, redefine, upgrade, downgrade, keep, tables_within, key_of, kill, check, acquire_all, for_each}
 use Rattle.mdl_stmt.specs.LockLists.{ticket_of}
 use Rattle.mdl_stmt.specs.States.{has_locked, opened, closed, written, unlocked, with_commits_locked, with_savepoint, with_writes_locked, without_read_lock, savepoint_mark, up_to, locking}
 
@@ -407,7 +407,7 @@ keys_of told (place ∷ places) = do
 -- the tables of a schema that have a definition, in key order
 abbrev pub tables_in : List ℕ → Row (List KeyName)
 tables_in name = do
-  places ← tables_of name
+  places ← tables_within name
   keys_of [] places
 
 -- a schema is dropped behind its tables, under all their locks, unless one of them can't be changed once more

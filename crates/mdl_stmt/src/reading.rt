@@ -2,7 +2,7 @@
 ghost use Rattle.std.specs.Prelude.{◌≡◌, ◌++◌, ◌∷◌, [], None, Ok, MatchResult};
 ghost use Rattle.mdl_context.specs.Contexts.{Attends, LeavesOthers};
 ghost use Rattle.mdl_stmt.specs.Gets.{IsStep, items_told};
-ghost use Rattle.mdl_stmt.specs.Rows.{read, redefine, tables_of, key_of, kill};
+ghost use Rattle.mdl_stmt.specs.Rows.{read, redefine, tables_within, key_of, kill};
 ghost use Rattle.mdl_stmt.specs.Statements.{columns_of, exists, show};
 ghost use Rattle.mdl_stmt.specs.declared.ending.Ending.TheVariants.{Answers, Starves};
 ghost use Rattle.mdl_stmt.specs.declared.reply.Reply.TheVariants.{Error};
@@ -64,7 +64,7 @@ impl<S: LockSpace> Player<S> {
     pub(crate) fn tables_of(&mut self, space: &mut S, schema: &str) -> Result<Vec<Place>, Ending>
         requires attends { Attends S.speaks_for S.own S.knows space.old self.old.context }
         requires idle { self.old.context.wait ≡ None }
-        ensures run { IsStep S.joins (tables_of schema.now) space.old self.old (items_told result) space.new self.new }
+        ensures run { IsStep S.joins (tables_within schema.now) space.old self.old (items_told result) space.new self.new }
         ensures attends { Attends S.speaks_for S.own S.knows space.new self.new.context }
         ensures others { LeavesOthers S.speaks_for S.own S.knows self.old.context.who space.old space.new }
         ensures who { self.new.context.who ≡ self.old.context.who }
