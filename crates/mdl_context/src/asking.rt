@@ -11,7 +11,7 @@ use mdl_space::{Attempt, Begun, Held, LockSpace, Place, SpaceError, TicketId};
 
 /// What comes of asking for a lock.
 #[derive(Clone, Copy)]
-pub(crate) enum Got {
+pub enum Got {
     /// It is held, by the ticket of this number.
     Granted(TicketId),
     /// The session waits. This is the number of its wait, and whether the searches for deadlocks are over.

@@ -16,6 +16,7 @@ use Rattle.mdl_core.specs.CoreJoins.{Knows, SpeaksFor, own_at}
 use Rattle.mdl_core.specs.Cores.{Core}
 use Rattle.mdl_context.specs.declared.kept.Kept.{Kept}
 use Rattle.mdl_context.specs.declared.kept.Wanted.{Wanted}
+use Rattle.mdl_context.specs.Holdings.{kept_for}
 use Rattle.mdl_context.specs.Contexts.{ContextView, place_known}
 use Rattle.mdl_script_laws.proofs.ListLemmas.{among-filter, only-one}
 use Rattle.mdl_script_laws.proofs.ShownCalls.{Spares, Stays, none, spares-here, spares-then}

@@ -576,7 +576,7 @@ module _ (old : TableShown → Type 0) (live : Bool) (locks : List (ℕ × KeyNa
 
       by : (r : Answer) → Leads (Comes old) (playing.tables_answered mark session more r) b
       by (Tables tables) = later tables now
-      by r = leads-closing old live locks seen mark b session now (ending_of_refusal (refusal_of r)) (λ x tell. absurd (tells_no_refusal (refusal_of r) x tell))
+      by r = leads-closing old live locks seen mark b session now (ending_of_refusal (refusal_of r)) (λ lives x tell. absurd (tells_no_refusal (refusal_of r) x tell))
 
   leads-key : (place : ℕ) (more : KeyName → Program Pause) (a b : Core) (session : Session) (answer : Answer) → At a session.context session.state
       → Joins a (Key_of session.context.who place) answer b
@@ -590,7 +590,7 @@ module _ (old : TableShown → Type 0) (live : Bool) (locks : List (ℕ × KeyNa
 
       by : (r : Answer) → Leads (Comes old) (playing.key_answered mark session more r) b
       by (Key_is key) = later key now
-      by r = leads-closing old live locks seen mark b session now (ending_of_refusal (refusal_of r)) (λ x tell. absurd (tells_no_refusal (refusal_of r) x tell))
+      by r = leads-closing old live locks seen mark b session now (ending_of_refusal (refusal_of r)) (λ lives x tell. absurd (tells_no_refusal (refusal_of r) x tell))
 
   -- a wait that another session has is killed
   leads-told : (target : ℕ) (more : Program Pause) (a b : Core) (session : Session) (answer : Answer) → At b session.context session.state
@@ -693,6 +693,8 @@ leads-begun old (row.Upgrade id key mode rest) mark a session leads = leads
 leads-begun old (row.Downgrade id mode rest) mark a session leads = leads
 leads-begun old (row.Read id rest) mark a session leads = leads
 leads-begun old (row.Redefine id change rest) mark a session leads = leads
+leads-begun old (row.Tables_of schema rest) mark a session leads = leads
+leads-begun old (row.Key_of place rest) mark a session leads = leads
 leads-begun old (row.Kill target rest) mark a session leads = leads
 
 -- ---- what is left of a statement

@@ -33,7 +33,7 @@ use Rattle.mdl_stmt.specs.Rows as row
 use Rattle.mdl_stmt.specs.Sessions.{Left, Session}
 use Rattle.mdl_stmt.specs.States.{State, half_lock, without_read_lock}
 use Rattle.mdl_script_laws.specs.Turns.{AsksForAtMost, AreFewTables}
-use Rattle.mdl_script_laws.proofs.OutcomeLemmas.{outcome-then, EachBy, each-by}
+use Rattle.mdl_script_laws.proofs.OutcomeLemmas.{outcome-then, each-outcome, EachBy, each-by}
 use Rattle.mdl_script_laws.proofs.RowPauses.{AnyEnding, Follows, Rules, any-endings, so-play, Told}
 use Rattle.mdl_script_laws.proofs.TurnPlaces.{HasFewPlaces, by-outcome, few-outcome}
 use Rattle.mdl_script_laws.proofs.TurnRows.{few-more}
