@@ -57,10 +57,7 @@ enum Reply {
 impl Act {
     // Whether it never takes memory.
     fn takes_none(self) -> bool {
-        matches!(
-            self,
-            Act::Release(_) | Act::Downgrade(_, _) | Act::EndWait
-        )
+        matches!(self, Act::Release(_) | Act::Downgrade(_, _) | Act::EndWait)
     }
 }
 

@@ -167,6 +167,7 @@ module _ (F : ErrorNumber → Type 0) (late : (number : ErrorNumber) → is_earl
   keeps-definition : (found : Option Definition) → KeepsTo F Any (rows.has_definition found)
   keeps-definition (Some definition) = tt
   keeps-definition None = late NoSuchTable refl
+
   keeps-fault : (fault : Option DefError) → KeepsTo F Any (rows.unless_fault fault)
   keeps-fault None = tt
   keeps-fault (Some one) = by one where
@@ -264,6 +265,7 @@ module _ (F : ErrorNumber → Type 0) (late : (number : ErrorNumber) → is_earl
         let scopes = rows.both_scopes from to in
         keeps-bind F Any P (acquire_all (map rows.ddl_lock scopes)) (λ tickets. rows.lock_and_rename from to (ticket_of (rows.schema_of to) scopes tickets))
         (keeps-locks F (map rows.ddl_lock scopes)) (λ tickets _. keeps-lock_and_rename from to (ticket_of (rows.schema_of to) scopes tickets))
+
     keeps-alter_by : (how : Algorithm) (alteration : Alteration) (table : ℕ) → KeepsTo F P (rows.alter_by how alteration table)
     keeps-alter_by Copy alteration table = λ copied alone. ok
     keeps-alter_by Inplace alteration table = λ prepared alone. ok

@@ -389,11 +389,11 @@ leads-closing old live locks seen mark a session point ending told = by (half_lo
         leads-bind (λ (outcome : Outcome (Unit {0})) b. Fits b outcome.1 × (outcome.1.who ≡ session.context.who)) (Comes old)
         (releasing global session.context) (λ outcome. letting_go ending mark (after outcome.1)) a (leads-releasing a global session.context point.fits)
         (λ outcome b left. (
-            let gone = gone_at ending state.is_open mark outcome.1.kept in
-            leads-bind (λ (next : Outcome (Unit {0})) c. GaveUp b gone outcome.1 c next.1) (Comes old) (giving_up gone outcome.1)
-            (λ next. Give (ended ending (record { context = next.1; state = state_after ending state; left = None }))) b
-            (leads-giving_up b gone outcome.1 left.0)
-            (λ next c gave. came-shut old ending c next.1 state gave.fits (unlocked-same ending session.state point.unlocked) shut)))
+        let gone = gone_at ending state.is_open mark outcome.1.kept in
+        leads-bind (λ (next : Outcome (Unit {0})) c. GaveUp b gone outcome.1 c next.1) (Comes old) (giving_up gone outcome.1)
+        (λ next. Give (ended ending (record { context = next.1; state = state_after ending state; left = None }))) b
+        (leads-giving_up b gone outcome.1 left.0)
+        (λ next c gave. came-shut old ending c next.1 state gave.fits (unlocked-same ending session.state point.unlocked) shut)))
 
 tells_no_loss : (how : Settled) (x : TableShown) → TellsAt (ending_of_loss how) x → ⊥
 tells_no_loss settled.Timeout x tell = tell

@@ -132,10 +132,12 @@ places-then who gone a b c early late = record {
 changed-there : (id : ℕ) (change : Mode → Mode) (own : Own) (t : Held) → Contains own.held t
     → (u : Held) × Contains (changing id change own).held u × (u.id ≡ t.id) × (u.place ≡ t.place)
 changed-there id change own t among =
-    let as_changed : Held → Held = λ ticket. if is_number id ticket then record ticket { mode = change ticket.mode } else ticket in
-    (as_changed t, Contains-map as_changed own.held t among,
-    elim (is_number id t) as (λ b. (if b then record t { mode = change t.mode } else t).id ≡ t.id) [ true ↦ refl | false ↦ refl ],
-    elim (is_number id t) as (λ b. (if b then record t { mode = change t.mode } else t).place ≡ t.place) [ true ↦ refl | false ↦ refl ])
+    let as_changed : Held → Held = λ ticket. if is_number id ticket then record ticket { mode = change ticket.mode } else ticket in (
+      as_changed t,
+      Contains-map as_changed own.held t among,
+      elim (is_number id t) as (λ b. (if b then record t { mode = change t.mode } else t).id ≡ t.id) [ true ↦ refl | false ↦ refl ],
+      elim (is_number id t) as (λ b. (if b then record t { mode = change t.mode } else t).place ≡ t.place) [ true ↦ refl | false ↦ refl ],
+    )
 
 other-number : (id : ℕ) (t : Held) → (t.id ≡ id → ⊥) → not (is_number id t) ≡ true
 other-number id t other = go (is_number id t) refl

@@ -407,19 +407,32 @@ few-alter_by Copy alteration table = (1, refl, λ copied. few-raise alteration c
 few-alter_by Inplace alteration table = (1, refl, λ prepared. few-raise alteration prepared)
 
 few-alter_unlocked : (alteration : Alteration) → AsksForAtMost 3 (stm.alter_unlocked alteration)
-few-alter_unlocked alteration =
-    (2, refl, λ table. few-then 0 2 2 (stm.check_change alteration.change table) (λ _. stm.alter_by alteration.algorithm alteration table) (omega arith)
-    (few-check_change alteration.change table) (λ _. few-alter_by alteration.algorithm alteration table))
+few-alter_unlocked alteration = (
+  2,
+  refl,
+  λ table. few-then 0 2 2 (stm.check_change alteration.change table) (λ _. stm.alter_by alteration.algorithm alteration table) (omega arith)
+      (few-check_change alteration.change table) (λ _. few-alter_by alteration.algorithm alteration table),
+)
 
 few-alter_locked : (alteration : Alteration) → AsksForAtMost 3 (stm.alter_locked alteration)
-few-alter_locked alteration =
-    (2, refl, λ table. few-then 0 2 2 (stm.check_change alteration.change table) (λ _. row.Upgrade table alteration.table X (stm.change_and_lower alteration))
-    (omega arith) (few-check_change alteration.change table) (λ _. (1, refl, λ alone. tt)))
+few-alter_locked alteration = (
+  2,
+  refl,
+  λ table. few-then 0 2 2 (stm.check_change alteration.change table) (λ _. row.Upgrade table alteration.table X (stm.change_and_lower alteration))
+      (omega arith) (few-check_change alteration.change table) (λ _. (1, refl, λ alone. tt)),
+)
 
 few-alter : (alteration : Alteration) → AsksForAtMost 5 (stm.alter_after_commit alteration)
-few-alter alteration =
-    (4, refl, λ global. (3, refl, λ schema state.
-    few-either 3 (has_locked state.locked) (stm.alter_locked alteration) (stm.alter_unlocked alteration) (few-alter_locked alteration) (few-alter_unlocked alteration)))
+few-alter alteration = (
+  4,
+  refl,
+  λ global. (
+    3,
+    refl,
+    λ schema state.
+        few-either 3 (has_locked state.locked) (stm.alter_locked alteration) (stm.alter_unlocked alteration) (few-alter_locked alteration) (few-alter_unlocked alteration),
+  ),
+)
 
 few-alter_among_locked : (table : KeyName) (rest : Row Reply) → AsksForAtMost 5 rest → AsksForAtMost 6 (stm.alter_among_locked table rest)
 few-alter_among_locked table rest is =

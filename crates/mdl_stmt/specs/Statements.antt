@@ -497,6 +497,7 @@ rename_after_commit from to = do
   room
   scopes ← acquire_all (map ddl_lock (both_scopes from to))
   lock_and_rename from to (ticket_of (schema_of to) (both_scopes from to) scopes)
+
 -- ---- UNLOCK TABLES
 
 -- the ticket of the COMMIT lock goes, where there is one

@@ -83,10 +83,12 @@ impl ExplicitLocks {
         ensures { result ≡ lone_ticket self.now.read_lock }
     {
         match self.read_lock {
-            Some(ReadLock {
-                global,
-                commit: None,
-            }) => Some(global),
+            Some(
+                ReadLock {
+                    global,
+                    commit: None,
+                },
+            ) => Some(global),
             _ => None,
         }
     }

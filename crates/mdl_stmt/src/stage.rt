@@ -8,7 +8,7 @@ use crate::TablesShown;
 use mdl_defs::Columns;
 use mdl_key::Key;
 use mdl_space::TicketId;
-use mdl_syntax::{Alteration, Name, Priority, Statement, Tables, TableLocks};
+use mdl_syntax::{Alteration, Name, Priority, Statement, TableLocks, Tables};
 use std::alloc::{AllocError, Global};
 use std::marker::Model;
 

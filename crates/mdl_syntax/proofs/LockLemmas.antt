@@ -1,6 +1,6 @@
 -- Tables that are to be locked, one after the other.
 use Rattle.std.proofs.Common.{◌≡◌, ℕ, List, [], ◌∷◌, ◌++◌, refl, ap, ◌∙◌}
-use Rattle.std.specs.Prelude.{Option, Some, None, Result, Ok, Err}
+use Rattle.std.specs.Prelude.{Option, Some, None, Result, Ok}
 use Rattle.mdl_key.specs.Keys.{KeyName}
 use Rattle.mdl_lines.specs.declared.fault.LineError.{LineError}
 use Rattle.mdl_lines.specs.declared.fault.LineError.TheVariants.{BadWord}

@@ -55,7 +55,6 @@ abbrev pub flush_of : List (List ℕ) → Result Statement LineError
 flush_of words =
     read_by (form (codes "TABLES WITH READ LOCK") (no_more FlushTablesWithReadLock)) (behind (codes "TABLES" ∷ codes "WITH" ∷ codes "READ" ∷ codes "LOCK" ∷ []) words) (Err BadWord)
 
-
 -- what the words behind LOCK say
 abbrev pub lock_of : List (List ℕ) → Result Statement LineError
 lock_of words = read_by (form (codes "TABLES") (makes LockTables some_locks)) (behind (codes "TABLES" ∷ []) words) (Err BadWord)

@@ -10,7 +10,9 @@ use crate::key_words::behind;
 use crate::no_statement::NoStatement;
 use crate::table_names::{TableName, TableNames, name_of, other_table, table_of};
 use crate::words::split_word;
-use crate::{Algorithm, Alteration, Name, Priority, Statement, Tables, LockType, TableLock, TableLocks};
+use crate::{
+    Algorithm, Alteration, LockType, Name, Priority, Statement, TableLock, TableLocks, Tables,
+};
 use mdl_defs::{Change, Column, Columns};
 use mdl_key::Key;
 use mdl_lines::{LineError, session_of};

@@ -22,6 +22,6 @@ pub use laws::{line_numbers_rise, statements_are_within_limits};
 pub use lines::parse;
 pub use name::Name;
 pub use script::{Line, Script};
-pub use statement::{Algorithm, Alteration, Priority, Statement, LockType};
+pub use statement::{Algorithm, Alteration, LockType, Priority, Statement};
 pub use table_locks::{TableLock, TableLocks};
 pub use tables::Tables;

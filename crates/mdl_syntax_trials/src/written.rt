@@ -1,7 +1,9 @@
 //! What was read of a script, in words.
 use mdl_defs::{Change, Columns};
 use mdl_key::Key;
-use mdl_syntax::{Algorithm, Alteration, Line, Priority, Script, Statement, Tables, parse, LockType, TableLocks};
+use mdl_syntax::{
+    Algorithm, Alteration, Line, LockType, Priority, Script, Statement, TableLocks, Tables, parse,
+};
 use std::alloc::Global;
 use std::test::Fail;
 

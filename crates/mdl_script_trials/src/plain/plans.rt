@@ -2,7 +2,7 @@
 use super::{Plain, Step, made};
 use mdl_defs::Columns;
 use mdl_key::{Duration, Key, Mode};
-use mdl_syntax::{Algorithm, Alteration, Name, Priority, Statement, Tables, LockType, TableLocks};
+use mdl_syntax::{Algorithm, Alteration, LockType, Name, Priority, Statement, TableLocks, Tables};
 use std::alloc::{AllocError, Global};
 
 // A list of steps that grows.

@@ -2,7 +2,7 @@
 use Rattle.std.proofs.Common.{◌≡◌, ◌∷◌, ◌++◌, [], Ok, sym, ap, subst, ◌∙◌, rules}
 use Rattle.std.proofs.lemmas.Bool.{false≢true}
 use Rattle.std.proofs.lemmas.List.{map-append}
-use Rattle.mdl_key.specs.Keys.{KeyName, table_key}
+use Rattle.mdl_key.specs.Keys.{table_key}
 use Rattle.mdl_lines.specs.Lines.{words_of}
 use Rattle.mdl_syntax.specs.declared.table_locks.TableLock.{TableLock}
 use Rattle.mdl_syntax.specs.Forms.{more_locks, next_table}
