@@ -186,8 +186,6 @@ BEGIN => line 1: BadSession
 1 LOCK TABLES a READ b READ c READ d READ e READ f READ g READ h READ a READ => line 1: BadWord
 1 LOCK TABLES a READ b READ c READ d READ e READ f READ g READ T READ => line 1: BadName
 1 LOCK TABLES a READ b READ c READ d READ e READ f READ g READ a READ => line 1: BadName
-1 UNLOCK TABLES => line 1: BadWord
-1 FLUSH TABLES WITH READ LOCK => line 1: BadWord
 1 SELECT t\u{e9} => line 1: NotAscii
 #\u{e9} => line 1: NotAscii";
 
