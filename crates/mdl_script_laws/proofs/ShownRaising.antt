@@ -1,5 +1,5 @@
 -- Tickets that get other modes: what a context keeps stays held, at its place, also while a stronger mode is waited for.
-use Rattle.std.proofs.Common.{◌≡◌, ◌≢◌, ◌⊎◌, inl, inr, ℕ, Bool, true, false, not, List, [], ◌∷◌, Option, Some, None, Result, Ok, Err, Contains, map, filter, option_map, is_some, refl, sym, ap, ◌∙◌, subst, arith}
+use Rattle.std.proofs.Common.{◌≡◌, ℕ, Bool, true, false, not, Option, Some, None, Result, Ok, Err, Contains, option_map, is_some, refl, sym, ap, ◌∙◌, subst, arith}
 use Rattle.std.specs.Prelude.{◌==◌, if◌then◌else◌}
 use Rattle.std.proofs.lemmas.Bool.Decides.{nat_tests}
 use Rattle.mdl_key.specs.declared.mode.Mode.{Mode}
@@ -8,14 +8,13 @@ use Rattle.mdl_system.proofs.MemberLemmas.{Contains-map, Contains-map_from}
 use Rattle.mdl_calls.specs.declared.answers.Held.{Held}
 use Rattle.mdl_calls.specs.declared.space_error.SpaceError.{SpaceError}
 use Rattle.mdl_calls.specs.Own.{Wait, changing, giving_up, merging, upgraded}
-use Rattle.mdl_calls.specs.Words.{Answer, Done, Granted, Lost, Pending, Is_settled, Upgraded, Would_wait, Waits, Call, caller, Begin_wait, Downgrade, End_wait, Merge, Poll_wait, Release, Upgrade_now, Own, own_after, ticket_held, is_number, Program, Give, Ask, ◌>>=◌, ◌>>◌, SearchEnd, Over, Cut_off, Failed, seeking, most_searches}
+use Rattle.mdl_calls.specs.Words.{Answer, Done, Granted, Lost, Pending, Is_settled, Upgraded, Would_wait, Waits, Call, caller, Begin_wait, Downgrade, End_wait, Merge, Poll_wait, Release, Upgrade_now, Own, own_after, ticket_held, is_number, Give, Ask, SearchEnd, Over, Cut_off, Failed, seeking, most_searches}
 use Rattle.mdl_core.specs.CoreJoins.{Joins, Knows, SpeaksFor, own_at}
 use Rattle.mdl_core.specs.Cores.{Core}
 use Rattle.mdl_core.proofs.CallLaws.{core-changes, core-keeps, core-remembers}
 use Rattle.mdl_core.proofs.CoreSound.{calls_keep-sound}
 use Rattle.mdl_context.specs.declared.asking.Got.{Got}
 use Rattle.mdl_context.specs.declared.asking.Got.TheVariants as got
-use Rattle.mdl_context.specs.declared.context_error.ContextError.{ContextError}
 use Rattle.mdl_context.specs.declared.context_error.ContextError.TheVariants.{NotHeld, Space, Waiting}
 use Rattle.mdl_context.specs.declared.kept.Kept.{Kept}
 use Rattle.mdl_context.specs.declared.kept.Wanted.{Wanted}
@@ -25,7 +24,7 @@ use Rattle.mdl_context.specs.declared.request.Resume.{Resume}
 use Rattle.mdl_context.specs.declared.request.Resume.TheVariants as resume
 use Rattle.mdl_context.specs.Contexts.{ContextView, has_number, ticket_kept}
 use Rattle.mdl_context.specs.Gains as gains
-use Rattle.mdl_context.specs.Holdings.{in_mode, is_ticket, search_over, upgrade_of, wanted_upgrade}
+use Rattle.mdl_context.specs.Holdings.{is_ticket, search_over, upgrade_of, wanted_upgrade}
 use Rattle.mdl_context.specs.Releases as releases
 use Rattle.mdl_context.specs.Requests.{Outcome}
 use Rattle.mdl_context.specs.Upgrades as upgrades

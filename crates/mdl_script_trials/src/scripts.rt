@@ -248,7 +248,7 @@ pub(crate) fn replayed(alloc: Global, script: &[u8]) -> Result<String, Fail> {
 }
 
 // So many scripts are made by chance.
-const BY_CHANCE: u64 = 2_000;
+const BY_CHANCE: u64 = 5_000;
 
 // The first of the scripts by chance for which the two don't write the same.
 fn first_apart(alloc: Global) -> Result<Option<u64>, Fail> {
@@ -446,8 +446,8 @@ fn scripts_by_chance_wait_in_earnest(rt: HostRuntime) -> Result<(), Fail> {
             lost = lost.wrapping_add(1);
         }
     }
-    assert!(rt; waits >= 1_300, "{waits} scripts wait");
-    assert!(rt; victims >= 260, "{victims} scripts meet a deadlock");
-    assert!(rt; lost >= 260, "{lost} scripts lose a wait otherwise");
+    assert!(rt; waits >= 3_500, "{waits} scripts wait");
+    assert!(rt; victims >= 400, "{victims} scripts meet a deadlock");
+    assert!(rt; lost >= 1_000, "{lost} scripts lose a wait otherwise");
     Ok(())
 }

@@ -236,6 +236,7 @@ impl Plan<'_> {
     // The tables of a schema are found once nobody else is in it.
     fn drop_schema(&mut self, name: &Name) -> Result<(), AllocError> {
         let schema = made(Key::schema(self.alloc, name.as_str()))?;
+        self.refuse_locks()?;
         self.commit()?;
         self.ask_global()?;
         self.ask(schema.clone()?, Mode::X, Duration::Transaction)?;
