@@ -13,12 +13,13 @@ PROGRAM = crates/mdlsim/out/mdlsim
 
 BENCH = crates/mdl_bench/out/mdl_bench
 
-.PHONY: help run try test bench examples growths build install clean kit
+.PHONY: help run try test docs bench examples growths build install clean kit
 
 help:
-	@echo 'make run [SCRIPT=FILE]     builds mdlsim, proved, and prints its answers to a script'
-	@echo 'make try [SCRIPT=FILE]     the same without the proof, in about a minute'
+	@echo 'make run [SCRIPT=FILE]     builds mdlsim, proved, and prints its answers to a script: NAME.replay, NAME.lock or NAME.scoped.lock'
+	@echo 'make try [SCRIPT=FILE]     answers a script without the proof, in a minute or two, and leaves no program'
 	@echo 'make test                  the gate: proves everything from nothing, and runs all tests'
+	@echo 'make docs                  says what is stale in the docs'
 	@echo 'make examples              compares the answers to each example with those that lie beside it'
 	@echo 'make growths               refuses each growth of some short lives in turn'
 	@echo 'make bench                 times scripts and calls'
@@ -34,9 +35,14 @@ try: kit
 	@script=$$(cd "$$(dirname "$(SCRIPT)")" && pwd)/$$(basename "$(SCRIPT)") \
 	&& cd crates/mdlsim && rt try -- $(SUBCOMMAND) $(OPTIONS) < "$$script"
 
-# The gate: the examples have their answers, refused growths lose nothing, and everything is proved and tested from nothing.
-test: examples growths
+# The gate: the docs agree with the tree, the examples have their answers, refused growths lose nothing, and everything is proved and tested
+# from nothing.
+test: docs examples growths
 	@rt ci
+
+# The docs name what there is, and all that they have to name. `sh make/check_docs.sh update` counts the lines of docs/PROOFS.md anew.
+docs: kit
+	@sh make/check_docs.sh
 
 # Lines a second and peak memory of scripts of three sizes, of one lock and of statements; what calls cost on books of four sizes, and chains
 # of grants.

@@ -1,11 +1,14 @@
 #!/bin/sh
-# Runs each example by mdlsim, and compares what it answers with the answers that lie beside it; and so those of two pages of docs/.
+# Runs each example by mdlsim, and compares what it answers with the answers that lie beside it; and so those of two pages of docs/, and the
+# refused lines of one.
+# Before that it looks whether each example says in two lines of comment what to look for and stands in the list of examples/README.md, and
+# whether each script that is shown there, or in the README at the top, is one of the examples, line by line and answer by answer.
 # A script NAME.lock is one of an object lock, NAME.scoped.lock one of a scoped lock, and NAME.replay one of statements.
 # mdlsim is built here once, without its proof, which `rt ci` gives.
 # Usage: sh examples/check.sh            all examples, those of the pages too
 #        sh examples/check.sh SCRIPT     one of them
 examples=$(cd "$(dirname "$0")" && pwd)
-sh "$examples/../make/needs.sh" rt python3 awk || exit 1
+sh "$examples/../make/needs.sh" rt python3 awk cmp || exit 1
 made=$(mktemp -d)
 trap 'rm -rf "$made"' EXIT
 mkdir "$made/cases"
@@ -19,22 +22,86 @@ lay() {
         *.replay) printf 'replay\n' ;;
         *) echo "$1: a script ends with .lock or .replay" >&2; return 1 ;;
     esac > "$made/cases/$name.args"
+    for file in "$1" "${1%.*}.answers"; do
+        if [ ! -r "$file" ]; then
+            echo "$file isn't there" >&2
+            return 1
+        fi
+    done
     cp "$1" "$made/cases/$name" && cp "${1%.*}.answers" "$made/cases/$name.stdout"
+}
+
+# Takes the scripts out of a page into a folder.
+take() {
+    awk -v FOLDER="$2" -f "$examples/pages.awk" "$1"
+}
+
+# An example has two lines of comment, and a line in the list.
+look_at_example() {
+    if [ "$(head -n 2 "$1" | grep -c '^#')" -ne 2 ]; then
+        echo "$1: its first two lines don't say what to look for" >&2
+        return 1
+    fi
+    if ! grep -qF "]($(basename "$1")) |" "$examples/README.md"; then
+        echo "$1: examples/README.md doesn't list it" >&2
+        return 1
+    fi
+}
+
+# Whether a script, which a page shows without comments, is an example with just its answers.
+is_example() {
+    for example in "$examples"/*.replay; do
+        if grep -v '^#' "$example" | cmp -s - "$1" && cmp -s "${example%.*}.answers" "$1.stdout"; then
+            return 0
+        fi
+    done
+    return 1
+}
+
+# A page shows examples alone.
+look_at_page() {
+    shown=$(mktemp -d "$made/shown.XXXXXX")
+    take "$1" "$shown" || return 1
+    for words in "$shown"/*.args; do
+        script=${words%.args}
+        if [ -e "$words" ] && ! is_example "$script"; then
+            echo "$1: script ${script##*.md} of the page, '$(head -n 1 "$script") ..', is no example, or has other answers" >&2
+            return 1
+        fi
+    done
+}
+
+# Whether each refused line of docs/LANGUAGE.md was refused as it says there, and with status 1.
+refused() {
+    awk '/^== / { name = $2 } /^line / { line = $0 } / status=1 / && line != "" { print name " " line; line = "" }' "$made/log" \
+        | sort > "$made/told"
+    sort "$made/refusals" | diff - "$made/told" >&2
 }
 
 if [ $# -eq 0 ]; then
     set -- "$examples"/*.lock "$examples"/*.replay
-    for page in LANGUAGE MYSQL; do
-        awk -v FOLDER="$made/cases" -f "$examples/pages.awk" "$examples/../docs/$page.md" || exit 1
+    for script in "$@"; do
+        look_at_example "$script" || exit 1
     done
+    for page in README examples/README; do
+        look_at_page "$examples/../$page.md" || exit 1
+    done
+    for page in LANGUAGE MYSQL; do
+        take "$examples/../docs/$page.md" "$made/cases" || exit 1
+    done
+    awk -v FOLDER="$made/cases" -f "$examples/refusals.awk" "$examples/../docs/LANGUAGE.md" > "$made/refusals" || exit 1
 fi
 for script in "$@"; do
     lay "$script" || exit 1
 done
 
 cd "$examples/../crates/mdlsim" || exit 1
-if ! rt try --cases "$made/cases" > "$made/log" 2>&1; then
+if ! rt try --seconds 900 --cases "$made/cases" > "$made/log" 2>&1; then
     cat "$made/log" >&2
+    exit 1
+fi
+if [ -e "$made/refusals" ] && ! refused; then
+    echo "docs/LANGUAGE.md: lines are refused otherwise than its table says (<: as it says, >: as they are)" >&2
     exit 1
 fi
 echo "each example has its answers"

@@ -1,4 +1,4 @@
-# Takes the examples out of a page of docs/: indented lines with a script of statements on the left and its answers on the right.
+# Takes the examples out of a page: indented lines with a script of statements on the left and its answers on the right.
 # Of each it writes the script, its answers (.stdout) and the words of the command line (.args), as the kit wants its cases.
 # Usage: awk -v FOLDER=where -f pages.awk PAGE.md
 function add(line, ending) {

@@ -8,6 +8,7 @@ pub mod MergeLemmas
 pub mod ModeLemmas
 pub mod NameLemmas
 pub mod OthersLemmas
+pub mod OutcomeLemmas
 pub mod OwnCallLemmas
 pub mod PlaceLemmas
 pub mod ReleaseLemmas

@@ -30,7 +30,7 @@ use Rattle.mdl_context.specs.Requests as requests
 use Rattle.mdl_context.specs.WishLaws.{IsAsWished, IsMet, GainsATicket}
 use Rattle.mdl_context.proofs.AttendLemmas.{known-last}
 
-covers-itself : (mode : Mode) → covers mode mode ≡ true
+pub covers-itself : (mode : Mode) → covers mode mode ≡ true
 covers-itself mode = each_mode (λ m. covers m m) refl mode
 
 -- a ticket that can be used again is as wished

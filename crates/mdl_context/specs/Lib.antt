@@ -6,6 +6,7 @@ pub mod Holdings
 pub mod Indexes
 pub mod MemoryLaws
 pub mod NameLaws
+pub mod Outcomes
 pub mod Releases
 pub mod Requests
 pub mod SearchEnds

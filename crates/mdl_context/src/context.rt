@@ -70,7 +70,10 @@ impl<S: LockSpace> Context<S> {
         self.holdings.wait()
     }
 
-    /// Where the session stands now.
+    /// Where the session stands now: how many tickets it keeps for the statement, and how many for the transaction.
+    ///
+    /// The mark names no ticket, and holds nothing. It stays good as long as the session keeps so many of both; where
+    /// some were released and others gained meanwhile, it stands for others than it counted.
     ///
     /// After MySQL 5.7, `MDL_context::mdl_savepoint` of `sql/mdl.h`.
     pub fn savepoint(&self) -> Mark

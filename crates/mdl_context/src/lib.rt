@@ -30,4 +30,6 @@ pub use memory_laws::{
     sure_waits, sure_wishes, upgrades_tell_of_want, waits_tell_of_want, wishes_tell_of_want,
 };
 pub use request::{Acquire, Mark, Request, Resume};
-pub use wish_laws::{explicit_wishes_gain, tickets_are_used_again, wishes_are_met};
+pub use wish_laws::{
+    explicit_wishes_gain, tickets_are_used_again, upgrades_are_met, waits_are_met, wishes_are_met,
+};

@@ -1,12 +1,9 @@
 -- Two sessions over one lock space, of which one makes calls.
-use Rattle.std.proofs.Common.{◌≡◌, ◌≢◌, ℕ, [], Some, None, refl, ◌∙◌, arith}
+use Rattle.std.proofs.Common.{◌≡◌, ◌≢◌, ℕ, [], None, refl, ◌∙◌, arith}
 use Rattle.std.proofs.lemmas.List.Elements.{All-nil}
-use Rattle.mdl_key.specs.Keys.{KeyName}
 use Rattle.mdl_core.specs.Words.{Core, SpeaksFor, own_at, Knows}
-use Rattle.mdl_calls.specs.Words.{Answer, Done, Call, Unpin, caller, Own, Ask, Give}
 use Rattle.mdl_context.specs.Contexts.{ContextView, Attends, LeavesOthers}
 use Rattle.mdl_context.proofs.AttendLemmas.{attends-same}
-use Rattle.mdl_context.proofs.OthersLemmas.{leaves}
 use Rattle.mdl_growth_trials.specs.Pairs.{AreTwo}
 
 -- the other one has made a call
@@ -40,16 +37,6 @@ pub fresh : (space : Core) (who : ℕ) (x : ContextView) → x ≡ record { who 
     → own_at space who ≡ record { held = []; wait = None } → Attends SpeaksFor own_at Knows space x
 fresh space who x new speaks nothing =
     rw new (record { speaks = speaks; serves = rw nothing (record { held = refl; wait = refl }); known = All-nil _; places = All-nil _; wish = tt })
-
--- one call leaves all but the caller as they are
-pub by_one : {S : Type 0} {speaks_for : S → ℕ → Type 0} {own : S → ℕ → Own} {knows : S → ℕ → ℕ → KeyName → Type 0} {joins : S → Call → Answer → S → Type 0}
-    → ((a b : S) (call : Call) (answer : Answer) (w : ℕ) → speaks_for a w → joins a call answer b → speaks_for b w)
-    → ((a b : S) (call : Call) (answer : Answer) (w : ℕ) → speaks_for a w → (caller call ≡ Some w → ⊥) → joins a call answer b → own b w ≡ own a w)
-    → ((a b : S) (call : Call) (answer : Answer) (w place : ℕ) (key : KeyName) → speaks_for a w → (call ≡ Unpin w place → answer ≡ Done → ⊥) → joins a call answer b
-    → knows a w place key → knows b w place key)
-    → (who : ℕ) (call : Call) (a b : S) (answer : Answer) → caller call ≡ Some who → joins a call answer b → LeavesOthers speaks_for own knows who a b
-by_one keeps others remembers who call a b answer made step =
-    leaves keeps others remembers who (Ask call Give) a b answer (made, λ _. tt) (answer, b, step, (refl, refl))
 
 -- two sessions that have nothing
 pub fresh_two : (space : Core) (first second : ContextView) → first ≡ record { who = 1; kept = []; known = []; wait = None }

@@ -1,4 +1,4 @@
-//! The contexts of two sessions over a space: tickets by duration, waits and a deadlock. Where a call is refused for want of
+//! The contexts of two sessions over a space: tickets by duration, waits, a deadlock and stronger modes. Where a call is refused for want of
 //! memory, the session holds what it held and waits for nothing, and the call is made again. What gives up takes no memory.
 ghost use Rattle.std.specs.Prelude.{◌≡◌};
 ghost use Rattle.mdl_core.specs.CoreJoins.{SpeaksFor, own_at, Knows};
@@ -7,7 +7,7 @@ ghost use Rattle.mdl_context.specs.Contexts.{Attends, LeavesOthers};
 use crate::spaces::{new_space, table};
 use mdl_context::{Acquire, Context, ContextError, Kept, Mark, Request, Resume};
 use mdl_key::{Duration, Mode};
-use mdl_space::{CoreSpace, Held, LockSpace, Settled, SpaceError};
+use mdl_space::{CoreSpace, Held, LockSpace, Settled, SpaceError, TicketId};
 use std::alloc::Global;
 use std::marker::Model;
 
@@ -15,11 +15,16 @@ use std::marker::Model;
 #[derive(Clone, Copy)]
 enum Act {
     Acquire(&'static str, Mode, Duration),
+    // Of the ticket that it gained last.
+    Upgrade(Mode),
+    Downgrade(Mode),
     // To a mark of so many tickets of the statement and of the transaction.
     GoBack(usize, usize),
     EndStatement,
     EndTransaction,
     Resume,
+    // The wait for a stronger mode is over, and the ticket gets it.
+    Raise(Mode),
     GiveUp,
 }
 
@@ -39,7 +44,18 @@ const NO_MEMORY: Reply = Reply::Refused(ContextError::Space(SpaceError::OutOfMem
 impl Act {
     // Whether it may take memory.
     fn takes_memory(self) -> bool {
-        matches!(self, Act::Acquire(_, _, _))
+        matches!(
+            self,
+            Act::Acquire(_, _, _) | Act::Upgrade(_) | Act::Raise(_)
+        )
+    }
+
+    // What is called where memory was refused to it: a wait that it was to end is over then.
+    fn again(self) -> Act {
+        match self {
+            Act::Raise(mode) => Act::Upgrade(mode),
+            act => act,
+        }
     }
 }
 
@@ -155,6 +171,8 @@ fn make<S: LockSpace>(alloc: Global, space: &mut S, context: &mut Context<S>, ac
             };
             acquired(context.acquire(space, request))
         }
+        Act::Upgrade(mode) => acquired(context.upgrade(space, last_ticket(context), mode)),
+        Act::Downgrade(mode) => done(context.downgrade(space, last_ticket(context), mode)),
         Act::GoBack(statement, transaction) => {
             let mark = Mark {
                 statement,
@@ -164,8 +182,16 @@ fn make<S: LockSpace>(alloc: Global, space: &mut S, context: &mut Context<S>, ac
         }
         Act::EndStatement => done(context.end_statement(space)),
         Act::EndTransaction => done(context.end_transaction(space)),
-        Act::Resume => resumed(context.resume(space)),
+        Act::Resume | Act::Raise(_) => resumed(context.resume(space)),
         Act::GiveUp => resumed(context.give_up(space)),
+    }
+}
+
+// The number of the ticket that a session gained last, or of none.
+fn last_ticket<S: LockSpace>(context: &Context<S>) -> TicketId {
+    match context.kept().last() {
+        Some(ticket) => ticket.id,
+        None => 0,
     }
 }
 
@@ -268,6 +294,34 @@ const LIFE: &[Row] = &[
     (Who::First, Act::EndTransaction, Reply::Done, 0),
     (Who::Second, Act::Resume, Reply::Acquired, 2),
     (Who::Second, Act::EndTransaction, Reply::Done, 1),
+    // A ticket gets a stronger mode at once, and then after a reader is done. Another time it doesn't wait so long.
+    (
+        Who::First,
+        Act::Acquire("a", Mode::SU, TRANSACTION),
+        Reply::Acquired,
+        1,
+    ),
+    (Who::First, Act::Upgrade(Mode::SNW), Reply::Acquired, 1),
+    (
+        Who::Second,
+        Act::Acquire("a", Mode::SR, TRANSACTION),
+        Reply::Acquired,
+        2,
+    ),
+    (Who::First, Act::Upgrade(Mode::X), Reply::MustWait, 1),
+    (Who::First, Act::Resume, Reply::Waits, 1),
+    (Who::Second, Act::EndTransaction, Reply::Done, 1),
+    (Who::First, Act::Raise(Mode::X), Reply::Acquired, 1),
+    (Who::First, Act::Downgrade(Mode::SU), Reply::Done, 1),
+    (
+        Who::Second,
+        Act::Acquire("a", Mode::SR, TRANSACTION),
+        Reply::Acquired,
+        2,
+    ),
+    (Who::First, Act::Upgrade(Mode::X), Reply::MustWait, 1),
+    (Who::First, Act::GiveUp, Reply::Lost(Settled::Timeout), 1),
+    (Who::First, Act::EndTransaction, Reply::Done, 0),
 ];
 
 /// Whether contexts do what they should.
@@ -288,13 +342,14 @@ fn all_outlive(pair: &mut Pair) -> bool {
 }
 
 // Whether a call has this answer: at once, or at the second try, where memory was refused to the first, after which the session
-// had what it had.
+// had the tickets that it had, and didn't wait.
 fn outlives(pair: &mut Pair, who: Who, act: Act, want: Reply) -> bool {
-    let before = pair.stands(who);
+    let (mark, count, _) = pair.stands(who);
     let reply = pair.make(who, act);
     if reply != NO_MEMORY || !act.takes_memory() {
         return reply == want;
     }
-    let (_, count, _) = before;
-    pair.stands(who) == before && pair.keeps(who, count) && pair.make(who, act) == want
+    pair.stands(who) == (mark, count, false)
+        && pair.keeps(who, count)
+        && pair.make(who, act.again()) == want
 }

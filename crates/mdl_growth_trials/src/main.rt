@@ -10,6 +10,7 @@ mod books;
 mod contexts;
 mod definitions;
 mod replays;
+mod scenes;
 mod scripts;
 mod spaces;
 mod statements;
@@ -70,8 +71,8 @@ fn first_wrong(alloc: Global) -> Option<&'static str> {
     if !contexts::calls_are_answered(alloc) {
         return Some("two contexts");
     }
-    if !statements::statements_are_made(alloc) {
-        return Some("statements");
+    if let Some(scene) = scenes::first_wrong(alloc) {
+        return Some(scene);
     }
     if !scripts::statements_are_read(alloc) {
         return Some("a script of statements");

@@ -1,64 +1,46 @@
-//! The statements of two sessions over a space, one of which waits. Where a statement finds no memory, it has ended and has
-//! changed no definition, and it is made again.
+//! The statements of two sessions over a space, in scenes. Where a statement finds no memory, it has ended, and all stands as it did before:
+//! what the sessions hold, and what is told of the tables. A second pair of sessions, which is led as far and to which no memory is refused,
+//! shows how that is. Then the statement is made again.
 ghost use Rattle.std.specs.Prelude.{◌≡◌};
 ghost use Rattle.mdl_core.specs.CoreJoins.{SpeaksFor, own_at, Knows};
 ghost use Rattle.mdl_context.specs.Contexts.{Attends, LeavesOthers};
 
 use crate::spaces::new_space;
-use mdl_defs::{Change, Definition};
-use mdl_key::{Key, KeyError, Mode};
 use mdl_lines::Fault;
-use mdl_space::{Attempt, CoreSpace, LockSpace, SpaceError};
+use mdl_space::{CoreSpace, Held, LockSpace};
 use mdl_stmt::{OutOfMemory, Progress, Reply, Runner};
 use mdl_syntax::{Line, Script, Statement, parse};
-use std::alloc::Global;
+use std::alloc::{AllocError, Global};
 use std::marker::Model;
 
-const SCRIPT: &[u8] =
-    b"1 CREATE TABLE t x y\n1 CREATE TABLE u z\n1 BEGIN\n1 SAVEPOINT p\n1 INSERT u\n1 ROLLBACK TO p\n1 SELECT u t\n\
-    1 SAVEPOINT q\n2 DROP TABLE t u\n1 COMMIT\n2 SELECT t\n2 CREATE TABLE t v\n2 RENAME TABLE t TO w\n\
-    2 SELECT w\n2 RENAME TABLE w TO t\n2 BEGIN\n2 SELECT t\n2 SELECT u\n2 ROLLBACK\n";
-
-// What comes of a statement.
+/// What comes of a statement.
 #[derive(Clone, Copy, PartialEq, Eq)]
-enum Outcome {
+pub(crate) enum Outcome {
     Done,
-    // The version of the last table that it read.
+    /// The version of the last table that it read.
     Reads(u64),
     Fails(u16),
     Waits,
     Pending,
     NoMemory,
-    // The session can't be asked for it.
-    IsBusy,
 }
 
-const OUTCOMES: &[Outcome] = &[
-    Outcome::Done,
-    Outcome::Done,
-    Outcome::Done,
-    Outcome::Done,
-    Outcome::Done,
-    Outcome::Done,
-    Outcome::Reads(1),
-    Outcome::Done,
-    Outcome::Waits,
-    Outcome::Done,
-    Outcome::Fails(1146),
-    Outcome::Done,
-    Outcome::Done,
-    Outcome::Reads(1),
-    Outcome::Done,
-    Outcome::Done,
-    Outcome::Reads(5),
-    Outcome::Fails(1146),
-    Outcome::Done,
-];
+/// A line, and what comes of it. That of a session that waits stands for going on with what waits.
+pub(crate) type Row = (&'static str, Outcome);
 
-// The place of the statement that waits, and how many come before it has what it waits for.
-const WAITING: usize = 8;
+/// Lines of two sessions, which nothing stands before.
+#[derive(Clone, Copy)]
+pub(crate) struct Scene {
+    /// What it shows.
+    pub(crate) name: &'static str,
+    /// The lines.
+    pub(crate) rows: &'static [Row],
+    /// Lines that tell what stands, and change nothing.
+    pub(crate) looks: &'static [&'static str],
+}
 
-const BEFORE: usize = 10;
+// The places of a space: those of the names in the longest scene, and some more.
+const PLACES: u16 = 12;
 
 // A space, and its sessions 1 and 2.
 #[derive(Drop)]
@@ -79,13 +61,9 @@ impl<'s> Model for Pair<'s> {
 }
 
 impl<'s> Pair<'s> {
-    // The schema test exists, and nobody has asked for anything.
+    // Nobody has asked for anything.
     fn new(alloc: Global) -> Option<Pair<'s>> {
-        let mut space = new_space(alloc, 9, 3)?;
-        let schema = schema(alloc)?;
-        if !is_created(&mut space, 3, &schema) {
-            return None;
-        }
+        let space = new_space(alloc, PLACES, 2)?;
         Some(Pair {
             space,
             first: Runner::new(alloc, 1),
@@ -93,18 +71,13 @@ impl<'s> Pair<'s> {
         })
     }
 
-    // Starts a statement of a session.
-    fn start(&mut self, who: u16, statement: &'s Statement) -> Outcome {
+    // Starts a statement of a session, or goes on with the one that waits.
+    fn play(&mut self, who: u16, statement: &'s Statement) -> Outcome {
         if who == 1 {
-            start(&mut self.space, &mut self.first, statement)
+            play(&mut self.space, &mut self.first, statement)
         } else {
-            start(&mut self.space, &mut self.second, statement)
+            play(&mut self.space, &mut self.second, statement)
         }
-    }
-
-    // Goes on with the statement of the second session.
-    fn go_on(&mut self) -> Outcome {
-        go_on(&mut self.space, &mut self.second)
     }
 
     // Whether a session waits.
@@ -115,46 +88,32 @@ impl<'s> Pair<'s> {
             self.second.is_waiting()
         }
     }
-}
 
-// The key of the schema, at the second try, where memory was refused to the first.
-fn schema(alloc: Global) -> Option<Key> {
-    match Key::schema(alloc, "test") {
-        Err(KeyError::OutOfMemory) => Key::schema(alloc, "test").ok(),
-        made => made.ok(),
+    // What a session holds.
+    fn held(&self, who: u16) -> Option<Vec<Held>> {
+        if who == 1 {
+            held(&self.space, 1)
+        } else {
+            held(&self.space, 2)
+        }
+    }
+
+    // Whether a session has the same here as in another pair.
+    fn has_the_same(&self, other: &Pair<'s>, who: u16) -> bool {
+        let here = self.held(who);
+        here.is_some() && here == other.held(who) && self.waits(who) == other.waits(who)
+    }
+
+    // What a look tells, unless its session waits.
+    fn look(&mut self, line: &'s Line) -> Option<Outcome> {
+        if self.waits(line.session) {
+            return None;
+        }
+        Some(self.play(line.session, &line.statement))
     }
 }
 
-// Whether a session creates a schema, likewise.
-fn is_created<S: LockSpace>(space: &mut S, who: u16, schema: &Key) -> bool
-    requires { S.speaks_for space.old who }
-    ensures speaks { S.speaks_for space.new who }
-    ensures others { LeavesOthers S.speaks_for S.own S.knows who space.old space.new }
-{
-    create(space, who, schema).is_ok() || create(space, who, schema).is_ok()
-}
-
-// A session creates a schema, whose lock nobody else has, and gives the lock up.
-fn create<S: LockSpace>(space: &mut S, who: u16, schema: &Key) -> Result<(), SpaceError>
-    requires { S.speaks_for space.old who }
-    ensures speaks { S.speaks_for space.new who }
-    ensures others { LeavesOthers S.speaks_for S.own S.knows who space.old space.new }
-{
-    let place = space.resolve(who, schema)?;
-    let Attempt::Granted(id) = space.try_now(who, place, Mode::X)? else {
-        return Err(SpaceError::Full);
-    };
-    let change = Change::Create(Definition::Schema);
-    let is_made = space.change_definition(who, id, &change).is_ok();
-    space.release(who, id)?;
-    if is_made {
-        Ok(())
-    } else {
-        Err(SpaceError::OutOfMemory)
-    }
-}
-
-fn start<'s>(
+fn play<'s>(
     space: &mut CoreSpace,
     runner: &mut Runner<'s, CoreSpace>,
     statement: &'s Statement,
@@ -165,21 +124,15 @@ fn start<'s>(
     ensures others { LeavesOthers SpeaksFor own_at Knows runner.old.context.who space.old space.new }
 {
     if runner.is_waiting() {
-        return Outcome::IsBusy;
+        return outcome_of(runner.go_on(space));
     }
     outcome_of(runner.start(space, statement))
 }
 
-fn go_on<'s>(space: &mut CoreSpace, runner: &mut Runner<'s, CoreSpace>) -> Outcome
-    requires { Attends SpeaksFor own_at Knows space.old runner.old.context }
-    ensures attends { Attends SpeaksFor own_at Knows space.new runner.new.context }
-    ensures who { runner.new.context.who ≡ runner.old.context.who }
-    ensures others { LeavesOthers SpeaksFor own_at Knows runner.old.context.who space.old space.new }
+fn held<S: LockSpace>(space: &S, who: u16) -> Option<Vec<Held>>
+    requires { S.speaks_for space.now who }
 {
-    if !runner.is_waiting() {
-        return Outcome::IsBusy;
-    }
-    outcome_of(runner.go_on(space))
+    space.held(who).ok()
 }
 
 fn outcome_of(progress: Result<Progress, OutOfMemory>) -> Outcome {
@@ -202,56 +155,161 @@ fn outcome_of_reply(reply: &Reply) -> Outcome {
     }
 }
 
-/// Whether statements do what they should.
-pub fn statements_are_made(alloc: Global) -> bool {
-    let script = match parse(alloc, SCRIPT) {
-        Err(Fault::Memory) => parse(alloc, SCRIPT),
-        outcome => outcome,
-    };
-    match script {
-        Ok(script) => are_made(alloc, &script),
-        Err(_) => false,
+// By these a session commits, or gives up the tables that it has locked and nothing else.
+const ENDS: &[&str] = &["1 COMMIT", "1 BEGIN", "1 ROLLBACK"];
+
+// A scene whose lines are read.
+#[derive(Clone, Copy)]
+struct Staged<'s> {
+    alloc: Global,
+    rows: &'static [Row],
+    lines: &'s [Line],
+    looks: &'s [Line],
+    ends: &'s [Line],
+}
+
+impl<'s> Staged<'s> {
+    fn new(alloc: Global, scene: Scene, lines: &'s [Line]) -> Option<Staged<'s>> {
+        let (lines, rest) = lines.split_at_checked(scene.rows.len())?;
+        let (looks, ends) = rest.split_at_checked(scene.looks.len())?;
+        Some(Staged {
+            alloc,
+            rows: scene.rows,
+            lines,
+            looks,
+            ends,
+        })
+    }
+
+    // Whether it goes as it should, also where memory is refused once.
+    fn goes_well(self) -> bool {
+        let Some(mut pair) = Pair::new(self.alloc) else {
+            return false;
+        };
+        for (at, (line, (_, want))) in self.lines.iter().zip(self.rows).enumerate() {
+            if !self.outlives(&mut pair, at, line, *want) {
+                return false;
+            }
+        }
+        true
+    }
+
+    // Whether this comes of a line: at once, or at the second try, where memory was refused to the first.
+    fn outlives(self, pair: &mut Pair<'s>, at: usize, line: &'s Line, want: Outcome) -> bool {
+        let outcome = pair.play(line.session, &line.statement);
+        if outcome != Outcome::NoMemory || !takes_memory(&line.statement) {
+            return outcome == want;
+        }
+        self.nothing_is_lost(pair, at, line) && pair.play(line.session, &line.statement) == want
+    }
+
+    // Whether all stands as before a line's statement, or as behind what the statement ends first.
+    fn nothing_is_lost(self, pair: &mut Pair<'s>, at: usize, line: &Line) -> bool {
+        let Some(mut other) = self.led_up_to(at, line.session) else {
+            return false;
+        };
+        self.are_alike(pair, &mut other)
+            || (self.ends_first(&mut other, line) && self.are_alike(pair, &mut other))
+    }
+
+    // A pair that is led up to a line, but for the statement with which its session waits.
+    fn led_up_to(self, at: usize, who: u16) -> Option<Pair<'s>> {
+        let mut pair = Pair::new(self.alloc)?;
+        let ended = self.last_end(at, who);
+        for (index, (line, (_, want))) in self.lines.iter().zip(self.rows).take(at).enumerate() {
+            let is_left_out = line.session == who && index >= ended;
+            if !is_left_out && pair.play(line.session, &line.statement) != *want {
+                return None;
+            }
+        }
+        Some(pair)
+    }
+
+    // How far a session's last statement goes that ended before a line.
+    fn last_end(self, at: usize, who: u16) -> usize {
+        let mut ended = 0;
+        for (index, (line, (_, want))) in self.lines.iter().zip(self.rows).take(at).enumerate() {
+            if line.session == who && *want != Outcome::Waits {
+                ended = index.saturating_add(1);
+            }
+        }
+        ended
+    }
+
+    // Whether both sessions have the same in two pairs, and are told the same.
+    fn are_alike(self, one: &mut Pair<'s>, other: &mut Pair<'s>) -> bool {
+        if !one.has_the_same(other, 1) || !one.has_the_same(other, 2) {
+            return false;
+        }
+        for line in self.looks {
+            if one.look(line) != other.look(line) {
+                return false;
+            }
+        }
+        true
+    }
+
+    // Makes what a statement does before its first lock, if it does anything.
+    fn ends_first(self, pair: &mut Pair<'s>, line: &Line) -> bool {
+        let [commit, begin, rollback] = self.ends else {
+            return false;
+        };
+        let ends = match &line.statement {
+            Statement::Begin | Statement::Commit | Statement::Savepoint(_) => return false,
+            Statement::Select(_) | Statement::Write { .. } => return false,
+            Statement::LockTables(_) => [begin, rollback],
+            _ => [commit, commit],
+        };
+        for end in ends {
+            if pair.play(line.session, &end.statement) != Outcome::Done {
+                return false;
+            }
+        }
+        true
     }
 }
 
-fn are_made(alloc: Global, script: &Script) -> bool {
-    let lines = script.lines();
-    if lines.len() != OUTCOMES.len() || lines.len() <= BEFORE {
+// Whether a statement may take memory.
+fn takes_memory(statement: &Statement) -> bool {
+    !matches!(
+        statement,
+        Statement::Rollback | Statement::RollbackTo(_) | Statement::UnlockTables
+    )
+}
+
+/// Whether a scene goes as it should, also where memory is refused once.
+pub(crate) fn goes_well(alloc: Global, scene: Scene) -> bool {
+    let script = match script_of(alloc, scene) {
+        Err(Fault::Memory) => script_of(alloc, scene),
+        outcome => outcome,
+    };
+    let Ok(script) = script else {
         return false;
-    }
-    let (before, after) = lines.split_at(BEFORE);
-    let (first, last) = OUTCOMES.split_at(BEFORE);
-    match Pair::new(alloc) {
-        Some(mut pair) => all_outlive(&mut pair, before, first)
-            && outlives_waiting(&mut pair, &before[WAITING])
-            && all_outlive(&mut pair, after, last),
+    };
+    match Staged::new(alloc, scene, script.lines()) {
+        Some(staged) => staged.goes_well(),
         None => false,
     }
 }
 
-fn all_outlive<'s>(pair: &mut Pair<'s>, lines: &'s [Line], outcomes: &[Outcome]) -> bool {
-    for (line, want) in lines.iter().zip(outcomes) {
-        if !outlives(pair, line, *want) {
-            return false;
-        }
+// All lines of a scene, its looks, and the ends behind them.
+fn script_of(alloc: Global, scene: Scene) -> Result<Script, Fault> {
+    let mut text = String::new(alloc);
+    for (line, _) in scene.rows {
+        put(&mut text, line)?;
     }
-    true
+    for line in scene.looks {
+        put(&mut text, line)?;
+    }
+    for line in ENDS {
+        put(&mut text, line)?;
+    }
+    parse(alloc, text.as_bytes())
 }
 
-// Whether this comes of a statement: at once, or at the second try, where memory was refused to the first, which had ended then.
-fn outlives<'s>(pair: &mut Pair<'s>, line: &'s Line, want: Outcome) -> bool {
-    let outcome = pair.start(line.session, &line.statement);
-    if outcome != Outcome::NoMemory {
-        return outcome == want;
+fn put(text: &mut String, line: &str) -> Result<(), Fault> {
+    match text.push_str(line).and_then(|_| text.push('\n')) {
+        Ok(()) => Ok(()),
+        Err(AllocError) => Err(Fault::Memory),
     }
-    !pair.waits(line.session) && pair.start(line.session, &line.statement) == want
-}
-
-// The same of the statement that waited, which is started again at the second try.
-fn outlives_waiting<'s>(pair: &mut Pair<'s>, line: &'s Line) -> bool {
-    let outcome = pair.go_on();
-    if outcome != Outcome::NoMemory {
-        return outcome == Outcome::Done;
-    }
-    !pair.waits(line.session) && pair.start(line.session, &line.statement) == Outcome::Done
 }

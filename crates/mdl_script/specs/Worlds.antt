@@ -128,8 +128,8 @@ settling zero world = silent world
 settling (suc turns) world = going_first (first_settled world) (settling turns) world
 
 -- as many times as there can be: with each the statement of its session ends, or it has one lock less to wait for, and while no new
--- line is played no other session begins to wait. A statement waits for at most so many: that of COMMIT for the transaction before
--- it, four times that of a lock made stronger, and one of each key that has a place
+-- line is played no other session begins to wait. A statement asks for at most 259 locks, one after the other, as `most_locks` of
+-- mdl_script_laws counts them: any bound from there on is enough, and this one is two more
 abbrev pub most_waits : ℕ
 most_waits = 1 + 4 + 256
 

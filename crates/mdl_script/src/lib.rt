@@ -7,6 +7,6 @@ mod replaying;
 mod told;
 
 pub use mdl_lines::{Fault, LineError};
-pub use mdl_syntax::{Script, parse};
+pub use mdl_syntax::{Line, Script, Statement, parse};
 pub use replaying::replay;
 pub use told::{News, Told};

@@ -1,6 +1,9 @@
+pub mod ChangeRows
 pub mod EarlyPlays
 pub mod EarlyRows
 pub mod ListLemmas
+pub mod FailedPlays
+pub mod KeysInOrder
 pub mod NoDeadlockCalls
 pub mod NoDeadlockContexts
 pub mod NoDeadlockPrograms
@@ -22,6 +25,8 @@ pub mod ShownRaising
 pub mod ShownRows
 pub mod ShownWaits
 pub mod ShownWorlds
+pub mod StillContexts
+pub mod StillPlays
 pub mod TidyLemmas
 pub mod TurnLemmas
 pub mod TurnPlaces

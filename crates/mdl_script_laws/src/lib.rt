@@ -2,12 +2,18 @@
 //! function that does nothing.
 #![tactic(auto)]
 
+mod changes;
 mod deadlocks;
+mod orders;
 mod refusals;
 mod shown;
 mod turns;
 
+pub use changes::{
+    failures_change_nothing, statements_check_before_they_change, waiters_have_one_left,
+};
 pub use deadlocks::no_deadlock_stands;
+pub use orders::keys_stand_in_order;
 pub use refusals::{
     early_errors_change_nothing, idle_sessions_are_tidy, refused_lines_change_nothing,
     sessions_stay_tidy,

@@ -2,8 +2,9 @@
 //! how many waits are told. Each is proved as the contract of a function that does nothing.
 ghost use Rattle.mdl_script_laws.specs.Turns.{StatementsAskForFewLocks, StatementsTellOfFewWaits, TurnsSuffice, MoreTurnsDoNothing, NobodyIsLeftSettled, StatementsWaitInTheSpace};
 
-/// A statement asks for no more locks than it can need: its tables, with their schemas where they are created or dropped, the
-/// global lock, and the COMMIT lock. That is at most eighteen, whatever stands and whatever its session keeps.
+/// A statement asks for no more locks than it can need, as `locks_of` of specs/Turns counts them: its tables, with their schemas
+/// where definitions are changed or tables are locked to be written, the global lock, and the COMMIT lock; to make a lock stronger
+/// counts as one more. That is at most 259, that of a `DROP SCHEMA` of 256 tables, whatever stands and whatever its session keeps.
 pub fn statements_ask_for_few_locks()
     ensures { StatementsAskForFewLocks }
 {}

@@ -7,8 +7,8 @@
 //! changes the key's definition under its tickets ([`LockSpace::read_definition`],
 //! [`LockSpace::change_definition`]), and gives them up ([`LockSpace::release`]). It is told the key of a place, too
 //! ([`LockSpace::key_of`]), and the tables of a schema ([`LockSpace::tables_of`]). Contracts see a call as what joins the space
-//! before it to the space after it, and what a session has as its own tickets and wait. Some calls that the laws of the trait
-//! speak of have no method as yet: pins that are given up.
+//! before it to the space after it, and what a session has as its own tickets and wait. Two calls that the laws of the trait
+//! speak of have no method as yet: a pin that is given up, and a definition read where it is kept.
 //!
 //! [`CoreSpace`] is the space of one thread. Each of its calls is an event of the system of locks that a reader believes in,
 //! which stays lawful, and in which nobody is forgotten: the laws of that stand in `mdl_system` and `mdl_core`, and their names
@@ -27,12 +27,13 @@ pub use mdl_calls::{
     Upgrade,
 };
 pub use mdl_core::{
-    NewError, calls_are_events, calls_keep_sound, calls_lead_by_events, changes_tell_the_version,
-    grants_what_is_grantable, kills_just_that_wait, only_new_waits_make_deadlocks,
-    reads_tell_what_stands, refuses_changes_in_order, refuses_for_cause, refuses_merges_in_order,
-    refuses_new_modes_in_order, searches_find_deadlocks, searches_leave_no_deadlock,
-    searches_suffice, searching_ends_deadlocks, sessions_have_what_the_system_says,
-    upgrades_what_is_grantable, waiting_leaves_no_deadlock,
+    NewError, answers_are_determined, calls_are_events, calls_keep_sound, calls_lead_by_events,
+    changes_tell_the_version, grants_what_is_grantable, kills_just_that_wait,
+    only_new_waits_make_deadlocks, places_and_numbers_follow, reads_tell_what_stands,
+    refuses_changes_in_order, refuses_clones_in_order, refuses_for_cause, refuses_merges_in_order,
+    refuses_new_modes_in_order, refuses_wishes_in_order, searches_find_deadlocks,
+    searches_leave_no_deadlock, searches_suffice, searching_ends_deadlocks,
+    sessions_have_what_the_system_says, upgrades_what_is_grantable, waiting_leaves_no_deadlock,
 };
 pub use mdl_system::{
     changes_by_lists, covers_by_kind, definitions_change_exclusively, definitions_stand_still,

@@ -26,6 +26,11 @@ use mdl_key::{Key, Mode};
 /// What the call does to that session is the same in every space; no call changes what another session holds. A space in
 /// which other sessions act meanwhile tells less about the rest than one that runs in a single thread.
 ///
+/// The laws behind the methods hold in every space. What a method's text says beyond them is what [`CoreSpace`](crate::CoreSpace) does,
+/// by the laws of `mdl_core`: that a new key takes the next free place, which victim a search chooses, that a clone overtakes
+/// waiters, that a session's other tickets don't stand in the way of its upgrade, that just those tables are told that have a
+/// definition, and that a number runs out only behind the last one.
+///
 /// After MySQL 5.7, `MDL_context` of `sql/mdl.h`.
 pub trait LockSpace {
     // The sessions that the space speaks for: whoever has the space at hand may make their calls.
@@ -73,9 +78,10 @@ pub trait LockSpace {
         requires { speaks_for self.old who }
         ensures { joins self.old (Begin_wait who place mode) (begun result) self.new };
 
-    /// Looks for a deadlock that the session is part of: sessions each of which waits, unsettled, for the next, and the last for
-    /// the first. If there is one, the wait of its victim is settled: of the shortest, the member whose wish weighs least, and
-    /// of those the one of the greatest number. There may be other deadlocks, for further searches.
+    /// Looks for a deadlock that the session is part of: sessions each of which waits, unsettled, for the next, and the
+    /// last for the first. If there is one, the wait of its victim is settled: of the shortest, the member whose wish
+    /// weighs least, and of those the one of the greatest number. There may be other deadlocks, for further searches.
+    /// The victim's ticket stands among those that wait until the victim itself ends its wait.
     ///
     /// After MySQL 5.7, a turn of `MDL_context::find_deadlock` of `sql/mdl.cc`.
     fn search(&mut self, who: u16) -> Result<Search, SpaceError>
@@ -88,11 +94,18 @@ pub trait LockSpace {
         ensures { joins self.old (Poll_wait who) (polled result) self.new };
 
     /// Settles the session's wait as a timeout, unless it is settled. It takes no memory.
+    ///
+    /// It wakes nobody: in the space of one thread the ticket stands among those that wait, and others behind it wait
+    /// on, until [`LockSpace::end_wait`]. Where the wait was granted before, that stays, and `end_wait` tells the
+    /// ticket.
     fn settle_timeout(&mut self, who: u16) -> Result<TimedOut, SpaceError>
         requires { speaks_for self.old who }
         ensures { joins self.old (Settle_timeout who) (timed_out result) self.new };
 
     /// Ends the session's wait, which is settled: with the ticket if it was granted, else without. It takes no memory.
+    ///
+    /// Only now does the ticket of a lost wait go; the space of one thread then grants those behind it what can be
+    /// granted. Of a wait that isn't settled the call is refused, and the wait goes on.
     fn end_wait(&mut self, who: u16) -> Result<Ended, SpaceError>
         requires { speaks_for self.old who }
         ensures { joins self.old (End_wait who) (ended result) self.new };
@@ -101,8 +114,11 @@ pub trait LockSpace {
     fn wait_of(&mut self, target: u16) -> Option<u64>
         ensures { joins self.old (Wait_of target) (Has_wait result) self.new };
 
-    /// Settles any session's wait of this number as killed, unless it is settled. Whether this call settled it. It takes no
-    /// memory.
+    /// Settles any session's wait of this number as killed, unless it is settled. Whether this call settled it. It
+    /// takes no memory.
+    ///
+    /// It wakes nobody, and whoever is killed learns of it by [`LockSpace::poll_wait`]: in the space of one thread the
+    /// ticket stands among those that wait until that session itself calls [`LockSpace::end_wait`].
     fn kill(&mut self, target: u16, number: u64) -> bool
         ensures { joins self.old (Kill target number) (Has_killed result) self.new };
 
@@ -116,16 +132,17 @@ pub trait LockSpace {
         requires { speaks_for self.old who }
         ensures { joins self.old (Clone_ticket who id mode) (cloned result) self.new };
 
-    /// Asks for a stronger mode of a held ticket, without waiting: of SU for SNW, SNRW or X, of SNW for SNRW or X, of SNRW for X.
-    /// A mode that the held one covers it has already, and nothing changes. The session's other tickets don't stand in the way.
+    /// Asks for a stronger mode of a held ticket, without waiting: of SU for SNW, SNRW or X, of SNW for SNRW or X, of
+    /// SNRW for X. A mode that the held one covers it has already, and nothing changes. The session's other tickets
+    /// don't stand in the way.
     ///
     /// After MySQL 5.7, `MDL_context::upgrade_shared_lock` of `sql/mdl.cc`, which waits.
     fn upgrade_now(&mut self, who: u16, id: TicketId, mode: Mode) -> Result<Upgrade, SpaceError>
         requires { speaks_for self.old who }
         ensures { joins self.old (Upgrade_now who id mode) (upgrade_tried result) self.new };
 
-    /// Lets a held ticket have the mode of another one of its place, which is at least as strong, and gives that one up. The
-    /// first ticket keeps its number.
+    /// Lets a held ticket have the mode of another one of its place, which is at least as strong, and gives that one
+    /// up. The first ticket keeps its number.
     ///
     /// After MySQL 5.7, the end of `MDL_context::upgrade_shared_lock` of `sql/mdl.cc`.
     fn merge(&mut self, who: u16, old: TicketId, new: TicketId) -> Result<(), SpaceError>
@@ -144,8 +161,8 @@ pub trait LockSpace {
         requires { speaks_for self.old who }
         ensures { joins self.old (Read_definition who id) (read result) self.new };
 
-    /// Changes what stands under the key of the place of a ticket that is held exclusively, and answers the new version, which
-    /// is one greater. `Drop` takes no memory.
+    /// Changes what stands under the key of the place of a ticket that is held exclusively, and answers the new
+    /// version, which is one greater. `Drop` takes no memory.
     fn change_definition(
         &mut self,
         who: u16,

@@ -18,8 +18,8 @@ use Rattle.mdl_stmt.specs.declared.ending.Got.TheVariants.{Had}
 use Rattle.mdl_stmt.specs.declared.ending.Got.TheVariants as got
 use Rattle.mdl_stmt.specs.declared.ending.Listed.TheVariants as listed
 use Rattle.mdl_stmt.specs.declared.reply.Reply.{Reply}
-use Rattle.mdl_stmt.specs.declared.stage.Locking.{Locking}
-use Rattle.mdl_stmt.specs.declared.stage.Locking.TheVariants.{Ddl, Tables}
+use Rattle.mdl_stmt.specs.declared.lock_list.Locking.{Locking}
+use Rattle.mdl_stmt.specs.declared.lock_list.Locking.TheVariants.{Ddl, Tables}
 use Rattle.mdl_stmt.specs.Gets.{Comes, IsGot, IsListedBy}
 use Rattle.mdl_stmt.specs.LockLists.{LockList, with_ticket}
 use Rattle.mdl_stmt.specs.Playing.{play}

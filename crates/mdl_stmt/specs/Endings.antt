@@ -38,8 +38,8 @@ ending_of_loss settled.Timeout = Misses LockWaitTimeout
 ending_of_loss settled.Killed = Misses Interrupted
 ending_of_loss _ = Falls
 
--- how a statement ends that a lock space refuses something. A statement of a script asks for nothing that is refused for another cause
--- than want of room: no place for a key, no room in a book, no number for a ticket or a wait
+-- how a statement ends that a lock space refuses something. This project's choice is that want of memory and of places are told as
+-- such, and any other refusal as want of room, which no room in a book is, and no number for a ticket or a wait
 abbrev pub ending_of_refusal : SpaceError → Ending
 ending_of_refusal space.OutOfMemory = Starves
 ending_of_refusal space.NoPlace = Misses NoPlace

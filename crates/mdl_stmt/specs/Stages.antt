@@ -7,10 +7,30 @@ use Rattle.mdl_stmt.specs.declared.reply.Reply.{Reply}
 use Rattle.mdl_stmt.specs.declared.reply.Reply.TheVariants as reply
 use Rattle.mdl_stmt.specs.declared.reply.TableShown.{TableShown}
 use Rattle.mdl_stmt.specs.declared.runner.Work.{Work}
-use Rattle.mdl_stmt.specs.declared.stage.Locking.{Locking}
-use Rattle.mdl_stmt.specs.declared.stage.Locking.TheVariants.{Ddl, Tables}
+use Rattle.mdl_stmt.specs.declared.lock_list.Locking.{Locking}
+use Rattle.mdl_stmt.specs.declared.lock_list.Locking.TheVariants.{Ddl, Tables}
+use Rattle.mdl_syntax.specs.declared.statement.Alteration.{Alteration}
+use Rattle.mdl_syntax.specs.declared.table_locks.TableLock.{TableLock}
 use Rattle.mdl_stmt.specs.declared.stage.Stage.{Stage}
-use Rattle.mdl_stmt.specs.declared.stage.Stage.TheVariants.{Commit, Show, WriteGlobal, WriteTable, CommitWrite, CreateGlobal, CreateSchema, CreateTable, SchemaGlobal, NewSchema, DropScopes, DropTables, RenameScopes, RenameTables, FlushGlobal, FlushCommit, AlterGlobal, AlterSchema, AlterTable, AlterByCopy, AlterInPlace, ChangeTable, AlterLocked, ChangeLocked, LockScopes, LockTables, DropGlobal, DropSchema, DropWithin}
+use Rattle.mdl_stmt.specs.declared.stage.Stage.TheVariants.{Commit, Select, Write, Create, CreateSchema, Drop, DropSchema, Rename, Flush, Alter, Lock}
+use Rattle.mdl_stmt.specs.declared.stage.Writing.{Writing}
+use Rattle.mdl_stmt.specs.declared.stage.Writing.TheVariants as writing
+use Rattle.mdl_stmt.specs.declared.stage.Creating.{Creating}
+use Rattle.mdl_stmt.specs.declared.stage.Creating.TheVariants as creating
+use Rattle.mdl_stmt.specs.declared.stage.CreatingSchema.{CreatingSchema}
+use Rattle.mdl_stmt.specs.declared.stage.CreatingSchema.TheVariants as creating_schema
+use Rattle.mdl_stmt.specs.declared.stage.Dropping.{Dropping}
+use Rattle.mdl_stmt.specs.declared.stage.Dropping.TheVariants as dropping
+use Rattle.mdl_stmt.specs.declared.stage.DroppingSchema.{DroppingSchema}
+use Rattle.mdl_stmt.specs.declared.stage.DroppingSchema.TheVariants as dropping_schema
+use Rattle.mdl_stmt.specs.declared.stage.Renaming.{Renaming}
+use Rattle.mdl_stmt.specs.declared.stage.Renaming.TheVariants as renaming
+use Rattle.mdl_stmt.specs.declared.stage.Flushing.{Flushing}
+use Rattle.mdl_stmt.specs.declared.stage.Flushing.TheVariants as flushing
+use Rattle.mdl_stmt.specs.declared.stage.Altering.{Altering}
+use Rattle.mdl_stmt.specs.declared.stage.Altering.TheVariants as altering
+use Rattle.mdl_stmt.specs.declared.stage.LockingTables.{LockingTables}
+use Rattle.mdl_stmt.specs.declared.stage.LockingTables.TheVariants as locking
 use Rattle.mdl_stmt.specs.LockLists.{LockList, ticket_of, with_ticket}
 use Rattle.mdl_stmt.specs.Rows.{Row, Give, ◌>>=◌, ◌>>◌, acquire_all}
 use Rattle.mdl_stmt.specs.Sessions.{Left, RunnerView, Session}
@@ -45,38 +65,74 @@ rename_names from to schema locks keys = lock_rest locks (λ tickets. rename_und
 abbrev pub rename_scopes : KeyName → KeyName → LockList → List KeyName → Row Reply
 rename_scopes from to locks keys = lock_rest locks (λ scopes. lock_and_rename from to (ticket_of (schema_of to) keys scopes))
 
--- what is left of a statement
+-- what is left of a write
+abbrev pub rest_of_writing : Writing → ℕ → Row Reply
+rest_of_writing (writing.Global table priority) global = lock_and_write table.now priority
+rest_of_writing writing.Table ticket = write_under ticket
+rest_of_writing writing.Commit lock = end_under lock >> Give reply.Ok
+
+-- of CREATE TABLE
+abbrev pub rest_of_creating : Creating → ℕ → Row Reply
+rest_of_creating (creating.Global table columns) global = lock_schema_and_create table.now columns.now
+rest_of_creating (creating.Schema table columns) schema = lock_and_create table.now columns.now schema
+rest_of_creating (creating.Table columns schema) ticket = create_under columns.now schema ticket
+
+-- of CREATE SCHEMA
+abbrev pub rest_of_creating_schema : CreatingSchema → ℕ → Row Reply
+rest_of_creating_schema (creating_schema.Global name) global = lock_and_create_schema name.now
+rest_of_creating_schema creating_schema.Schema ticket = create_schema_under ticket
+
+-- of DROP TABLE
+abbrev pub rest_of_dropping : Dropping → ℕ → Row Reply
+rest_of_dropping (dropping.Scopes tables locks) ticket = lock_rest (with_ticket ticket locks) (λ scopes. lock_and_drop tables.now)
+rest_of_dropping (dropping.Tables locks) ticket = lock_rest (with_ticket ticket locks) drop_under
+
+-- of DROP SCHEMA
+abbrev pub rest_of_dropping_schema : DroppingSchema → ℕ → Row Reply
+rest_of_dropping_schema (dropping_schema.Global name) global = lock_and_drop_schema name.now
+rest_of_dropping_schema (dropping_schema.Schema name) ticket = drop_schema_under name.now ticket
+rest_of_dropping_schema (dropping_schema.Tables schema locks) ticket = lock_rest (with_ticket ticket locks) (drop_with schema)
+
+-- of RENAME TABLE
+abbrev pub rest_of_renaming : KeyName → KeyName → Renaming → ℕ → Row Reply
+rest_of_renaming from to (renaming.Scopes locks) ticket = rename_scopes from to (with_ticket ticket locks) locks.keys
+rest_of_renaming from to (renaming.Names schema locks) ticket = rename_names from to schema (with_ticket ticket locks) locks.keys
+
+-- of FLUSH TABLES WITH READ LOCK
+abbrev pub rest_of_flushing : Flushing → ℕ → Row Reply
+rest_of_flushing flushing.Global global = lock_commits global
+rest_of_flushing flushing.Commit commit = read_lock_under commit
+
+-- of ALTER TABLE
+abbrev pub rest_of_altering : Alteration → Altering → ℕ → Row Reply
+rest_of_altering alteration altering.Global global = lock_schema_and_alter alteration
+rest_of_altering alteration altering.Schema schema = alter_in_schema alteration
+rest_of_altering alteration altering.Table ticket = alter_under alteration ticket
+rest_of_altering alteration altering.Copy ticket = raise_and_change alteration ticket
+rest_of_altering alteration altering.InPlace ticket = reopen_and_change alteration ticket
+rest_of_altering alteration altering.Change ticket = change_table alteration ticket
+rest_of_altering alteration altering.Locked ticket = alter_locked_under alteration ticket
+rest_of_altering alteration altering.ChangeLocked ticket = change_and_lower alteration ticket
+
+-- of LOCK TABLES
+abbrev pub rest_of_locking : List TableLock → LockingTables → ℕ → Row Reply
+rest_of_locking tables (locking.Scopes locks) ticket = lock_rest (with_ticket ticket locks) (lock_named tables)
+rest_of_locking tables (locking.Tables scopes locks) ticket =
+    lock_rest_by (table_lock tables) (with_ticket ticket locks) (keep_locked tables locks.keys scopes.items)
+
+-- of a statement
 abbrev pub rest_of : Stage → ℕ → Row Reply
 rest_of (Commit statement) lock = end_under lock >> after_commit statement.now
-rest_of (Show tables at shown) ticket = show_next shown (drop at tables.now) ticket
-rest_of (WriteGlobal table priority) global = lock_and_write table.now priority
-rest_of WriteTable ticket = write_under ticket
-rest_of CommitWrite lock = end_under lock >> Give reply.Ok
-rest_of (CreateGlobal table columns) global = lock_schema_and_create table.now columns.now
-rest_of (CreateSchema table columns) schema = lock_and_create table.now columns.now schema
-rest_of (CreateTable columns schema) ticket = create_under columns.now schema ticket
-rest_of (SchemaGlobal name) global = lock_and_create_schema name.now
-rest_of NewSchema ticket = create_schema_under ticket
-rest_of (DropScopes tables locks) ticket = lock_rest (with_ticket ticket locks) (λ scopes. lock_and_drop tables.now)
-rest_of (DropTables locks) ticket = lock_rest (with_ticket ticket locks) drop_under
-rest_of (DropGlobal name) global = lock_and_drop_schema name.now
-rest_of (DropSchema name) ticket = drop_schema_under name.now ticket
-rest_of (DropWithin schema locks) ticket = lock_rest (with_ticket ticket locks) (drop_with schema)
-rest_of (RenameScopes from to locks) ticket = rename_scopes from.now to.now (with_ticket ticket locks) locks.keys
-rest_of (RenameTables from to schema locks) ticket = rename_names from.now to.now schema (with_ticket ticket locks) locks.keys
-rest_of FlushGlobal global = lock_commits global
-rest_of FlushCommit commit = read_lock_under commit
-rest_of (AlterGlobal alteration) global = lock_schema_and_alter alteration.now
-rest_of (AlterSchema alteration) schema = alter_in_schema alteration.now
-rest_of (AlterTable alteration) ticket = alter_under alteration.now ticket
-rest_of (AlterByCopy alteration) ticket = raise_and_change alteration.now ticket
-rest_of (AlterInPlace alteration) ticket = reopen_and_change alteration.now ticket
-rest_of (ChangeTable alteration) ticket = change_table alteration.now ticket
-rest_of (AlterLocked alteration) ticket = alter_locked_under alteration.now ticket
-rest_of (ChangeLocked alteration) ticket = change_and_lower alteration.now ticket
-rest_of (LockScopes tables locks) ticket = lock_rest (with_ticket ticket locks) (lock_named tables.now)
-rest_of (LockTables tables scopes locks) ticket =
-    lock_rest_by (table_lock tables.now) (with_ticket ticket locks) (keep_locked tables.now locks.keys scopes.items)
+rest_of (Select tables at shown) ticket = show_next shown (drop at tables.now) ticket
+rest_of (Write at) ticket = rest_of_writing at ticket
+rest_of (Create at) ticket = rest_of_creating at ticket
+rest_of (CreateSchema at) ticket = rest_of_creating_schema at ticket
+rest_of (Drop at) ticket = rest_of_dropping at ticket
+rest_of (DropSchema at) ticket = rest_of_dropping_schema at ticket
+rest_of (Rename from to at) ticket = rest_of_renaming from.now to.now at ticket
+rest_of (Flush at) ticket = rest_of_flushing at ticket
+rest_of (Alter alteration at) ticket = rest_of_altering alteration.now at ticket
+rest_of (Lock tables at) ticket = rest_of_locking tables.now at ticket
 
 -- the same with where the session stood as the statement began
 abbrev pub left_of : Work → Left

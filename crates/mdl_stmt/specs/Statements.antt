@@ -263,7 +263,7 @@ write table priority = do
   state ← look
   if has_locked state.locked then write_locked table else write_unlocked table priority
 
--- ---- CREATE TABLE
+-- ---- changes of definitions
 
 -- how DDL begins. After it no transaction is open, so what it locks goes as it ends
 abbrev pub ddl : Act
@@ -289,6 +289,8 @@ abbrev pub check_schema : ℕ → Act
 check_schema schema = do
   over ← read schema
   check (is_defined over) UnknownDatabase
+
+-- ---- CREATE TABLE
 
 -- there is no such table, its columns have names of their own, and it can be changed once more
 abbrev pub check_new : List (List ℕ) → ℕ → Act
@@ -594,13 +596,13 @@ alter_by_copy alteration table = do
   copied ← upgrade table alteration.table SNW
   raise_and_change alteration copied
 
--- all others may use it again while it is altered where it stands, and then it is changed
+-- others that read or write may use it again while it is altered where it stands, and then it is changed
 abbrev pub reopen_and_change : Alteration → ℕ → Row Reply
 reopen_and_change alteration table = do
   downgrade table SU
   raise_and_change alteration table
 
--- nobody uses it as that is prepared
+-- a table is altered where it stands: nobody else uses it while that is prepared
 abbrev pub alter_in_place : Alteration → ℕ → Row Reply
 alter_in_place alteration table = do
   prepared ← upgrade table alteration.table X
@@ -706,7 +708,7 @@ locked_by locks (table ∷ tables) (ticket ∷ tickets) =
     record { key = table; may_write = may_write locks table; ticket = ticket } ∷ locked_by locks tables tickets
 locked_by locks _ _ = []
 
--- tables whose locks are had, and these of their scopes, stay locked until the session gives them up
+-- a session that has the locks of tables and of their scopes keeps them, by these tickets, until it gives them up
 abbrev pub keep_locked : List TableLock → List KeyName → List ℕ → List ℕ → Row Reply
 keep_locked locks tables scopes tickets = do
   for_each stands tickets
@@ -740,7 +742,7 @@ commit_first rest = commit >> rest
 abbrev pub ddl_first : Row Reply → Row Reply
 ddl_first rest = ddl >> rest
 
--- tables that are locked are looked at before
+-- FLUSH TABLES WITH READ LOCK is refused under locked tables; then an open transaction is committed
 abbrev pub flush_first : Row Reply → Row Reply
 flush_first rest = no_locked_tables >> commit_first rest
 
@@ -758,7 +760,7 @@ alter_first table rest = do
   state ← look
   if has_locked state.locked then alter_among_locked table rest else commit_first rest
 
--- and before tables are locked
+-- LOCK TABLES for writing is refused under the global read lock of its session; then an open transaction is committed
 abbrev pub lock_first : List TableLock → Row Reply → Row Reply
 lock_first locks rest = check_writes (writes_any locks) >> commit_first rest
 

@@ -34,7 +34,7 @@ has_locked (table ∷ tables) = true
 abbrev pub at_first : State
 at_first = record { is_open = false; has_written = false; savepoints = []; locked = []; scopes = []; read_lock = None }
 
--- with a transaction that did nothing yet, and without locked tables
+-- with an open transaction, and without locked tables. Whether it wrote, and its savepoints, stay: there are none after `closed`
 abbrev pub opened : State → State
 opened state = record state { is_open = true; locked = []; scopes = [] }
 

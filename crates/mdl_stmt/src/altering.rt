@@ -3,19 +3,19 @@ ghost use Rattle.std.specs.Prelude.{◌≡◌, ◌⊎◌, None, Some, Ok, MatchR
 ghost use Rattle.mdl_defs.specs.declared.def_error.DefError.{DefError};
 ghost use Rattle.mdl_context.specs.Contexts.{Attends, LeavesOthers};
 ghost use Rattle.mdl_defs.specs.Changes.{change_fault};
-ghost use Rattle.mdl_stmt.specs.Gets.{IsPlayed, IsRaised, IsStep, IdleUnlessGot, IdleUnlessPlayed};
-ghost use Rattle.mdl_stmt.specs.Rows.{downgrade};
-ghost use Rattle.mdl_stmt.specs.Statements.{after_commit, alter_after_commit, alter_among_locked, alter_by_copy, alter_first, alter_in_place, alter_in_schema, alter_locked, alter_locked_under, alter_under, alter_unlocked, change_and_lower, change_table, check_change, fault_number, lock_schema_and_alter, raise_and_change, reopen_and_change};
+ghost use Rattle.mdl_stmt.specs.Gets.{IsPlayed, IsStep, IdleUnlessPlayed};
+ghost use Rattle.mdl_stmt.specs.Stages.{rest_of_altering};
+ghost use Rattle.mdl_stmt.specs.Statements.{after_commit, alter_after_commit, alter_by_copy, alter_first, alter_in_place, alter_in_schema, alter_under, alter_unlocked, change_table, check_change, fault_number, lock_schema_and_alter, raise_and_change, reopen_and_change};
 ghost use Rattle.mdl_stmt.specs.declared.ending.Ending.TheVariants.{Answers, Starves};
 ghost use Rattle.mdl_stmt.specs.declared.reply.Reply.TheVariants.{Error};
 
 use crate::creating::{MOST_VERSIONS, schema_of};
 use crate::ending::{Ending, Got, Played};
-use crate::player::{Player, ending_of_error};
+use crate::player::Player;
 use crate::reading::failing;
-use crate::stage::Stage;
+use crate::stage::{Altering, Stage};
 use crate::{ErrorNumber, Reply};
-use mdl_context::{Acquire, Request};
+use mdl_context::Request;
 use mdl_defs::{Change, DefError, Definition, apply};
 use mdl_key::{Duration, Key, Mode};
 use mdl_space::{LockSpace, TicketId};
@@ -47,30 +47,6 @@ impl<S: LockSpace> Player<S> {
         self.commit_first(space, statement)
     }
 
-    /// Performs one where the session has locked tables.
-    fn alter_among_locked<'s>(
-        &mut self,
-        space: &mut S,
-        table: &Key,
-        statement: &'s Statement,
-    ) -> Played<'s>
-        requires attends { Attends S.speaks_for S.own S.knows space.old self.old.context }
-        requires idle { self.old.context.wait ≡ None }
-        ensures run { IsPlayed S.joins (alter_among_locked table.now (after_commit statement.now)) space.old self.old result space.new self.new }
-        ensures attends { Attends S.speaks_for S.own S.knows space.new self.new.context }
-        ensures others { LeavesOthers S.speaks_for S.own S.knows self.old.context.who space.old space.new }
-        ensures who { self.new.context.who ≡ self.old.context.who }
-        ensures idle { IdleUnlessPlayed result self.new }
-    {
-        let Some(locked) = self.explicit.find(table) else {
-            return Played::Ends(failing(ErrorNumber::TableNotLocked));
-        };
-        if !locked.may_write {
-            return Played::Ends(failing(ErrorNumber::TableLockedForRead));
-        }
-        self.commit_first(space, statement)
-    }
-
     /// Alters a table, once no transaction is open.
     pub(crate) fn alter<'s>(&mut self, space: &mut S, alteration: &'s Alteration) -> Played<'s>
         requires attends { Attends S.speaks_for S.own S.knows space.old self.old.context }
@@ -89,7 +65,11 @@ impl<S: LockSpace> Player<S> {
         };
         match self.get(space, request) {
             Got::Had(_) => self.lock_schema_and_alter(space, alteration),
-            Got::Waits(key) => Played::Waits(key, Mode::IX, Stage::AlterGlobal(alteration)),
+            Got::Waits(key) => Played::Waits(
+                key,
+                Mode::IX,
+                Stage::Alter(alteration, Altering::Global),
+            ),
             Got::Ends(ending) => Played::Ends(ending),
         }
     }
@@ -118,7 +98,11 @@ impl<S: LockSpace> Player<S> {
         };
         match self.get(space, request) {
             Got::Had(_) => self.alter_in_schema(space, alteration),
-            Got::Waits(key) => Played::Waits(key, Mode::IX, Stage::AlterSchema(alteration)),
+            Got::Waits(key) => Played::Waits(
+                key,
+                Mode::IX,
+                Stage::Alter(alteration, Altering::Schema),
+            ),
             Got::Ends(ending) => Played::Ends(ending),
         }
     }
@@ -160,7 +144,11 @@ impl<S: LockSpace> Player<S> {
         };
         match self.get(space, request) {
             Got::Had(ticket) => self.alter_under(space, alteration, ticket),
-            Got::Waits(key) => Played::Waits(key, Mode::SU, Stage::AlterTable(alteration)),
+            Got::Waits(key) => Played::Waits(
+                key,
+                Mode::SU,
+                Stage::Alter(alteration, Altering::Table),
+            ),
             Got::Ends(ending) => Played::Ends(ending),
         }
     }
@@ -206,7 +194,11 @@ impl<S: LockSpace> Player<S> {
     {
         match self.raise(space, ticket, &alteration.table, Mode::SNW) {
             Got::Had(copied) => self.raise_and_change(space, alteration, copied),
-            Got::Waits(key) => Played::Waits(key, Mode::SNW, Stage::AlterByCopy(alteration)),
+            Got::Waits(key) => Played::Waits(
+                key,
+                Mode::SNW,
+                Stage::Alter(alteration, Altering::Copy),
+            ),
             Got::Ends(ending) => Played::Ends(ending),
         }
     }
@@ -228,7 +220,11 @@ impl<S: LockSpace> Player<S> {
     {
         match self.raise(space, ticket, &alteration.table, Mode::X) {
             Got::Had(prepared) => self.reopen_and_change(space, alteration, prepared),
-            Got::Waits(key) => Played::Waits(key, Mode::X, Stage::AlterInPlace(alteration)),
+            Got::Waits(key) => Played::Waits(
+                key,
+                Mode::X,
+                Stage::Alter(alteration, Altering::InPlace),
+            ),
             Got::Ends(ending) => Played::Ends(ending),
         }
     }
@@ -269,7 +265,11 @@ impl<S: LockSpace> Player<S> {
     {
         match self.raise(space, ticket, &alteration.table, Mode::X) {
             Got::Had(alone) => self.change_table(space, alteration, alone),
-            Got::Waits(key) => Played::Waits(key, Mode::X, Stage::ChangeTable(alteration)),
+            Got::Waits(key) => Played::Waits(
+                key,
+                Mode::X,
+                Stage::Alter(alteration, Altering::Change),
+            ),
             Got::Ends(ending) => Played::Ends(ending),
         }
     }
@@ -295,79 +295,8 @@ impl<S: LockSpace> Player<S> {
         }
     }
 
-    /// Clones the lock that the session has of a table, and alters the table.
-    fn alter_locked<'s>(&mut self, space: &mut S, alteration: &'s Alteration) -> Played<'s>
-        requires attends { Attends S.speaks_for S.own S.knows space.old self.old.context }
-        requires idle { self.old.context.wait ≡ None }
-        ensures run { IsPlayed S.joins (alter_locked alteration.now) space.old self.old result space.new self.new }
-        ensures attends { Attends S.speaks_for S.own S.knows space.new self.new.context }
-        ensures others { LeavesOthers S.speaks_for S.own S.knows self.old.context.who space.old space.new }
-        ensures who { self.new.context.who ≡ self.old.context.who }
-        ensures idle { IdleUnlessPlayed result self.new }
-    {
-        let request = Request {
-            key: &alteration.table,
-            mode: Mode::SNRW,
-            duration: Duration::Transaction,
-        };
-        match self.get(space, request) {
-            Got::Had(ticket) => self.alter_locked_under(space, alteration, ticket),
-            Got::Waits(key) => Played::Waits(key, Mode::SNRW, Stage::AlterLocked(alteration)),
-            Got::Ends(ending) => Played::Ends(ending),
-        }
-    }
-
-    /// Alters a table of those that the session has locked, if it can be altered so.
-    pub(crate) fn alter_locked_under<'s>(
-        &mut self,
-        space: &mut S,
-        alteration: &'s Alteration,
-        ticket: TicketId,
-    ) -> Played<'s>
-        requires attends { Attends S.speaks_for S.own S.knows space.old self.old.context }
-        requires idle { self.old.context.wait ≡ None }
-        ensures run { IsPlayed S.joins (alter_locked_under alteration.now ticket) space.old self.old result space.new self.new }
-        ensures attends { Attends S.speaks_for S.own S.knows space.new self.new.context }
-        ensures others { LeavesOthers S.speaks_for S.own S.knows self.old.context.who space.old space.new }
-        ensures who { self.new.context.who ≡ self.old.context.who }
-        ensures idle { IdleUnlessPlayed result self.new }
-    {
-        if let Err(ending) = self.check_change(space, &alteration.change, ticket) {
-            return Played::Ends(ending);
-        }
-        match self.raise(space, ticket, &alteration.table, Mode::X) {
-            Got::Had(alone) => self.change_and_lower(space, alteration, alone),
-            Got::Waits(key) => Played::Waits(key, Mode::X, Stage::ChangeLocked(alteration)),
-            Got::Ends(ending) => Played::Ends(ending),
-        }
-    }
-
-    /// Changes a table that nobody else uses, and lets its lock be what it was.
-    pub(crate) fn change_and_lower<'s>(
-        &mut self,
-        space: &mut S,
-        alteration: &'s Alteration,
-        ticket: TicketId,
-    ) -> Played<'s>
-        requires attends { Attends S.speaks_for S.own S.knows space.old self.old.context }
-        requires idle { self.old.context.wait ≡ None }
-        ensures run { IsPlayed S.joins (change_and_lower alteration.now ticket) space.old self.old result space.new self.new }
-        ensures attends { Attends S.speaks_for S.own S.knows space.new self.new.context }
-        ensures others { LeavesOthers S.speaks_for S.own S.knows self.old.context.who space.old space.new }
-        ensures who { self.new.context.who ≡ self.old.context.who }
-        ensures idle { IdleUnlessPlayed result self.new }
-    {
-        match self.redefine(space, ticket, &alteration.change) {
-            Ok(()) => {
-                self.lower(space, ticket, Mode::SNRW);
-                Played::Ends(Ending::Answers(Reply::Ok))
-            }
-            Err(ending) => Played::Ends(ending),
-        }
-    }
-
     /// Looks whether a table is there, and can be changed so.
-    fn check_change(
+    pub(crate) fn check_change(
         &mut self,
         space: &mut S,
         change: &Change,
@@ -394,34 +323,32 @@ impl<S: LockSpace> Player<S> {
         Ok(())
     }
 
-    /// Asks for a stronger mode of a ticket of this key.
-    fn raise(&mut self, space: &mut S, ticket: TicketId, key: &Key, mode: Mode) -> Got<TicketId>
+    /// Goes on once the lock that was waited for is had.
+    pub(crate) fn go_on_altering<'s>(
+        &mut self,
+        space: &mut S,
+        alteration: &'s Alteration,
+        at: Altering,
+        ticket: TicketId,
+    ) -> Played<'s>
         requires attends { Attends S.speaks_for S.own S.knows space.old self.old.context }
         requires idle { self.old.context.wait ≡ None }
-        ensures run { IsRaised S.joins ticket key.now mode space.old self.old result space.new self.new }
+        ensures run { IsPlayed S.joins (rest_of_altering alteration.now at ticket) space.old self.old result space.new self.new }
         ensures attends { Attends S.speaks_for S.own S.knows space.new self.new.context }
         ensures others { LeavesOthers S.speaks_for S.own S.knows self.old.context.who space.old space.new }
         ensures who { self.new.context.who ≡ self.old.context.who }
-        ensures idle { IdleUnlessGot result self.new }
+        ensures idle { IdleUnlessPlayed result self.new }
     {
-        match self.context.upgrade(space, ticket, mode) {
-            Ok(Acquire::Acquired(id)) => Got::Had(id),
-            Ok(Acquire::MustWait(_)) => self.tell_wait(space, key),
-            Err(error) => Got::Ends(ending_of_error(error)),
+        match at {
+            Altering::Global => self.lock_schema_and_alter(space, alteration),
+            Altering::Schema => self.alter_in_schema(space, alteration),
+            Altering::Table => self.alter_under(space, alteration, ticket),
+            Altering::Copy => self.raise_and_change(space, alteration, ticket),
+            Altering::InPlace => self.reopen_and_change(space, alteration, ticket),
+            Altering::Change => self.change_table(space, alteration, ticket),
+            Altering::Locked => self.alter_locked_under(space, alteration, ticket),
+            Altering::ChangeLocked => self.change_and_lower(space, alteration, ticket),
         }
-    }
-
-    /// Gives a ticket a weaker mode.
-    fn lower(&mut self, space: &mut S, ticket: TicketId, mode: Mode)
-        requires attends { Attends S.speaks_for S.own S.knows space.old self.old.context }
-        requires idle { self.old.context.wait ≡ None }
-        ensures run { IsStep S.joins (downgrade ticket mode) space.old self.old (Ok tt) space.new self.new }
-        ensures attends { Attends S.speaks_for S.own S.knows space.new self.new.context }
-        ensures others { LeavesOthers S.speaks_for S.own S.knows self.old.context.who space.old space.new }
-        ensures who { self.new.context.who ≡ self.old.context.who }
-        ensures idle { self.new.context.wait ≡ None }
-    {
-        let _lowered = self.context.downgrade(space, ticket, mode);
     }
 }
 

@@ -4,13 +4,14 @@ ghost use Rattle.mdl_key.specs.Keys.{name_fault};
 ghost use Rattle.mdl_key.specs.Refusals.{Refuses};
 ghost use Rattle.mdl_context.specs.Contexts.{Attends, LeavesOthers};
 ghost use Rattle.mdl_stmt.specs.Gets.{IsPlayed, IsStep, IdleUnlessPlayed};
+ghost use Rattle.mdl_stmt.specs.Stages.{rest_of_creating};
 ghost use Rattle.mdl_stmt.specs.Statements.{create_after_commit, lock_schema_and_create, lock_and_create, create_under, check_schema, check_new, make_table, schema_of};
 ghost use Rattle.mdl_stmt.specs.declared.ending.Played.TheVariants as played;
 
 use crate::ending::{Ending, Got, Played};
 use crate::player::Player;
 use crate::reading::failing;
-use crate::stage::Stage;
+use crate::stage::{Creating, Stage};
 use crate::{ErrorNumber, Reply};
 use mdl_context::Request;
 use mdl_defs::{Change, Columns, Definition};
@@ -45,7 +46,11 @@ impl<S: LockSpace> Player<S> {
         };
         match self.get(space, request) {
             Got::Had(_) => self.lock_schema_and_create(space, table, columns),
-            Got::Waits(key) => Played::Waits(key, Mode::IX, Stage::CreateGlobal(table, columns)),
+            Got::Waits(key) => Played::Waits(
+                key,
+                Mode::IX,
+                Stage::Create(Creating::Global(table, columns)),
+            ),
             Got::Ends(ending) => Played::Ends(ending),
         }
     }
@@ -75,7 +80,11 @@ impl<S: LockSpace> Player<S> {
         };
         match self.get(space, request) {
             Got::Had(over) => self.lock_and_create(space, table, columns, over),
-            Got::Waits(key) => Played::Waits(key, Mode::IX, Stage::CreateSchema(table, columns)),
+            Got::Waits(key) => Played::Waits(
+                key,
+                Mode::IX,
+                Stage::Create(Creating::Schema(table, columns)),
+            ),
             Got::Ends(ending) => Played::Ends(ending),
         }
     }
@@ -103,7 +112,11 @@ impl<S: LockSpace> Player<S> {
         };
         match self.get(space, request) {
             Got::Had(ticket) => self.create_under(space, columns, schema, ticket),
-            Got::Waits(key) => Played::Waits(key, Mode::X, Stage::CreateTable(columns, schema)),
+            Got::Waits(key) => Played::Waits(
+                key,
+                Mode::X,
+                Stage::Create(Creating::Table(columns, schema)),
+            ),
             Got::Ends(ending) => Played::Ends(ending),
         }
     }
@@ -209,6 +222,28 @@ impl<S: LockSpace> Player<S> {
                 self.redefine(space, ticket, &change)
             }
             Err(_) => Err(Ending::Starves),
+        }
+    }
+
+    /// Goes on once the lock that was waited for is had.
+    pub(crate) fn go_on_creating<'s>(
+        &mut self,
+        space: &mut S,
+        at: Creating<'s>,
+        ticket: TicketId,
+    ) -> Played<'s>
+        requires attends { Attends S.speaks_for S.own S.knows space.old self.old.context }
+        requires idle { self.old.context.wait ≡ None }
+        ensures run { IsPlayed S.joins (rest_of_creating at.entry ticket) space.old self.old result space.new self.new }
+        ensures attends { Attends S.speaks_for S.own S.knows space.new self.new.context }
+        ensures others { LeavesOthers S.speaks_for S.own S.knows self.old.context.who space.old space.new }
+        ensures who { self.new.context.who ≡ self.old.context.who }
+        ensures idle { IdleUnlessPlayed result self.new }
+    {
+        match at {
+            Creating::Global(table, columns) => self.lock_schema_and_create(space, table, columns),
+            Creating::Schema(table, columns) => self.lock_and_create(space, table, columns, ticket),
+            Creating::Table(columns, schema) => self.create_under(space, columns, schema, ticket),
         }
     }
 }

@@ -2,13 +2,14 @@
 ghost use Rattle.std.specs.Prelude.{◌≡◌, None};
 ghost use Rattle.mdl_context.specs.Contexts.{Attends, LeavesOthers};
 ghost use Rattle.mdl_stmt.specs.Gets.{IsPlayed, IsStep, IdleUnlessPlayed};
+ghost use Rattle.mdl_stmt.specs.Stages.{rest_of_creating_schema};
 ghost use Rattle.mdl_stmt.specs.Statements.{create_schema_after_commit, lock_and_create_schema, create_schema_under, check_new_schema};
 
 use crate::creating::MOST_VERSIONS;
 use crate::ending::{Ending, Got, Played};
 use crate::player::Player;
 use crate::reading::failing;
-use crate::stage::Stage;
+use crate::stage::{CreatingSchema, Stage};
 use crate::{ErrorNumber, Reply};
 use mdl_context::Request;
 use mdl_defs::{Change, Definition};
@@ -35,7 +36,11 @@ impl<S: LockSpace> Player<S> {
         };
         match self.get(space, request) {
             Got::Had(_) => self.lock_and_create_schema(space, name),
-            Got::Waits(key) => Played::Waits(key, Mode::IX, Stage::SchemaGlobal(name)),
+            Got::Waits(key) => Played::Waits(
+                key,
+                Mode::IX,
+                Stage::CreateSchema(CreatingSchema::Global(name)),
+            ),
             Got::Ends(ending) => Played::Ends(ending),
         }
     }
@@ -60,7 +65,11 @@ impl<S: LockSpace> Player<S> {
         };
         match self.get(space, request) {
             Got::Had(ticket) => self.create_schema_under(space, ticket),
-            Got::Waits(key) => Played::Waits(key, Mode::X, Stage::NewSchema),
+            Got::Waits(key) => Played::Waits(
+                key,
+                Mode::X,
+                Stage::CreateSchema(CreatingSchema::Schema),
+            ),
             Got::Ends(ending) => Played::Ends(ending),
         }
     }
@@ -105,5 +114,26 @@ impl<S: LockSpace> Player<S> {
             return Err(failing(ErrorNumber::VersionLimit));
         }
         Ok(())
+    }
+
+    /// Goes on once the lock that was waited for is had.
+    pub(crate) fn go_on_creating_schema<'s>(
+        &mut self,
+        space: &mut S,
+        at: CreatingSchema<'s>,
+        ticket: TicketId,
+    ) -> Played<'s>
+        requires attends { Attends S.speaks_for S.own S.knows space.old self.old.context }
+        requires idle { self.old.context.wait ≡ None }
+        ensures run { IsPlayed S.joins (rest_of_creating_schema at.entry ticket) space.old self.old result space.new self.new }
+        ensures attends { Attends S.speaks_for S.own S.knows space.new self.new.context }
+        ensures others { LeavesOthers S.speaks_for S.own S.knows self.old.context.who space.old space.new }
+        ensures who { self.new.context.who ≡ self.old.context.who }
+        ensures idle { IdleUnlessPlayed result self.new }
+    {
+        match at {
+            CreatingSchema::Global(name) => self.lock_and_create_schema(space, name),
+            CreatingSchema::Schema => self.create_schema_under(space, ticket),
+        }
     }
 }

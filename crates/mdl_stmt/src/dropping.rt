@@ -4,15 +4,16 @@ ghost use Rattle.mdl_context.specs.Contexts.{Attends, LeavesOthers};
 ghost use Rattle.mdl_defs.specs.declared.change.Change.TheVariants as change;
 ghost use Rattle.mdl_stmt.specs.Gets.{IsPlayed, IsStep, IdleUnlessPlayed};
 ghost use Rattle.mdl_stmt.specs.Rows.{for_each, redefine};
-ghost use Rattle.mdl_stmt.specs.Stages.{lock_rest};
+ghost use Rattle.mdl_stmt.specs.Stages.{lock_rest, rest_of_dropping};
 ghost use Rattle.mdl_stmt.specs.Statements.{drop_after_commit, lock_and_drop, drop_under, can_change, stands};
 
 use crate::creating::MOST_VERSIONS;
 use crate::ending::{Ending, Listed, Played};
 use crate::key_lists::{in_key_order, scopes_of};
+use crate::lock_list::LockList;
 use crate::player::Player;
 use crate::reading::failing;
-use crate::stage::{LockList, Stage};
+use crate::stage::{Dropping, Stage};
 use crate::{ErrorNumber, Reply};
 use mdl_defs::Change;
 use mdl_space::{LockSpace, TicketId};
@@ -53,7 +54,7 @@ impl<S: LockSpace> Player<S> {
         match self.lock_all(space, locks) {
             Listed::Had(_) => self.lock_and_drop(space, tables),
             Listed::Waits(key, mode, locks) => {
-                Played::Waits(key, mode, Stage::DropScopes(tables, locks))
+                Played::Waits(key, mode, Stage::Drop(Dropping::Scopes(tables, locks)))
             }
             Listed::Ends(ending) => Played::Ends(ending),
         }
@@ -87,7 +88,11 @@ impl<S: LockSpace> Player<S> {
     {
         match self.lock_all(space, locks) {
             Listed::Had(locks) => self.drop_under(space, locks.tickets()),
-            Listed::Waits(key, mode, locks) => Played::Waits(key, mode, Stage::DropTables(locks)),
+            Listed::Waits(key, mode, locks) => Played::Waits(
+                key,
+                mode,
+                Stage::Drop(Dropping::Tables(locks)),
+            ),
             Listed::Ends(ending) => Played::Ends(ending),
         }
     }
@@ -207,5 +212,26 @@ impl<S: LockSpace> Player<S> {
             }
         }
         Ok(())
+    }
+
+    /// Goes on once the lock that was waited for is had.
+    pub(crate) fn go_on_dropping<'s>(
+        &mut self,
+        space: &mut S,
+        at: Dropping<'s>,
+        ticket: TicketId,
+    ) -> Played<'s>
+        requires attends { Attends S.speaks_for S.own S.knows space.old self.old.context }
+        requires idle { self.old.context.wait ≡ None }
+        ensures run { IsPlayed S.joins (rest_of_dropping at.entry ticket) space.old self.old result space.new self.new }
+        ensures attends { Attends S.speaks_for S.own S.knows space.new self.new.context }
+        ensures others { LeavesOthers S.speaks_for S.own S.knows self.old.context.who space.old space.new }
+        ensures who { self.new.context.who ≡ self.old.context.who }
+        ensures idle { IdleUnlessPlayed result self.new }
+    {
+        match at {
+            Dropping::Scopes(tables, locks) => self.lock_scopes(space, tables, locks.with(ticket)),
+            Dropping::Tables(locks) => self.lock_tables(space, locks.with(ticket)),
+        }
     }
 }

@@ -2,13 +2,14 @@
 ghost use Rattle.std.specs.Prelude.{◌≡◌, None, []};
 ghost use Rattle.mdl_context.specs.Contexts.{Attends, LeavesOthers};
 ghost use Rattle.mdl_stmt.specs.Gets.{IsPlayed, IsStep, IdleUnlessPlayed, items_told};
-ghost use Rattle.mdl_stmt.specs.Stages.{lock_rest};
+ghost use Rattle.mdl_stmt.specs.Stages.{lock_rest, rest_of_dropping_schema};
 ghost use Rattle.mdl_stmt.specs.Statements.{drop_schema_after_commit, lock_and_drop_schema, drop_schema_under, drop_with, keys_of, tables_in};
 
 use crate::Reply;
 use crate::ending::{Ending, Got, Listed, Played};
+use crate::lock_list::LockList;
 use crate::player::Player;
-use crate::stage::{LockList, Stage};
+use crate::stage::{DroppingSchema, Stage};
 use mdl_context::Request;
 use mdl_defs::Change;
 use mdl_key::{Duration, Key, Mode};
@@ -34,7 +35,11 @@ impl<S: LockSpace> Player<S> {
         };
         match self.get(space, request) {
             Got::Had(_) => self.lock_and_drop_schema(space, name),
-            Got::Waits(key) => Played::Waits(key, Mode::IX, Stage::DropGlobal(name)),
+            Got::Waits(key) => Played::Waits(
+                key,
+                Mode::IX,
+                Stage::DropSchema(DroppingSchema::Global(name)),
+            ),
             Got::Ends(ending) => Played::Ends(ending),
         }
     }
@@ -59,7 +64,11 @@ impl<S: LockSpace> Player<S> {
         };
         match self.get(space, request) {
             Got::Had(ticket) => self.drop_schema_under(space, name, ticket),
-            Got::Waits(key) => Played::Waits(key, Mode::X, Stage::DropSchema(name)),
+            Got::Waits(key) => Played::Waits(
+                key,
+                Mode::X,
+                Stage::DropSchema(DroppingSchema::Schema(name)),
+            ),
             Got::Ends(ending) => Played::Ends(ending),
         }
     }
@@ -149,7 +158,11 @@ impl<S: LockSpace> Player<S> {
         match self.lock_all(space, locks) {
             Listed::Had(locks) => self.drop_with(space, schema, locks.tickets()),
             Listed::Waits(key, mode, locks) => {
-                Played::Waits(key, mode, Stage::DropWithin(schema, locks))
+                Played::Waits(
+                    key,
+                    mode,
+                    Stage::DropSchema(DroppingSchema::Tables(schema, locks)),
+                )
             }
             Listed::Ends(ending) => Played::Ends(ending),
         }
@@ -177,6 +190,32 @@ impl<S: LockSpace> Player<S> {
         match self.redefine(space, schema, &Change::Drop) {
             Ok(()) => Played::Ends(Ending::Answers(Reply::Ok)),
             Err(ending) => Played::Ends(ending),
+        }
+    }
+
+    /// Goes on once the lock that was waited for is had.
+    pub(crate) fn go_on_dropping_schema<'s>(
+        &mut self,
+        space: &mut S,
+        at: DroppingSchema<'s>,
+        ticket: TicketId,
+    ) -> Played<'s>
+        requires attends { Attends S.speaks_for S.own S.knows space.old self.old.context }
+        requires idle { self.old.context.wait ≡ None }
+        ensures run { IsPlayed S.joins (rest_of_dropping_schema at.entry ticket) space.old self.old result space.new self.new }
+        ensures attends { Attends S.speaks_for S.own S.knows space.new self.new.context }
+        ensures others { LeavesOthers S.speaks_for S.own S.knows self.old.context.who space.old space.new }
+        ensures who { self.new.context.who ≡ self.old.context.who }
+        ensures idle { IdleUnlessPlayed result self.new }
+    {
+        match at {
+            DroppingSchema::Global(name) => self.lock_and_drop_schema(space, name),
+            DroppingSchema::Schema(name) => self.drop_schema_under(space, name, ticket),
+            DroppingSchema::Tables(schema, locks) => self.lock_within(
+                space,
+                schema,
+                locks.with(ticket),
+            ),
         }
     }
 }

@@ -1,5 +1,6 @@
 //! How statements end, and what comes of what they ask for.
-use crate::stage::{LockList, Stage};
+use crate::lock_list::LockList;
+use crate::stage::Stage;
 use crate::{ErrorNumber, Reply};
 use mdl_key::{Key, Mode};
 

@@ -4,13 +4,14 @@ ghost use Rattle.mdl_context.specs.Contexts.{Attends, LeavesOthers};
 ghost use Rattle.mdl_stmt.specs.Endings.{state_after};
 ghost use Rattle.mdl_stmt.specs.Gets.{IsPlayed, IsWithoutHalf, IdleUnlessPlayed};
 ghost use Rattle.mdl_stmt.specs.States.{half_lock};
+ghost use Rattle.mdl_stmt.specs.Stages.{rest_of_flushing};
 ghost use Rattle.mdl_stmt.specs.Statements.{after_commit, flush_after_commit, flush_first, get_read_lock, lock_commits, read_lock_under};
 ghost use Rattle.mdl_stmt.specs.declared.ending.Played.TheVariants as played;
 
 use crate::ending::{Ending, Got, Played};
 use crate::player::Player;
 use crate::reading::failing;
-use crate::stage::Stage;
+use crate::stage::{Flushing, Stage};
 use crate::{ErrorNumber, Reply};
 use mdl_context::Request;
 use mdl_key::{Duration, Key, Mode};
@@ -68,7 +69,7 @@ impl<S: LockSpace> Player<S> {
         };
         match self.get(space, request) {
             Got::Had(global) => self.lock_commits(space, global),
-            Got::Waits(key) => Played::Waits(key, Mode::S, Stage::FlushGlobal),
+            Got::Waits(key) => Played::Waits(key, Mode::S, Stage::Flush(Flushing::Global)),
             Got::Ends(ending) => Played::Ends(ending),
         }
     }
@@ -92,7 +93,7 @@ impl<S: LockSpace> Player<S> {
         };
         match self.get(space, request) {
             Got::Had(commit) => Played::Ends(self.read_lock_under(space, commit)),
-            Got::Waits(key) => Played::Waits(key, Mode::S, Stage::FlushCommit),
+            Got::Waits(key) => Played::Waits(key, Mode::S, Stage::Flush(Flushing::Commit)),
             Got::Ends(ending) => Played::Ends(ending),
         }
     }
@@ -138,6 +139,27 @@ impl<S: LockSpace> Player<S> {
             Ending::Falls => self.explicit.lone_ticket(),
             _ if self.is_open => None,
             _ => self.explicit.lone_ticket(),
+        }
+    }
+
+    /// Goes on once the lock that was waited for is had.
+    pub(crate) fn go_on_flushing<'s>(
+        &mut self,
+        space: &mut S,
+        at: Flushing,
+        ticket: TicketId,
+    ) -> Played<'s>
+        requires attends { Attends S.speaks_for S.own S.knows space.old self.old.context }
+        requires idle { self.old.context.wait ≡ None }
+        ensures run { IsPlayed S.joins (rest_of_flushing at ticket) space.old self.old result space.new self.new }
+        ensures attends { Attends S.speaks_for S.own S.knows space.new self.new.context }
+        ensures others { LeavesOthers S.speaks_for S.own S.knows self.old.context.who space.old space.new }
+        ensures who { self.new.context.who ≡ self.old.context.who }
+        ensures idle { IdleUnlessPlayed result self.new }
+    {
+        match at {
+            Flushing::Global => self.lock_commits(space, ticket),
+            Flushing::Commit => Played::Ends(self.read_lock_under(space, ticket)),
         }
     }
 }

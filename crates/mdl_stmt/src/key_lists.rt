@@ -7,7 +7,7 @@ ghost use Rattle.mdl_stmt.specs.Statements.{schema_of, is_write, written_tables,
 
 use crate::OutOfMemory;
 use crate::creating::schema_of;
-use crate::stage::LockList;
+use crate::lock_list::LockList;
 use mdl_key::Key;
 use mdl_syntax::{LockType, TableLock};
 use std::alloc::{AllocError, Global};

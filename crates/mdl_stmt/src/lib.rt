@@ -2,6 +2,7 @@
 #![tactic(auto)]
 
 mod altering;
+mod altering_locked;
 mod creating;
 mod creating_schemas;
 mod dropping;
@@ -11,6 +12,7 @@ mod error_number;
 mod explicit;
 mod flushing;
 mod key_lists;
+mod lock_list;
 mod lock_loops;
 mod locking;
 mod memory_laws;
@@ -32,6 +34,7 @@ pub use memory_laws::{
     sessions_keep_their_number, statements_call_for_their_session, statements_keep_the_space_sound,
     statements_tell_of_want, sure_statements,
 };
+pub use mdl_syntax::Statement;
 pub use out_of_memory::OutOfMemory;
 pub use reply::{Progress, Reply, TableShown, TablesShown};
 pub use runner::Runner;

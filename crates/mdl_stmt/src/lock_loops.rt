@@ -7,8 +7,8 @@ ghost use Rattle.mdl_stmt.specs.Statements.{ddl_lock};
 
 use crate::ending::{Got, Listed};
 use crate::key_lists::may_write;
+use crate::lock_list::{LockList, Locking};
 use crate::player::Player;
-use crate::stage::{LockList, Locking};
 use mdl_context::Request;
 use mdl_key::{Duration, Key, Mode, Namespace};
 use mdl_space::LockSpace;

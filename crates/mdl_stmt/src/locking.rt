@@ -3,15 +3,16 @@ ghost use Rattle.std.specs.Prelude.{◌≡◌, ◌&&◌, None, IfOk, is_some};
 ghost use Rattle.mdl_context.specs.Contexts.{Attends, LeavesOthers};
 ghost use Rattle.mdl_stmt.specs.declared.ending.Played.TheVariants as played;
 ghost use Rattle.mdl_stmt.specs.Gets.{IsPlayed, IdleUnlessPlayed};
-ghost use Rattle.mdl_stmt.specs.Stages.{lock_rest, lock_rest_by};
+ghost use Rattle.mdl_stmt.specs.Stages.{lock_rest, lock_rest_by, rest_of_locking};
 ghost use Rattle.mdl_stmt.specs.Statements.{after_commit, keep_locked, lock_first, lock_named, lock_tables_after_commit, locked_by, table_lock, writes_any};
 
 use crate::ending::{Ending, Listed, Played};
 use crate::explicit::Locked;
 use crate::key_lists::{is_write, may_write, named_in_order, scopes_around};
+use crate::lock_list::{LockList, Locking};
 use crate::player::Player;
 use crate::reading::failing;
-use crate::stage::{LockList, Locking, Stage};
+use crate::stage::{LockingTables, Stage};
 use crate::{ErrorNumber, OutOfMemory, Reply};
 use mdl_space::{LockSpace, TicketId};
 use mdl_syntax::{Statement, TableLock, TableLocks};
@@ -81,7 +82,7 @@ impl<S: LockSpace> Player<S> {
         match self.lock_all(space, locks) {
             Listed::Had(scopes) => self.lock_named(space, tables, scopes.into_tickets()),
             Listed::Waits(key, mode, locks) => {
-                Played::Waits(key, mode, Stage::LockScopes(tables, locks))
+                Played::Waits(key, mode, Stage::Lock(tables, LockingTables::Scopes(locks)))
             }
             Listed::Ends(ending) => Played::Ends(ending),
         }
@@ -127,7 +128,11 @@ impl<S: LockSpace> Player<S> {
         match self.lock_each(space, Locking::Tables(tables), locks) {
             Listed::Had(locks) => Played::Ends(self.keep_locked(space, tables, scopes, locks)),
             Listed::Waits(key, mode, locks) => {
-                Played::Waits(key, mode, Stage::LockTables(tables, scopes, locks))
+                Played::Waits(
+                    key,
+                    mode,
+                    Stage::Lock(tables, LockingTables::Tables(scopes, locks)),
+                )
             }
             Listed::Ends(ending) => Played::Ends(ending),
         }
@@ -161,6 +166,30 @@ impl<S: LockSpace> Player<S> {
         self.savepoints.clear();
         self.explicit.lock(locked, scopes);
         Ending::Answers(Reply::Ok)
+    }
+
+    /// Goes on once the lock that was waited for is had.
+    pub(crate) fn go_on_locking<'s>(
+        &mut self,
+        space: &mut S,
+        tables: &'s TableLocks,
+        at: LockingTables,
+        ticket: TicketId,
+    ) -> Played<'s>
+        requires attends { Attends S.speaks_for S.own S.knows space.old self.old.context }
+        requires idle { self.old.context.wait ≡ None }
+        ensures run { IsPlayed S.joins (rest_of_locking tables.now at ticket) space.old self.old result space.new self.new }
+        ensures attends { Attends S.speaks_for S.own S.knows space.new self.new.context }
+        ensures others { LeavesOthers S.speaks_for S.own S.knows self.old.context.who space.old space.new }
+        ensures who { self.new.context.who ≡ self.old.context.who }
+        ensures idle { IdleUnlessPlayed result self.new }
+    {
+        match at {
+            LockingTables::Scopes(locks) => self.lock_around(space, tables, locks.with(ticket)),
+            LockingTables::Tables(scopes, locks) => {
+                self.lock_each_named(space, tables, scopes, locks.with(ticket))
+            }
+        }
     }
 }
 

@@ -1,7 +1,8 @@
 //! Want of memory.
 use std::alloc::AllocError;
 
-/// A statement found no memory, and has ended: what it had gained is given up, and no definition is changed.
+/// A statement found no memory, and has ended: what it had gained is given up. What it needs of memory it asks for before its first
+/// change of a definition; so one that changes no more than one definition has changed none.
 #[derive(Clone, Copy, Debug, PartialEq, Eq)]
 pub struct OutOfMemory;
 

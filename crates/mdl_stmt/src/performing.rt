@@ -97,55 +97,16 @@ impl<S: LockSpace> Player<S> {
                 self.end_under(space, ticket);
                 self.after_commit(space, statement)
             }
-            Stage::Show(tables, at, shown) => self.show_next(space, shown, tables, at, ticket),
-            Stage::WriteGlobal(table, priority) => self.lock_and_write(space, table, priority),
-            Stage::WriteTable => self.write_under(space, ticket),
-            Stage::CommitWrite => {
-                self.end_under(space, ticket);
-                Played::Ends(Ending::Answers(Reply::Ok))
-            }
-            Stage::CreateGlobal(table, columns) => {
-                self.lock_schema_and_create(space, table, columns)
-            }
-            Stage::CreateSchema(table, columns) => {
-                self.lock_and_create(space, table, columns, ticket)
-            }
-            Stage::CreateTable(columns, schema) => {
-                self.create_under(space, columns, schema, ticket)
-            }
-            Stage::SchemaGlobal(name) => self.lock_and_create_schema(space, name),
-            Stage::NewSchema => self.create_schema_under(space, ticket),
-            Stage::DropScopes(tables, locks) => {
-                self.lock_scopes(space, tables, locks.with(ticket))
-            }
-            Stage::DropTables(locks) => self.lock_tables(space, locks.with(ticket)),
-            Stage::DropGlobal(name) => self.lock_and_drop_schema(space, name),
-            Stage::DropSchema(name) => self.drop_schema_under(space, name, ticket),
-            Stage::DropWithin(schema, locks) => {
-                self.lock_within(space, schema, locks.with(ticket))
-            }
-            Stage::RenameScopes(from, to, locks) => {
-                self.lock_rename_scopes(space, from, to, locks.with(ticket))
-            }
-            Stage::RenameTables(from, to, schema, locks) => {
-                self.lock_names(space, from, to, schema, locks.with(ticket))
-            }
-            Stage::FlushGlobal => self.lock_commits(space, ticket),
-            Stage::FlushCommit => Played::Ends(self.read_lock_under(space, ticket)),
-            Stage::AlterGlobal(alteration) => self.lock_schema_and_alter(space, alteration),
-            Stage::AlterSchema(alteration) => self.alter_in_schema(space, alteration),
-            Stage::AlterTable(alteration) => self.alter_under(space, alteration, ticket),
-            Stage::AlterByCopy(alteration) => self.raise_and_change(space, alteration, ticket),
-            Stage::AlterInPlace(alteration) => self.reopen_and_change(space, alteration, ticket),
-            Stage::ChangeTable(alteration) => self.change_table(space, alteration, ticket),
-            Stage::AlterLocked(alteration) => self.alter_locked_under(space, alteration, ticket),
-            Stage::ChangeLocked(alteration) => self.change_and_lower(space, alteration, ticket),
-            Stage::LockScopes(tables, locks) => {
-                self.lock_around(space, tables, locks.with(ticket))
-            }
-            Stage::LockTables(tables, scopes, locks) => {
-                self.lock_each_named(space, tables, scopes, locks.with(ticket))
-            }
+            Stage::Select(tables, at, shown) => self.show_next(space, shown, tables, at, ticket),
+            Stage::Write(at) => self.go_on_writing(space, at, ticket),
+            Stage::Create(at) => self.go_on_creating(space, at, ticket),
+            Stage::CreateSchema(at) => self.go_on_creating_schema(space, at, ticket),
+            Stage::Drop(at) => self.go_on_dropping(space, at, ticket),
+            Stage::DropSchema(at) => self.go_on_dropping_schema(space, at, ticket),
+            Stage::Rename { from, to, at } => self.go_on_renaming(space, from, to, at, ticket),
+            Stage::Flush(at) => self.go_on_flushing(space, at, ticket),
+            Stage::Alter(alteration, at) => self.go_on_altering(space, alteration, at, ticket),
+            Stage::Lock(tables, at) => self.go_on_locking(space, tables, at, ticket),
         }
     }
 

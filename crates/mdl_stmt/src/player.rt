@@ -1,9 +1,10 @@
 //! What a session is asked for, one thing after the other.
-ghost use Rattle.std.specs.Prelude.{◌≡◌, None, []};
+ghost use Rattle.std.specs.Prelude.{◌≡◌, None, Ok, []};
 ghost use Rattle.mdl_context.specs.Contexts.{Attends, LeavesOthers};
 ghost use Rattle.mdl_context.specs.Wishes.{Wish, wish_of};
 ghost use Rattle.mdl_stmt.specs.Endings.{closing, ending_of_error, ending_of_refusal, ending_of_loss};
-ghost use Rattle.mdl_stmt.specs.Gets.{at_rest, IsDropped, IsGot, IsTold, IdleUnlessGot};
+ghost use Rattle.mdl_stmt.specs.Gets.{at_rest, IsDropped, IsGot, IsRaised, IsStep, IsTold, IdleUnlessGot};
+ghost use Rattle.mdl_stmt.specs.Rows.{downgrade};
 ghost use Rattle.mdl_stmt.specs.States.{at_first};
 
 use crate::ErrorNumber;
@@ -11,7 +12,7 @@ use crate::ending::{Ending, Got};
 use crate::explicit::ExplicitLocks;
 use crate::savepoint::Savepoints;
 use mdl_context::{Acquire, Context, ContextError, Request, Resume};
-use mdl_key::Key;
+use mdl_key::{Key, Mode};
 use mdl_space::{LockSpace, Settled, SpaceError, TicketId};
 use std::alloc::Global;
 use std::marker::Model;
@@ -65,6 +66,42 @@ impl<S: LockSpace> Player<S> {
             Ok(Acquire::MustWait(_)) => self.tell_wait(space, request.key),
             Err(error) => Got::Ends(ending_of_error(error)),
         }
+    }
+
+    /// Asks for a stronger mode of a ticket of this key.
+    pub(crate) fn raise(
+        &mut self,
+        space: &mut S,
+        ticket: TicketId,
+        key: &Key,
+        mode: Mode,
+    ) -> Got<TicketId>
+        requires attends { Attends S.speaks_for S.own S.knows space.old self.old.context }
+        requires idle { self.old.context.wait ≡ None }
+        ensures run { IsRaised S.joins ticket key.now mode space.old self.old result space.new self.new }
+        ensures attends { Attends S.speaks_for S.own S.knows space.new self.new.context }
+        ensures others { LeavesOthers S.speaks_for S.own S.knows self.old.context.who space.old space.new }
+        ensures who { self.new.context.who ≡ self.old.context.who }
+        ensures idle { IdleUnlessGot result self.new }
+    {
+        match self.context.upgrade(space, ticket, mode) {
+            Ok(Acquire::Acquired(id)) => Got::Had(id),
+            Ok(Acquire::MustWait(_)) => self.tell_wait(space, key),
+            Err(error) => Got::Ends(ending_of_error(error)),
+        }
+    }
+
+    /// Gives a ticket a weaker mode.
+    pub(crate) fn lower(&mut self, space: &mut S, ticket: TicketId, mode: Mode)
+        requires attends { Attends S.speaks_for S.own S.knows space.old self.old.context }
+        requires idle { self.old.context.wait ≡ None }
+        ensures run { IsStep S.joins (downgrade ticket mode) space.old self.old (Ok tt) space.new self.new }
+        ensures attends { Attends S.speaks_for S.own S.knows space.new self.new.context }
+        ensures others { LeavesOthers S.speaks_for S.own S.knows self.old.context.who space.old space.new }
+        ensures who { self.new.context.who ≡ self.old.context.who }
+        ensures idle { self.new.context.wait ≡ None }
+    {
+        let _lowered = self.context.downgrade(space, ticket, mode);
     }
 
     /// Tells that a wait has begun, or gives it up where there is no memory for that.

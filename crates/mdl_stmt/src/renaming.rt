@@ -6,15 +6,16 @@ ghost use Rattle.mdl_stmt.specs.declared.ending.Ending.TheVariants.{Answers};
 ghost use Rattle.mdl_stmt.specs.declared.error_number.ErrorNumber.TheVariants.{NoSuchTable};
 ghost use Rattle.mdl_stmt.specs.declared.reply.Reply.TheVariants.{Error};
 ghost use Rattle.mdl_stmt.specs.LockLists.{ticket_of};
-ghost use Rattle.mdl_stmt.specs.Stages.{rename_names, rename_scopes};
+ghost use Rattle.mdl_stmt.specs.Stages.{rename_names, rename_scopes, rest_of_renaming};
 ghost use Rattle.mdl_stmt.specs.Statements.{rename_after_commit, lock_and_rename, rename_under, move_definition, is_free, definition_under, schema_of};
 
 use crate::creating::schema_of;
 use crate::ending::{Ending, Listed, Played};
 use crate::key_lists::{in_key_order, scopes_of};
+use crate::lock_list::LockList;
 use crate::player::Player;
 use crate::reading::failing;
-use crate::stage::{LockList, Stage};
+use crate::stage::{Renaming, Stage};
 use crate::{ErrorNumber, Reply};
 use mdl_defs::{Change, Definition};
 use mdl_key::Key;
@@ -60,7 +61,8 @@ impl<S: LockSpace> Player<S> {
         match self.lock_all(space, locks) {
             Listed::Had(scopes) => self.lock_and_rename(space, from, to, &scopes),
             Listed::Waits(key, mode, locks) => {
-                Played::Waits(key, mode, Stage::RenameScopes(from, to, locks))
+                let at = Renaming::Scopes(locks);
+                Played::Waits(key, mode, Stage::Rename { from, to, at })
             }
             Listed::Ends(ending) => Played::Ends(ending),
         }
@@ -117,7 +119,8 @@ impl<S: LockSpace> Player<S> {
                 self.rename_under(space, schema, names.ticket_of(from), names.ticket_of(to))
             }
             Listed::Waits(key, mode, locks) => {
-                Played::Waits(key, mode, Stage::RenameTables(from, to, schema, locks))
+                let at = Renaming::Names(schema, locks);
+                Played::Waits(key, mode, Stage::Rename { from, to, at })
             }
             Listed::Ends(ending) => Played::Ends(ending),
         }
@@ -214,6 +217,31 @@ impl<S: LockSpace> Player<S> {
         match self.redefine(space, from, &Change::Drop) {
             Ok(()) => Played::Ends(Ending::Answers(Reply::Ok)),
             Err(ending) => Played::Ends(ending),
+        }
+    }
+
+    /// Goes on once the lock that was waited for is had.
+    pub(crate) fn go_on_renaming<'s>(
+        &mut self,
+        space: &mut S,
+        from: &'s Key,
+        to: &'s Key,
+        at: Renaming,
+        ticket: TicketId,
+    ) -> Played<'s>
+        requires attends { Attends S.speaks_for S.own S.knows space.old self.old.context }
+        requires idle { self.old.context.wait ≡ None }
+        ensures run { IsPlayed S.joins (rest_of_renaming from.now to.now at ticket) space.old self.old result space.new self.new }
+        ensures attends { Attends S.speaks_for S.own S.knows space.new self.new.context }
+        ensures others { LeavesOthers S.speaks_for S.own S.knows self.old.context.who space.old space.new }
+        ensures who { self.new.context.who ≡ self.old.context.who }
+        ensures idle { IdleUnlessPlayed result self.new }
+    {
+        match at {
+            Renaming::Scopes(locks) => self.lock_rename_scopes(space, from, to, locks.with(ticket)),
+            Renaming::Names(schema, locks) => {
+                self.lock_names(space, from, to, schema, locks.with(ticket))
+            }
         }
     }
 }

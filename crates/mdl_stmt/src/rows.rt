@@ -2,14 +2,14 @@
 ghost use Rattle.std.specs.Prelude.{◌≡◌, None, [], drop};
 ghost use Rattle.mdl_context.specs.Contexts.{Attends, LeavesOthers};
 ghost use Rattle.mdl_stmt.specs.Gets.{IsPlayed, IsStep, IdleUnlessPlayed};
-ghost use Rattle.mdl_stmt.specs.Stages.{show_next};
+ghost use Rattle.mdl_stmt.specs.Stages.{show_next, rest_of_writing};
 ghost use Rattle.mdl_stmt.specs.Statements.{lock_to_read, lock_held, select, show_held, show_all, write, write_locked, lock_writes, write_mode, write_under, wrote, lock_and_write};
 ghost use Rattle.mdl_stmt.specs.declared.ending.Played.TheVariants as played;
 
 use crate::ending::{Ending, Got, Played};
 use crate::player::Player;
 use crate::reading::failing;
-use crate::stage::Stage;
+use crate::stage::{Stage, Writing};
 use crate::{ErrorNumber, Reply, TablesShown};
 use mdl_context::Request;
 use mdl_key::{Duration, Key, Mode};
@@ -103,7 +103,7 @@ impl<S: LockSpace> Player<S> {
             let ticket = match self.get(space, request) {
                 Got::Had(ticket) => ticket,
                 Got::Waits(key) => {
-                    return Played::Waits(key, Mode::SR, Stage::Show(tables, at, shown));
+                    return Played::Waits(key, Mode::SR, Stage::Select(tables, at, shown));
                 }
                 Got::Ends(ending) => return Played::Ends(ending),
             };
@@ -202,7 +202,11 @@ impl<S: LockSpace> Player<S> {
         };
         match self.get(space, request) {
             Got::Had(_) => self.lock_and_write(space, table, priority),
-            Got::Waits(key) => Played::Waits(key, Mode::IX, Stage::WriteGlobal(table, priority)),
+            Got::Waits(key) => Played::Waits(
+                key,
+                Mode::IX,
+                Stage::Write(Writing::Global(table, priority)),
+            ),
             Got::Ends(ending) => Played::Ends(ending),
         }
     }
@@ -230,7 +234,7 @@ impl<S: LockSpace> Player<S> {
         };
         match self.get(space, request) {
             Got::Had(ticket) => self.write_under(space, ticket),
-            Got::Waits(key) => Played::Waits(key, mode, Stage::WriteTable),
+            Got::Waits(key) => Played::Waits(key, mode, Stage::Write(Writing::Table)),
             Got::Ends(ending) => Played::Ends(ending),
         }
     }
@@ -267,8 +271,33 @@ impl<S: LockSpace> Player<S> {
         }
         match self.commit_writes(space) {
             Got::Had(()) => Played::Ends(Ending::Answers(Reply::Ok)),
-            Got::Waits(key) => Played::Waits(key, Mode::IX, Stage::CommitWrite),
+            Got::Waits(key) => Played::Waits(key, Mode::IX, Stage::Write(Writing::Commit)),
             Got::Ends(ending) => Played::Ends(ending),
+        }
+    }
+
+    /// Goes on once the lock that was waited for is had.
+    pub(crate) fn go_on_writing<'s>(
+        &mut self,
+        space: &mut S,
+        at: Writing<'s>,
+        ticket: TicketId,
+    ) -> Played<'s>
+        requires attends { Attends S.speaks_for S.own S.knows space.old self.old.context }
+        requires idle { self.old.context.wait ≡ None }
+        ensures run { IsPlayed S.joins (rest_of_writing at.entry ticket) space.old self.old result space.new self.new }
+        ensures attends { Attends S.speaks_for S.own S.knows space.new self.new.context }
+        ensures others { LeavesOthers S.speaks_for S.own S.knows self.old.context.who space.old space.new }
+        ensures who { self.new.context.who ≡ self.old.context.who }
+        ensures idle { IdleUnlessPlayed result self.new }
+    {
+        match at {
+            Writing::Global(table, priority) => self.lock_and_write(space, table, priority),
+            Writing::Table => self.write_under(space, ticket),
+            Writing::Commit => {
+                self.end_under(space, ticket);
+                Played::Ends(Ending::Answers(Reply::Ok))
+            }
         }
     }
 }

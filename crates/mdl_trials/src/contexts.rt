@@ -2,7 +2,7 @@
 ghost use Rattle.std.specs.Prelude.{◌≡◌};
 ghost use Rattle.mdl_context.specs.Contexts.{Attends, LeavesOthers};
 
-use crate::chance::{Chance, SESSIONS};
+use crate::chance::{Chance, FALLING, RISING, SESSIONS};
 use crate::hall::{Hall, PLACES};
 use crate::plain::Plain;
 use mdl_context::{Context, Mark, Request};
@@ -27,7 +27,7 @@ fn draw_call(trial: &mut Trial, who: u16) -> u16 {
             _ => {}
         }
     }
-    trial.chance.draw(64)
+    trial.chance.draw(80)
 }
 
 // A mark of where the session stood, or at times where it never was.
@@ -83,6 +83,28 @@ fn releases_name_alike<S: LockSpace>(
     context.release_name(space, &key) == trial.plain.give_back_name(who, &key)
 }
 
+// Lets some ticket have another mode, likewise.
+fn alters_alike<S: LockSpace>(
+    space: &mut S,
+    context: &mut Context<S>,
+    trial: &mut Trial,
+    who: u16,
+) -> bool
+    requires { Attends S.speaks_for S.own S.knows space.old context.old }
+    ensures attends { Attends S.speaks_for S.own S.knows space.new context.new }
+    ensures who { context.new.who ≡ context.old.who }
+    ensures others { LeavesOthers S.speaks_for S.own S.knows context.old.who space.old space.new }
+{
+    if trial.chance.draw(3) == 0 {
+        let id = trial.chance.draw_id_in(&trial.plain, who, &FALLING);
+        let mode = trial.chance.draw_fallen();
+        return context.downgrade(space, id, mode) == trial.plain.fall(who, id, mode);
+    }
+    let id = trial.chance.draw_id_in(&trial.plain, who, &RISING);
+    let mode = trial.chance.draw_risen();
+    context.upgrade(space, id, mode) == trial.plain.upgrade(who, id, mode)
+}
+
 /// A context makes some call: whether the plain one answers the same.
 pub(crate) fn acts_alike<S: LockSpace>(
     space: &mut S,
@@ -113,6 +135,7 @@ pub(crate) fn acts_alike<S: LockSpace>(
         59 => context.make_transactional() == trial.plain.make_transactional(who),
         60 => context.resume(space) == trial.plain.resume(who),
         61 => context.give_up(space) == trial.plain.give_up(who),
+        64..=79 => alters_alike(space, context, trial, who),
         _ => {
             let (target, number) = trial.chance.draw_wait(&trial.plain);
             space.kill(target, number) == trial.plain.kill(target, number)
@@ -153,6 +176,13 @@ fn contexts_stand_where_the_plain_ones_do(rt: HostRuntime) -> Result<(), Fail> {
         assert!(rt; seen.stale >= 20, "{} marks stale", seen.stale);
         assert!(rt; seen.reused >= 100, "{} tickets used again", seen.reused);
         assert!(rt; seen.cloned >= 100, "{} tickets cloned", seen.cloned);
+        assert!(rt;
+            seen.upgraded >= 20,
+            "{} tickets upgraded at once",
+            seen.upgraded
+        );
+        assert!(rt; seen.merged >= 5, "{} upgrades that waited", seen.merged);
+        assert!(rt; seen.fallen >= 5, "{} tickets downgraded", seen.fallen);
     }
     Ok(())
 }

@@ -4,6 +4,7 @@ mod contexts;
 mod deadlocks;
 mod granting;
 mod lists;
+mod modes;
 
 use mdl_key::{Duration, Key, Mode, at_least};
 use mdl_space::{
@@ -23,12 +24,14 @@ struct Ticket {
     is_granted: bool,
 }
 
-// A wait that isn't ended, and the number of the ticket that it is for.
+// A wait that isn't ended, the number of the ticket that it is for, and that of the held one that is upgraded by it, if it is one
+// for an upgrade; that is a context's concern too.
 #[derive(Clone, Copy)]
 struct Wait {
     session: u16,
     number: u64,
     ticket: TicketId,
+    upgrades: Option<TicketId>,
     settled: Option<Settled>,
 }
 
@@ -51,6 +54,9 @@ pub(crate) struct Seen {
     pub(crate) cloned: u64,
     pub(crate) reused: u64,
     pub(crate) stale: u64,
+    pub(crate) upgraded: u64,
+    pub(crate) merged: u64,
+    pub(crate) fallen: u64,
 }
 
 /// A space of so many places.
@@ -92,6 +98,9 @@ impl Plain {
                 cloned: 0,
                 reused: 0,
                 stale: 0,
+                upgraded: 0,
+                merged: 0,
+                fallen: 0,
             },
         })
     }

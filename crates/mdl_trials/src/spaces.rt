@@ -1,7 +1,8 @@
 //! Ten thousand calls by chance, which a lock space answers as the plain one does.
+ghost use Rattle.std.specs.Prelude.{◌≤◌};
 ghost use Rattle.mdl_trials.specs.Serving.{SpeaksForAll};
 
-use crate::chance::{Chance, SESSIONS};
+use crate::chance::{Chance, FALLING, RISING, SESSIONS};
 use crate::plain::Plain;
 use mdl_key::Kind;
 use mdl_space::{CoreSpace, LockSpace, Place};
@@ -20,6 +21,37 @@ fn draw_place(chance: &mut Chance) -> Place {
     }
 }
 
+// Lets some ticket of both have another mode: whether they answer alike.
+fn alters_alike<S: LockSpace>(
+    space: &mut S,
+    plain: &mut Plain,
+    chance: &mut Chance,
+    who: u16,
+) -> bool
+    requires all { SpeaksForAll S.speaks_for 5 space.old }
+    requires least { 1 ≤ who }
+    requires most { who ≤ 5 }
+    ensures { SpeaksForAll S.speaks_for 5 space.new }
+{
+    match chance.draw(20) {
+        0..=9 => {
+            let id = chance.draw_id_in(plain, who, &RISING);
+            let mode = chance.draw_risen();
+            space.upgrade_now(who, id, mode) == plain.upgrade_now(who, id, mode)
+        }
+        10..=13 => {
+            let id = chance.draw_id_in(plain, who, &FALLING);
+            let mode = chance.draw_fallen();
+            space.downgrade(who, id, mode) == plain.downgrade(who, id, mode)
+        }
+        _ => {
+            let id = chance.draw_id(plain, who);
+            let other = chance.draw_id(plain, who);
+            space.merge(who, id, other) == plain.merge(who, id, other)
+        }
+    }
+}
+
 // Makes some call of both: whether they answer alike.
 fn answers_alike<S: LockSpace>(
     alloc: Global,
@@ -33,7 +65,7 @@ fn answers_alike<S: LockSpace>(
     let who = chance.draw(SESSIONS) + 1;
     let place = draw_place(chance);
     let mode = chance.draw_mode(plain.kind_of(place).unwrap_or(Kind::Scoped));
-    match chance.draw(66) {
+    match chance.draw(82) {
         0..=2 => space.try_now(who, place, mode) == plain.try_now(who, place, mode),
         3..=19 => space.begin_wait(who, place, mode) == plain.begin_wait(who, place, mode),
         20..=39 => {
@@ -57,6 +89,7 @@ fn answers_alike<S: LockSpace>(
             };
             space.clone_ticket(who, id, mode) == plain.clone_ticket(who, id, mode)
         }
+        64..=79 => alters_alike(space, plain, chance, who),
         _ => match chance.draw_key(alloc) {
             Ok(key) => space.resolve(who, &key) == plain.resolve(&key),
             Err(_) => false,
@@ -110,5 +143,8 @@ fn a_space_answers_as_the_plain_one(rt: HostRuntime) -> Result<(), Fail> {
     assert!(rt; seen.lost >= 100, "{} waits lost", seen.lost);
     assert!(rt; seen.cloned >= 100, "{} clones", seen.cloned);
     assert!(rt; seen.victims >= 15, "{} victims", seen.victims);
+    assert!(rt; seen.upgraded >= 20, "{} upgrades", seen.upgraded);
+    assert!(rt; seen.merged >= 5, "{} merges", seen.merged);
+    assert!(rt; seen.fallen >= 5, "{} downgrades", seen.fallen);
     Ok(())
 }

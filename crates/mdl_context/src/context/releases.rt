@@ -62,11 +62,18 @@ impl<S: LockSpace> Context<S> {
         Ok(())
     }
 
-    /// Goes back to where the session stood at a mark: of the tickets of the statement, and of those of the transaction, so many
-    /// stay as the mark counted, from the earliest on, and the others are released. It takes no memory.
+    /// Goes back to where the session stood at a mark: of the tickets of the statement, and of those of the
+    /// transaction, so many stay as the mark counted, from the earliest on, and the others are released. It takes no
+    /// memory.
     ///
-    /// It goes by these two numbers alone. A ticket that was explicit at the mark and ends with the transaction now stands among
-    /// the others in order of gain, so where it is an early one, a later one that the mark counted is released.
+    /// It goes by these two numbers alone. A ticket that was explicit at the mark and ends with the transaction now
+    /// stands among the others in order of gain, so where it is an early one, a later one that the mark counted is
+    /// released.
+    ///
+    /// A mark is stale while fewer tickets of the statement or of the transaction are kept than it counted. Then this
+    /// call is refused and changes nothing, and all else goes as before: tickets are gained and released, an older mark
+    /// may be good still, [`Context::return_to`] takes a stale one, and the statement and the transaction can be ended.
+    /// Where as many tickets are kept again, whichever they are, the mark is good again.
     ///
     /// After MySQL 5.7, `MDL_context::rollback_to_savepoint` of `sql/mdl.cc`.
     pub fn rollback_to(&mut self, space: &mut S, mark: Mark) -> Result<(), ContextError>
@@ -106,7 +113,8 @@ impl<S: LockSpace> Context<S> {
         Ok(())
     }
 
-    /// Ends a transaction: the tickets of the statement are released, and then those of the transaction. It takes no memory.
+    /// Ends a transaction: the tickets of the statement are released, and then those of the transaction. It takes no
+    /// memory.
     ///
     /// After MySQL 5.7, `MDL_context::release_transactional_locks` of `sql/mdl.cc`.
     pub fn end_transaction(&mut self, space: &mut S) -> Result<(), ContextError>
@@ -124,8 +132,8 @@ impl<S: LockSpace> Context<S> {
         Ok(())
     }
 
-    /// As [`Context::rollback_to`], of a session that is known to have no wait. Where fewer tickets are kept than the mark
-    /// counted, all of these stay. It takes no memory.
+    /// As [`Context::rollback_to`], of a session that is known to have no wait. Where fewer tickets are kept than the
+    /// mark counted, all of these stay. It takes no memory.
     pub fn return_to(&mut self, space: &mut S, mark: Mark)
         requires attends { Attends S.speaks_for S.own S.knows space.old self.old }
         requires idle { self.old.wait ≡ None }

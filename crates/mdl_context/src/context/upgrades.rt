@@ -6,6 +6,7 @@ ghost use Rattle.mdl_system.specs.Strength.{covers};
 ghost use Rattle.mdl_context.specs.Contexts.{Attends, LeavesOthers, ticket_kept};
 ghost use Rattle.mdl_context.specs.declared.kept.Kept.{Kept};
 ghost use Rattle.mdl_context.specs.Holdings.{wanted_upgrade};
+ghost use Rattle.mdl_context.specs.Outcomes.{UpgradeComesTo};
 ghost use Rattle.mdl_context.specs.Requests.{WaitsAfter};
 ghost use Rattle.mdl_context.specs.Releases.{release_fault};
 ghost use Rattle.mdl_context.specs.Upgrades.{with_mode, merging, is_merge_refusal, HasSecond, upgrading, waiting_to_upgrade, downgrading};
@@ -37,6 +38,7 @@ impl<S: LockSpace> Context<S> {
         ensures attends { Attends S.speaks_for S.own S.knows space.new self.new }
         ensures others { LeavesOthers S.speaks_for S.own S.knows self.old.who space.old space.new }
         ensures who { self.new.who ≡ self.old.who }
+        ensures outcome { UpgradeComesTo id mode self.old (result, self.new) }
         ensures unchanged { OnErr result (self.new ≡ self.old) }
         ensures own { OnErr result (S.own space.new self.old.who ≡ S.own space.old self.old.who) }
         ensures wait { WaitsAfter result self.old.wait self.new.wait }

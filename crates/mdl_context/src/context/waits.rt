@@ -4,6 +4,7 @@ ghost use Rattle.std.specs.Option.{IfSome};
 ghost use Rattle.mdl_calls.specs.Words.{Runs};
 ghost use Rattle.mdl_context.specs.Contexts.{Attends, IsAwaited, IsSettled, LeavesOthers};
 ghost use Rattle.mdl_context.specs.Holdings.{upgrade_of};
+ghost use Rattle.mdl_context.specs.Outcomes.{WaitComesTo};
 ghost use Rattle.mdl_context.specs.Upgrades.{FailsByMerge, FailsByMergeOrWant};
 ghost use Rattle.mdl_context.specs.Waits.{without_wait, taking_up, wait_won, searching_on, is_searched, resuming, giving_up_wait, looking, ending, no_wait_fault, WaitsOn};
 
@@ -17,7 +18,7 @@ impl<S: LockSpace> Context<S> {
     /// While it isn't settled and the searches for deadlocks were cut off, this call searches on, as [`Context::acquire`]
     /// does, and gives the wait up where a search finds no memory. Where the wait was for an upgrade and is granted, the new ticket
     /// is merged into the one that is upgraded, and that one is told; where the merge is refused, the new ticket is released and
-    /// the first is as it was. Else it takes no memory.
+    /// the first is as it was. Else it takes no memory. A wait that is lost leaves all tickets as they were.
     ///
     /// After MySQL 5.7, `MDL_context::acquire_lock` of `sql/mdl.cc`, from its wait on.
     pub fn resume(&mut self, space: &mut S) -> Result<Resume, ContextError>
@@ -29,7 +30,8 @@ impl<S: LockSpace> Context<S> {
         ensures attends { Attends S.speaks_for S.own S.knows space.new self.new }
         ensures others { LeavesOthers S.speaks_for S.own S.knows self.old.who space.old space.new }
         ensures who { self.new.who ≡ self.old.who }
-        ensures lost { OnErr result (self.new ≡ without_wait self.old) }
+        ensures outcome { WaitComesTo self.old (result, self.new) }
+        ensures failed { OnErr result (self.new ≡ without_wait self.old) }
         ensures wait { WaitsOn result self.new.wait }
     {
         match self.holdings.is_searched() {
@@ -53,7 +55,8 @@ impl<S: LockSpace> Context<S> {
         ensures others { LeavesOthers S.speaks_for S.own S.knows self.old.who space.old space.new }
         ensures who { self.new.who ≡ self.old.who }
         ensures ended { self.new.wait ≡ None }
-        ensures lost { OnErr result (self.new ≡ without_wait self.old) }
+        ensures outcome { WaitComesTo self.old (result, self.new) }
+        ensures failed { OnErr result (self.new ≡ without_wait self.old) }
     {
         if !self.holdings.is_waiting() {
             return Err(ContextError::Space(SpaceError::NoWait));
@@ -70,7 +73,7 @@ impl<S: LockSpace> Context<S> {
         ensures run { Runs S.joins space.old (searching_on self.old) (result, self.new) space.new }
         ensures attends { Attends S.speaks_for S.own S.knows space.new self.new }
         ensures who { self.new.who ≡ self.old.who }
-        ensures lost { OnErr result (self.new ≡ without_wait self.old) }
+        ensures failed { OnErr result (self.new ≡ without_wait self.old) }
         ensures wait { WaitsOn result self.new.wait }
     {
         match seek(space, self.who) {
@@ -95,7 +98,7 @@ impl<S: LockSpace> Context<S> {
         ensures run { Runs S.joins space.old (looking self.old) (result, self.new) space.new }
         ensures attends { Attends S.speaks_for S.own S.knows space.new self.new }
         ensures who { self.new.who ≡ self.old.who }
-        ensures lost { OnErr result (self.new ≡ without_wait self.old) }
+        ensures failed { OnErr result (self.new ≡ without_wait self.old) }
         ensures wait { WaitsOn result self.new.wait }
     {
         match space.poll_wait(self.who).unwrap() {
@@ -113,7 +116,7 @@ impl<S: LockSpace> Context<S> {
         ensures attends { Attends S.speaks_for S.own S.knows space.new self.new }
         ensures who { self.new.who ≡ self.old.who }
         ensures ended { self.new.wait ≡ None }
-        ensures lost { OnErr result (self.new ≡ without_wait self.old) }
+        ensures failed { OnErr result (self.new ≡ without_wait self.old) }
         ensures wait { WaitsOn result self.new.wait }
     {
         match space.end_wait(self.who).unwrap() {
@@ -133,7 +136,7 @@ impl<S: LockSpace> Context<S> {
         ensures attends { Attends S.speaks_for S.own S.knows space.new self.new }
         ensures who { self.new.who ≡ self.old.who }
         ensures ended { self.new.wait ≡ None }
-        ensures lost { OnErr result (self.new ≡ without_wait self.old) }
+        ensures failed { OnErr result (self.new ≡ without_wait self.old) }
         ensures wait { WaitsOn result self.new.wait }
     {
         let Some((id, mode)) = self.holdings.upgrade() else {

@@ -15,7 +15,7 @@ use mdl_key::Mode;
 use mdl_system::{covers, may_downgrade, may_upgrade};
 
 impl CoreSpace {
-    /// Lets a held ticket have a stronger mode, if that can be had now.
+    /// Lets a held ticket have a stronger mode, if that can be had now. It takes no memory.
     pub(crate) fn upgrade_held(
         &mut self,
         who: u16,
@@ -23,7 +23,7 @@ impl CoreSpace {
         mode: Mode,
     ) -> Result<Upgrade, SpaceError>
         requires { SpeaksFor self.old who }
-        ensures { Makes true (upgrading who id mode) self.old (upgrade_tried result) self.new }
+        ensures { Makes false (upgrading who id mode) self.old (upgrade_tried result) self.new }
     {
         let Some(ticket) = self.seats[usize::from(who) - 1].ticket(id) else {
             return Err(SpaceError::NotHeld);
@@ -35,7 +35,7 @@ impl CoreSpace {
         Ok(Upgrade::WouldWait)
     }
 
-    /// Lets a held ticket have the mode of another one, which is given up.
+    /// Lets a held ticket have the mode of another one, which is given up. It takes no memory.
     pub(crate) fn merge_held(
         &mut self,
         who: u16,
@@ -43,7 +43,7 @@ impl CoreSpace {
         new: TicketId,
     ) -> Result<(), SpaceError>
         requires { SpeaksFor self.old who }
-        ensures { Makes true (merging who old new) self.old (done result) self.new }
+        ensures { Makes false (merging who old new) self.old (done result) self.new }
     {
         let seat = &self.seats[usize::from(who) - 1];
         let Some(kept) = seat.ticket(old) else {

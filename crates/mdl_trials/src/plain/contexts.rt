@@ -2,7 +2,7 @@
 use super::{Plain, Ticket};
 use mdl_context::{Acquire, ContextError, Mark, Resume};
 use mdl_key::{Duration, Key, Mode, at_least};
-use mdl_space::{Begun, Ended, Place, Search, Settled, SpaceError, TicketId};
+use mdl_space::{Begun, Ended, Place, Search, Settled, SpaceError, TicketId, Upgrade};
 
 impl Plain {
     /// A lock is had by a ticket that is used again, by a clone, by a new ticket, or not yet.
@@ -204,10 +204,73 @@ impl Plain {
         Ok(())
     }
 
-    /// How the session's wait stands. A settled one is ended.
+    /// A held ticket has a stronger mode at once, or waits for a second one, in that mode.
+    pub(crate) fn upgrade(
+        &mut self,
+        who: u16,
+        id: TicketId,
+        mode: Mode,
+    ) -> Result<Acquire, ContextError> {
+        let Some(held) = self.held_ticket(who, id) else {
+            return Err(ContextError::NotHeld);
+        };
+        self.check_idle(who)?;
+        match self.upgrade_now(who, id, mode) {
+            Ok(Upgrade::Upgraded) => return Ok(Acquire::Acquired(id)),
+            Ok(Upgrade::WouldWait) => {}
+            Err(cause) => return Err(ContextError::Space(cause)),
+        }
+        match self.begin_wait(who, held.place, mode) {
+            Ok(Begun::Granted(new)) => self.take_in(who, id, new).map(Acquire::Acquired),
+            Ok(Begun::Waiting(number)) => {
+                self.wait_to_upgrade(who, id);
+                self.end_deadlocks(who);
+                Ok(Acquire::MustWait(number))
+            }
+            Err(cause) => Err(ContextError::Space(cause)),
+        }
+    }
+
+    // A session's wait is for a ticket that is merged into this one.
+    fn wait_to_upgrade(&mut self, who: u16, id: TicketId) {
+        for wait in &mut self.waits {
+            if wait.session == who {
+                wait.upgrades = Some(id);
+            }
+        }
+    }
+
+    // A new ticket is merged into the one that is upgraded.
+    fn take_in(&mut self, who: u16, id: TicketId, new: TicketId) -> Result<TicketId, ContextError> {
+        match self.merge(who, id, new) {
+            Ok(()) => Ok(id),
+            Err(cause) => Err(ContextError::Space(cause)),
+        }
+    }
+
+    /// A held ticket has a weaker mode.
+    pub(crate) fn fall(&mut self, who: u16, id: TicketId, mode: Mode) -> Result<(), ContextError> {
+        if self.held_ticket(who, id).is_none() {
+            return Err(ContextError::NotHeld);
+        }
+        self.check_idle(who)?;
+        match self.downgrade(who, id, mode) {
+            Ok(()) => Ok(()),
+            Err(cause) => Err(ContextError::Space(cause)),
+        }
+    }
+
+    /// How the session's wait stands. A settled one is ended, and if it is granted and for an upgrade, the ticket is merged.
     pub(crate) fn resume(&mut self, who: u16) -> Result<Resume, ContextError> {
+        let upgrades = match self.wait(who) {
+            Some(wait) => wait.upgrades,
+            None => None,
+        };
         match self.end_wait(who) {
-            Ok(Ended::Granted(id)) => Ok(Resume::Acquired(id)),
+            Ok(Ended::Granted(new)) => match upgrades {
+                Some(id) => self.take_in(who, id, new).map(Resume::Acquired),
+                None => Ok(Resume::Acquired(new)),
+            },
             Ok(Ended::Victim) => Ok(Resume::Lost(Settled::Victim)),
             Ok(Ended::Timeout) => Ok(Resume::Lost(Settled::Timeout)),
             Ok(Ended::Killed) => Ok(Resume::Lost(Settled::Killed)),

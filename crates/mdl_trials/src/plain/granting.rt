@@ -4,13 +4,18 @@ use mdl_key::{Mode, conflicts_granted, conflicts_waiting};
 use mdl_space::{Place, Settled};
 
 impl Plain {
-    // Lets a ticket go, and grants waiters of its place: again and again the first in order of arrival whose wait isn't
-    // settled and whose wish can be granted, until there is none.
+    // Lets a ticket go, and grants waiters of its place.
     pub(super) fn let_go(&mut self, gone: Ticket) {
         self.tickets.retain(|ticket| ticket.session != gone.session
             || ticket.number != gone.number);
+        self.serve(gone.place);
+    }
+
+    // Grants waiters of a place: again and again the first in order of arrival whose wait isn't settled and whose wish can be
+    // granted, until there is none.
+    pub(super) fn serve(&mut self, place: Place) {
         for _grant in 0..self.waits.len() {
-            match self.next_waiter(gone.place) {
+            match self.next_waiter(place) {
                 Some(ticket) => self.grant(ticket),
                 None => return,
             }

@@ -106,6 +106,16 @@ impl Plain {
         }
     }
 
+    /// The number of a session's first held ticket in one of these modes.
+    pub(crate) fn first_in(&self, who: u16, modes: &[Mode]) -> Option<TicketId> {
+        for ticket in &self.tickets {
+            if self.is_held(ticket, who) && modes.contains(&ticket.mode) {
+                return Some(ticket.number);
+            }
+        }
+        None
+    }
+
     // Whether a session holds a ticket.
     pub(super) fn is_held(&self, ticket: &Ticket, who: u16) -> bool {
         let is_awaited = match self.wait(who) {
@@ -157,6 +167,7 @@ impl Plain {
             session: who,
             number,
             ticket,
+            upgrades: None,
             settled: None,
         };
         match self.waits.push(wait) {

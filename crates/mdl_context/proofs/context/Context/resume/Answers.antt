@@ -9,6 +9,9 @@ use Rattle.mdl_context.proofs.AttendLemmas.{attends-still}
 use Rattle.mdl_context.proofs.OthersLemmas.{leaves, for_looking, for_searching_on, for_ending}
 use Rattle.mdl_context.proofs.ServingLemmas.{waits-there, searched-waits}
 use Rattle.mdl_context.proofs.WaitLemmas.{is_ok-polled}
+use Rattle.mdl_calls.proofs.FaithfulLemmas.{each_reply}
+use Rattle.mdl_context.specs.Outcomes.{WaitComesTo}
+use Rattle.mdl_context.proofs.OutcomeLemmas.{searches}
 use Rattle.mdl_context.proofs.context.Context.resume.Goals as goal
 
 pub unwrap-requires : goal.unwrap-requires
@@ -47,3 +50,7 @@ returns-in-Settled-clause-others g c =
     let laws = g.met.S.LockSpace in
     leaves laws.keeps laws.others laws.remembers c.args.self.now.who (Ask (Poll_wait c.args.self.now.who) (λ _. ending c.args.self.now)) _ _ (c.end_wait.result, c.end_wait.new.self) (refl, λ _. for_ending c.args.self.now)
     (_, _, rw same at c.poll_wait.ensures, c.end_wait.ensures.run)
+
+pub returns-in-Pending-clause-outcome : goal.returns-in-Pending-clause-outcome
+returns-in-Pending-clause-outcome g c =
+    each_reply g.S.LockSpace.joins (WaitComesTo c.args.self.now) (searching_on c.args.self.now) _ _ (c.search_on.result, c.search_on.new.self) (searches c.args.self.now) c.search_on.ensures.run

@@ -15,6 +15,9 @@ use Rattle.mdl_context.proofs.BeyondLemmas.{same-context}
 use Rattle.mdl_context.proofs.AttendLemmas.{attends-still}
 use Rattle.mdl_context.proofs.OthersLemmas.{leaves, for_upgrading}
 use Rattle.mdl_context.proofs.UpgradeLemmas.{HasAsked, attends-in_mode, fault-none, fault-waiting, fault-absent, kept-number, wish-kept, wish-none, wait-fits, run-upgrading}
+use Rattle.mdl_calls.proofs.FaithfulLemmas.{each_reply}
+use Rattle.mdl_context.specs.Outcomes.{UpgradeComesTo}
+use Rattle.mdl_context.proofs.OutcomeLemmas.{raised_upgrading}
 use Rattle.mdl_context.proofs.context.Context.upgrade.Goals as goal
 
 pub returns-in_default-clause-refused : goal.returns-in_default-clause-refused
@@ -110,3 +113,8 @@ pub returns-in-Err-clause-own : goal.returns-in-Err-clause-own
 returns-in-Err-clause-own g c =
     let same : c.self.inside.who ≡ c.args.self.now.who = ap (λ (v : ContextView). v.who) c.self.view_is in
     g.met.S.LockSpace.changes _ _ _ _ _ refl (rw (same, c.in-Err.is) at c.upgrade_now.ensures)
+
+pub returns-in-Ok-WouldWait-clause-outcome : goal.returns-in-Ok-WouldWait-clause-outcome
+returns-in-Ok-WouldWait-clause-outcome g c =
+    each_reply g.S.LockSpace.joins (UpgradeComesTo c.args.id c.args.mode c.args.self.now) (upgrading c.args.id c.args.mode c.args.self.now) _ _ (c.wait_to_upgrade.result, c.wait_to_upgrade.new.self)
+    (raised_upgrading c.args.id c.args.mode c.args.self.now) (returns-in-Ok-WouldWait-clause-run g c)

@@ -1,5 +1,5 @@
 -- All tables stand; then there was no memory, or all is kept.
-use Rattle.std.proofs.Common.{ℕ, List, [], true, false, sym, ap, ◌∙◌, subst}
+use Rattle.std.proofs.Common.{List, [], false, sym, ap, ◌∙◌, subst}
 use Rattle.mdl_syntax.specs.declared.table_locks.TableLock.{TableLock}
 use Rattle.mdl_context.specs.Contexts.{ContextView}
 use Rattle.mdl_stmt.specs.declared.ending.Ending.TheVariants.{Answers}

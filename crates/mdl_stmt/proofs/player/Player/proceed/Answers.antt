@@ -1,12 +1,8 @@
 -- Under the COMMIT lock the transaction ends, and then the statement goes on.
 use Rattle.std.proofs.Common.{sym, subst}
-use Rattle.mdl_stmt.specs.declared.ending.Ending.TheVariants.{Answers}
-use Rattle.mdl_stmt.specs.declared.reply.Reply.TheVariants as reply
 use Rattle.mdl_stmt.specs.declared.stage.Stage.{Stage}
-use Rattle.mdl_stmt.specs.Endings.{closing}
-use Rattle.mdl_stmt.specs.Gets.{Comes, IsPlayed}
-use Rattle.mdl_stmt.specs.Playing.{play}
-use Rattle.mdl_stmt.specs.Rows.{Give, ◌>>◌}
+use Rattle.mdl_stmt.specs.Gets.{IsPlayed}
+use Rattle.mdl_stmt.specs.Rows.{◌>>◌}
 use Rattle.mdl_stmt.specs.Stages.{rest_of}
 use Rattle.mdl_stmt.specs.Statements.{after_commit, end_under}
 use Rattle.mdl_stmt.proofs.RunLemmas.{comes-played}
@@ -17,8 +13,3 @@ returns-in-Commit-clause-run g c =
     let rest = after_commit c.in-Commit.statement.now in
     subst (λ (s : Stage). IsPlayed g.S.LockSpace.joins (rest_of s c.args.ticket) c.args.space.now c.args.self.now c.after_commit.result c.after_commit.new.space c.after_commit.new.self) (sym c.in-Commit.is)
     (comes-played c.after_commit.new.space c.after_commit.new.self (end_under c.args.ticket >> rest) rest c.after_commit.result (c.end_under.ensures.run (λ _. rest)) c.after_commit.ensures.run)
-
-pub returns-in-CommitWrite-clause-run : goal.returns-in-CommitWrite-clause-run
-returns-in-CommitWrite-clause-run g c =
-    subst (λ (s : Stage). Comes g.S.LockSpace.joins c.args.space.now c.args.self.now (play (rest_of s c.args.ticket)) c.end_under-in-CommitWrite.new.space c.end_under-in-CommitWrite.new.self (closing (Answers reply.Ok))) (sym c.in-CommitWrite.is)
-    (c.end_under-in-CommitWrite.ensures.run (λ _. Give reply.Ok))

@@ -1,0 +1,14 @@
+-- The order in which DDL and LOCK TABLES ask for the locks of their keys.
+use Rattle.std.specs.Prelude.{◌≡◌, ◌↔◌, List, AllPairs, Contains}
+use Rattle.std.specs.declared.cmp.Ordering.TheVariants.{Less}
+use Rattle.mdl_key.specs.Keys.{KeyName, key_cmp}
+use Rattle.mdl_stmt.specs.KeyOrder.{in_key_order}
+
+-- one key comes before another
+abbrev pub ComesBefore : KeyName → KeyName → Type 0
+ComesBefore key later = key_cmp key later ≡ Less
+
+-- keys in key order are the same keys, each before all that stand behind it, and so each once
+abbrev pub KeysStandInOrder : Type 0
+KeysStandInOrder =
+    (keys : List KeyName) → AllPairs ComesBefore (in_key_order keys) × ((key : KeyName) → Contains (in_key_order keys) key ↔ Contains keys key)

@@ -1,0 +1,159 @@
+-- A step on the word of a place, whose latch the session holds: flags are raised, and the word is read.
+use Rattle.std.proofs.Common.{◌≡◌, ℕ, ◌<◌, Bool, true, false, ◌||◌, ◌≤◌, not, zero, suc, List, length, get_or, Some, refl, sym, ◌∙◌, subst, arith, bit_or}
+use Rattle.std.specs.Prelude.{Option, slice_index, count_by}
+use Rattle.std.specs.List.{list_all}
+use Rattle.std.proofs.lemmas.List.Sums.{AllPass-from_list_all}
+use mathlib.Core.Option.{some, none}
+use lib.ListN.{get_elem?}
+use Rattle.atomic_table.specs.Table.{Allows, step, keeps}
+use Rattle.atomic_table.proofs.Lists.{at_map}
+use Rattle.mdl_key.specs.declared.namespace.Kind.{Kind}
+use Rattle.mdl_key.specs.Words.{KeyName, is_obtrusive}
+use Rattle.mdl_word.specs.Words.{bit, flags_alone, counts_of}
+use Rattle.mdl_word.proofs.WordLemmas.{raises}
+use Rattle.mdl_book.specs.declared.ticket.Ticket.{Ticket}
+use Rattle.mdl_book.specs.Books.{lock_kind}
+use Rattle.mdl_book.specs.FastTickets.{CoversFastTickets, is_of_class}
+use Rattle.mdl_steps.specs.declared.view.Held.{Held}
+use Rattle.mdl_steps.specs.declared.view.View.{View}
+use Rattle.mdl_steps.specs.Cells.{Part, holder_at, held_at, cell, all_fast}
+use Rattle.mdl_steps.specs.Layout.{lock_word}
+use Rattle.mdl_steps.specs.Plays.{Mine, stepped, raised, noting, raises_flags, reads_word}
+use Rattle.mdl_steps.specs.Rule.{Rule, Counted, key_at}
+use Rattle.mdl_steps.proofs.Views.{by_bool, held_at-changed, held_at-unchanged}
+use Rattle.mdl_steps.proofs.Lift.{Table, after, on_word, parts_again, alone, seat_there}
+use Rattle.mdl_steps.proofs.Holder.{Under, under, holder_cell}
+
+-- ---- words and flags
+
+pub or_true : (a b : Bool) → b ≡ true → (a || b) ≡ true
+or_true true b e = refl
+or_true false b e = e
+
+-- the number of some flags tells which they are
+flags_same : (a b x y : Bool) → flags_alone a b ≡ flags_alone x y → (a ≡ x) × (b ≡ y)
+flags_same true true true true e = (refl, refl)
+flags_same true true true false e = absurd (omega arith)
+flags_same true true false true e = absurd (omega arith)
+flags_same true true false false e = absurd (omega arith)
+flags_same true false true true e = absurd (omega arith)
+flags_same true false true false e = (refl, refl)
+flags_same true false false true e = absurd (omega arith)
+flags_same true false false false e = absurd (omega arith)
+flags_same false true true true e = absurd (omega arith)
+flags_same false true true false e = absurd (omega arith)
+flags_same false true false true e = (refl, refl)
+flags_same false true false false e = absurd (omega arith)
+flags_same false false true true e = absurd (omega arith)
+flags_same false false true false e = absurd (omega arith)
+flags_same false false false true e = absurd (omega arith)
+flags_same false false false false e = (refl, refl)
+
+-- ---- what the holder owes after the step
+
+raised_under : (key : Option KeyName) (word version : ℕ) (parts : List Part) (h : Held) (slow obtrusive : Bool)
+    → Under key word version parts h → Under key (bit_or word (flags_alone slow obtrusive)) version parts (raised slow obtrusive h)
+raised_under key word version parts h slow obtrusive u = record {
+  counted = raises u.counted slow obtrusive;
+  flagged = ((λ some. or_true slow h.slow (u.flagged.0 some)), λ some. or_true obtrusive h.obtrusive (u.flagged.1 some));
+  noted = λ w e. let was = u.noted w e in (or_true obtrusive h.obtrusive was.0, was.1);
+  book_ok = u.book_ok;
+}
+
+bit_small : (b : Bool) → bit b < 2
+bit_small true = omega arith
+bit_small false = omega arith
+
+-- the counts of a lawful word cover the fast tickets
+covers_all : (kind : Kind) (word : ℕ) (fast : List Ticket) (slow obtrusive : Bool) → list_all (λ t. not (is_obtrusive kind t.mode)) fast ≡ true
+    → Counted kind word fast slow obtrusive → CoversFastTickets kind word fast
+covers_all kind word fast slow obtrusive unobtrusive e = record { unobtrusive = AllPass-from_list_all (λ t. not (is_obtrusive kind t.mode)) fast unobtrusive; covered = by_class }
+  where
+    by_class : (class : ℕ) → class < 3 → count_by (is_of_class kind class) fast ≤ slice_index (counts_of word) class
+    by_class zero below = omega (arith, bit_small slow, bit_small obtrusive)
+    by_class (suc zero) below = omega (arith, bit_small slow, bit_small obtrusive)
+    by_class (suc (suc zero)) below = omega (arith, bit_small slow, bit_small obtrusive)
+    by_class (suc (suc (suc class))) below = absurd (omega arith)
+
+noted_under : (key : Option KeyName) (word version : ℕ) (parts : List Part) (h : Held)
+    → Under key word version parts h → Under key word version parts (noting word h)
+noted_under key word version parts h u = record {
+  counted = u.counted;
+  flagged = u.flagged;
+  noted = λ w e. by_bool h.obtrusive
+      (λ up.
+      let is = rw up at e in
+      let same : word ≡ w = cc in
+      (up, subst (λ x. CoversFastTickets (lock_kind h.book) x (all_fast parts)) same (covers_all (lock_kind h.book) word (all_fast parts) h.slow h.obtrusive u.book_ok.lawful.unobtrusive u.counted)))
+      (λ down. let is = rw down at e in u.noted w is);
+  book_ok = u.book_ok;
+}
+
+-- ---- the steps
+
+module _ (slots id place : ℕ) (me : Mine) (some_number : 0 < me.0.number) (first : 0 < place) (last : place < slots) (h : Held) (holds : held_at place me.0.latches ≡ Some h)
+    (f : ℕ → ℕ) (g : ℕ → Held → Held) (stays : (n : ℕ) (x : Held) → (g n x).place ≡ x.place)
+    (owes : (key : Option KeyName) (word version : ℕ) (parts : List Part) → Under key word version parts h → Under key (f word) version parts (g word h)) where
+  module _ (s : Table) (r : Rule s) (size : length s.homes ≡ slots) (seat : get_elem? s.views id ≡ some me.0) where
+    found : ℕ
+    found = get_or s.words (lock_word place) 0
+
+    view : View
+    view = (stepped place found (g found) me).0
+
+    stepped_rule : Rule (after s (lock_word place) (f found) id view s.homes)
+    unfolding found view
+    stepped_rule =
+        let w : View = (stepped place (get_or s.words (lock_word place) 0) (g (get_or s.words (lock_word place) 0)) me).0 in
+        let within : place < length s.homes = rw size last in
+        let row = (r.views id me.0 seat).0 in
+        let ok = r.places place first within in
+        let there = at_map (holder_at place) s.views id me.0 seat in
+        let mine = ok.held id (holder_at place me.0) there h holds in
+        on_word s r place id me.0 w s.homes (record {
+          inside = (first, within);
+          seat = seat;
+          number = refl;
+          spare = refl;
+          directory = refl;
+          numbered = record { fast = row.fast; slow = row.slow; asks = row.asks };
+          slots = refl;
+          home_else = λ q else. refl;
+          part_else = λ q else. refl;
+          holder_else = λ q else. λ i. record { number = me.0.number; held = held_at-unchanged place (g (get_or s.words (lock_word place) 0)) (stays (get_or s.words (lock_word place) 0)) q me.0.latches else i };
+        }) (r.views id me.0 seat).1 (f (get_or s.words (lock_word place) 0))
+        (rw (parts_again s place id me.0 w seat refl)
+        (holder_cell (key_at r.keys place) (cell s place) ok id (holder_at place me.0) there (seat_there s place id me.0 seat) (holder_at place w) h (g (get_or s.words (lock_word place) 0) h) holds
+        (λ j l at same. alone s r place id me.0 seat some_number j l at (same ∙ sym mine.mine)) refl
+        (held_at-changed place (g (get_or s.words (lock_word place) 0)) (stays (get_or s.words (lock_word place) 0)) me.0.latches h holds)
+        (key_at r.keys place) (f (get_or s.words (lock_word place) 0)) (cell s place).version (cell s place).parts
+        (owes (key_at r.keys place) (get_or s.words (lock_word place) 0) (cell s place).version (cell s place).parts (under (key_at r.keys place) (cell s place) ok id (holder_at place me.0) there h holds))))
+
+  -- a step on the word whose holder's record goes along with it
+  pub steps_under : (then : ℕ → Mine → Type 0) → ((n : ℕ) → then n (stepped place n (g n) me)) → Allows Rule slots id me (lock_word place) f then
+  unfolding found view
+  steps_under then tells s r size seat fits = (view s r size seat, keeps, tt, stepped_rule s r size seat, tells (get_or s.words (lock_word place) 0))
+
+module _ (slots id place : ℕ) (me : Mine) (some_number : 0 < me.0.number) (first : 0 < place) (last : place < slots) (h : Held) (holds : held_at place me.0.latches ≡ Some h) where
+  -- flags are raised
+  pub raises_allowed : (slow obtrusive : Bool) (mask : ℕ) → mask ≡ flags_alone slow obtrusive
+      → Allows Rule slots id me (lock_word place) (λ n. bit_or n mask) (raises_flags (step slots (lock_word place) mask 0 none) me)
+  raises_allowed slow obtrusive mask is =
+      steps_under slots id place me some_number first last h holds (λ n. bit_or n mask) (λ _. raised slow obtrusive) (λ n x. refl)
+      (λ key word version parts u. rw is (raised_under key word version parts h slow obtrusive u))
+      (raises_flags (step slots (lock_word place) mask 0 none) me)
+      (λ n. (
+        refl,
+        λ q a b here number.
+            let same : place ≡ q = omega arith in
+            let flags = flags_same slow obtrusive a b (sym is ∙ number) in
+            λ i. stepped (same i) n (raised (flags.0 i) (flags.1 i)) me,
+      ))
+
+  -- the word is read
+  pub reads_allowed : Allows Rule slots id me (lock_word place) (λ n. n) (reads_word (step slots (lock_word place) 0 0 none) me)
+  reads_allowed =
+      steps_under slots id place me some_number first last h holds (λ n. n) noting (λ n x. refl)
+      (λ key word version parts u. noted_under key word version parts h u)
+      (reads_word (step slots (lock_word place) 0 0 none) me)
+      (λ n. (refl, λ q here. let same : place ≡ q = omega arith in λ i. stepped (same i) n (noting n) me))

@@ -1,0 +1,168 @@
+-- The latch of a place is taken.
+use Rattle.std.proofs.Common.{◌≡◌, ◌≢◌, ℕ, ◌%◌, ◌<◌, ◌==◌, Bool, true, false, ◌&&◌, List, ◌++◌, map, set, length, get_or, Some, None, refl, sym, ap, ◌∙◌, subst, arith, length-set}
+use Rattle.std.specs.Prelude.{Option}
+use Rattle.std.specs.List.{list_all}
+use Rattle.std.specs.Option.{option_to_list}
+use Rattle.std.proofs.lemmas.Bool.{and_parts}
+use Rattle.std.proofs.lemmas.List.Folds.{list_all-append}
+use mathlib.Core.Option.{some, none}
+use lib.ListN.{get_elem?}
+use prog.Atomic.{either}
+use Rattle.atomic_table.specs.Table.{State, Allows, step, Act, takes, keeps, stepped as moved_by}
+use Rattle.atomic_table.proofs.Lists.{at_map, set_else, exchanged}
+use Rattle.mdl_key.specs.declared.namespace.Kind.{Kind}
+use Rattle.mdl_book.specs.declared.ticket.Ticket.{Ticket}
+use Rattle.mdl_book.specs.Books.{lock_kind}
+use Rattle.mdl_book.specs.Granting.{is_lawful}
+use Rattle.mdl_book.specs.Tickets.{ticket_of, is_ticket}
+use Rattle.mdl_book.proofs.GrantingLemmas.{lawful_part}
+use Rattle.mdl_steps.specs.declared.slot.Slot.{Slot}
+use Rattle.mdl_steps.specs.declared.slot.Slot.TheVariants as slot
+use Rattle.mdl_steps.specs.declared.view.Ask.{Ask}
+use Rattle.mdl_steps.specs.declared.view.Held.{Held}
+use Rattle.mdl_steps.specs.declared.view.Known.{Known}
+use Rattle.mdl_steps.specs.declared.view.View.{View}
+use Rattle.mdl_steps.specs.Cells.{part_at, holder_at, cell, waits, ticket_by, own_at, asking_at, due, all_fast}
+use Rattle.mdl_steps.specs.Layout.{latch_word}
+use Rattle.mdl_steps.specs.Plays.{Mine, IsFresh, latched, logged, takes_latch}
+use Rattle.mdl_steps.specs.Rule.{Rule, PlaceOk, Numbered, key_at}
+use Rattle.mdl_steps.proofs.Views.{by_bool, held_at-first, held_at-past, each_at, other}
+use Rattle.mdl_steps.proofs.Lift.{Table, Moved, after, on_latch, only_logged, parts_again, seat_there}
+use Rattle.mdl_steps.proofs.Holder.{taken_cell}
+
+-- the due ticket is the one that the view asks for
+pub due_asked : (place n word : ℕ) (asks : Option Ask) (t : Ticket) → due (asking_at place n word asks) ≡ Some t → (a : Ask) × (asks ≡ Some a) × (t.number ≡ a.number)
+due_asked place n word None t e = absurd (cc)
+due_asked place n word (Some a) t e =
+    let wished : Ticket = record { session = n; number = a.number; mode = a.mode } in (
+      a,
+      refl,
+      by_bool (a.place == place)
+          (λ here. by_bool (word % 8 == 2)
+          (λ granted. let found = rw (here, granted) at e in let same : t ≡ wished = cc in ap (λ (o : Ticket). o.number) same)
+          (λ lost. let found = rw (here, lost) at e in absurd (cc)))
+          (λ elsewhere. let found = rw elsewhere at e in absurd (cc)),
+    )
+
+and_false : (b : Bool) → (b && false) ≡ false
+and_false true = refl
+and_false false = refl
+
+-- a number that isn't waited for is looked up among the view's own tickets
+pub of-unwaited : (n number : ℕ) (due_ticket : Option Ticket) (own : List Ticket) → ((t : Ticket) → due_ticket ≡ Some t → t.number ≢ number)
+    → ticket_of n number (option_to_list due_ticket ++ own) ≡ ticket_of n number own
+of-unwaited n number None own apart = refl
+of-unwaited n number (Some t) own apart =
+    let differs : (t.number == number) ≡ false = other t.number number (apart t refl) in
+    let test : is_ticket n number t ≡ false = rw differs (and_false (t.session == n)) in
+    rw test refl
+
+-- granted tickets alone are lawful
+lawful_granted : (kind : Kind) (fast granted : List Ticket) → is_lawful kind (fast ++ granted) ≡ true → is_lawful kind granted ≡ true
+lawful_granted kind fast granted lawful =
+    lawful_part kind (fast ++ granted) granted (λ test all. (and_parts (list_all test fast) (list_all test granted) (sym (list_all-append test fast granted) ∙ all)).1) lawful
+
+module _ (slots id place : ℕ) (me : Mine) (some_number : 0 < me.0.number) (first : 0 < place) (last : place < slots) where
+  module _ (s : Table) (r : Rule s) (size : length s.homes ≡ slots) (seat : get_elem? s.views id ≡ some me.0) where
+    within : place < length s.homes
+    within = rw size last
+
+    ok : PlaceOk (key_at r.keys place) (cell s place)
+    ok = r.places place first within
+
+    fresh : Held
+    fresh = record { place = place; book = ok.book; slow = ok.slow; obtrusive = ok.obtrusive; noted = None }
+
+    is_fresh : get_or s.words (latch_word place) 0 ≡ 0 → IsFresh place fresh me
+    unfolding fresh ok
+    is_fresh free = record {
+      here = refl;
+      exact = (ok.free free).1;
+      unnoted = refl;
+      lawful = lawful_granted (lock_kind ok.book) (all_fast (cell s place).parts) ok.book.granted ok.book_ok.lawful.compatible;
+      own = λ number unwaited.
+          let mine = ok.book_ok.each id (part_at (waits s) place me.0) (at_map (part_at (waits s) place) s.views id me.0 seat) in
+          mine.slow_held.same number
+          ∙ of-unwaited me.0.number number (due (part_at (waits s) place me.0).asks) (map (ticket_by me.0.number) (own_at place me.0.slow))
+          (λ t is same. (let a = due_asked place me.0.number (waits s me.0.number) me.0.asks t is in unwaited a.0 a.1 (sym a.2 ∙ same)));
+      named = λ i k there here.
+          let knows = each_at (λ (x : Known). (0 < x.place) × (key_at r.keys x.place ≡ Some x.key)) me.0.known (r.views id me.0 seat).1 i k there in
+          ok.book_ok.named.key_is k.key (ap (λ (q : ℕ). key_at r.keys q) (sym here) ∙ knows.1);
+    }
+
+    numbered : (w : View) → w.next ≡ me.0.next → w.fast ≡ me.0.fast → w.slow ≡ me.0.slow → w.asks ≡ me.0.asks → Numbered w
+    numbered w next fast slow asks = let row = (r.views id me.0 seat).0 in record { fast = rw (fast, next) row.fast; slow = rw (slow, next) row.slow; asks = rw (asks, next) row.asks }
+
+    moved_taken : Moved s place id me.0 (latched place fresh me).0 (set s.homes place none)
+    unfolding fresh
+    moved_taken = record {
+      inside = (first, within);
+      seat = seat;
+      number = refl;
+      spare = refl;
+      directory = refl;
+      numbered = numbered (latched place fresh me).0 refl refl refl refl;
+      slots = length-set s.homes place none;
+      home_else = λ q else. set_else s.homes place q none else;
+      part_else = λ q else. refl;
+      holder_else = λ q else. λ i. record { number = me.0.number; held = held_at-past place q fresh me.0.latches refl else i };
+    }
+
+    taken_rule : get_or s.words (latch_word place) 0 ≡ 0 → Rule (after s (latch_word place) me.0.number id (latched place fresh me).0 (set s.homes place none))
+    unfolding fresh ok
+    taken_rule free =
+        let w : View = (latched place fresh me).0 in
+        on_latch s r place id me.0 w (set s.homes place none) moved_taken (r.views id me.0 seat).1 me.0.number
+        (rw (parts_again s place id me.0 w seat refl)
+        (taken_cell (key_at r.keys place) (cell s place) ok id (holder_at place me.0) (at_map (holder_at place) s.views id me.0 seat) (seat_there s place id me.0 seat) (holder_at place w) free some_number refl
+        fresh refl refl refl refl (held_at-first place fresh me.0.latches refl) (get_elem? (set s.homes place none) place)))
+
+    missed : View
+    missed = logged (latch_word place) (get_or s.words (latch_word place) 0) me.0.latches me.0
+
+    missed_rule : Rule (after s (latch_word place) (get_or s.words (latch_word place) 0) id missed s.homes)
+    unfolding missed
+    missed_rule = only_logged s r place id me.0 missed (record {
+      inside = (first, within);
+      seat = seat;
+      number = refl;
+      spare = refl;
+      directory = refl;
+      numbered = numbered missed refl refl refl refl;
+      slots = refl;
+      home_else = λ q else. refl;
+      part_else = λ q else. refl;
+      holder_else = λ q else. refl;
+    }) (r.views id me.0 seat).1 refl refl
+
+  pub takes_latch_allowed : Allows Rule slots id me (latch_word place) (λ n. either (n == 0) me.0.number n) (takes_latch (step slots (latch_word place) 0 me.0.number none) me)
+  unfolding fresh ok missed
+  takes_latch_allowed s r size seat fits =
+      let found : ℕ = get_or s.words (latch_word place) 0 in
+      exchanged found 0 me.0.number (λ n. (w : View) × (a : Act Slot) × Rattle.atomic_table.specs.Table.Valid s.homes me.1 a × Rule (moved_by s (latch_word place) n id me.1 w a) × takes_latch (step slots (latch_word place) 0 me.0.number none) me found (w, Rattle.atomic_table.specs.Table.carried_after me.1 a))
+      (λ free. (
+        (latched place (fresh s r size seat) me).0,
+        takes place (slot.Place (ok s r size seat).book),
+        ((ok s r size seat).free free).0,
+        taken_rule s r size seat free,
+        (
+          refl,
+          λ q here.
+              let same : place ≡ q = omega arith in
+              subst (λ (x : ℕ). (found ≡ 0 → (h : Held) × IsFresh x h me × (◌≡◌ {A = Mine} (latched place (fresh s r size seat) me) (latched x h me))) × (found ≢ 0 → ◌≡◌ {A = Mine} (latched place (fresh s r size seat) me) (logged (latch_word x) found me.0.latches me.0, me.1))) same
+              ((λ _. (fresh s r size seat, is_fresh s r size seat free, refl)), λ taken. absurd (taken free)),
+        ),
+      ))
+      (λ taken. (
+        missed s r size seat,
+        keeps,
+        tt,
+        missed_rule s r size seat,
+        (
+          refl,
+          λ q here.
+              let same : place ≡ q = omega arith in
+              subst (λ (x : ℕ). (found ≡ 0 → (h : Held) × IsFresh x h me × (◌≡◌ {A = Mine} (missed s r size seat, me.1) (latched x h me))) × (found ≢ 0 → ◌≡◌ {A = Mine} (missed s r size seat, me.1) (logged (latch_word x) found me.0.latches me.0, me.1))) same
+              ((λ free. absurd (taken free)), λ _. refl),
+        ),
+      ))

@@ -1,0 +1,13 @@
+pub mod Views
+pub mod Lift
+pub mod Holder
+pub mod Latch
+pub mod Flags
+pub mod Tickets
+pub mod Owns
+pub mod Deeds
+pub mod Books
+pub mod Put
+pub mod Opens
+pub mod Enrol
+pub mod Starts

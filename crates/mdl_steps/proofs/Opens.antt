@@ -1,0 +1,80 @@
+-- The table at the start meets the rule.
+use Rattle.std.proofs.Common.{◌≡◌, ℕ, zero, suc, ◌+◌, ◌*◌, ◌<◌, false, List, [], ◌∷◌, map, length, None, refl, sym, ap, ◌∙◌, subst, arith}
+use mathlib.Core.Option.{some, some-ne-none, some-injective}
+use lib.ListN.{get_elem?}
+use Rattle.std.proofs.lemmas.List.{length-map}
+use Rattle.atomic_table.specs.Table.{opening}
+use Rattle.atomic_table.proofs.Lists.{at_map}
+use Rattle.mdl_key.specs.Words.{KeyName}
+use Rattle.mdl_book.specs.Books.{empty_book}
+use Rattle.mdl_steps.specs.declared.slot.Slot.{Slot}
+use Rattle.mdl_steps.specs.declared.slot.Slot.TheVariants as slot
+use Rattle.mdl_steps.specs.declared.view.View.{View}
+use Rattle.mdl_steps.specs.Cells.{Holder, Desk, blank, cell, part_at, holder_at, desk_of, waits}
+use Rattle.mdl_steps.specs.Layout.{latch_word, lock_word, version_word}
+use Rattle.mdl_steps.specs.Openings.{IsOpening}
+use Rattle.mdl_steps.specs.Rule.{Rule, PlaceOk, PartOk}
+
+-- a list of one has only its first
+only : {A : Type 0} → (a b : A) (j : ℕ) → get_elem? (a ∷ []) j ≡ some b → (j ≡ 0) × (a ≡ b)
+only a b zero e = (refl, some-injective a b e)
+only a b (suc j) e = absurd (some-ne-none b (sym e))
+
+module _ (sessions : ℕ) (words : List ℕ) (slots : List Slot) (open_ : IsOpening sessions words slots) where
+  homes_count : length (map some slots) ≡ length slots
+  homes_count = length-map slots some
+
+  empty_place : (key : KeyName) (p : ℕ) → 0 < p → p < length slots → get_elem? slots p ≡ some (slot.Place (empty_book key)) → PlaceOk None (cell (opening words slots (blank 0 sessions)) p)
+  empty_place key p first last there = record {
+    book = empty_book key;
+    slow = false;
+    obtrusive = false;
+    free = λ _. (at_map some slots p (slot.Place (empty_book key)) there, (refl, refl));
+    taken = λ taken. absurd (taken (open_.zeros (latch_word p) (λ e. omega arith)));
+    held = λ j l at h is. (let it = only (holder_at p (blank 0 sessions)) l j at in let none : l.held ≡ None = ap (λ (x : Holder). x.held) (sym it.1) in absurd (cc));
+    counted = record { first_fits = omega arith; second_fits = omega arith; third_fits = omega arith; is_encoded = open_.zeros (lock_word p) (λ e. omega arith) };
+    flagged = ((λ some. absurd (cc)), λ some. absurd (cc));
+    book_ok = record {
+      lawful = record { compatible = refl; modes = refl; unobtrusive = refl };
+      once = tt;
+      owned = λ session number t found. absurd (cc);
+      version_is = open_.zeros (version_word p) (λ e. omega arith);
+      named = record { key_is = λ k none. absurd (cc); vacant = λ _. (refl, refl, refl) };
+      each = λ j x at.
+          let it = only (part_at (waits (opening words slots (blank 0 sessions))) p (blank 0 sessions)) x j at in
+          subst (PartOk (empty_book key)) it.1 (record {
+            few = omega arith;
+            slow_held = record { same = λ m. refl; apart = λ t none. absurd (cc) };
+            versions_agree = record { reads = tt; fast = tt; slow = tt };
+          });
+    };
+  }
+
+  pub opens : Rule (opening words slots (blank 0 sessions))
+  opens = record {
+    most = sessions;
+    wide = open_.wide ∙ ap (λ (n : ℕ). 8 * n + 16 + 8 * sessions) (sym homes_count);
+    enrolled = record {
+      limit = open_.limit;
+      next = rw homes_count open_.drawn;
+      below = λ j n at. (let it = only 0 n j at in let drawn = open_.drawn in rw homes_count (omega arith));
+      apart = λ i j n at there some. (let it = only 0 n i at in let zero_is = it.1 in absurd (omega arith));
+      room = omega arith;
+    };
+    keys = [];
+    fit = rw homes_count (some_slot slots open_.directory);
+    distinct = tt;
+    directory_agrees = record {
+      free = λ _. at_map some slots 0 (slot.Directory (record { keys = [] })) open_.directory;
+      held = λ j d at k is. (let it = only (desk_of (blank 0 sessions)) d j at in let none : d.directory ≡ None = ap (λ (x : Desk). x.directory) (sym it.1) in absurd (cc));
+    };
+    views = λ j v at. (let it = only (blank 0 sessions) v j at in subst (λ (x : View). Rattle.mdl_steps.specs.Rule.Numbered x × Rattle.mdl_steps.specs.Rule.KnowsKeys [] x) it.1 (record { fast = tt; slow = tt; asks = λ a none. absurd (cc) }, tt));
+    places = λ p first last. (let within : p < length slots = rw homes_count at last in let there = open_.places p first within in no_key p (empty_place there.0 p first within there.1));
+  }
+    where
+      some_slot : (xs : List Slot) → {a : Slot} → get_elem? xs 0 ≡ some a → 0 < length xs
+      some_slot [] {a} e = absurd (some-ne-none a (sym e))
+      some_slot (x ∷ xs) e = omega arith
+
+      no_key : (p : ℕ) → PlaceOk None (cell (opening words slots (blank 0 sessions)) p) → PlaceOk (Rattle.mdl_steps.specs.Rule.key_at [] p) (cell (opening words slots (blank 0 sessions)) p)
+      no_key p ok = ok

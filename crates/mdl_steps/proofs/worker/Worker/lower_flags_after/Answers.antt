@@ -1,0 +1,27 @@
+-- The holder of the latch may leave just those flags up that tell of each ticket in the lists.
+use Rattle.std.proofs.Common.{ℕ, ◌+◌, ◌*◌, ◌<◌, List, sym, subst, arith, bit_and}
+use mathlib.Core.Option.{none}
+use Rattle.atomic_table.specs.Table.{Allows, step}
+use Rattle.mdl_steps.specs.declared.deed.Deed.{Deed}
+use Rattle.mdl_steps.specs.Plays.{lowers_flags}
+use Rattle.mdl_steps.specs.Rule.{Rule}
+use Rattle.mdl_steps.proofs.Put.{lowers_allowed}
+use Rattle.mdl_steps.proofs.worker.Worker.lower_flags_after.Goals as goal
+
+pub fetch_and-requires : goal.fetch_and-requires
+fetch_and-requires g c =
+    let seat = c.args.self.now.seat in
+    let slots = c.args.top.now.table_id.slots in
+    let at = c.lock_word.ensures in
+    let sized = c.requires.table.1 in
+    let here = c.requires.place in
+    let numbered = c.args.self.now.numbered in
+    let some : 0 < seat.me.0.number = omega arith in
+    let inside : c.lock_word.result < c.args.top.now.table_id.words = omega arith in
+    let low = c.requires.lowered in (
+      c.requires.table.0,
+      inside,
+      subst (λ (i : ℕ). Allows Rule slots seat.id seat.me i (λ n. bit_and n c.keeping.result) (lowers_flags g.J.Doing.deeds (step slots i c.keeping.result 0 none) seat.me)) (sym at)
+          (subst (λ (ds : List Deed). Allows Rule slots seat.id seat.me (8 * c.args.latch.now.place + 1) (λ n. bit_and n c.keeping.result) (lowers_flags ds (step slots (8 * c.args.latch.now.place + 1) c.keeping.result 0 none) seat.me)) c.requires.picked
+          (lowers_allowed slots seat.id c.args.latch.now.place seat.me some here.0 here.1 low.0 low.1.recorded c.args._deeds.now low.1.act low.1.may low.1.carried c.args.slow c.args.obtrusive c.keeping.result c.keeping.ensures low.2)),
+    )

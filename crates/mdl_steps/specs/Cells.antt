@@ -1,0 +1,147 @@
+-- What the table has for one place: its words, its slot, and what each session knows and has there. A step at one place leaves
+-- the cell of each other place the same.
+use Rattle.std.specs.Prelude.{ℕ, ◌%◌, ◌==◌, Bool, false, List, [], ◌∷◌, ◌++◌, filter, find, map, length, slice_index, if◌then◌else◌, Option, Some, None}
+use Rattle.std.specs.List.{list_any}
+use Rattle.std.specs.Option.{option_to_list}
+use mathlib.Core.Option.{Option as Maybe}
+use lib.ListN.{get_elem?}
+use Rattle.atomic_table.specs.Table.{State}
+use Rattle.mdl_key.specs.declared.namespace.Kind.{Kind}
+use Rattle.mdl_book.specs.declared.ticket.Ticket.{Ticket}
+use Rattle.mdl_book.specs.FastTickets.{is_of_class}
+use Rattle.std.specs.List.{count_by}
+use Rattle.mdl_steps.specs.declared.slot.Slot.{Slot}
+use Rattle.mdl_steps.specs.declared.view.Ask.{Ask}
+use Rattle.mdl_steps.specs.declared.view.Held.{Held}
+use Rattle.mdl_steps.specs.declared.view.Keys.{Keys}
+use Rattle.mdl_steps.specs.declared.view.Own.{Own}
+use Rattle.mdl_steps.specs.declared.view.Read.{Read}
+use Rattle.mdl_steps.specs.declared.view.View.{View}
+use Rattle.mdl_steps.specs.Layout.{latch_word, lock_word, version_word, wait_word}
+
+-- ---- what one session has at a place
+
+-- the ticket that a session waits for, with the state of its wait
+pub record Asking : Type 0 where
+  pub ticket : Ticket
+  pub state : ℕ
+
+-- all that a session has and knows at a place, but for the record of its latch
+pub record Part : Type 0 where
+  pub number : ℕ
+  pub fast : List Own
+  pub slow : List Own
+  pub asks : Option Asking
+  pub reads : List Read
+  pub owes : Bool
+
+-- the record of the latch of a place, where the session holds it
+pub record Holder : Type 0 where
+  pub number : ℕ
+  pub held : Option Held
+
+-- the record of the directory's latch, where the session holds it
+pub record Desk : Type 0 where
+  pub number : ℕ
+  pub directory : Option Keys
+
+abbrev pub own_at : ℕ → List Own → List Own
+own_at place tickets = filter (λ t. t.place == place) tickets
+
+abbrev pub reads_at : ℕ → List Read → List Read
+reads_at place reads = filter (λ r. r.place == place) reads
+
+abbrev pub held_at : ℕ → List Held → Option Held
+held_at place latches = find (λ h. h.place == place) latches
+
+-- a session's ticket, as it stands in a book
+abbrev pub ticket_by : ℕ → Own → Ticket
+ticket_by session t = record { session = session; number = t.number; mode = t.mode }
+
+-- the ticket that a session waits for here, its wait's word being `word`
+abbrev pub asking_at : ℕ → ℕ → ℕ → Option Ask → Option Asking
+asking_at place session word None = None
+asking_at place session word (Some a) =
+    if a.place == place
+    then Some (record { ticket = record { session = session; number = a.number; mode = a.mode }; state = word % 8 })
+    else None
+
+-- a part of a view, where the waits' words are given by the sessions' numbers
+abbrev pub part_at : (ℕ → ℕ) → ℕ → View → Part
+part_at waits place v = record {
+  number = v.number;
+  fast = own_at place v.fast;
+  slow = own_at place v.slow;
+  asks = asking_at place v.number (waits v.number) v.asks;
+  reads = reads_at place v.reads;
+  owes = list_any (λ p. p == place) v.owes;
+}
+
+abbrev pub holder_at : ℕ → View → Holder
+holder_at place v = record { number = v.number; held = held_at place v.latches }
+
+abbrev pub desk_of : View → Desk
+desk_of v = record { number = v.number; directory = v.directory }
+
+-- ---- what all of them have there
+
+pub record Cell : Type 0 where
+  pub latch : ℕ
+  pub word : ℕ
+  pub version : ℕ
+  pub home : Maybe (Maybe Slot)
+  pub holders : List Holder
+  pub parts : List Part
+
+-- the wait's word of a session
+abbrev pub waits : State Slot View → ℕ → ℕ
+waits s session = slice_index s.words (wait_word (length s.homes) session)
+
+abbrev pub cell : State Slot View → ℕ → Cell
+cell s place = record {
+  latch = slice_index s.words (latch_word place);
+  word = slice_index s.words (lock_word place);
+  version = slice_index s.words (version_word place);
+  home = get_elem? s.homes place;
+  holders = map (holder_at place) s.views;
+  parts = map (part_at (waits s) place) s.views;
+}
+
+-- the fast tickets of all sessions
+abbrev pub all_fast : List Part → List Ticket
+all_fast [] = []
+all_fast (x ∷ xs) = map (ticket_by x.number) x.fast ++ all_fast xs
+
+-- how many tickets are of a class
+abbrev pub counted : Kind → ℕ → List Ticket → ℕ
+counted kind class tickets = count_by (is_of_class kind class) tickets
+
+-- the ticket of a wait that was granted and isn't ended: it stands in the granted list, and the session has yet to take it
+abbrev pub due : Option Asking → Option Ticket
+due None = None
+due (Some a) = if a.state == 2 then Some a.ticket else None
+
+-- a session's tickets that stand in the granted list
+abbrev pub slow_tickets : Part → List Ticket
+slow_tickets x = option_to_list (due x.asks) ++ map (ticket_by x.number) x.slow
+
+-- ---- views
+
+-- a view with a number, or 0, and room for so many more seats, that has nothing
+abbrev pub blank : ℕ → ℕ → View
+blank number spare = record {
+  number = number;
+  spare = spare;
+  next = 1;
+  waits = 0;
+  asks = None;
+  fast = [];
+  slow = [];
+  latches = [];
+  directory = None;
+  known = [];
+  reads = [];
+  owes = [];
+  searches = false;
+  log = [];
+}

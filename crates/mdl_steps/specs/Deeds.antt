@@ -1,0 +1,97 @@
+-- What a session does to its own tickets under a latch, and when it may: `MDL_context::try_acquire_lock`, `clone_ticket`,
+-- `upgrade_shared_lock` and `release_lock` of MySQL 5.7, sql/mdl.cc, without their ways of finding out.
+use Rattle.std.specs.Prelude.{◌≡◌, ℕ, ◌+◌, ◌==◌, ◌&&◌, Bool, true, false, not, List, [], ◌∷◌, ◌++◌, map, filter, Contains, Some, None, if◌then◌else◌, ◌⊎◌}
+use lib.ListN.{get_elem?}
+use mathlib.Core.Option.{some}
+use Rattle.mdl_key.specs.declared.mode.Mode.{Mode}
+use Rattle.mdl_key.specs.Words.{IsAtLeast, is_mode_of, is_obtrusive}
+use Rattle.mdl_book.specs.declared.book_view.BookView.{BookView}
+use Rattle.mdl_book.specs.declared.ticket.Ticket.{Ticket}
+use Rattle.mdl_book.specs.Books.{lock_kind, granting, changing, removing}
+use Rattle.mdl_book.specs.FastTickets.{may_stand}
+use Rattle.mdl_book.specs.Granting.{is_compatible}
+use Rattle.std.specs.Prelude.{Option}
+use Rattle.mdl_steps.specs.declared.deed.Deed.{Deed}
+use Rattle.mdl_steps.specs.declared.deed.Deed.TheVariants.{Gain, Alter, Lose}
+use Rattle.mdl_steps.specs.declared.view.Ask.{Ask}
+use Rattle.mdl_steps.specs.declared.view.Known.{Known}
+use Rattle.mdl_steps.specs.declared.view.Own.{Own}
+use Rattle.mdl_steps.specs.declared.view.View.{View}
+
+-- ---- what is done
+
+-- the book after a deed of a session
+abbrev pub booked : ℕ → Deed → BookView → BookView
+booked session (Gain number mode) book = granting (record { session = session; number = number; mode = mode }) book
+booked session (Alter number mode) book = changing session number mode book
+booked session (Lose number) book = removing session number book
+
+-- the book after several, the first one first
+abbrev pub all_booked : ℕ → List Deed → BookView → BookView
+all_booked session [] book = book
+all_booked session (d ∷ ds) book = all_booked session ds (booked session d book)
+
+-- whether a ticket is the session's own of this number at the place
+abbrev pub is_own : ℕ → ℕ → Own → Bool
+is_own place number t = t.place == place && t.number == number
+
+-- a session's own tickets after a deed at a place
+abbrev pub owned : ℕ → Deed → List Own → List Own
+owned place (Gain number mode) slow = slow ++ record { number = number; place = place; mode = mode; noted = None } ∷ []
+owned place (Alter number mode) slow = map (λ t. if is_own place number t then record t { mode = mode } else t) slow
+owned place (Lose number) slow = filter (λ t. not (is_own place number t)) slow
+
+-- the number of its next ticket
+abbrev pub next_after : Deed → ℕ → ℕ
+next_after (Gain number mode) next = next + 1
+next_after _ next = next
+
+-- its view after a deed, and after several
+abbrev pub done : ℕ → Deed → View → View
+done place d v = record v { slow = owned place d v.slow; next = next_after d v.next }
+
+abbrev pub all_owned : ℕ → List Deed → List Own → List Own
+all_owned place [] slow = slow
+all_owned place (d ∷ ds) slow = all_owned place ds (owned place d slow)
+
+abbrev pub all_next : List Deed → ℕ → ℕ
+all_next [] next = next
+all_next (d ∷ ds) next = all_next ds (next_after d next)
+
+abbrev pub all_done : ℕ → List Deed → View → View
+all_done place ds v = record v { slow = all_owned place ds v.slow; next = all_next ds v.next }
+
+-- ---- when it may be done
+
+-- why a session's wish for a mode may stand beside all that is granted: it is unobtrusive, so that no fast ticket clashes with
+-- it, and no granted one does; or neither does, by a noted word; or the session has a ticket there that is at least as strong
+abbrev pub MayJoin : ℕ → BookView → Option ℕ → Mode → Type 0
+MayJoin session book noted mode =
+    ((is_obtrusive (lock_kind book) mode ≡ false) × (is_compatible (lock_kind book) book.granted session mode ≡ true))
+    ⊎ (((word : ℕ) × (noted ≡ Some word) × (may_stand (lock_kind book) book.granted word session mode ≡ true))
+    ⊎ ((t : Ticket) × Contains book.granted t × (t.session ≡ session) × IsAtLeast (lock_kind book) t.mode mode))
+
+-- the session doesn't wait for a ticket of this number
+abbrev pub NotWaited : View → ℕ → Type 0
+NotWaited v number = (a : Ask) → v.asks ≡ Some a → a.number ≡ number → ⊥
+
+-- the session may do this, under the latch in whose record this book and this noted word stand
+abbrev pub May : View → BookView → Option ℕ → Deed → Type 0
+May v book noted (Gain number mode) =
+    (number ≡ v.next) × (is_mode_of (lock_kind book) mode ≡ true) × MayJoin v.number book noted mode
+May v book noted (Alter number mode) =
+    NotWaited v number × (is_mode_of (lock_kind book) mode ≡ true) × MayJoin v.number book noted mode
+May v book noted (Lose number) = NotWaited v number
+
+-- it may do all of this, one after the other
+abbrev pub MayAll : ℕ → View → BookView → Option ℕ → List Deed → Type 0
+MayAll place v book noted [] = Unit {0}
+MayAll place v book noted (d ∷ ds) = May v book noted d × MayAll place (done place d v) (booked v.number d book) noted ds
+
+-- the session has looked up a key whose place this is
+abbrev pub KnowsPlace : View → ℕ → Type 0
+KnowsPlace v place = (i : ℕ) × (k : Known) × (get_elem? v.known i ≡ some k) × (k.place ≡ place)
+
+-- where it does anything it has
+abbrev pub MayAct : View → ℕ → List Deed → Type 0
+MayAct v place ds = KnowsPlace v place ⊎ (ds ≡ [])

@@ -1,0 +1,19 @@
+-- Words on lists that the rule of the table is said in.
+use Rattle.std.specs.Prelude.{◌≡◌, List, [], ◌∷◌, None}
+use Rattle.mdl_book.specs.declared.ticket.Ticket.{Ticket}
+use Rattle.mdl_book.specs.Tickets.{ticket_of}
+
+-- each element of the list is so
+abbrev pub Each : {X : Type 0} → (X → Type 0) → List X → Type 0
+Each P [] = Unit {0}
+Each P (x ∷ xs) = P x × Each P xs
+
+-- no element stands in the list twice
+abbrev pub Distinct : {X : Type 0} → List X → Type 0
+Distinct [] = Unit {0}
+Distinct (x ∷ xs) = Each (λ y. (x ≡ y) → ⊥) xs × Distinct xs
+
+-- no two tickets have the same session and number
+abbrev pub Once : List Ticket → Type 0
+Once [] = Unit {0}
+Once (t ∷ ts) = (ticket_of t.session t.number ts ≡ None) × Once ts

@@ -1,0 +1,27 @@
+-- The table at the start, before any session has a number.
+use Rattle.std.specs.Prelude.{◌≡◌, ◌≢◌, ℕ, ◌<◌, ◌≤◌, List, [], ◌∷◌, length, replicate, slice_index, slice_set}
+use mathlib.Core.Option.{some}
+use lib.ListN.{get_elem?}
+use Rattle.mdl_key.specs.Keys.{global_key}
+use Rattle.mdl_key.specs.Words.{KeyName}
+use Rattle.mdl_book.specs.Books.{empty_book}
+use Rattle.mdl_steps.specs.declared.slot.Slot.{Slot}
+use Rattle.mdl_steps.specs.declared.slot.Slot.TheVariants as slot
+use Rattle.mdl_steps.specs.Layout.{enrol_word, word_count}
+
+-- the directory is empty, and so is the book of each place; number 1 is the first to be drawn, and every other word is 0
+pub record IsOpening (sessions : ℕ) (words : List ℕ) (slots : List Slot) : Type 0 where
+  pub limit : sessions ≤ 1024
+  pub wide : length words ≡ word_count (length slots) sessions
+  pub drawn : slice_index words (enrol_word (length slots)) ≡ 1
+  pub zeros : (i : ℕ) → i ≢ enrol_word (length slots) → slice_index words i ≡ 0
+  pub directory : get_elem? slots 0 ≡ some (slot.Directory (record { keys = [] }))
+  pub places : (p : ℕ) → 0 < p → p < length slots → (key : KeyName) × (get_elem? slots p ≡ some (slot.Place (empty_book key)))
+
+-- such words: all are 0, but that on which numbers are drawn
+abbrev pub opening_words : ℕ → ℕ → List ℕ
+opening_words slots sessions = slice_set (replicate (word_count slots sessions) 0) (enrol_word slots) 1
+
+-- such slots: the directory, and books that are all of one key, since no place has a key of its own yet
+abbrev pub opening_slots : ℕ → List Slot
+opening_slots places = slot.Directory (record { keys = [] }) ∷ replicate places (slot.Place (empty_book global_key))

@@ -1,0 +1,125 @@
+-- What each kind of step tells the session that makes it: of the step, what the seat knew, what the word was, and what it
+-- knows then. Each is added to the session's list of steps.
+use Rattle.std.specs.Prelude.{◌≡◌, ◌≢◌, ℕ, ◌<◌, ◌==◌, not, Bool, true, ◌&&◌, ◌||◌, List, [], ◌∷◌, ◌++◌, map, filter, Some, None, if◌then◌else◌}
+use lib.ListN.{get_elem?}
+use mathlib.Core.Option.{some}
+use Rattle.atomic_table.specs.Table.{Me, Step, rest}
+use Rattle.mdl_word.specs.Words.{flags_alone, all_but_flags}
+use Rattle.mdl_book.specs.declared.book_view.BookView.{BookView}
+use Rattle.mdl_book.specs.Tickets.{ticket_of}
+use Rattle.mdl_book.specs.Granting.{is_lawful}
+use Rattle.mdl_book.specs.Books.{lock_kind}
+use Rattle.mdl_steps.specs.declared.deed.Deed.{Deed}
+use Rattle.mdl_steps.specs.declared.slot.Slot.{Slot}
+use Rattle.mdl_steps.specs.declared.slot.Slot.TheVariants as slot
+use Rattle.mdl_steps.specs.declared.view.Held.{Held}
+use Rattle.mdl_steps.specs.declared.view.Known.{Known}
+use Rattle.mdl_steps.specs.declared.view.View.{View}
+use Rattle.mdl_steps.specs.Cells.{own_at, ticket_by}
+use Rattle.mdl_steps.specs.Deeds.{all_done, NotWaited}
+use Rattle.mdl_steps.specs.Layout.{latch_word, lock_word}
+use Rattle.mdl_steps.specs.Rule.{TellsLists}
+
+-- a session's seat: its view, and the slots that it took
+abbrev pub Mine : Type 0
+Mine = Me Slot View
+
+-- with one step more
+abbrev pub logged : ℕ → ℕ → List Held → View → View
+logged word found held v = record v { log = v.log ++ record { word = word; found = found; held = held } ∷ [] }
+
+-- ---- the record of a latch
+
+-- as the latch is taken: the word's flags tell the lists exactly then, granted tickets are compatible, the book has of the
+-- session just the tickets that it has (but for one that it waits for), and it is the book of each key that is known to be here
+pub record IsFresh (place : ℕ) (h : Held) (m : Mine) : Type 0 where
+  pub here : h.place ≡ place
+  pub exact : TellsLists h.book h.slow h.obtrusive
+  pub unnoted : h.noted ≡ None
+  pub lawful : is_lawful (lock_kind h.book) h.book.granted ≡ true
+  pub own : (number : ℕ) → NotWaited m.0 number →
+      ticket_of m.0.number number h.book.granted ≡ ticket_of m.0.number number (map (ticket_by m.0.number) (own_at place m.0.slow))
+  pub named : (i : ℕ) (k : Known) → get_elem? m.0.known i ≡ some k → k.place ≡ place → h.book.key ≡ k.key
+
+-- with a flag or both raised
+abbrev pub raised : Bool → Bool → Held → Held
+raised slow obtrusive h = record h { slow = slow || h.slow; obtrusive = obtrusive || h.obtrusive }
+
+-- with a word noted, where the flag OBTRUSIVE is up
+abbrev pub noting : ℕ → Held → Held
+noting word h = record h { noted = if h.obtrusive then Some word else h.noted }
+
+-- with the book as it is after some deeds, and the flags that stay. What was noted is forgotten with the flag OBTRUSIVE
+abbrev pub lowered : BookView → Bool → Bool → Held → Held
+lowered book slow obtrusive h =
+    record h { book = book; slow = slow && h.slow; obtrusive = obtrusive && h.obtrusive; noted = if obtrusive && h.obtrusive then h.noted else None }
+
+-- ---- the view
+
+-- with another record of the latch of a place
+abbrev pub changed : ℕ → (Held → Held) → View → View
+changed place f v = record v { latches = map (λ h. if h.place == place then f h else h) v.latches }
+
+-- without the record of the latch of a place
+abbrev pub dropped : ℕ → View → View
+dropped place v = record v { latches = filter (λ h. not (h.place == place)) v.latches }
+
+-- the latch of a place was taken, with this record of it
+abbrev pub latched : ℕ → Held → Mine → Mine
+latched place h m =
+    (logged (latch_word place) 0 (h ∷ m.0.latches) (record m.0 { latches = h ∷ m.0.latches }), (place, slot.Place h.book) ∷ m.1)
+
+-- the latch of a place, which the session's number stood for, was given back after some deeds
+abbrev pub unlatched : ℕ → List Deed → Mine → Mine
+unlatched place ds m = (logged (latch_word place) m.0.number m.0.latches (dropped place (all_done place ds m.0)), rest m.1)
+
+-- the record of the latch of a place was changed by a step on its word
+abbrev pub stepped : ℕ → ℕ → (Held → Held) → Mine → Mine
+stepped place found f m =
+    let v = changed place f m.0 in
+    (logged (lock_word place) found v.latches v, m.1)
+
+-- flags of a place were lowered after some deeds
+abbrev pub settled : ℕ → List Deed → ℕ → BookView → Bool → Bool → Mine → Mine
+settled place ds found book slow obtrusive m =
+    (logged (lock_word place) found m.0.latches (changed place (lowered book slow obtrusive) (all_done place ds m.0)), m.1)
+
+-- ---- the kinds of step: the session keeps its number
+
+-- the latch of a place is taken where it was free, and otherwise only that was met
+abbrev pub takes_latch : Step Slot → Mine → ℕ → Mine → Type 0
+takes_latch st m found m′ =
+    (m′.0.number ≡ m.0.number)
+    × ((place : ℕ) → st.word ≡ latch_word place →
+    (found ≡ 0 → (h : Held) × IsFresh place h m × (m′ ≡ latched place h m))
+    × (found ≢ 0 → m′ ≡ (logged (latch_word place) found m.0.latches m.0, m.1)))
+
+-- the latch of a place is given back, after these deeds
+abbrev pub puts_latch : List Deed → Step Slot → Mine → ℕ → Mine → Type 0
+puts_latch ds st m found m′ =
+    (m′.0.number ≡ m.0.number) × ((place : ℕ) → st.word ≡ latch_word place → m′ ≡ unlatched place ds m)
+
+-- flags of a place are raised, by `|` with their number
+abbrev pub raises_flags : Step Slot → Mine → ℕ → Mine → Type 0
+raises_flags st m found m′ =
+    (m′.0.number ≡ m.0.number)
+    × ((place : ℕ) (slow obtrusive : Bool) → st.word ≡ lock_word place → st.first ≡ flags_alone slow obtrusive →
+    m′ ≡ stepped place found (raised slow obtrusive) m)
+
+-- the word of a place is read, and noted where that holds good
+abbrev pub reads_word : Step Slot → Mine → ℕ → Mine → Type 0
+reads_word st m found m′ =
+    (m′.0.number ≡ m.0.number)
+    × ((place : ℕ) → st.word ≡ lock_word place → m′ ≡ stepped place found (noting found) m)
+
+-- flags of a place are lowered, by `&` with the number of all bits but theirs, after these deeds. The record's book is the one in
+-- hand from then on
+abbrev pub lowers_flags : List Deed → Step Slot → Mine → ℕ → Mine → Type 0
+lowers_flags ds st m found m′ =
+    (m′.0.number ≡ m.0.number)
+    × ((place : ℕ) (slow obtrusive : Bool) (book : BookView) → st.word ≡ lock_word place → st.first ≡ all_but_flags slow obtrusive →
+    m.1 ≡ (place, slot.Place book) ∷ rest m.1 → m′ ≡ settled place ds found book slow obtrusive m)
+
+-- a session's number is drawn. It fits 16 bits
+abbrev pub enrols : Step Slot → Mine → ℕ → Mine → Type 0
+enrols st m found m′ = (0 < found) × (found < 65536) × (m′ ≡ (logged st.word found [] (record m.0 { number = found }), m.1))

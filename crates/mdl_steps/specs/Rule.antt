@@ -1,0 +1,169 @@
+-- The rule of the table, which holds between any two steps of all sessions.
+--
+-- Of each place: granted tickets of different sessions are compatible, fast and slow ones together (`lawful`); the word counts
+-- just the fast tickets (`counted`); its flags tell whether the lists hold any ticket, and any obtrusive one, exactly while
+-- the latch is free, and at least so while it is taken (`free`, `flagged`); each session's slow tickets are those of it in the
+-- granted list (`slow_held`); the version's word, the book, and what sessions read and noted agree (`versions_agree`); a noted
+-- word counts at least the fast tickets (`noted_counts`). Of the table: different keys have different places, and the book of a
+-- place is that of its key (`directory_agrees`).
+use Rattle.std.specs.Prelude.{◌≡◌, ◌≢◌, ℕ, ◌+◌, ◌-◌, ◌<◌, ◌≤◌, Bool, true, not, nat_lt, List, [], ◌++◌, map, length, sum, slice_index, slice_get, Option, Some, None}
+use Rattle.std.specs.List.{list_all, count_by}
+use mathlib.Core.Option.{Option as Maybe, some}
+use lib.ListN.{get_elem?}
+use Rattle.atomic_table.specs.Table.{State}
+use Rattle.mdl_key.specs.declared.namespace.Kind.{Kind}
+use Rattle.mdl_key.specs.Words.{is_mode_of, is_obtrusive, KeyName}
+use Rattle.mdl_word.specs.Words.{Encodes}
+use Rattle.mdl_book.specs.declared.book_view.BookView.{BookView}
+use Rattle.mdl_book.specs.declared.ticket.Ticket.{Ticket}
+use Rattle.mdl_book.specs.Books.{lock_kind, has_obtrusive, has_tickets}
+use Rattle.mdl_book.specs.FastTickets.{CoversFastTickets}
+use Rattle.mdl_book.specs.Granting.{is_lawful}
+use Rattle.mdl_book.specs.Tickets.{ticket_of}
+use Rattle.mdl_steps.specs.declared.slot.Slot.{Slot}
+use Rattle.mdl_steps.specs.declared.slot.Slot.TheVariants as slot
+use Rattle.mdl_steps.specs.declared.view.Ask.{Ask}
+use Rattle.mdl_steps.specs.declared.view.Held.{Held}
+use Rattle.mdl_steps.specs.declared.view.Keys.{Keys}
+use Rattle.mdl_steps.specs.declared.view.Known.{Known}
+use Rattle.mdl_steps.specs.declared.view.Own.{Own}
+use Rattle.mdl_steps.specs.declared.view.Read.{Read}
+use Rattle.mdl_steps.specs.declared.view.View.{View}
+use Rattle.mdl_steps.specs.Cells.{Part, Holder, Desk, Cell, ticket_by, desk_of, cell, all_fast, counted, due, slow_tickets}
+use Rattle.mdl_steps.specs.Layout.{latch_word, enrol_word, word_count}
+use Rattle.mdl_steps.specs.Lists.{Each, Distinct, Once}
+
+-- ---- the clauses of one place
+
+-- granted tickets are compatible, fast and slow ones together: each is in a mode of the kind, and a fast one is in no obtrusive mode
+pub record Lawful (kind : Kind) (fast granted : List Ticket) : Type 0 where
+  pub compatible : is_lawful kind (fast ++ granted) ≡ true
+  pub modes : list_all (λ t. is_mode_of kind t.mode) (fast ++ granted) ≡ true
+  pub unobtrusive : list_all (λ t. not (is_obtrusive kind t.mode)) fast ≡ true
+
+-- the word counts just the fast tickets, class by class, and has these flags
+abbrev pub Counted : Kind → ℕ → List Ticket → Bool → Bool → Type 0
+Counted kind word fast slow obtrusive =
+    Encodes word (counted kind 0 fast) (counted kind 1 fast) (counted kind 2 fast) slow obtrusive
+
+-- the flags tell of each ticket in the lists
+abbrev pub Flagged : BookView → Bool → Bool → Type 0
+Flagged book slow obtrusive = (has_tickets book ≡ true → slow ≡ true) × (has_obtrusive book ≡ true → obtrusive ≡ true)
+
+-- the flags tell the lists exactly
+abbrev pub TellsLists : BookView → Bool → Bool → Type 0
+TellsLists book slow obtrusive = (slow ≡ has_tickets book) × (obtrusive ≡ has_obtrusive book)
+
+-- a session's slow tickets are those of its number in the granted list, and the one that its wait was granted
+pub record SlowHeld (granted : List Ticket) (x : Part) : Type 0 where
+  pub same : (number : ℕ) → ticket_of x.number number granted ≡ ticket_of x.number number (slow_tickets x)
+  pub apart : (t : Ticket) → due x.asks ≡ Some t → ticket_of x.number t.number (map (ticket_by x.number) x.slow) ≡ None
+
+-- a granted ticket is of a session that has a view
+abbrev pub Owned : List Part → List Ticket → Type 0
+Owned parts granted =
+    (session number : ℕ) (t : Ticket) → ticket_of session number granted ≡ Some t →
+    (j : ℕ) × (x : Part) × (get_elem? parts j ≡ some x) × (x.number ≡ session)
+
+-- what was read is no newer than what stands, and where it is as new it is that
+abbrev pub ReadAgrees : BookView → Read → Type 0
+ReadAgrees book r =
+    (r.standing.version ≤ book.standing.version) × (r.standing.version ≡ book.standing.version → r.standing ≡ book.standing)
+
+-- a version that is noted under a ticket is the one that stands
+abbrev pub NoteAgrees : BookView → Own → Type 0
+NoteAgrees book t = (version : ℕ) → t.noted ≡ Some version → version ≡ book.standing.version
+
+-- what a session read and noted at a place agrees with its book
+pub record ReadsAgree (book : BookView) (x : Part) : Type 0 where
+  pub reads : Each (ReadAgrees book) x.reads
+  pub fast : Each (NoteAgrees book) x.fast
+  pub slow : Each (NoteAgrees book) x.slow
+
+-- the book is that of the place's key. Where the place has none yet, nobody has a ticket there
+pub record Named (key : Option KeyName) (book : BookView) (parts : List Part) : Type 0 where
+  pub key_is : (k : KeyName) → key ≡ Some k → book.key ≡ k
+  pub vacant : key ≡ None → (book.granted ≡ []) × (book.waiting ≡ []) × (all_fast parts ≡ [])
+
+-- what is said of one session's part
+pub record PartOk (book : BookView) (x : Part) : Type 0 where
+  pub few : length x.fast ≤ 1023
+  pub slow_held : SlowHeld book.granted x
+  pub versions_agree : ReadsAgree book x
+
+-- what is said of the book, whoever holds the latch
+pub record BookOk (key : Option KeyName) (version : ℕ) (parts : List Part) (book : BookView) : Type 0 where
+  pub lawful : Lawful (lock_kind book) (all_fast parts) book.granted
+  pub once : Once book.granted
+  pub owned : Owned parts book.granted
+  pub version_is : version ≡ book.standing.version
+  pub named : Named key book parts
+  pub each : (j : ℕ) (x : Part) → get_elem? parts j ≡ some x → PartOk book x
+
+-- under the noted word the flag OBTRUSIVE is up, and the word counts at least the fast tickets
+abbrev pub NotedCounts : Kind → List Ticket → Bool → Option ℕ → Type 0
+NotedCounts kind fast obtrusive noted =
+    (word : ℕ) → noted ≡ Some word → (obtrusive ≡ true) × CoversFastTickets kind word fast
+
+-- the record of a latch tells the book and the flags as they are, and its session holds the latch
+pub record HeldOk (latch : ℕ) (parts : List Part) (book : BookView) (slow obtrusive : Bool) (number : ℕ) (h : Held) : Type 0 where
+  pub mine : number ≡ latch
+  pub some_session : 0 < number
+  pub book_is : h.book ≡ book
+  pub slow_is : h.slow ≡ slow
+  pub obtrusive_is : h.obtrusive ≡ obtrusive
+  pub noted_counts : NotedCounts (lock_kind book) (all_fast parts) obtrusive h.noted
+
+-- the rule at one place, whose book is at home while the latch is free, and otherwise with the session that holds the latch
+pub record PlaceOk (key : Option KeyName) (c : Cell) : Type 0 where
+  pub book : BookView
+  pub slow : Bool
+  pub obtrusive : Bool
+  pub free : c.latch ≡ 0 → (c.home ≡ some (some (slot.Place book))) × TellsLists book slow obtrusive
+  pub taken : c.latch ≢ 0 → (j : ℕ) × (l : Holder) × (h : Held) × (get_elem? c.holders j ≡ some l) × (l.held ≡ Some h)
+  pub held : (j : ℕ) (l : Holder) → get_elem? c.holders j ≡ some l → (h : Held) → l.held ≡ Some h →
+      HeldOk c.latch c.parts book slow obtrusive l.number h
+  pub counted : Counted (lock_kind book) c.word (all_fast c.parts) slow obtrusive
+  pub flagged : Flagged book slow obtrusive
+  pub book_ok : BookOk key c.version c.parts book
+
+-- ---- the clauses of the whole table
+
+-- sessions have numbers of their own, drawn in turn, and there is room for those that are still to come
+pub record Enrolled (most drawn : ℕ) (numbers spares : List ℕ) : Type 0 where
+  pub limit : most ≤ 1024
+  pub next : drawn ≡ 1 + count_by (λ n. nat_lt 0 n) numbers
+  pub below : (j n : ℕ) → get_elem? numbers j ≡ some n → n < drawn
+  pub apart : (i j n : ℕ) → get_elem? numbers i ≡ some n → get_elem? numbers j ≡ some n → 0 < n → i ≡ j
+  pub room : length numbers + sum spares ≤ most + 1
+
+-- a session's tickets have numbers below its next one
+pub record Numbered (v : View) : Type 0 where
+  pub fast : Each (λ (t : Own). t.number < v.next) v.fast
+  pub slow : Each (λ (t : Own). t.number < v.next) v.slow
+  pub asks : (a : Ask) → v.asks ≡ Some a → a.number < v.next
+
+-- the key of a place
+abbrev pub key_at : List KeyName → ℕ → Option KeyName
+key_at keys place = slice_get keys (place - 1)
+
+-- what a session knows of keys is so
+abbrev pub KnowsKeys : List KeyName → View → Type 0
+KnowsKeys keys v = Each (λ (k : Known). (0 < k.place) × (key_at keys k.place ≡ Some k.key)) v.known
+
+-- the directory is at home while its latch is free, and otherwise its holder has recorded it
+pub record DirectoryOk (latch : ℕ) (home : Maybe (Maybe Slot)) (desks : List Desk) (keys : List KeyName) : Type 0 where
+  pub free : latch ≡ 0 → home ≡ some (some (slot.Directory (record { keys = keys })))
+  pub held : (j : ℕ) (d : Desk) → get_elem? desks j ≡ some d → (k : Keys) → d.directory ≡ Some k →
+      (d.number ≡ latch) × (0 < latch) × (k.keys ≡ keys)
+
+pub record Rule (s : State Slot View) : Type 0 where
+  pub most : ℕ
+  pub wide : length s.words ≡ word_count (length s.homes) most
+  pub enrolled : Enrolled most (slice_index s.words (enrol_word (length s.homes))) (map (λ v. v.number) s.views) (map (λ v. v.spare) s.views)
+  pub keys : List KeyName
+  pub fit : length keys < length s.homes
+  pub distinct : Distinct keys
+  pub directory_agrees : DirectoryOk (slice_index s.words (latch_word 0)) (get_elem? s.homes 0) (map desk_of s.views) keys
+  pub views : (j : ℕ) (v : View) → get_elem? s.views j ≡ some v → Numbered v × KnowsKeys keys v
+  pub places : (p : ℕ) → 0 < p → p < length s.homes → PlaceOk (key_at keys p) (cell s p)

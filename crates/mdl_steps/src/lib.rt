@@ -1,0 +1,27 @@
+//! The shared lock table, as its steps see it: words that change one at a time, a slot for each place, what each session knows,
+//! and the rule that holds between any two steps.
+//!
+//! A [`Worker`] is a session's seat. Its methods are the kinds of step, one each: the latch of a place is taken
+//! ([`Worker::take_latch`]), and the value that stands for it, [`Latched`], has to be given back ([`Worker::put_latch`]);
+//! meanwhile the session may raise flags of the lock's word ([`Worker::raise_flags`]), read it ([`Worker::read_word`]), and lower
+//! flags ([`Worker::lower_flags`]). Each keeps the rule ([`Order`]) in every interleaving of all sessions' steps, and is listed in
+//! the session's [`View`].
+//!
+//! What a session does to its own tickets under a latch is a list of [`Deed`]s. After MySQL 5.7, `MDL_lock` and `MDL_context` of
+//! `sql/mdl.cc`; the latch, the words and the views are this project's own.
+#![tactic(auto)]
+
+mod deed;
+mod maker;
+mod opening;
+mod plays;
+mod slot;
+mod view;
+mod worker;
+
+pub use deed::Deed;
+pub use maker::{Maker, OwnedTable};
+pub use plays::Order;
+pub use slot::{Directory, Slot};
+pub use view::{Ask, Held, Keys, Known, Met, Own, Read, View};
+pub use worker::{Latched, LockTable, Worker};

@@ -1,0 +1,90 @@
+//! Seats for the sessions.
+ghost use Rattle.std.specs.Prelude.{◌≡◌, ◌≢◌, ℕ, ◌+◌, ◌-◌, ◌^◌, ◌<◌, ◌≤◌, [], length, IfOk, MatchOption, true};
+ghost use Rattle.atomic_table.specs.Table.{Me};
+ghost use Rattle.mdl_steps.specs.Cells.{blank};
+ghost use Rattle.mdl_steps.specs.Layout.{enrol_word, word_count};
+ghost use Rattle.mdl_steps.specs.Openings.{IsOpening};
+ghost use Rattle.mdl_steps.specs.Plays.{logged};
+ghost use Rattle.mdl_steps.specs.Seats.{IsSized};
+
+use crate::opening::{opening_slots, opening_words};
+use crate::plays::{Enrol, SplitOff};
+use crate::worker::{LockTable, Worker};
+use crate::{Order, Slot, View};
+use atomic_table::{Refused, Seat, Table};
+use std::alloc::{AllocError, Global};
+
+/// The table, which owns its words and slots. Its field `shared` is what sessions see.
+pub type OwnedTable = Table<Slot, View, usize, Order, Global>;
+
+/// The first seat at the table, from which those of the sessions are split off.
+#[derive(Drop)]
+pub struct Maker {
+    spare: usize,
+    seat: Seat<Slot, View>,
+    ghost idle: { seat.me ≡ (blank 0 spare, []) },
+}
+
+impl Maker {
+    /// Makes a table of so many places, none of which has a key yet, for so many sessions, and its first seat.
+    pub fn of_places(
+        alloc: Global,
+        places: usize,
+        sessions: usize,
+    ) -> Result<(OwnedTable, Maker), AllocError>
+        requires places { places + 1 < 2 ^ 32 }
+        requires sessions { sessions ≤ 1024 }
+        ensures { IfOk result (λ made. (made.0.shared.table_id.words ≡ word_count (places + 1) sessions) × (made.0.shared.table_id.slots ≡ places + 1)
+            × (made.1.seat.table_id ≡ made.0.shared.table_id) × (made.1.spare ≡ sessions)) }
+    {
+        let slots = opening_slots(alloc, places)?;
+        let words = opening_words(alloc, slots.len(), sessions)?;
+        Maker::open(alloc, &words, slots, sessions)
+    }
+
+    /// Makes a table for so many sessions of these words and slots, and its first seat.
+    pub fn open(
+        alloc: Global,
+        words: &[u64],
+        slots: Vec<Slot>,
+        sessions: usize,
+    ) -> Result<(OwnedTable, Maker), AllocError>
+        requires { IsOpening sessions words.now slots.items }
+        ensures { IfOk result (λ made. (made.0.shared.table_id.words ≡ length words.now) × (made.0.shared.table_id.slots ≡ length slots.items)
+            × (made.1.seat.table_id ≡ made.0.shared.table_id) × (made.1.spare ≡ sessions)) }
+    {
+        match Table::new(alloc, words, slots, &sessions) {
+            Ok((table, seat)) => Ok((
+                table,
+                Maker {
+                    spare: sessions,
+                    seat,
+                },
+            )),
+            Err(Refused { slots: _ }) => Err(AllocError),
+        }
+    }
+
+    /// A seat for one more session, with a number of its own, unless all have theirs. `slots` is how many slots the table has.
+    pub fn enrol(&mut self, top: &LockTable, slots: usize) -> Option<Worker>
+        requires table { (self.old.seat.table_id ≡ top.now.table_id) × IsSized top.now.table_id }
+        requires slots { slots ≡ top.now.table_id.slots }
+        requires words { enrol_word slots < top.now.table_id.words }
+        ensures seat { self.new.seat.table_id ≡ self.old.seat.table_id }
+        ensures enrolled { MatchOption result
+            ((self.old.spare ≡ 0) × (self.new.spare ≡ 0))
+            (λ worker. (0 < self.old.spare) × (self.new.spare ≡ self.old.spare - 1) × (worker.seat.table_id ≡ top.now.table_id)
+            × (worker.seat.me ≡ (logged (enrol_word slots) worker.number [] (blank worker.number 0), []))) }
+    {
+        if self.spare == 0 {
+            return None;
+        }
+        let mut seat = top.split_seat::<SplitOff>(&mut self.seat);
+        self.spare -= 1;
+        let number = top.fetch_add::<Enrol>(&mut seat, 8 * slots, 1);
+        Some(Worker {
+            number: number as u16,
+            seat,
+        })
+    }
+}

@@ -1,0 +1,37 @@
+//! What a table is made of, before any session has a number.
+ghost use Rattle.std.specs.Prelude.{◌≡◌, ◌^◌, ◌<◌, ◌≤◌, IfOk};
+ghost use Rattle.mdl_steps.specs.Openings.{opening_words, opening_slots};
+
+use crate::{Directory, Slot};
+use mdl_book::Book;
+use mdl_key::Key;
+use std::alloc::{AllocError, Global};
+
+// The words of a table of so many slots: all are 0, but that the first number to be drawn is 1.
+pub(crate) fn opening_words(
+    alloc: Global,
+    slots: usize,
+    sessions: usize,
+) -> Result<Vec<u64>, AllocError>
+    requires slots { slots < 2 ^ 32 }
+    requires sessions { sessions ≤ 1024 }
+    ensures { IfOk result (λ words. words.items ≡ opening_words slots sessions) }
+{
+    let mut words = vec![in alloc; 0; 8 * slots + 16 + 8 * sessions]?;
+    words[8 * slots] = 1;
+    Ok(words)
+}
+
+// The slots of a table of so many places: an empty directory, and books that nobody uses. A place gets its key later.
+pub(crate) fn opening_slots(alloc: Global, places: usize) -> Result<Vec<Slot>, AllocError>
+    ensures { IfOk result (λ slots. slots.items ≡ opening_slots places) }
+{
+    let directory = Directory {
+        keys: Vec::new(alloc),
+    };
+    let mut slots = vec![in alloc; Slot::Directory(directory)]?;
+    for _place in 0..places {
+        slots.push(Slot::Place(Book::new(alloc, Key::global(alloc))))?;
+    }
+    Ok(slots)
+}

@@ -1,0 +1,84 @@
+//! The rule of the table, and what each kind of step tells its session.
+ghost use Rattle.std.specs.Prelude.{◌-◌, List, []};
+ghost use Rattle.mdl_steps.specs.declared.deed.Deed.{Deed};
+ghost use Rattle.mdl_steps.specs.Cells.{blank};
+ghost use Rattle.mdl_steps.specs.Plays.{enrols, takes_latch, puts_latch, raises_flags, lowers_flags, reads_word};
+ghost use Rattle.mdl_steps.specs.Rule.{Rule};
+
+use crate::{Slot, View};
+use atomic_table::{Play, Split, TableRule};
+use std::marker::{Brand, PhantomData};
+
+/// The rule of the table. It is told how many sessions there may be.
+pub struct Order;
+
+impl TableRule<Slot, View, usize> for Order {
+    ghost holds = { λ _. Rule };
+
+    ghost first = { λ sessions. blank 0 sessions };
+}
+
+/// A seat without a number is split off.
+pub(crate) struct SplitOff;
+
+impl Split<View> for SplitOff {
+    ghost left = { λ v. record v { spare = v.spare - 1 } };
+
+    ghost right = { λ _. blank 0 0 };
+}
+
+/// A number is drawn.
+pub(crate) struct Enrol;
+
+impl Play<Slot, View> for Enrol {
+    ghost then = { enrols };
+}
+
+/// A latch is taken.
+pub(crate) struct TakeLatch;
+
+impl Play<Slot, View> for TakeLatch {
+    ghost then = { takes_latch };
+}
+
+/// Flags are raised.
+pub(crate) struct RaiseFlags;
+
+impl Play<Slot, View> for RaiseFlags {
+    ghost then = { raises_flags };
+}
+
+/// A word is read.
+pub(crate) struct ReadWord;
+
+impl Play<Slot, View> for ReadWord {
+    ghost then = { reads_word };
+}
+
+/// Which deeds a step is made with.
+pub(crate) trait Doing {
+    ghost deeds: { List Deed };
+}
+
+/// Each call picks them.
+impl Doing for Brand {
+    ghost deeds = { [] };
+}
+
+/// A latch is given back, after some deeds.
+pub(crate) struct PutLatch<J: Doing> {
+    marker: PhantomData<J>,
+}
+
+impl<J: Doing> Play<Slot, View> for PutLatch<J> {
+    ghost then = { puts_latch J.deeds };
+}
+
+/// Flags are lowered, after some deeds.
+pub(crate) struct LowerFlags<J: Doing> {
+    marker: PhantomData<J>,
+}
+
+impl<J: Doing> Play<Slot, View> for LowerFlags<J> {
+    ghost then = { lowers_flags J.deeds };
+}

@@ -1,0 +1,200 @@
+//! The steps of a session.
+ghost use Rattle.std.specs.Prelude.{◌≡◌, ◌≢◌, ℕ, ◌+◌, ◌*◌, ◌^◌, ◌<◌, ◌∷◌, Some, MatchOption};
+ghost use Rattle.mdl_book.specs.Books.{has_obtrusive, has_tickets};
+ghost use Rattle.mdl_book.specs.declared.book_view.BookView.{BookView};
+ghost use Rattle.mdl_steps.specs.declared.slot.Slot.TheVariants as slot;
+ghost use Rattle.mdl_steps.specs.declared.view.Held.{Held};
+ghost use Rattle.mdl_steps.specs.Cells.{held_at};
+ghost use Rattle.mdl_steps.specs.Layout.{latch_word, lock_word};
+ghost use Rattle.mdl_steps.specs.Plays.{IsFresh, latched, unlatched, logged, stepped, settled, raised, noting};
+ghost use Rattle.mdl_steps.specs.Seats.{IsSized, IsPlace, IsRising, MayPut, MayLower, rest};
+
+use crate::plays::{Doing, LowerFlags, Order, PutLatch, RaiseFlags, ReadWord, TakeLatch};
+use crate::{Deed, Slot, View};
+use atomic_table::{Seat, Shared};
+use mdl_book::Needs;
+use mdl_word::Word;
+use std::marker::Brand;
+
+/// The table as its sessions see it.
+pub type LockTable = Shared<Slot, View, usize, Order>;
+
+/// A session's seat at the table, and its number.
+#[derive(Drop)]
+pub struct Worker {
+    pub(crate) number: u16,
+    pub(crate) seat: Seat<Slot, View>,
+    ghost numbered: { (seat.me.0.number ≡ number) × (0 < number) },
+}
+
+/// The latch of a place, which a session holds. It has to be given back: it can't be dropped.
+pub struct Latched {
+    place: usize,
+}
+
+impl Latched {
+    /// The place.
+    pub fn place(&self) -> usize
+        ensures { result ≡ self.now.place }
+    {
+        self.place
+    }
+}
+
+impl Worker {
+    /// The session's number.
+    pub fn number(&self) -> u16
+        ensures { result ≡ self.now.number }
+    {
+        self.number
+    }
+
+    /// Takes the latch of a place, if it is free. Latches are taken in rising order of their places.
+    pub fn take_latch(&mut self, top: &LockTable, place: usize) -> Option<Latched>
+        requires table { (self.old.seat.table_id ≡ top.now.table_id) × IsSized top.now.table_id }
+        requires place { IsPlace top.now.table_id place }
+        requires rising { IsRising place self.old.seat.me }
+        ensures seat { (self.new.seat.table_id ≡ self.old.seat.table_id) × (self.new.number ≡ self.old.number) }
+        ensures taken { MatchOption result
+            ((found : ℕ) × (found ≢ 0) × (self.new.seat.me ≡ (logged (latch_word place) found self.old.seat.me.0.latches self.old.seat.me.0, self.old.seat.me.1)))
+            (λ held. (held.place ≡ place) × ((h : Held) × IsFresh place h self.old.seat.me × (self.new.seat.me ≡ latched place h self.old.seat.me))) }
+    {
+        let found = top.compare_exchange::<TakeLatch>(
+            &mut self.seat,
+            latch_word(place),
+            0,
+            self.number as u64,
+        );
+        if found == 0 {
+            Some(Latched { place })
+        } else {
+            None
+        }
+    }
+
+    /// What the lists of the book in hand have to tell those who take fast tickets. Nothing changes.
+    pub fn needs(&mut self, top: &LockTable, latch: &Latched) -> Needs
+        requires table { self.old.seat.table_id ≡ top.now.table_id }
+        requires carried { (book : BookView) × (self.old.seat.me.1 ≡ (latch.now.place, slot.Place book) ∷ rest self.old.seat.me.1) }
+        ensures seat { (self.new.seat.table_id ≡ self.old.seat.table_id) × (self.new.number ≡ self.old.number) }
+        ensures same { self.new.seat.me ≡ self.old.seat.me }
+        ensures told { (book : BookView) → self.old.seat.me.1 ≡ (latch.now.place, slot.Place book) ∷ rest self.old.seat.me.1
+            → (result.obtrusive ≡ has_obtrusive book) × (result.slow ≡ has_tickets book) }
+    {
+        match self.seat.slot_mut(top, latch.place) {
+            Slot::Place(book) => book.needs(),
+            // It is a place that is held.
+            Slot::Directory(_) => Needs {
+                obtrusive: true,
+                slow: true,
+            },
+        }
+    }
+
+    /// Raises flags of the place's word.
+    pub fn raise_flags(&mut self, top: &LockTable, latch: &Latched, slow: bool, obtrusive: bool)
+        requires table { (self.old.seat.table_id ≡ top.now.table_id) × IsSized top.now.table_id }
+        requires place { IsPlace top.now.table_id latch.now.place }
+        requires held { (h : Held) × (held_at latch.now.place self.old.seat.me.0.latches ≡ Some h) }
+        ensures seat { (self.new.seat.table_id ≡ self.old.seat.table_id) × (self.new.number ≡ self.old.number) }
+        ensures made { (found : ℕ) × (self.new.seat.me ≡ stepped latch.now.place found (raised slow obtrusive) self.old.seat.me) }
+    {
+        top.fetch_or::<RaiseFlags>(
+            &mut self.seat,
+            lock_word(latch.place),
+            Word::raising(slow, obtrusive),
+        );
+    }
+
+    /// Reads the place's word, and notes it where the flag [`Word::OBTRUSIVE`] is up.
+    pub fn read_word(&mut self, top: &LockTable, latch: &Latched) -> Word
+        requires table { (self.old.seat.table_id ≡ top.now.table_id) × IsSized top.now.table_id }
+        requires place { IsPlace top.now.table_id latch.now.place }
+        requires held { (h : Held) × (held_at latch.now.place self.old.seat.me.0.latches ≡ Some h) }
+        ensures seat { (self.new.seat.table_id ≡ self.old.seat.table_id) × (self.new.number ≡ self.old.number) }
+        ensures made { self.new.seat.me ≡ stepped latch.now.place result.0 (noting result.0) self.old.seat.me }
+    {
+        Word(top.load::<ReadWord>(&mut self.seat, lock_word(latch.place)))
+    }
+
+    /// Leaves just these flags of the place's word up, after some deeds that stand in the book in hand.
+    pub fn lower_flags(
+        &mut self,
+        top: &LockTable,
+        latch: &Latched,
+        slow: bool,
+        obtrusive: bool,
+        deeds: &[Deed],
+    )
+        requires table { (self.old.seat.table_id ≡ top.now.table_id) × IsSized top.now.table_id }
+        requires place { IsPlace top.now.table_id latch.now.place }
+        requires lowered { MayLower latch.now.place deeds.now slow obtrusive self.old.seat.me }
+        ensures seat { (self.new.seat.table_id ≡ self.old.seat.table_id) × (self.new.number ≡ self.old.number) }
+        ensures made { (found : ℕ) × ((book : BookView) → self.old.seat.me.1 ≡ (latch.now.place, slot.Place book) ∷ rest self.old.seat.me.1
+            → self.new.seat.me ≡ settled latch.now.place deeds.now found book slow obtrusive self.old.seat.me) }
+    {
+        self.lower_flags_after::<Brand>(top, latch, slow, obtrusive, deeds);
+    }
+
+    fn lower_flags_after<J: Doing>(
+        &mut self,
+        top: &LockTable,
+        latch: &Latched,
+        slow: bool,
+        obtrusive: bool,
+        _deeds: &[Deed],
+    )
+        requires table { (self.old.seat.table_id ≡ top.now.table_id) × IsSized top.now.table_id }
+        requires place { IsPlace top.now.table_id latch.now.place }
+        requires picked { _deeds.now ≡ J.deeds }
+        requires lowered { MayLower latch.now.place _deeds.now slow obtrusive self.old.seat.me }
+        ensures seat { (self.new.seat.table_id ≡ self.old.seat.table_id) × (self.new.number ≡ self.old.number) }
+        ensures made { (found : ℕ) × ((book : BookView) → self.old.seat.me.1 ≡ (latch.now.place, slot.Place book) ∷ rest self.old.seat.me.1
+            → self.new.seat.me ≡ settled latch.now.place _deeds.now found book slow obtrusive self.old.seat.me) }
+    {
+        top.fetch_and::<LowerFlags<J>>(
+            &mut self.seat,
+            lock_word(latch.place),
+            Word::keeping(slow, obtrusive),
+        );
+    }
+
+    /// Gives the latch back, after some deeds that stand in the book in hand.
+    pub fn put_latch(&mut self, top: &LockTable, latch: Latched, deeds: &[Deed])
+        requires table { (self.old.seat.table_id ≡ top.now.table_id) × IsSized top.now.table_id }
+        requires place { IsPlace top.now.table_id latch.place }
+        requires put { MayPut latch.place deeds.now self.old.seat.me }
+        ensures seat { (self.new.seat.table_id ≡ self.old.seat.table_id) × (self.new.number ≡ self.old.number) }
+        ensures made { self.new.seat.me ≡ unlatched latch.place deeds.now self.old.seat.me }
+    {
+        let Latched { place } = latch;
+        self.put_latch_after::<Brand>(top, place, deeds);
+    }
+
+    fn put_latch_after<J: Doing>(&mut self, top: &LockTable, place: usize, _deeds: &[Deed])
+        requires table { (self.old.seat.table_id ≡ top.now.table_id) × IsSized top.now.table_id }
+        requires place { IsPlace top.now.table_id place }
+        requires picked { _deeds.now ≡ J.deeds }
+        requires put { MayPut place _deeds.now self.old.seat.me }
+        ensures seat { (self.new.seat.table_id ≡ self.old.seat.table_id) × (self.new.number ≡ self.old.number) }
+        ensures made { self.new.seat.me ≡ unlatched place _deeds.now self.old.seat.me }
+    {
+        top.store::<PutLatch<J>>(&mut self.seat, latch_word(place), 0);
+    }
+}
+
+// The word of a place's latch.
+fn latch_word(place: usize) -> usize
+    requires { place < 2 ^ 32 }
+    ensures { result ≡ latch_word place }
+{
+    8 * place
+}
+
+// The word of a place's lock.
+fn lock_word(place: usize) -> usize
+    requires { place < 2 ^ 32 }
+    ensures { result ≡ lock_word place }
+{
+    8 * place + 1
+}

@@ -1,0 +1,124 @@
+//! ALTER TABLE of a table that the session has locked.
+ghost use Rattle.std.specs.Prelude.{◌≡◌, None};
+ghost use Rattle.mdl_context.specs.Contexts.{Attends, LeavesOthers};
+ghost use Rattle.mdl_stmt.specs.Gets.{IsPlayed, IdleUnlessPlayed};
+ghost use Rattle.mdl_stmt.specs.Statements.{after_commit, alter_among_locked, alter_locked, alter_locked_under, change_and_lower};
+
+use crate::ending::{Ending, Got, Played};
+use crate::player::Player;
+use crate::reading::failing;
+use crate::stage::{Altering, Stage};
+use crate::{ErrorNumber, Reply};
+use mdl_context::Request;
+use mdl_key::{Duration, Key, Mode};
+use mdl_space::{LockSpace, TicketId};
+use mdl_syntax::{Alteration, Statement};
+
+impl<S: LockSpace> Player<S> {
+    /// Performs one where the session has locked tables.
+    pub(crate) fn alter_among_locked<'s>(
+        &mut self,
+        space: &mut S,
+        table: &Key,
+        statement: &'s Statement,
+    ) -> Played<'s>
+        requires attends { Attends S.speaks_for S.own S.knows space.old self.old.context }
+        requires idle { self.old.context.wait ≡ None }
+        ensures run { IsPlayed S.joins (alter_among_locked table.now (after_commit statement.now)) space.old self.old result space.new self.new }
+        ensures attends { Attends S.speaks_for S.own S.knows space.new self.new.context }
+        ensures others { LeavesOthers S.speaks_for S.own S.knows self.old.context.who space.old space.new }
+        ensures who { self.new.context.who ≡ self.old.context.who }
+        ensures idle { IdleUnlessPlayed result self.new }
+    {
+        let Some(locked) = self.explicit.find(table) else {
+            return Played::Ends(failing(ErrorNumber::TableNotLocked));
+        };
+        if !locked.may_write {
+            return Played::Ends(failing(ErrorNumber::TableLockedForRead));
+        }
+        self.commit_first(space, statement)
+    }
+
+    /// Clones the lock that the session has of a table, and alters the table.
+    pub(crate) fn alter_locked<'s>(
+        &mut self,
+        space: &mut S,
+        alteration: &'s Alteration,
+    ) -> Played<'s>
+        requires attends { Attends S.speaks_for S.own S.knows space.old self.old.context }
+        requires idle { self.old.context.wait ≡ None }
+        ensures run { IsPlayed S.joins (alter_locked alteration.now) space.old self.old result space.new self.new }
+        ensures attends { Attends S.speaks_for S.own S.knows space.new self.new.context }
+        ensures others { LeavesOthers S.speaks_for S.own S.knows self.old.context.who space.old space.new }
+        ensures who { self.new.context.who ≡ self.old.context.who }
+        ensures idle { IdleUnlessPlayed result self.new }
+    {
+        let request = Request {
+            key: &alteration.table,
+            mode: Mode::SNRW,
+            duration: Duration::Transaction,
+        };
+        match self.get(space, request) {
+            Got::Had(ticket) => self.alter_locked_under(space, alteration, ticket),
+            Got::Waits(key) => Played::Waits(
+                key,
+                Mode::SNRW,
+                Stage::Alter(alteration, Altering::Locked),
+            ),
+            Got::Ends(ending) => Played::Ends(ending),
+        }
+    }
+
+    /// Alters a table of those that the session has locked, if it can be altered so.
+    pub(crate) fn alter_locked_under<'s>(
+        &mut self,
+        space: &mut S,
+        alteration: &'s Alteration,
+        ticket: TicketId,
+    ) -> Played<'s>
+        requires attends { Attends S.speaks_for S.own S.knows space.old self.old.context }
+        requires idle { self.old.context.wait ≡ None }
+        ensures run { IsPlayed S.joins (alter_locked_under alteration.now ticket) space.old self.old result space.new self.new }
+        ensures attends { Attends S.speaks_for S.own S.knows space.new self.new.context }
+        ensures others { LeavesOthers S.speaks_for S.own S.knows self.old.context.who space.old space.new }
+        ensures who { self.new.context.who ≡ self.old.context.who }
+        ensures idle { IdleUnlessPlayed result self.new }
+    {
+        if let Err(ending) = self.check_change(space, &alteration.change, ticket) {
+            return Played::Ends(ending);
+        }
+        match self.raise(space, ticket, &alteration.table, Mode::X) {
+            Got::Had(alone) => self.change_and_lower(space, alteration, alone),
+            Got::Waits(key) => Played::Waits(
+                key,
+                Mode::X,
+                Stage::Alter(alteration, Altering::ChangeLocked),
+            ),
+            Got::Ends(ending) => Played::Ends(ending),
+        }
+    }
+
+    /// Changes a table that nobody else uses, and lets its lock be what it was.
+    pub(crate) fn change_and_lower<'s>(
+        &mut self,
+        space: &mut S,
+        alteration: &'s Alteration,
+        ticket: TicketId,
+    ) -> Played<'s>
+        requires attends { Attends S.speaks_for S.own S.knows space.old self.old.context }
+        requires idle { self.old.context.wait ≡ None }
+        ensures run { IsPlayed S.joins (change_and_lower alteration.now ticket) space.old self.old result space.new self.new }
+        ensures attends { Attends S.speaks_for S.own S.knows space.new self.new.context }
+        ensures others { LeavesOthers S.speaks_for S.own S.knows self.old.context.who space.old space.new }
+        ensures who { self.new.context.who ≡ self.old.context.who }
+        ensures idle { IdleUnlessPlayed result self.new }
+    {
+        match self.redefine(space, ticket, &alteration.change) {
+            Ok(()) => {
+                self.lower(space, ticket, Mode::SNRW);
+                Played::Ends(Ending::Answers(Reply::Ok))
+            }
+            Err(ending) => Played::Ends(ending),
+        }
+    }
+}

@@ -1,0 +1,31 @@
+# Prints what pages put between back quotes, a line each: the page with the number of the line, the crate that it is about, the cell of the
+# table that it stands in (from 1, and 0 outside of tables), and the words themselves, parted by tabs. The crate is that of the page's
+# folder or of the heading; in a table it is the one that stands alone in the row's first cell or, where that is empty, in a row above.
+# Usage: awk -f words.awk PAGE..
+function crate_in(text) {
+    return match(text, /mdl_[a-z_]*|mdlsim/) ? substr(text, RSTART, RLENGTH) : ""
+}
+FNR == 1 {
+    home = FILENAME ~ /^crates\// ? crate_in(FILENAME) : ""
+    heading = home
+}
+/^#/ {
+    heading = home == "" ? crate_in($0) : home
+}
+!/^\|/ {
+    crate = heading
+}
+{
+    cells = /^\|/ ? split($0, cell, /\|/) : 0
+    if (cells == 0) {
+        cell[1] = $0
+    } else if (cell[2] ~ /^ `(mdl_[a-z_]*|mdlsim)` $/) {
+        crate = crate_in(cell[2])
+    }
+    for (i = cells ? 2 : 1; i == 1 || i < cells; i += 1) {
+        parts = split(cell[i], part, "`")
+        for (j = 2; j <= parts; j += 2) {
+            print FILENAME ":" FNR "\t" crate "\t" i - 1 "\t" part[j]
+        }
+    }
+}
