@@ -30,11 +30,11 @@ mod transactions;
 mod unlocking;
 
 pub use error_number::ErrorNumber;
+pub use mdl_syntax::Statement;
 pub use memory_laws::{
     sessions_keep_their_number, statements_call_for_their_session, statements_keep_the_space_sound,
     statements_tell_of_want, sure_statements,
 };
-pub use mdl_syntax::Statement;
 pub use out_of_memory::OutOfMemory;
 pub use reply::{Progress, Reply, TableShown, TablesShown};
 pub use runner::Runner;
