@@ -13,12 +13,13 @@ PROGRAM = crates/mdlsim/out/mdlsim
 
 BENCH = crates/mdl_bench/out/mdl_bench
 
-.PHONY: help run try test docs bench examples growths build install clean kit
+.PHONY: help run try test layout docs bench examples growths build install clean kit
 
 help:
 	@echo 'make run [SCRIPT=FILE]     builds mdlsim, proved, and prints its answers to a script: NAME.replay, NAME.lock or NAME.scoped.lock'
 	@echo 'make try [SCRIPT=FILE]     answers a script without the proof, in a minute or two, and leaves no program'
 	@echo 'make test                  the gate: proves everything from nothing, and runs all tests'
+	@echo 'make layout                says which files are not in the layout, and which must-fail edits fit no file'
 	@echo 'make docs                  says what is stale in the docs'
 	@echo 'make examples              compares the answers to each example with those that lie beside it'
 	@echo 'make growths               refuses each growth of some short lives in turn'
@@ -35,10 +36,14 @@ try: kit
 	@script=$$(cd "$$(dirname "$(SCRIPT)")" && pwd)/$$(basename "$(SCRIPT)") \
 	&& cd crates/mdlsim && rt try -- $(SUBCOMMAND) $(OPTIONS) < "$$script"
 
-# The gate: the docs agree with the tree, the examples have their answers, refused growths lose nothing, and everything is proved and tested
-# from nothing.
-test: docs examples growths
+# The gate: the files are in the layout, the docs agree with the tree, the examples have their answers, refused growths lose nothing, and
+# everything is proved and tested from nothing.
+test: layout docs examples growths
 	@rt ci
+
+# What `rt ci` would refuse of the files' layout and of the must-fail edits, told at once.
+layout: kit
+	@sh make/check_layout.sh
 
 # The docs name what there is, and all that they have to name. `sh make/check_docs.sh update` counts the lines of docs/PROOFS.md anew.
 docs: kit
