@@ -18,6 +18,7 @@ BENCH = crates/mdl_bench/out/mdl_bench
 help:
 	@echo 'make run [SCRIPT=FILE]     builds mdlsim, proved, and prints its answers to a script: NAME.replay, NAME.lock or NAME.scoped.lock'
 	@echo 'make try [SCRIPT=FILE]     answers a script without the proof, in a minute or two, and leaves no program'
+	@echo 'make try SUBCOMMAND=matrix prints which modes clash and who waits behind whom, without the proof'
 	@echo 'make test                  the gate: proves everything from nothing, and runs all tests'
 	@echo 'make layout                says which files are not in the layout, and which must-fail edits fit no file'
 	@echo 'make docs                  says what is stale in the docs'
