@@ -4,7 +4,8 @@ ghost use Rattle.mdl_context.specs.NameLaws.{NamesAreGivenUp};
 
 use mdl_space::LockSpace;
 
-/// Going back keeps so many tickets from the front of the statement's and of the transaction's, and all explicit ones.
+/// Going back gives up the newest tickets of the statement and of the transaction beyond the two counts of the mark, and no
+/// explicit ones.
 pub fn going_back_keeps_fronts()
     ensures { GoingBackKeepsFronts }
 {}
