@@ -8,6 +8,9 @@ pub mod Owns
 pub mod Deeds
 pub mod Books
 pub mod Put
+pub mod Notes
+pub mod Exclusive
+pub mod Versions
 pub mod Opens
 pub mod Enrol
 pub mod Starts

@@ -1,7 +1,10 @@
 -- What a caller of the steps knows of its seat, and what it has to know to make a step.
-use Rattle.std.specs.Prelude.{◌≡◌, ℕ, ◌*◌, ◌^◌, ◌<◌, ◌≤◌, ◌&&◌, Bool, List, ◌∷◌, Some}
+use Rattle.std.specs.Prelude.{◌≡◌, ℕ, ◌+◌, ◌*◌, ◌^◌, ◌<◌, ◌≤◌, ◌&&◌, Bool, List, ◌∷◌, Contains, Some}
 use Rattle.atomic_table.specs.Seated.{TableId}
 pub use Rattle.atomic_table.specs.Table.{rest}
+use Rattle.mdl_key.specs.declared.mode.Mode.TheVariants.{X}
+use Rattle.mdl_defs.specs.declared.standing.Standing.{Standing}
+use Rattle.mdl_book.specs.declared.ticket.Ticket.{Ticket}
 use Rattle.mdl_steps.specs.declared.deed.Deed.{Deed}
 use Rattle.mdl_steps.specs.declared.slot.Slot.TheVariants as slot
 use Rattle.mdl_steps.specs.declared.view.Held.{Held}
@@ -34,6 +37,21 @@ MayPut place ds m = (h : Held) × HasDone place ds h m × TellsLists (all_booked
 abbrev pub MayLower : ℕ → List Deed → Bool → Bool → Mine → Type 0
 MayLower place ds slow obtrusive m =
     (h : Held) × HasDone place ds h m × Flagged (all_booked m.0.number ds h.book) (slow && h.slow) (obtrusive && h.obtrusive)
+
+-- the session has an exclusive ticket in the book
+abbrev pub HasExclusive : Held → Mine → Type 0
+HasExclusive h m = (t : Ticket) × Contains h.book.granted t × (t.session ≡ m.0.number) × (t.mode ≡ X)
+
+-- the seat holds the latch of the place, and has changed in the book what stands there, which only the holder of an exclusive ticket may
+pub record HasRedefined (place : ℕ) (h : Held) (standing : Standing) (m : Mine) : Type 0 where
+  pub recorded : held_at place m.0.latches ≡ Some h
+  pub carried : m.1 ≡ (place, slot.Place (record h.book { standing = standing })) ∷ rest m.1
+  pub newer : standing.version ≡ h.book.standing.version + 1
+  pub exclusive : HasExclusive h m
+
+-- it may write the version
+abbrev pub MayWriteVersion : ℕ → Mine → Type 0
+MayWriteVersion place m = (h : Held) × (standing : Standing) × HasRedefined place h standing m
 
 -- latches are taken in rising order: each that it holds is of a lower place
 abbrev pub IsRising : ℕ → Mine → Type 0

@@ -2,7 +2,7 @@
 ghost use Rattle.std.specs.Prelude.{◌-◌, List, []};
 ghost use Rattle.mdl_steps.specs.declared.deed.Deed.{Deed};
 ghost use Rattle.mdl_steps.specs.Cells.{blank};
-ghost use Rattle.mdl_steps.specs.Plays.{enrols, takes_latch, puts_latch, raises_flags, lowers_flags, reads_word};
+ghost use Rattle.mdl_steps.specs.Plays.{enrols, takes_latch, puts_latch, raises_flags, lowers_flags, reads_word, writes_version};
 ghost use Rattle.mdl_steps.specs.Rule.{Rule};
 
 use crate::{Slot, View};
@@ -53,6 +53,13 @@ pub(crate) struct ReadWord;
 
 impl Play<Slot, View> for ReadWord {
     ghost then = { reads_word };
+}
+
+/// A version is written.
+pub(crate) struct WriteVersion;
+
+impl Play<Slot, View> for WriteVersion {
+    ghost then = { writes_version };
 }
 
 /// Which deeds a step is made with.

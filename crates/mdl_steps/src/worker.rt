@@ -5,11 +5,13 @@ ghost use Rattle.mdl_book.specs.declared.book_view.BookView.{BookView};
 ghost use Rattle.mdl_steps.specs.declared.slot.Slot.TheVariants as slot;
 ghost use Rattle.mdl_steps.specs.declared.view.Held.{Held};
 ghost use Rattle.mdl_steps.specs.Cells.{held_at};
-ghost use Rattle.mdl_steps.specs.Layout.{latch_word, lock_word};
-ghost use Rattle.mdl_steps.specs.Plays.{IsFresh, latched, unlatched, logged, stepped, settled, raised, noting};
-ghost use Rattle.mdl_steps.specs.Seats.{IsSized, IsPlace, IsRising, MayPut, MayLower, rest};
+ghost use Rattle.mdl_steps.specs.Layout.{latch_word, lock_word, version_word};
+ghost use Rattle.mdl_steps.specs.Plays.{IsFresh, latched, unlatched, logged, stepped, settled, raised, noting, redefined};
+ghost use Rattle.mdl_steps.specs.Seats.{IsSized, IsPlace, IsRising, MayPut, MayLower, MayWriteVersion, rest};
 
-use crate::plays::{Doing, LowerFlags, Order, PutLatch, RaiseFlags, ReadWord, TakeLatch};
+use crate::plays::{
+    Doing, LowerFlags, Order, PutLatch, RaiseFlags, ReadWord, TakeLatch, WriteVersion,
+};
 use crate::{Deed, Slot, View};
 use atomic_table::{Seat, Shared};
 use mdl_book::Needs;
@@ -117,6 +119,36 @@ impl Worker {
         Word(top.load::<ReadWord>(&mut self.seat, lock_word(latch.place)))
     }
 
+    /// The version of what stands by the book in hand. Nothing changes.
+    pub fn version(&mut self, top: &LockTable, latch: &Latched) -> u64
+        requires table { self.old.seat.table_id ≡ top.now.table_id }
+        requires carried { (book : BookView) × (self.old.seat.me.1 ≡ (latch.now.place, slot.Place book) ∷ rest self.old.seat.me.1) }
+        ensures seat { (self.new.seat.table_id ≡ self.old.seat.table_id) × (self.new.number ≡ self.old.number) }
+        ensures same { self.new.seat.me ≡ self.old.seat.me }
+        ensures told { (book : BookView) → self.old.seat.me.1 ≡ (latch.now.place, slot.Place book) ∷ rest self.old.seat.me.1
+            → result ≡ book.standing.version }
+    {
+        match self.seat.slot_mut(top, latch.place) {
+            Slot::Place(book) => book.version(),
+            // It is a place that is held.
+            Slot::Directory(_) => 0,
+        }
+    }
+
+    /// Writes the version of the book in hand, in which the session has changed what stands under the key. From then on it knows that
+    /// version, under each ticket that it has there, and has read what stands.
+    pub fn write_version(&mut self, top: &LockTable, latch: &Latched)
+        requires table { (self.old.seat.table_id ≡ top.now.table_id) × IsSized top.now.table_id }
+        requires place { IsPlace top.now.table_id latch.now.place }
+        requires written { MayWriteVersion latch.now.place self.old.seat.me }
+        ensures seat { (self.new.seat.table_id ≡ self.old.seat.table_id) × (self.new.number ≡ self.old.number) }
+        ensures made { (book : BookView) → self.old.seat.me.1 ≡ (latch.now.place, slot.Place book) ∷ rest self.old.seat.me.1
+            → self.new.seat.me ≡ redefined latch.now.place book.standing self.old.seat.me }
+    {
+        let version = self.version(top, latch);
+        top.store::<WriteVersion>(&mut self.seat, version_word(latch.place), version);
+    }
+
     /// Leaves just these flags of the place's word up, after some deeds that stand in the book in hand.
     pub fn lower_flags(
         &mut self,
@@ -197,4 +229,12 @@ fn lock_word(place: usize) -> usize
     ensures { result ≡ lock_word place }
 {
     8 * place + 1
+}
+
+// The word of a place's version.
+fn version_word(place: usize) -> usize
+    requires { place < 2 ^ 32 }
+    ensures { result ≡ version_word place }
+{
+    8 * place + 2
 }
