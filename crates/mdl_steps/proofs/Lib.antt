@@ -8,6 +8,7 @@ pub mod Owns
 pub mod Deeds
 pub mod Books
 pub mod Put
+pub mod Hands
 pub mod Opens
 pub mod Enrol
 pub mod Starts
