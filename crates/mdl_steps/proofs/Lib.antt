@@ -11,6 +11,8 @@ pub mod Put
 pub mod Notes
 pub mod Exclusive
 pub mod Versions
+pub mod Hands
+pub mod Tells
 pub mod Opens
 pub mod Enrol
 pub mod Starts

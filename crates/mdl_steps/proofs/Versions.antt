@@ -143,8 +143,8 @@ module _ (slots id place : ℕ) (me : Mine) (some_number : 0 < me.0.number) (fir
         let row = (r.views id me.0 seat).0 in
         let ok = r.places place first within in
         let there = at_map (holder_at place) s.views id me.0 seat in
-        let mine = ok.held id (holder_at place me.0) there h has.recorded in
-        let u = under (key_at r.keys place) (cell s place) ok id (holder_at place me.0) there h has.recorded in
+        let mine = ok.held id (holder_at place me.0) there h has.holds.recorded in
+        let u = under (key_at r.keys place) (cell s place) ok id (holder_at place me.0) there h has.holds.recorded in
         let part = at_map (part_at (waits s) place) s.views id me.0 seat in
         let more = has.newer in
         let newer : h.book.standing.version < standing.version = omega arith in
@@ -168,9 +168,9 @@ module _ (slots id place : ℕ) (me : Mine) (some_number : 0 < me.0.number) (fir
           holder_else = λ q else. λ i. record { number = me.0.number; held = held_at-unchanged place (restood standing) (λ x. refl) q me.0.latches else i };
         }) (r.views id me.0 seat).1 standing.version
         (rw part_here
-        (holder_cell (key_at r.keys place) (cell s place) ok id (holder_at place me.0) there (seat_there s place id me.0 seat) (holder_at place written) h (restood standing h) has.recorded
+        (holder_cell (key_at r.keys place) (cell s place) ok id (holder_at place me.0) there (seat_there s place id me.0 seat) (holder_at place written) h (restood standing h) has.holds.recorded
         (λ j l at same. alone s r place id me.0 seat some_number j l at (same ∙ sym mine.mine)) refl
-        (held_at-changed place (restood standing) (λ x. refl) me.0.latches h has.recorded)
+        (held_at-changed place (restood standing) (λ x. refl) me.0.latches h has.holds.recorded)
         (key_at r.keys place) (cell s place).word standing.version (set (cell s place).parts id (noted_part place standing (part_at (waits s) place me.0)))
         (record {
           counted = rw fast u.counted;
@@ -190,7 +190,7 @@ module _ (slots id place : ℕ) (me : Mine) (some_number : 0 < me.0.number) (fir
       refl,
       λ q book here carried.
           let same : place ≡ q = omega arith in
-          let book_is : record h.book { standing = standing } ≡ book = one_hand (sym has.carried ∙ carried) in
+          let book_is : record h.book { standing = standing } ≡ book = one_hand (sym has.holds.carried ∙ carried) in
           λ i. redefined (same i) (book_is i).standing me,
     ),
   )

@@ -4,6 +4,7 @@ use Rattle.atomic_table.specs.Seated.{TableId}
 pub use Rattle.atomic_table.specs.Table.{rest}
 use Rattle.mdl_key.specs.declared.mode.Mode.TheVariants.{X}
 use Rattle.mdl_defs.specs.declared.standing.Standing.{Standing}
+use Rattle.mdl_book.specs.declared.book_view.BookView.{BookView}
 use Rattle.mdl_book.specs.declared.ticket.Ticket.{Ticket}
 use Rattle.mdl_steps.specs.declared.deed.Deed.{Deed}
 use Rattle.mdl_steps.specs.declared.slot.Slot.TheVariants as slot
@@ -22,10 +23,14 @@ IsSized id = (8 * id.slots ≤ id.words) × (id.slots < 2 ^ 32)
 abbrev pub IsPlace : TableId → ℕ → Type 0
 IsPlace id place = (0 < place) × (place < id.slots)
 
+-- the seat has this record of the latch of the place, and this book of it in hand
+pub record Holds (place : ℕ) (h : Held) (book : BookView) (m : Mine) : Type 0 where
+  pub recorded : held_at place m.0.latches ≡ Some h
+  pub carried : m.1 ≡ (place, slot.Place book) ∷ rest m.1
+
 -- the seat holds the latch of the place, and has done in the book what these deeds say
 pub record HasDone (place : ℕ) (ds : List Deed) (h : Held) (m : Mine) : Type 0 where
-  pub recorded : held_at place m.0.latches ≡ Some h
-  pub carried : m.1 ≡ (place, slot.Place (all_booked m.0.number ds h.book)) ∷ rest m.1
+  pub holds : Holds place h (all_booked m.0.number ds h.book) m
   pub act : MayAct m.0 place ds
   pub may : MayAll place m.0 h.book h.noted ds
 
@@ -44,8 +49,7 @@ HasExclusive h m = (t : Ticket) × Contains h.book.granted t × (t.session ≡ m
 
 -- the seat holds the latch of the place, and has changed in the book what stands there, which only the holder of an exclusive ticket may
 pub record HasRedefined (place : ℕ) (h : Held) (standing : Standing) (m : Mine) : Type 0 where
-  pub recorded : held_at place m.0.latches ≡ Some h
-  pub carried : m.1 ≡ (place, slot.Place (record h.book { standing = standing })) ∷ rest m.1
+  pub holds : Holds place h (record h.book { standing = standing }) m
   pub newer : standing.version ≡ h.book.standing.version + 1
   pub exclusive : HasExclusive h m
 

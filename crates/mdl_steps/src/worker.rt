@@ -6,8 +6,8 @@ ghost use Rattle.mdl_steps.specs.declared.slot.Slot.TheVariants as slot;
 ghost use Rattle.mdl_steps.specs.declared.view.Held.{Held};
 ghost use Rattle.mdl_steps.specs.Cells.{held_at};
 ghost use Rattle.mdl_steps.specs.Layout.{latch_word, lock_word, version_word};
-ghost use Rattle.mdl_steps.specs.Plays.{IsFresh, latched, unlatched, logged, stepped, settled, raised, noting, redefined};
-ghost use Rattle.mdl_steps.specs.Seats.{IsSized, IsPlace, IsRising, MayPut, MayLower, MayWriteVersion, rest};
+ghost use Rattle.mdl_steps.specs.Plays.{IsFresh, latched, unlatched, logged, stepped, settled, raised, noting, lowered, redefined, restood};
+ghost use Rattle.mdl_steps.specs.Seats.{IsSized, IsPlace, IsRising, Holds, MayPut, MayLower, MayWriteVersion, rest};
 
 use crate::plays::{
     Doing, LowerFlags, Order, PutLatch, RaiseFlags, ReadWord, TakeLatch, WriteVersion,
@@ -59,7 +59,7 @@ impl Worker {
         ensures seat { (self.new.seat.table_id ≡ self.old.seat.table_id) × (self.new.number ≡ self.old.number) }
         ensures taken { MatchOption result
             ((found : ℕ) × (found ≢ 0) × (self.new.seat.me ≡ (logged (latch_word place) found self.old.seat.me.0.latches self.old.seat.me.0, self.old.seat.me.1)))
-            (λ held. (held.place ≡ place) × ((h : Held) × IsFresh place h self.old.seat.me × (self.new.seat.me ≡ latched place h self.old.seat.me))) }
+            (λ held. (held.place ≡ place) × ((h : Held) × IsFresh place h self.old.seat.me × Holds place h h.book self.new.seat.me × (self.new.seat.me ≡ latched place h self.old.seat.me))) }
     {
         let found = top.compare_exchange::<TakeLatch>(
             &mut self.seat,
@@ -100,6 +100,7 @@ impl Worker {
         requires held { (h : Held) × (held_at latch.now.place self.old.seat.me.0.latches ≡ Some h) }
         ensures seat { (self.new.seat.table_id ≡ self.old.seat.table_id) × (self.new.number ≡ self.old.number) }
         ensures made { (found : ℕ) × (self.new.seat.me ≡ stepped latch.now.place found (raised slow obtrusive) self.old.seat.me) }
+        ensures keeps { (h : Held) (book : BookView) → Holds latch.now.place h book self.old.seat.me → Holds latch.now.place (raised slow obtrusive h) book self.new.seat.me }
     {
         top.fetch_or::<RaiseFlags>(
             &mut self.seat,
@@ -115,6 +116,7 @@ impl Worker {
         requires held { (h : Held) × (held_at latch.now.place self.old.seat.me.0.latches ≡ Some h) }
         ensures seat { (self.new.seat.table_id ≡ self.old.seat.table_id) × (self.new.number ≡ self.old.number) }
         ensures made { self.new.seat.me ≡ stepped latch.now.place result.0 (noting result.0) self.old.seat.me }
+        ensures keeps { (h : Held) (book : BookView) → Holds latch.now.place h book self.old.seat.me → Holds latch.now.place (noting result.0 h) book self.new.seat.me }
     {
         Word(top.load::<ReadWord>(&mut self.seat, lock_word(latch.place)))
     }
@@ -144,6 +146,7 @@ impl Worker {
         ensures seat { (self.new.seat.table_id ≡ self.old.seat.table_id) × (self.new.number ≡ self.old.number) }
         ensures made { (book : BookView) → self.old.seat.me.1 ≡ (latch.now.place, slot.Place book) ∷ rest self.old.seat.me.1
             → self.new.seat.me ≡ redefined latch.now.place book.standing self.old.seat.me }
+        ensures keeps { (h : Held) (book : BookView) → Holds latch.now.place h book self.old.seat.me → Holds latch.now.place (restood book.standing h) book self.new.seat.me }
     {
         let version = self.version(top, latch);
         top.store::<WriteVersion>(&mut self.seat, version_word(latch.place), version);
@@ -164,6 +167,7 @@ impl Worker {
         ensures seat { (self.new.seat.table_id ≡ self.old.seat.table_id) × (self.new.number ≡ self.old.number) }
         ensures made { (found : ℕ) × ((book : BookView) → self.old.seat.me.1 ≡ (latch.now.place, slot.Place book) ∷ rest self.old.seat.me.1
             → self.new.seat.me ≡ settled latch.now.place deeds.now found book slow obtrusive self.old.seat.me) }
+        ensures keeps { (h : Held) (book : BookView) → Holds latch.now.place h book self.old.seat.me → Holds latch.now.place (lowered book slow obtrusive h) book self.new.seat.me }
     {
         self.lower_flags_after::<Brand>(top, latch, slow, obtrusive, deeds);
     }
@@ -183,6 +187,7 @@ impl Worker {
         ensures seat { (self.new.seat.table_id ≡ self.old.seat.table_id) × (self.new.number ≡ self.old.number) }
         ensures made { (found : ℕ) × ((book : BookView) → self.old.seat.me.1 ≡ (latch.now.place, slot.Place book) ∷ rest self.old.seat.me.1
             → self.new.seat.me ≡ settled latch.now.place _deeds.now found book slow obtrusive self.old.seat.me) }
+        ensures keeps { (h : Held) (book : BookView) → Holds latch.now.place h book self.old.seat.me → Holds latch.now.place (lowered book slow obtrusive h) book self.new.seat.me }
     {
         top.fetch_and::<LowerFlags<J>>(
             &mut self.seat,
