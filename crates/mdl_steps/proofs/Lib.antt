@@ -13,6 +13,7 @@ pub mod Exclusive
 pub mod Versions
 pub mod Hands
 pub mod Tells
+pub mod Desks
 pub mod Opens
 pub mod Enrol
 pub mod Starts

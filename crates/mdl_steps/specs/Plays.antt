@@ -1,6 +1,6 @@
 -- What each kind of step tells the session that makes it: of the step, what the seat knew, what the word was, and what it
 -- knows then. Each is added to the session's list of steps.
-use Rattle.std.specs.Prelude.{◌≡◌, ◌≢◌, ℕ, ◌-◌, ◌<◌, ◌==◌, not, Bool, true, ◌&&◌, ◌||◌, List, [], ◌∷◌, ◌++◌, map, filter, Some, None, if◌then◌else◌}
+use Rattle.std.specs.Prelude.{◌≡◌, ◌≢◌, ℕ, ◌-◌, ◌<◌, ◌==◌, not, Bool, true, ◌&&◌, ◌||◌, List, [], ◌∷◌, ◌++◌, map, filter, length, Some, None, if◌then◌else◌}
 use lib.ListN.{get_elem?}
 use mathlib.Core.Option.{some}
 use Rattle.atomic_table.specs.Table.{Me, Step, rest}
@@ -14,13 +14,15 @@ use Rattle.mdl_steps.specs.declared.deed.Deed.{Deed}
 use Rattle.mdl_steps.specs.declared.slot.Slot.{Slot}
 use Rattle.mdl_steps.specs.declared.slot.Slot.TheVariants as slot
 use Rattle.mdl_steps.specs.declared.view.Held.{Held}
+use Rattle.mdl_steps.specs.declared.view.Keys.{Keys}
 use Rattle.mdl_steps.specs.declared.view.Known.{Known}
 use Rattle.mdl_steps.specs.declared.view.Own.{Own}
 use Rattle.mdl_steps.specs.declared.view.View.{View}
 use Rattle.mdl_steps.specs.Cells.{own_at, ticket_by}
 use Rattle.mdl_steps.specs.Deeds.{all_done, NotWaited}
 use Rattle.mdl_steps.specs.Layout.{latch_word, lock_word, version_word}
-use Rattle.mdl_steps.specs.Rule.{TellsLists}
+use Rattle.mdl_steps.specs.Lists.{Distinct}
+use Rattle.mdl_steps.specs.Rule.{TellsLists, KnowsKeys}
 
 -- a session's seat: its view, and the slots that it took
 abbrev pub Mine : Type 0
@@ -108,7 +110,36 @@ redefined place standing m =
     } in
     (logged (version_word place) (standing.version - 1) v.latches known, m.1)
 
+-- ---- the directory
+
+-- as its latch is taken: different keys have different places, there are places for all of them, and each key that the session knows
+-- is where it knows it to be
+pub record IsDirectory (slots : ℕ) (k : Keys) (m : Mine) : Type 0 where
+  pub distinct : Distinct k.keys
+  pub fit : length k.keys < slots
+  pub known : KnowsKeys k.keys m.0
+
+-- the directory's latch was taken, with this record of it
+abbrev pub consulted : Keys → Mine → Mine
+consulted k m = (logged (latch_word 0) 0 m.0.latches (record m.0 { directory = Some k }), (0, slot.Directory k) ∷ m.1)
+
+-- it was given back, and the session knows these keys, too
+abbrev pub informed : List Known → Mine → Mine
+informed more m = (logged (latch_word 0) m.0.number m.0.latches (record m.0 { directory = None; known = m.0.known ++ more }), rest m.1)
+
 -- ---- the kinds of step: the session keeps its number
+
+-- the directory's latch is taken where it was free, and otherwise only that was met
+abbrev pub takes_directory : Step Slot → Mine → ℕ → Mine → Type 0
+takes_directory st m found m′ =
+    (m′.0.number ≡ m.0.number)
+    × (st.word ≡ latch_word 0 →
+    (found ≡ 0 → (k : Keys) × IsDirectory st.slots k m × (m′ ≡ consulted k m))
+    × (found ≢ 0 → m′ ≡ (logged (latch_word 0) found m.0.latches m.0, m.1)))
+
+-- the directory's latch is given back, and these keys are known from then on
+abbrev pub puts_directory : List Known → Step Slot → Mine → ℕ → Mine → Type 0
+puts_directory more st m found m′ = (m′.0.number ≡ m.0.number) × (st.word ≡ latch_word 0 → m′ ≡ informed more m)
 
 -- the latch of a place is taken where it was free, and otherwise only that was met
 abbrev pub takes_latch : Step Slot → Mine → ℕ → Mine → Type 0

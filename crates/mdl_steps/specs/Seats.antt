@@ -1,7 +1,9 @@
 -- What a caller of the steps knows of its seat, and what it has to know to make a step.
-use Rattle.std.specs.Prelude.{◌≡◌, ℕ, ◌+◌, ◌*◌, ◌^◌, ◌<◌, ◌≤◌, ◌&&◌, Bool, List, ◌∷◌, Contains, Some}
+use Rattle.std.specs.Prelude.{nat_lt, if◌then◌else◌, Option, None, ◌≡◌, ℕ, ◌+◌, ◌*◌, ◌^◌, ◌<◌, ◌≤◌, ◌&&◌, Bool, List, ◌∷◌, Contains, Some}
 use Rattle.atomic_table.specs.Seated.{TableId}
 pub use Rattle.atomic_table.specs.Table.{rest}
+use Rattle.std.specs.Option.{option_map, option_to_list}
+use Rattle.mdl_key.specs.Words.{KeyName}
 use Rattle.mdl_key.specs.declared.mode.Mode.TheVariants.{X}
 use Rattle.mdl_defs.specs.declared.standing.Standing.{Standing}
 use Rattle.mdl_book.specs.declared.book_view.BookView.{BookView}
@@ -9,11 +11,13 @@ use Rattle.mdl_book.specs.declared.ticket.Ticket.{Ticket}
 use Rattle.mdl_steps.specs.declared.deed.Deed.{Deed}
 use Rattle.mdl_steps.specs.declared.slot.Slot.TheVariants as slot
 use Rattle.mdl_steps.specs.declared.view.Held.{Held}
+use Rattle.mdl_steps.specs.declared.view.Keys.{Keys}
+use Rattle.mdl_steps.specs.declared.view.Known.{Known}
 use Rattle.mdl_steps.specs.Cells.{held_at}
 use Rattle.mdl_steps.specs.Deeds.{MayAct, MayAll, all_booked}
 use Rattle.mdl_steps.specs.Lists.{Each}
 use Rattle.mdl_steps.specs.Plays.{Mine}
-use Rattle.mdl_steps.specs.Rule.{TellsLists, Flagged}
+use Rattle.mdl_steps.specs.Rule.{TellsLists, Flagged, key_at}
 
 -- the table has words for each of its slots, and no more slots than their numbers have room for
 abbrev pub IsSized : TableId → Type 0
@@ -60,3 +64,21 @@ MayWriteVersion place m = (h : Held) × (standing : Standing) × HasRedefined pl
 -- latches are taken in rising order: each that it holds is of a lower place
 abbrev pub IsRising : ℕ → Mine → Type 0
 IsRising place m = Each (λ (h : Held). h.place < place) m.0.latches
+
+-- the seat has the directory's latch, with this record of it, and the directory in hand, unchanged
+pub record HasDirectory (k : Keys) (m : Mine) : Type 0 where
+  pub recorded : m.0.directory ≡ Some k
+  pub carried : m.1 ≡ (0, slot.Directory k) ∷ rest m.1
+
+-- the key at a place, by the record of the directory. Place 0 has none
+abbrev pub recorded_key : Option Keys → ℕ → Option KeyName
+recorded_key None place = None
+recorded_key (Some k) place = if nat_lt 0 place then key_at k.keys place else None
+
+-- what the session learns of it
+abbrev pub learnt : Mine → ℕ → List Known
+learnt m place = option_to_list (option_map (λ key. record { key = key; place = place }) (recorded_key m.0.directory place))
+
+-- it may give the latch back
+abbrev pub MayInform : Mine → Type 0
+MayInform m = (k : Keys) × HasDirectory k m

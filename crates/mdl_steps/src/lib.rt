@@ -12,6 +12,7 @@
 #![tactic(auto)]
 
 mod deed;
+mod directory;
 mod laws;
 mod maker;
 mod opening;
@@ -21,6 +22,7 @@ mod view;
 mod worker;
 
 pub use deed::Deed;
+pub use directory::LatchedDirectory;
 pub use laws::{
     free_locks_are_as_their_words_tell, held_locks_are_as_their_records_tell, noted_versions_stand,
     reads_are_of_what_stands,

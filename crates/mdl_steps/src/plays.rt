@@ -1,8 +1,9 @@
 //! The rule of the table, and what each kind of step tells its session.
 ghost use Rattle.std.specs.Prelude.{◌-◌, List, []};
 ghost use Rattle.mdl_steps.specs.declared.deed.Deed.{Deed};
+ghost use Rattle.mdl_steps.specs.declared.view.Known.{Known};
 ghost use Rattle.mdl_steps.specs.Cells.{blank};
-ghost use Rattle.mdl_steps.specs.Plays.{enrols, takes_latch, puts_latch, raises_flags, lowers_flags, reads_word, writes_version};
+ghost use Rattle.mdl_steps.specs.Plays.{enrols, takes_latch, puts_latch, raises_flags, lowers_flags, reads_word, writes_version, takes_directory, puts_directory};
 ghost use Rattle.mdl_steps.specs.Rule.{Rule};
 
 use crate::{Slot, View};
@@ -88,4 +89,30 @@ pub(crate) struct LowerFlags<J: Doing> {
 
 impl<J: Doing> Play<Slot, View> for LowerFlags<J> {
     ghost then = { lowers_flags J.deeds };
+}
+
+/// The directory's latch is taken.
+pub(crate) struct TakeDirectory;
+
+impl Play<Slot, View> for TakeDirectory {
+    ghost then = { takes_directory };
+}
+
+/// Which keys a session knows of from a step on.
+pub(crate) trait Learning {
+    ghost learnt: { List Known };
+}
+
+/// Each call picks them.
+impl Learning for Brand {
+    ghost learnt = { [] };
+}
+
+/// The directory's latch is given back, and some keys are known.
+pub(crate) struct PutDirectory<J: Learning> {
+    marker: PhantomData<J>,
+}
+
+impl<J: Learning> Play<Slot, View> for PutDirectory<J> {
+    ghost then = { puts_directory J.learnt };
 }
