@@ -10,6 +10,7 @@ pub mod Books
 pub mod Put
 pub mod Notes
 pub mod Exclusive
+pub mod Noting
 pub mod Versions
 pub mod Hands
 pub mod Tells
