@@ -12,6 +12,7 @@ pub mod Notes
 pub mod Exclusive
 pub mod Noting
 pub mod Versions
+pub mod Reading
 pub mod Hands
 pub mod Tells
 pub mod Desks

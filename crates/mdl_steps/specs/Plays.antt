@@ -110,6 +110,16 @@ redefined place standing m =
     } in
     (logged (version_word place) (standing.version - 1) v.latches known, m.1)
 
+-- the latch of a place was given back with nothing changed, and what stands under its key was read
+abbrev pub read_and_put : ℕ → Standing → Mine → Mine
+read_and_put place standing m =
+    let known = record (dropped place m.0) {
+      fast = noting_version place standing.version m.0.fast;
+      slow = noting_version place standing.version m.0.slow;
+      reads = m.0.reads ++ record { place = place; standing = standing } ∷ [];
+    } in
+    (logged (latch_word place) m.0.number m.0.latches known, rest m.1)
+
 -- ---- the directory
 
 -- as its latch is taken: different keys have different places, there are places for all of them, and each key that the session knows
@@ -153,6 +163,13 @@ takes_latch st m found m′ =
 abbrev pub puts_latch : List Deed → Step Slot → Mine → ℕ → Mine → Type 0
 puts_latch ds st m found m′ =
     (m′.0.number ≡ m.0.number) × ((place : ℕ) → st.word ≡ latch_word place → m′ ≡ unlatched place ds m)
+
+-- the latch of a place is given back with nothing changed, and what the book in hand has is read
+abbrev pub puts_reading : Step Slot → Mine → ℕ → Mine → Type 0
+puts_reading st m found m′ =
+    (m′.0.number ≡ m.0.number)
+    × ((place : ℕ) (book : BookView) → st.word ≡ latch_word place → m.1 ≡ (place, slot.Place book) ∷ rest m.1 →
+    m′ ≡ read_and_put place book.standing m)
 
 -- flags of a place are raised, by `|` with their number
 abbrev pub raises_flags : Step Slot → Mine → ℕ → Mine → Type 0

@@ -3,7 +3,7 @@ ghost use Rattle.std.specs.Prelude.{◌-◌, List, []};
 ghost use Rattle.mdl_steps.specs.declared.deed.Deed.{Deed};
 ghost use Rattle.mdl_steps.specs.declared.view.Known.{Known};
 ghost use Rattle.mdl_steps.specs.Cells.{blank};
-ghost use Rattle.mdl_steps.specs.Plays.{enrols, takes_latch, puts_latch, raises_flags, lowers_flags, reads_word, writes_version, takes_directory, puts_directory};
+ghost use Rattle.mdl_steps.specs.Plays.{enrols, takes_latch, puts_latch, raises_flags, lowers_flags, reads_word, writes_version, takes_directory, puts_directory, puts_reading};
 ghost use Rattle.mdl_steps.specs.Rule.{Rule};
 
 use crate::{Slot, View};
@@ -80,6 +80,13 @@ pub(crate) struct PutLatch<J: Doing> {
 
 impl<J: Doing> Play<Slot, View> for PutLatch<J> {
     ghost then = { puts_latch J.deeds };
+}
+
+/// A latch is given back, and what stands there was read.
+pub(crate) struct PutReading;
+
+impl Play<Slot, View> for PutReading {
+    ghost then = { puts_reading };
 }
 
 /// Flags are lowered, after some deeds.

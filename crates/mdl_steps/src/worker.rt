@@ -1,21 +1,23 @@
 //! The steps of a session.
-ghost use Rattle.std.specs.Prelude.{◌≡◌, ◌≢◌, ℕ, ◌+◌, ◌*◌, ◌^◌, ◌<◌, ◌∷◌, Some, MatchOption};
+ghost use Rattle.std.specs.Prelude.{◌≡◌, ◌≢◌, ℕ, ◌+◌, ◌*◌, ◌^◌, ◌<◌, ◌∷◌, [], Some, IfOk, MatchOption};
 ghost use Rattle.mdl_book.specs.Books.{has_obtrusive, has_tickets};
 ghost use Rattle.mdl_book.specs.declared.book_view.BookView.{BookView};
 ghost use Rattle.mdl_steps.specs.declared.slot.Slot.TheVariants as slot;
 ghost use Rattle.mdl_steps.specs.declared.view.Held.{Held};
 ghost use Rattle.mdl_steps.specs.Cells.{held_at};
 ghost use Rattle.mdl_steps.specs.Layout.{latch_word, lock_word, version_word};
-ghost use Rattle.mdl_steps.specs.Plays.{IsFresh, latched, unlatched, logged, stepped, settled, raised, noting, lowered, redefined, restood};
+ghost use Rattle.mdl_steps.specs.Plays.{IsFresh, latched, unlatched, logged, stepped, settled, raised, noting, lowered, redefined, restood, read_and_put};
 ghost use Rattle.mdl_steps.specs.Seats.{IsSized, IsPlace, IsRising, Holds, MayPut, MayLower, MayWriteVersion, rest};
 
 use crate::plays::{
-    Doing, LowerFlags, Order, PutLatch, RaiseFlags, ReadWord, TakeLatch, WriteVersion,
+    Doing, LowerFlags, Order, PutLatch, PutReading, RaiseFlags, ReadWord, TakeLatch, WriteVersion,
 };
 use crate::{Deed, Slot, View};
 use atomic_table::{Seat, Shared};
 use mdl_book::Needs;
+use mdl_defs::Standing;
 use mdl_word::Word;
+use std::alloc::AllocError;
 use std::marker::Brand;
 
 /// The table as its sessions see it.
@@ -206,6 +208,36 @@ impl Worker {
     {
         let Latched { place } = latch;
         self.put_latch_after::<Brand>(top, place, deeds);
+    }
+
+    /// What stands by the book in hand, copied. Nothing changes, also where memory runs out.
+    pub fn standing(&mut self, top: &LockTable, latch: &Latched) -> Result<Standing, AllocError>
+        requires table { self.old.seat.table_id ≡ top.now.table_id }
+        requires carried { (book : BookView) × (self.old.seat.me.1 ≡ (latch.now.place, slot.Place book) ∷ rest self.old.seat.me.1) }
+        ensures seat { (self.new.seat.table_id ≡ self.old.seat.table_id) × (self.new.number ≡ self.old.number) }
+        ensures same { self.new.seat.me ≡ self.old.seat.me }
+        ensures told { (book : BookView) → self.old.seat.me.1 ≡ (latch.now.place, slot.Place book) ∷ rest self.old.seat.me.1
+            → IfOk result (λ standing. standing ≡ book.standing) }
+    {
+        match self.seat.slot_mut(top, latch.place) {
+            Slot::Place(book) => book.read(),
+            // It is a place that is held.
+            Slot::Directory(_) => Err(AllocError),
+        }
+    }
+
+    /// Gives the latch back with nothing changed. The session has read what stands by the book in hand, and notes its version under each
+    /// ticket that it has there.
+    pub fn put_latch_reading(&mut self, top: &LockTable, latch: Latched)
+        requires table { (self.old.seat.table_id ≡ top.now.table_id) × IsSized top.now.table_id }
+        requires place { IsPlace top.now.table_id latch.place }
+        requires put { MayPut latch.place [] self.old.seat.me }
+        ensures seat { (self.new.seat.table_id ≡ self.old.seat.table_id) × (self.new.number ≡ self.old.number) }
+        ensures made { (book : BookView) → self.old.seat.me.1 ≡ (latch.place, slot.Place book) ∷ rest self.old.seat.me.1
+            → self.new.seat.me ≡ read_and_put latch.place book.standing self.old.seat.me }
+    {
+        let Latched { place } = latch;
+        top.store::<PutReading>(&mut self.seat, latch_word(place), 0);
     }
 
     fn put_latch_after<J: Doing>(&mut self, top: &LockTable, place: usize, _deeds: &[Deed])
