@@ -1,5 +1,5 @@
 -- What a caller of the steps knows of its seat, and what it has to know to make a step.
-use Rattle.std.specs.Prelude.{◌≡◌, ℕ, ◌*◌, ◌^◌, ◌<◌, ◌≤◌, ◌&&◌, Bool, List, ◌∷◌, Some}
+use Rattle.std.specs.Prelude.{◌≡◌, ℕ, ◌*◌, ◌^◌, ◌<◌, ◌≤◌, ◌==◌, ◌&&◌, Bool, not, List, ◌∷◌, filter, Some}
 use Rattle.atomic_table.specs.Seated.{TableId}
 pub use Rattle.atomic_table.specs.Table.{rest}
 use Rattle.mdl_book.specs.declared.book_view.BookView.{BookView}
@@ -43,3 +43,11 @@ MayLower place ds slow obtrusive m =
 -- latches are taken in rising order: each that it holds is of a lower place
 abbrev pub IsRising : ℕ → Mine → Type 0
 IsRising place m = Each (λ (h : Held). h.place < place) m.0.latches
+
+-- the records of the latches that it holds at other places
+abbrev pub elsewhere : ℕ → Mine → List Held
+elsewhere place m = filter (λ h. not (h.place == place)) m.0.latches
+
+-- the seat has another book of the place in hand
+abbrev pub written : ℕ → BookView → Mine → Mine
+written place book m = (m.0, (place, slot.Place book) ∷ rest m.1)
