@@ -13,7 +13,7 @@ ghost use Rattle.mdl_steps.specs.Cells.{held_at};
 ghost use Rattle.mdl_steps.specs.Deeds.{booked};
 ghost use Rattle.mdl_steps.specs.Layout.{latch_word, lock_word};
 ghost use Rattle.mdl_steps.specs.Plays.{IsFresh, latched, unlatched, logged, stepped, settled, raised, noting, lowered};
-ghost use Rattle.mdl_steps.specs.Seats.{IsSized, IsPlace, IsRising, Holds, MayPut, MayLower, rest, written};
+ghost use Rattle.mdl_steps.specs.Seats.{IsSized, IsPlace, IsRising, Holds, MayPut, MayLower, rest, written, elsewhere};
 
 use crate::plays::{Doing, LowerFlags, Order, PutLatch, RaiseFlags, ReadWord, TakeLatch};
 use crate::{Deed, Slot, View};
@@ -65,6 +65,7 @@ impl Worker {
         ensures taken { MatchOption result
             ((found : ℕ) × (found ≢ 0) × (self.new.seat.me ≡ (logged (latch_word place) found self.old.seat.me.0.latches self.old.seat.me.0, self.old.seat.me.1)))
             (λ held. (held.place ≡ place) × ((h : Held) × IsFresh place h self.old.seat.me × Holds place h h.book self.new.seat.me × (self.new.seat.me ≡ latched place h self.old.seat.me))) }
+        ensures apart { elsewhere place self.new.seat.me ≡ elsewhere place self.old.seat.me }
     {
         let found = top.compare_exchange::<TakeLatch>(
             &mut self.seat,
@@ -203,6 +204,7 @@ impl Worker {
         ensures seat { (self.new.seat.table_id ≡ self.old.seat.table_id) × (self.new.number ≡ self.old.number) }
         ensures made { (found : ℕ) × (self.new.seat.me ≡ stepped latch.now.place found (raised slow obtrusive) self.old.seat.me) }
         ensures keeps { (h : Held) (book : BookView) → Holds latch.now.place h book self.old.seat.me → Holds latch.now.place (raised slow obtrusive h) book self.new.seat.me }
+        ensures apart { elsewhere latch.now.place self.new.seat.me ≡ elsewhere latch.now.place self.old.seat.me }
     {
         top.fetch_or::<RaiseFlags>(
             &mut self.seat,
@@ -219,6 +221,7 @@ impl Worker {
         ensures seat { (self.new.seat.table_id ≡ self.old.seat.table_id) × (self.new.number ≡ self.old.number) }
         ensures made { self.new.seat.me ≡ stepped latch.now.place result.0 (noting result.0) self.old.seat.me }
         ensures keeps { (h : Held) (book : BookView) → Holds latch.now.place h book self.old.seat.me → Holds latch.now.place (noting result.0 h) book self.new.seat.me }
+        ensures apart { elsewhere latch.now.place self.new.seat.me ≡ elsewhere latch.now.place self.old.seat.me }
     {
         Word(top.load::<ReadWord>(&mut self.seat, lock_word(latch.place)))
     }
@@ -239,6 +242,7 @@ impl Worker {
         ensures made { (found : ℕ) × ((book : BookView) → self.old.seat.me.1 ≡ (latch.now.place, slot.Place book) ∷ rest self.old.seat.me.1
             → self.new.seat.me ≡ settled latch.now.place deeds.now found book slow obtrusive self.old.seat.me) }
         ensures keeps { (h : Held) (book : BookView) → Holds latch.now.place h book self.old.seat.me → Holds latch.now.place (lowered book slow obtrusive h) book self.new.seat.me }
+        ensures apart { elsewhere latch.now.place self.new.seat.me ≡ elsewhere latch.now.place self.old.seat.me }
     {
         self.lower_flags_after::<Brand>(top, latch, slow, obtrusive, deeds);
     }
@@ -259,6 +263,7 @@ impl Worker {
         ensures made { (found : ℕ) × ((book : BookView) → self.old.seat.me.1 ≡ (latch.now.place, slot.Place book) ∷ rest self.old.seat.me.1
             → self.new.seat.me ≡ settled latch.now.place _deeds.now found book slow obtrusive self.old.seat.me) }
         ensures keeps { (h : Held) (book : BookView) → Holds latch.now.place h book self.old.seat.me → Holds latch.now.place (lowered book slow obtrusive h) book self.new.seat.me }
+        ensures apart { elsewhere latch.now.place self.new.seat.me ≡ elsewhere latch.now.place self.old.seat.me }
     {
         top.fetch_and::<LowerFlags<J>>(
             &mut self.seat,
