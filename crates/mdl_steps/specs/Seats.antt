@@ -1,5 +1,5 @@
 -- What a caller of the steps knows of its seat, and what it has to know to make a step.
-use Rattle.std.specs.Prelude.{nat_lt, if◌then◌else◌, Option, None, ◌≡◌, ℕ, ◌+◌, ◌*◌, ◌^◌, ◌<◌, ◌≤◌, ◌&&◌, Bool, List, ◌∷◌, Contains, Some}
+use Rattle.std.specs.Prelude.{◌≡◌, ℕ, ◌+◌, ◌*◌, ◌^◌, ◌<◌, ◌≤◌, ◌==◌, ◌&&◌, Bool, not, nat_lt, if◌then◌else◌, List, ◌∷◌, filter, Contains, Option, Some, None}
 use Rattle.atomic_table.specs.Seated.{TableId}
 pub use Rattle.atomic_table.specs.Table.{rest}
 use Rattle.std.specs.Option.{option_map, option_to_list}
@@ -64,6 +64,14 @@ MayWriteVersion place m = (h : Held) × (standing : Standing) × HasRedefined pl
 -- latches are taken in rising order: each that it holds is of a lower place
 abbrev pub IsRising : ℕ → Mine → Type 0
 IsRising place m = Each (λ (h : Held). h.place < place) m.0.latches
+
+-- the records of the latches that it holds at other places
+abbrev pub elsewhere : ℕ → Mine → List Held
+elsewhere place m = filter (λ h. not (h.place == place)) m.0.latches
+
+-- the seat has another book of the place in hand
+abbrev pub written : ℕ → BookView → Mine → Mine
+written place book m = (m.0, (place, slot.Place book) ∷ rest m.1)
 
 -- the seat has the directory's latch, with this record of it, and the directory in hand, unchanged
 pub record HasDirectory (k : Keys) (m : Mine) : Type 0 where

@@ -1,13 +1,14 @@
 -- The holder of the latch may leave just those flags up that tell of each ticket in the lists.
-use Rattle.std.proofs.Common.{ℕ, ◌+◌, ◌*◌, ◌<◌, List, sym, subst, arith, bit_and}
+use Rattle.std.proofs.Common.{ℕ, ◌+◌, ◌*◌, ◌<◌, List, sym, ap, ◌∙◌, subst, arith, bit_and}
 use mathlib.Core.Option.{none}
 use Rattle.atomic_table.specs.Table.{Allows, step}
 use Rattle.mdl_steps.specs.declared.deed.Deed.{Deed}
+use Rattle.mdl_steps.specs.Deeds.{all_booked}
 use Rattle.mdl_steps.specs.Plays.{Mine, lowers_flags, lowered}
 use Rattle.mdl_steps.specs.Rule.{Rule}
-use Rattle.mdl_steps.specs.Seats.{Holds}
+use Rattle.mdl_steps.specs.Seats.{Holds, elsewhere}
 use Rattle.mdl_steps.proofs.Put.{lowers_allowed}
-use Rattle.mdl_steps.proofs.Hands.{holds_settled}
+use Rattle.mdl_steps.proofs.Hands.{holds_settled, elsewhere-settled}
 use Rattle.mdl_steps.proofs.worker.Worker.lower_flags_after.Goals as goal
 
 pub fetch_and-requires : goal.fetch_and-requires
@@ -37,3 +38,12 @@ returns-clause-keeps g c =
     λ h book has.
     let made = c.fetch_and.ensures.2.1 place slow obtrusive book c.lock_word.ensures c.keeping.ensures has.carried in
     subst (λ (m : Mine). Holds place (lowered book slow obtrusive h) book m) (sym made) (holds_settled place g.J.Doing.deeds c.fetch_and.result slow obtrusive h book seat.me has)
+
+pub returns-clause-apart : goal.returns-clause-apart
+returns-clause-apart g c =
+    let place = c.args.latch.now.place in
+    let me = c.args.self.now.seat.me in
+    let low = c.requires.lowered in
+    let book = all_booked me.0.number c.args._deeds.now low.0.book in
+    let made = c.fetch_and.ensures.2.1 place c.args.slow c.args.obtrusive book c.lock_word.ensures c.keeping.ensures low.1.holds.carried in
+    ap (elsewhere place) made ∙ elsewhere-settled place g.J.Doing.deeds c.fetch_and.result c.args.slow c.args.obtrusive book me

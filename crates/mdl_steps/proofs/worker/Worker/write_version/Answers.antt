@@ -5,9 +5,9 @@ use Rattle.atomic_table.specs.Table.{Allows, step, rest}
 use Rattle.mdl_steps.specs.declared.slot.Slot.TheVariants as slot
 use Rattle.mdl_steps.specs.Plays.{Mine, writes_version, redefined, restood}
 use Rattle.mdl_steps.specs.Rule.{Rule}
-use Rattle.mdl_steps.specs.Seats.{Holds, MayWriteVersion}
+use Rattle.mdl_steps.specs.Seats.{Holds, MayWriteVersion, elsewhere}
 use Rattle.mdl_steps.proofs.Versions.{writes_allowed}
-use Rattle.mdl_steps.proofs.Hands.{holds_redefined}
+use Rattle.mdl_steps.proofs.Hands.{holds_redefined, elsewhere-redefined}
 use Rattle.mdl_steps.proofs.worker.Worker.write_version.Goals as goal
 
 pub store-requires : goal.store-requires
@@ -42,3 +42,13 @@ returns-clause-keeps c =
     let carried = subst (λ (m : Mine). m.1 ≡ (place, slot.Place book) ∷ rest m.1) (sym same) has.carried in
     let made = c.store.ensures.2.1 place book c.version_word.ensures carried ∙ ap (λ (m : Mine). redefined place book.standing m) same in
     subst (λ (m : Mine). Holds place (restood book.standing h) book m) (sym made) (holds_redefined place h book before has)
+
+pub returns-clause-apart : goal.returns-clause-apart
+returns-clause-apart c =
+    let place = c.args.latch.now.place in
+    let before = c.args.self.now.seat.me in
+    let same = c.version-version.ensures.same in
+    let was = c.requires.written in
+    let carried = subst (λ (m : Mine). m.1 ≡ (place, slot.Place (record was.0.book { standing = was.1 })) ∷ rest m.1) (sym same) was.2.holds.carried in
+    let made = c.store.ensures.2.1 place (record was.0.book { standing = was.1 }) c.version_word.ensures carried ∙ ap (λ (m : Mine). redefined place was.1 m) same in
+    ap (elsewhere place) made ∙ elsewhere-redefined place was.1 before
