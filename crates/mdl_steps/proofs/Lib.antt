@@ -8,6 +8,14 @@ pub mod Owns
 pub mod Deeds
 pub mod Books
 pub mod Put
+pub mod Notes
+pub mod Exclusive
+pub mod Noting
+pub mod Versions
+pub mod Reading
+pub mod Hands
+pub mod Tells
+pub mod Desks
 pub mod Opens
 pub mod Enrol
 pub mod Starts

@@ -51,7 +51,7 @@ kept_same false false false true e = absurd (omega arith)
 kept_same false false false false e = (refl, refl)
 
 -- the first slot in hand is one
-one_hand : {p q : ℕ} {a b : BookView} {xs ys : List (ℕ × Slot)} → ◌≡◌ {A = List (ℕ × Slot)} ((p, slot.Place a) ∷ xs) ((q, slot.Place b) ∷ ys) → a ≡ b
+pub one_hand : {p q : ℕ} {a b : BookView} {xs ys : List (ℕ × Slot)} → ◌≡◌ {A = List (ℕ × Slot)} ((p, slot.Place a) ∷ xs) ((q, slot.Place b) ∷ ys) → a ≡ b
 one_hand {a = a} {b = b} e = ap first_book e
   where
     book_of : Slot → BookView

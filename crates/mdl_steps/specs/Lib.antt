@@ -5,4 +5,5 @@ pub mod Lists
 pub mod Openings
 pub mod Plays
 pub mod Rule
+pub mod RuleLaws
 pub mod Seats

@@ -1,10 +1,11 @@
 -- What each kind of step tells the session that makes it: of the step, what the seat knew, what the word was, and what it
 -- knows then. Each is added to the session's list of steps.
-use Rattle.std.specs.Prelude.{◌≡◌, ◌≢◌, ℕ, ◌<◌, ◌==◌, not, Bool, true, ◌&&◌, ◌||◌, List, [], ◌∷◌, ◌++◌, map, filter, Some, None, if◌then◌else◌}
+use Rattle.std.specs.Prelude.{◌≡◌, ◌≢◌, ℕ, ◌-◌, ◌<◌, ◌==◌, not, Bool, true, ◌&&◌, ◌||◌, List, [], ◌∷◌, ◌++◌, map, filter, length, Some, None, if◌then◌else◌}
 use lib.ListN.{get_elem?}
 use mathlib.Core.Option.{some}
 use Rattle.atomic_table.specs.Table.{Me, Step, rest}
 use Rattle.mdl_word.specs.Words.{flags_alone, all_but_flags}
+use Rattle.mdl_defs.specs.declared.standing.Standing.{Standing}
 use Rattle.mdl_book.specs.declared.book_view.BookView.{BookView}
 use Rattle.mdl_book.specs.Tickets.{ticket_of}
 use Rattle.mdl_book.specs.Granting.{is_lawful}
@@ -13,12 +14,15 @@ use Rattle.mdl_steps.specs.declared.deed.Deed.{Deed}
 use Rattle.mdl_steps.specs.declared.slot.Slot.{Slot}
 use Rattle.mdl_steps.specs.declared.slot.Slot.TheVariants as slot
 use Rattle.mdl_steps.specs.declared.view.Held.{Held}
+use Rattle.mdl_steps.specs.declared.view.Keys.{Keys}
 use Rattle.mdl_steps.specs.declared.view.Known.{Known}
+use Rattle.mdl_steps.specs.declared.view.Own.{Own}
 use Rattle.mdl_steps.specs.declared.view.View.{View}
 use Rattle.mdl_steps.specs.Cells.{own_at, ticket_by}
 use Rattle.mdl_steps.specs.Deeds.{all_done, NotWaited}
-use Rattle.mdl_steps.specs.Layout.{latch_word, lock_word}
-use Rattle.mdl_steps.specs.Rule.{TellsLists}
+use Rattle.mdl_steps.specs.Layout.{latch_word, lock_word, version_word}
+use Rattle.mdl_steps.specs.Lists.{Distinct}
+use Rattle.mdl_steps.specs.Rule.{TellsLists, KnowsKeys}
 
 -- a session's seat: its view, and the slots that it took
 abbrev pub Mine : Type 0
@@ -54,6 +58,16 @@ abbrev pub lowered : BookView → Bool → Bool → Held → Held
 lowered book slow obtrusive h =
     record h { book = book; slow = slow && h.slow; obtrusive = obtrusive && h.obtrusive; noted = if obtrusive && h.obtrusive then h.noted else None }
 
+-- with what stands now under the lock's key
+abbrev pub restood : Standing → Held → Held
+restood standing h = record h { book = record h.book { standing = standing } }
+
+-- ---- the session's tickets
+
+-- with this version noted under each ticket at a place
+abbrev pub noting_version : ℕ → ℕ → List Own → List Own
+noting_version place version tickets = map (λ (t : Own). if t.place == place then record t { noted = Some version } else t) tickets
+
 -- ---- the view
 
 -- with another record of the latch of a place
@@ -84,7 +98,58 @@ abbrev pub settled : ℕ → List Deed → ℕ → BookView → Bool → Bool �
 settled place ds found book slow obtrusive m =
     (logged (lock_word place) found m.0.latches (changed place (lowered book slow obtrusive) (all_done place ds m.0)), m.1)
 
+-- what stands under the key of a place was changed: the session knows it from then on, under each ticket that it has there. What
+-- the version's word was before is one less
+abbrev pub redefined : ℕ → Standing → Mine → Mine
+redefined place standing m =
+    let v = changed place (restood standing) m.0 in
+    let known = record v {
+      fast = noting_version place standing.version v.fast;
+      slow = noting_version place standing.version v.slow;
+      reads = v.reads ++ record { place = place; standing = standing } ∷ [];
+    } in
+    (logged (version_word place) (standing.version - 1) v.latches known, m.1)
+
+-- the latch of a place was given back with nothing changed, and what stands under its key was read
+abbrev pub read_and_put : ℕ → Standing → Mine → Mine
+read_and_put place standing m =
+    let known = record (dropped place m.0) {
+      fast = noting_version place standing.version m.0.fast;
+      slow = noting_version place standing.version m.0.slow;
+      reads = m.0.reads ++ record { place = place; standing = standing } ∷ [];
+    } in
+    (logged (latch_word place) m.0.number m.0.latches known, rest m.1)
+
+-- ---- the directory
+
+-- as its latch is taken: different keys have different places, there are places for all of them, and each key that the session knows
+-- is where it knows it to be
+pub record IsDirectory (slots : ℕ) (k : Keys) (m : Mine) : Type 0 where
+  pub distinct : Distinct k.keys
+  pub fit : length k.keys < slots
+  pub known : KnowsKeys k.keys m.0
+
+-- the directory's latch was taken, with this record of it
+abbrev pub consulted : Keys → Mine → Mine
+consulted k m = (logged (latch_word 0) 0 m.0.latches (record m.0 { directory = Some k }), (0, slot.Directory k) ∷ m.1)
+
+-- it was given back, and the session knows these keys, too
+abbrev pub informed : List Known → Mine → Mine
+informed more m = (logged (latch_word 0) m.0.number m.0.latches (record m.0 { directory = None; known = m.0.known ++ more }), rest m.1)
+
 -- ---- the kinds of step: the session keeps its number
+
+-- the directory's latch is taken where it was free, and otherwise only that was met
+abbrev pub takes_directory : Step Slot → Mine → ℕ → Mine → Type 0
+takes_directory st m found m′ =
+    (m′.0.number ≡ m.0.number)
+    × (st.word ≡ latch_word 0 →
+    (found ≡ 0 → (k : Keys) × IsDirectory st.slots k m × (m′ ≡ consulted k m))
+    × (found ≢ 0 → m′ ≡ (logged (latch_word 0) found m.0.latches m.0, m.1)))
+
+-- the directory's latch is given back, and these keys are known from then on
+abbrev pub puts_directory : List Known → Step Slot → Mine → ℕ → Mine → Type 0
+puts_directory more st m found m′ = (m′.0.number ≡ m.0.number) × (st.word ≡ latch_word 0 → m′ ≡ informed more m)
 
 -- the latch of a place is taken where it was free, and otherwise only that was met
 abbrev pub takes_latch : Step Slot → Mine → ℕ → Mine → Type 0
@@ -98,6 +163,13 @@ takes_latch st m found m′ =
 abbrev pub puts_latch : List Deed → Step Slot → Mine → ℕ → Mine → Type 0
 puts_latch ds st m found m′ =
     (m′.0.number ≡ m.0.number) × ((place : ℕ) → st.word ≡ latch_word place → m′ ≡ unlatched place ds m)
+
+-- the latch of a place is given back with nothing changed, and what the book in hand has is read
+abbrev pub puts_reading : Step Slot → Mine → ℕ → Mine → Type 0
+puts_reading st m found m′ =
+    (m′.0.number ≡ m.0.number)
+    × ((place : ℕ) (book : BookView) → st.word ≡ latch_word place → m.1 ≡ (place, slot.Place book) ∷ rest m.1 →
+    m′ ≡ read_and_put place book.standing m)
 
 -- flags of a place are raised, by `|` with their number
 abbrev pub raises_flags : Step Slot → Mine → ℕ → Mine → Type 0
@@ -119,6 +191,13 @@ lowers_flags ds st m found m′ =
     (m′.0.number ≡ m.0.number)
     × ((place : ℕ) (slow obtrusive : Bool) (book : BookView) → st.word ≡ lock_word place → st.first ≡ all_but_flags slow obtrusive →
     m.1 ≡ (place, slot.Place book) ∷ rest m.1 → m′ ≡ settled place ds found book slow obtrusive m)
+
+-- the version of a place is written: that of the book in hand, which the record has from then on
+abbrev pub writes_version : Step Slot → Mine → ℕ → Mine → Type 0
+writes_version st m found m′ =
+    (m′.0.number ≡ m.0.number)
+    × ((place : ℕ) (book : BookView) → st.word ≡ version_word place → m.1 ≡ (place, slot.Place book) ∷ rest m.1 →
+    m′ ≡ redefined place book.standing m)
 
 -- a session's number is drawn. It fits 16 bits
 abbrev pub enrols : Step Slot → Mine → ℕ → Mine → Type 0

@@ -1,15 +1,23 @@
 -- What a caller of the steps knows of its seat, and what it has to know to make a step.
-use Rattle.std.specs.Prelude.{◌≡◌, ℕ, ◌*◌, ◌^◌, ◌<◌, ◌≤◌, ◌&&◌, Bool, List, ◌∷◌, Some}
+use Rattle.std.specs.Prelude.{◌≡◌, ℕ, ◌+◌, ◌*◌, ◌^◌, ◌<◌, ◌≤◌, ◌==◌, ◌&&◌, Bool, not, nat_lt, if◌then◌else◌, List, ◌∷◌, filter, Contains, Option, Some, None}
 use Rattle.atomic_table.specs.Seated.{TableId}
 pub use Rattle.atomic_table.specs.Table.{rest}
+use Rattle.std.specs.Option.{option_map, option_to_list}
+use Rattle.mdl_key.specs.Words.{KeyName}
+use Rattle.mdl_key.specs.declared.mode.Mode.TheVariants.{X}
+use Rattle.mdl_defs.specs.declared.standing.Standing.{Standing}
+use Rattle.mdl_book.specs.declared.book_view.BookView.{BookView}
+use Rattle.mdl_book.specs.declared.ticket.Ticket.{Ticket}
 use Rattle.mdl_steps.specs.declared.deed.Deed.{Deed}
 use Rattle.mdl_steps.specs.declared.slot.Slot.TheVariants as slot
 use Rattle.mdl_steps.specs.declared.view.Held.{Held}
+use Rattle.mdl_steps.specs.declared.view.Keys.{Keys}
+use Rattle.mdl_steps.specs.declared.view.Known.{Known}
 use Rattle.mdl_steps.specs.Cells.{held_at}
 use Rattle.mdl_steps.specs.Deeds.{MayAct, MayAll, all_booked}
 use Rattle.mdl_steps.specs.Lists.{Each}
 use Rattle.mdl_steps.specs.Plays.{Mine}
-use Rattle.mdl_steps.specs.Rule.{TellsLists, Flagged}
+use Rattle.mdl_steps.specs.Rule.{TellsLists, Flagged, key_at}
 
 -- the table has words for each of its slots, and no more slots than their numbers have room for
 abbrev pub IsSized : TableId → Type 0
@@ -19,10 +27,14 @@ IsSized id = (8 * id.slots ≤ id.words) × (id.slots < 2 ^ 32)
 abbrev pub IsPlace : TableId → ℕ → Type 0
 IsPlace id place = (0 < place) × (place < id.slots)
 
+-- the seat has this record of the latch of the place, and this book of it in hand
+pub record Holds (place : ℕ) (h : Held) (book : BookView) (m : Mine) : Type 0 where
+  pub recorded : held_at place m.0.latches ≡ Some h
+  pub carried : m.1 ≡ (place, slot.Place book) ∷ rest m.1
+
 -- the seat holds the latch of the place, and has done in the book what these deeds say
 pub record HasDone (place : ℕ) (ds : List Deed) (h : Held) (m : Mine) : Type 0 where
-  pub recorded : held_at place m.0.latches ≡ Some h
-  pub carried : m.1 ≡ (place, slot.Place (all_booked m.0.number ds h.book)) ∷ rest m.1
+  pub holds : Holds place h (all_booked m.0.number ds h.book) m
   pub act : MayAct m.0 place ds
   pub may : MayAll place m.0 h.book h.noted ds
 
@@ -35,6 +47,46 @@ abbrev pub MayLower : ℕ → List Deed → Bool → Bool → Mine → Type 0
 MayLower place ds slow obtrusive m =
     (h : Held) × HasDone place ds h m × Flagged (all_booked m.0.number ds h.book) (slow && h.slow) (obtrusive && h.obtrusive)
 
+-- the session has an exclusive ticket in the book
+abbrev pub HasExclusive : Held → Mine → Type 0
+HasExclusive h m = (t : Ticket) × Contains h.book.granted t × (t.session ≡ m.0.number) × (t.mode ≡ X)
+
+-- the seat holds the latch of the place, and has changed in the book what stands there, which only the holder of an exclusive ticket may
+pub record HasRedefined (place : ℕ) (h : Held) (standing : Standing) (m : Mine) : Type 0 where
+  pub holds : Holds place h (record h.book { standing = standing }) m
+  pub newer : standing.version ≡ h.book.standing.version + 1
+  pub exclusive : HasExclusive h m
+
+-- it may write the version
+abbrev pub MayWriteVersion : ℕ → Mine → Type 0
+MayWriteVersion place m = (h : Held) × (standing : Standing) × HasRedefined place h standing m
+
 -- latches are taken in rising order: each that it holds is of a lower place
 abbrev pub IsRising : ℕ → Mine → Type 0
 IsRising place m = Each (λ (h : Held). h.place < place) m.0.latches
+
+-- the records of the latches that it holds at other places
+abbrev pub elsewhere : ℕ → Mine → List Held
+elsewhere place m = filter (λ h. not (h.place == place)) m.0.latches
+
+-- the seat has another book of the place in hand
+abbrev pub written : ℕ → BookView → Mine → Mine
+written place book m = (m.0, (place, slot.Place book) ∷ rest m.1)
+
+-- the seat has the directory's latch, with this record of it, and the directory in hand, unchanged
+pub record HasDirectory (k : Keys) (m : Mine) : Type 0 where
+  pub recorded : m.0.directory ≡ Some k
+  pub carried : m.1 ≡ (0, slot.Directory k) ∷ rest m.1
+
+-- the key at a place, by the record of the directory. Place 0 has none
+abbrev pub recorded_key : Option Keys → ℕ → Option KeyName
+recorded_key None place = None
+recorded_key (Some k) place = if nat_lt 0 place then key_at k.keys place else None
+
+-- what the session learns of it
+abbrev pub learnt : Mine → ℕ → List Known
+learnt m place = option_to_list (option_map (λ key. record { key = key; place = place }) (recorded_key m.0.directory place))
+
+-- it may give the latch back
+abbrev pub MayInform : Mine → Type 0
+MayInform m = (k : Keys) × HasDirectory k m

@@ -12,6 +12,8 @@
 #![tactic(auto)]
 
 mod deed;
+mod directory;
+mod laws;
 mod maker;
 mod opening;
 mod plays;
@@ -20,6 +22,11 @@ mod view;
 mod worker;
 
 pub use deed::Deed;
+pub use directory::LatchedDirectory;
+pub use laws::{
+    free_locks_are_as_their_words_tell, held_locks_are_as_their_records_tell, noted_versions_stand,
+    reads_are_of_what_stands,
+};
 pub use maker::{Maker, OwnedTable};
 pub use plays::Order;
 pub use slot::{Directory, Slot};

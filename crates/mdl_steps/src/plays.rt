@@ -1,8 +1,9 @@
 //! The rule of the table, and what each kind of step tells its session.
 ghost use Rattle.std.specs.Prelude.{◌-◌, List, []};
 ghost use Rattle.mdl_steps.specs.declared.deed.Deed.{Deed};
+ghost use Rattle.mdl_steps.specs.declared.view.Known.{Known};
 ghost use Rattle.mdl_steps.specs.Cells.{blank};
-ghost use Rattle.mdl_steps.specs.Plays.{enrols, takes_latch, puts_latch, raises_flags, lowers_flags, reads_word};
+ghost use Rattle.mdl_steps.specs.Plays.{enrols, takes_latch, puts_latch, raises_flags, lowers_flags, reads_word, writes_version, takes_directory, puts_directory, puts_reading};
 ghost use Rattle.mdl_steps.specs.Rule.{Rule};
 
 use crate::{Slot, View};
@@ -55,6 +56,13 @@ impl Play<Slot, View> for ReadWord {
     ghost then = { reads_word };
 }
 
+/// A version is written.
+pub(crate) struct WriteVersion;
+
+impl Play<Slot, View> for WriteVersion {
+    ghost then = { writes_version };
+}
+
 /// Which deeds a step is made with.
 pub(crate) trait Doing {
     ghost deeds: { List Deed };
@@ -74,6 +82,13 @@ impl<J: Doing> Play<Slot, View> for PutLatch<J> {
     ghost then = { puts_latch J.deeds };
 }
 
+/// A latch is given back, and what stands there was read.
+pub(crate) struct PutReading;
+
+impl Play<Slot, View> for PutReading {
+    ghost then = { puts_reading };
+}
+
 /// Flags are lowered, after some deeds.
 pub(crate) struct LowerFlags<J: Doing> {
     marker: PhantomData<J>,
@@ -81,4 +96,30 @@ pub(crate) struct LowerFlags<J: Doing> {
 
 impl<J: Doing> Play<Slot, View> for LowerFlags<J> {
     ghost then = { lowers_flags J.deeds };
+}
+
+/// The directory's latch is taken.
+pub(crate) struct TakeDirectory;
+
+impl Play<Slot, View> for TakeDirectory {
+    ghost then = { takes_directory };
+}
+
+/// Which keys a session knows of from a step on.
+pub(crate) trait Learning {
+    ghost learnt: { List Known };
+}
+
+/// Each call picks them.
+impl Learning for Brand {
+    ghost learnt = { [] };
+}
+
+/// The directory's latch is given back, and some keys are known.
+pub(crate) struct PutDirectory<J: Learning> {
+    marker: PhantomData<J>,
+}
+
+impl<J: Learning> Play<Slot, View> for PutDirectory<J> {
+    ghost then = { puts_directory J.learnt };
 }

@@ -23,5 +23,5 @@ store-requires g c =
       inside,
       subst (λ (i : ℕ). Allows Rule slots seat.id seat.me i (λ _. 0) (λ _. puts_latch g.J.Doing.deeds (step slots i 0 0 none) seat.me 0)) (sym at)
           (subst (λ (ds : List Deed). Allows Rule slots seat.id seat.me (8 * c.args.place) (λ _. 0) (λ _. puts_latch ds (step slots (8 * c.args.place) 0 0 none) seat.me 0)) c.requires.picked
-          (puts_allowed slots seat.id c.args.place seat.me some here.0 here.1 put.0 put.1.recorded c.args._deeds.now put.1.act put.1.may put.1.carried put.2)),
+          (puts_allowed slots seat.id c.args.place seat.me some here.0 here.1 put.0 put.1.holds.recorded c.args._deeds.now put.1.act put.1.may put.1.holds.carried put.2)),
     )

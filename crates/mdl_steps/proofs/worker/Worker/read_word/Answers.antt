@@ -1,10 +1,12 @@
 -- The holder of the latch may read the word.
-use Rattle.std.proofs.Common.{ℕ, ◌<◌, sym, subst, arith}
+use Rattle.std.proofs.Common.{ℕ, ◌<◌, refl, sym, ap, ◌∙◌, subst, arith}
 use mathlib.Core.Option.{none}
 use Rattle.atomic_table.specs.Table.{Allows, step}
-use Rattle.mdl_steps.specs.Plays.{reads_word}
+use Rattle.mdl_steps.specs.Plays.{Mine, reads_word, noting}
 use Rattle.mdl_steps.specs.Rule.{Rule}
+use Rattle.mdl_steps.specs.Seats.{Holds, elsewhere}
 use Rattle.mdl_steps.proofs.Flags.{reads_allowed}
+use Rattle.mdl_steps.proofs.Hands.{holds_stepped, elsewhere-stepped}
 use Rattle.mdl_steps.proofs.worker.Worker.read_word.Goals as goal
 
 pub load-requires : goal.load-requires
@@ -22,3 +24,17 @@ load-requires c =
       subst (λ (i : ℕ). Allows Rule slots seat.id seat.me i (λ n. n) (reads_word (step slots i 0 0 none) seat.me)) (sym at)
           (reads_allowed slots seat.id c.args.latch.now.place seat.me some here.0 here.1 c.requires.held.0 c.requires.held.1),
     )
+
+pub returns-clause-keeps : goal.returns-clause-keeps
+returns-clause-keeps c =
+    let place = c.args.latch.now.place in
+    let seat = c.args.self.now.seat in
+    let made = c.load.ensures.2.1 place c.lock_word.ensures in
+    λ h book has. subst (λ (m : Mine). Holds place (noting c.load.result h) book m) (sym made)
+    (holds_stepped place c.load.result (noting c.load.result) h book seat.me (λ x. refl) has)
+
+pub returns-clause-apart : goal.returns-clause-apart
+returns-clause-apart c =
+    let place = c.args.latch.now.place in
+    let made = c.load.ensures.2.1 place c.lock_word.ensures in
+    ap (elsewhere place) made ∙ elsewhere-stepped place c.load.result (noting c.load.result) c.args.self.now.seat.me (λ x. refl)

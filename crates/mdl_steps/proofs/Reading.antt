@@ -1,0 +1,85 @@
+-- The latch of a place is given back with nothing changed, and what stands there was read.
+use Rattle.std.proofs.Common.{◌≡◌, ℕ, ◌<◌, ◌∷◌, List, set, length, refl, sym, ap, ◌∙◌, subst, arith, length-set}
+use mathlib.Core.Option.{some, none}
+use lib.ListN.{get_elem?}
+use Rattle.atomic_table.specs.Table.{Allows, step, gives, rest, put_back}
+use Rattle.atomic_table.proofs.Lists.{at_map, set_else, set_here}
+use Rattle.mdl_book.specs.declared.book_view.BookView.{BookView}
+use Rattle.mdl_steps.specs.declared.slot.Slot.TheVariants as slot
+use Rattle.mdl_steps.specs.declared.view.Held.{Held}
+use Rattle.mdl_steps.specs.declared.view.View.{View}
+use Rattle.mdl_steps.specs.Cells.{Part, part_at, holder_at, cell, waits}
+use Rattle.mdl_steps.specs.Layout.{latch_word}
+use Rattle.mdl_steps.specs.Plays.{Mine, read_and_put, dropped, puts_reading}
+use Rattle.mdl_steps.specs.Rule.{Rule, TellsLists, key_at}
+use Rattle.mdl_steps.specs.Seats.{Holds}
+use Rattle.mdl_steps.proofs.Views.{held_at-dropped, held_at-undropped}
+use Rattle.mdl_steps.proofs.Lift.{Table, Homes, after, on_latch, alone, seat_there}
+use Rattle.mdl_steps.proofs.Holder.{under, put_cell}
+use Rattle.mdl_steps.proofs.Put.{one_hand}
+use Rattle.mdl_steps.proofs.Notes.{numbered_notes}
+use Rattle.mdl_steps.proofs.Noting.{noted_part, noted_here, noted_away, noted_ok, fast_same}
+
+module _ (slots id place : ℕ) (me : Mine) (some_number : 0 < me.0.number) (first : 0 < place) (last : place < slots)
+    (h : Held) (has : Holds place h h.book me) (exact : TellsLists h.book h.slow h.obtrusive) where
+  abbrev put : View
+  put = (read_and_put place h.book.standing me).0
+
+  module _ (s : Table) (r : Rule s) (size : length s.homes ≡ slots) (seat : get_elem? s.views id ≡ some me.0) where
+    read_rule : Rule (after s (latch_word place) 0 id put (set s.homes place (some (slot.Place h.book))))
+    read_rule =
+        let within : place < length s.homes = rw size last in
+        let row = (r.views id me.0 seat).0 in
+        let ok = r.places place first within in
+        let key = key_at r.keys place in
+        let parts = (cell s place).parts in
+        let own = part_at (waits s) place me.0 in
+        let homes : Homes = set s.homes place (some (slot.Place h.book)) in
+        let there = at_map (holder_at place) s.views id me.0 seat in
+        let mine = ok.held id (holder_at place me.0) there h has.recorded in
+        let u = under key (cell s place) ok id (holder_at place me.0) there h has.recorded in
+        let part = at_map (part_at (waits s) place) s.views id me.0 seat in
+        let fast = fast_same key (cell s place).version parts h.book place id own part u.book_ok h.book.standing in
+        on_latch s r place id me.0 put homes (record {
+          inside = (first, within);
+          seat = seat;
+          number = refl;
+          spare = refl;
+          directory = refl;
+          numbered = record {
+            fast = numbered_notes place h.book.standing.version me.0.next me.0.fast row.fast;
+            slow = numbered_notes place h.book.standing.version me.0.next me.0.slow row.slow;
+            asks = row.asks;
+          };
+          slots = length-set s.homes place (some (slot.Place h.book));
+          home_else = λ q else. set_else s.homes place q (some (slot.Place h.book)) else;
+          part_else = noted_away place h.book.standing (dropped place me.0) (waits s);
+          holder_else = λ q else. λ i. record { number = me.0.number; held = held_at-undropped place q me.0.latches else i };
+        }) (r.views id me.0 seat).1 0
+        (rw (set_here s.homes place (some (slot.Place h.book)) within, noted_here place h.book.standing (dropped place me.0) (waits s))
+        (put_cell key (cell s place) ok id (holder_at place me.0) there (seat_there s place id me.0 seat) (holder_at place put) h h has.recorded
+        (λ j l at same. alone s r place id me.0 seat some_number j l at (same ∙ sym mine.mine))
+        (held_at-dropped place me.0.latches) key (set parts id (noted_part place h.book.standing own))
+        (record {
+          counted = rw fast u.counted;
+          flagged = u.flagged;
+          noted = rw fast u.noted;
+          book_ok = rw u.book_ok.version_is
+              (noted_ok key (cell s place).version parts h.book place id own part u.book_ok h.book.standing
+              (u.book_ok.each id own part).versions_agree.reads (λ j x else here. u.book_ok.each j x here));
+        }) exact))
+
+  pub puts_reading_allowed : Allows Rule slots id me (latch_word place) (λ _. 0) (λ _. puts_reading (step slots (latch_word place) 0 0 none) me 0)
+  puts_reading_allowed s r size seat fits = (
+    put,
+    gives,
+    tt,
+    subst (λ (homes : Homes). Rule (after s (latch_word place) 0 id put homes)) (sym (ap (put_back s.homes) has.carried)) (read_rule s r size seat),
+    (
+      refl,
+      λ q book here carried.
+          let same : place ≡ q = omega arith in
+          let book_is : h.book ≡ book = one_hand (sym has.carried ∙ carried) in
+          λ i. read_and_put (same i) (book_is i).standing me,
+    ),
+  )

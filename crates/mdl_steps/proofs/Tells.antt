@@ -1,0 +1,86 @@
+-- What the rule tells of the words, the books, and what sessions noted and read.
+use Rattle.std.proofs.Common.{◌≡◌, ℕ, zero, suc, ◌<◌, ◌==◌, Bool, cond, List, [], ◌∷◌, ◌++◌, length, slice_index, Some, refl, sym, ap, ◌∙◌, subst, inl, inr, arith}
+use Rattle.std.specs.Prelude.{◌⊎◌}
+use Rattle.std.proofs.lemmas.Bool.{eq-eqb}
+use mathlib.Core.Option.{some, some-injective, some-ne-none}
+use lib.ListN.{get_elem?}
+use Rattle.atomic_table.specs.Table.{State}
+use Rattle.atomic_table.proofs.Lists.{at_map}
+use Rattle.mdl_book.specs.declared.book_view.BookView.{BookView}
+use Rattle.mdl_steps.specs.declared.slot.Slot.{Slot}
+use Rattle.mdl_steps.specs.declared.view.Own.{Own}
+use Rattle.mdl_steps.specs.declared.view.Read.{Read}
+use Rattle.mdl_steps.specs.declared.view.View.{View}
+use Rattle.mdl_steps.specs.Cells.{Part, holder_at, part_at, reads_at, waits, cell}
+use Rattle.mdl_steps.specs.Lists.{Each}
+use Rattle.mdl_steps.specs.Rule.{Rule, PlaceOk, NoteAgrees, ReadAgrees, ReadsAgree, key_at}
+use Rattle.mdl_steps.specs.RuleLaws.{FreeLocksAreAsTheirWordsTell, HeldLocksAreAsTheirRecordsTell, NotedVersionsStand, ReadsAreOfWhatStands}
+use Rattle.mdl_steps.proofs.Owns.{each-from_at}
+use Rattle.mdl_steps.proofs.Views.{by_bool, each_at}
+use Rattle.mdl_steps.proofs.Holder.{under}
+
+pub free_told : FreeLocksAreAsTheirWordsTell
+free_told s r place first last free =
+    let ok = r.places place first last in
+    let told = ok.free free in
+    (ok.book, told.0, rw (sym told.1.0, sym told.1.1) ok.counted, ok.book_ok.lawful.compatible)
+
+pub held_told : HeldLocksAreAsTheirRecordsTell
+held_told s r place first last i v seat h has =
+    let ok = r.places place first last in
+    let there = at_map (holder_at place) s.views i v seat in
+    let held = ok.held i (holder_at place v) there h has in
+    let u = under (key_at r.keys place) (cell s place) ok i (holder_at place v) there h has in
+    (sym held.mine, u.counted, u.flagged, u.book_ok.lawful.compatible)
+
+-- ---- what sessions noted and read
+
+-- what stands in one list behind another stands in one of them
+either_list : {A : Type 0} → (xs ys : List A) (k : ℕ) (a : A) → get_elem? (xs ++ ys) k ≡ some a → ((j : ℕ) × (get_elem? xs j ≡ some a)) ⊎ ((j : ℕ) × (get_elem? ys j ≡ some a))
+either_list [] ys k a at = inr (k, at)
+either_list (x ∷ xs) ys zero a at = inl (zero, at)
+either_list (x ∷ xs) ys (suc k) a at = elim (either_list xs ys k a at) [
+  | inl first ↦ inl (suc first.0, first.1)
+  | inr second ↦ inr second
+]
+
+-- what holds of each read of a place is what holds of each read, if it is of that place
+each_read : (P : Read → Type 0) (place : ℕ) (rs : List Read) → Each P (reads_at place rs) → Each (λ (r : Read). r.place ≡ place → P r) rs
+each_read P place [] all = tt
+each_read P place (r ∷ rs) all = by_bool (r.place == place)
+    (λ here. let parts = subst (λ (b : Bool). Each P (cond {A = List Read} b (r ∷ reads_at place rs) (reads_at place rs))) here all in ((λ _. parts.0), each_read P place rs parts.1))
+    (λ away. let parts = subst (λ (b : Bool). Each P (cond {A = List Read} b (r ∷ reads_at place rs) (reads_at place rs))) away all in
+    ((λ e. let at = eq-eqb r.place place e in absurd (cc)), each_read P place rs parts))
+
+module _ (s : State Slot View) (r : Rule s) (place : ℕ) (first : 0 < place) (last : place < length s.homes) where
+  abbrev ok : PlaceOk (key_at r.keys place) (cell s place)
+  ok = r.places place first last
+
+  module _ (i : ℕ) (v : View) (seat : get_elem? s.views i ≡ some v) where
+    agrees : ReadsAgree ok.book (part_at (waits s) place v)
+    agrees = (ok.book_ok.each i (part_at (waits s) place v) (at_map (part_at (waits s) place) s.views i v seat)).versions_agree
+
+    list_noted : (ts : List Own) → Each (NoteAgrees ok.book) (Rattle.mdl_steps.specs.Cells.own_at place ts) → (k : ℕ) (t : Own) → get_elem? ts k ≡ some t → t.place ≡ place → NoteAgrees ok.book t
+    list_noted ts all k t at here = each_at (λ (u : Own). u.place ≡ place → NoteAgrees ok.book u) ts (each-from_at (NoteAgrees ok.book) place ts all) k t at here
+
+    noted_here : (k : ℕ) (t : Own) → get_elem? (v.slow ++ v.fast) k ≡ some t → t.place ≡ place → NoteAgrees ok.book t
+    noted_here k t at here = elim (either_list v.slow v.fast k t at) [
+      | inl slow ↦ list_noted v.slow agrees.slow slow.0 t slow.1 here
+      | inr fast ↦ list_noted v.fast agrees.fast fast.0 t fast.1 here
+    ]
+
+    read_here : (k : ℕ) (x : Read) → get_elem? v.reads k ≡ some x → x.place ≡ place → ReadAgrees ok.book x
+    read_here k x at here = each_at (λ (q : Read). q.place ≡ place → ReadAgrees ok.book q) v.reads (each_read (ReadAgrees ok.book) place v.reads agrees.reads) k x at here
+
+pub noted_told : NotedVersionsStand
+noted_told s r i v seat k t at first last version noted =
+    (r.places t.place first last).book_ok.version_is ∙ sym (noted_here s r t.place first last i v seat k t at refl version noted)
+
+pub reads_told : ReadsAreOfWhatStands
+reads_told s r i v seat k x at first last now =
+    let ok = r.places x.place first last in
+    let standing : x.standing ≡ ok.book.standing = (read_here s r x.place first last i v seat k x at refl).1 (sym now ∙ ok.book_ok.version_is) in (
+      (λ j q there same version.
+          (read_here s r x.place first last i v seat j q there same).1 (version ∙ sym now ∙ ok.book_ok.version_is) ∙ sym standing),
+      λ free. (ok.book, (ok.free free).0, sym standing),
+    )

@@ -1,0 +1,61 @@
+-- What the rule of the table comes to, in words of its own. The rule holds between any two steps of all sessions.
+use Rattle.std.specs.Prelude.{◌≡◌, ◌≢◌, ℕ, ◌<◌, true, List, ◌++◌, length, slice_index, Some}
+use mathlib.Core.Option.{some}
+use lib.ListN.{get_elem?}
+use Rattle.atomic_table.specs.Table.{State}
+use Rattle.mdl_book.specs.declared.book_view.BookView.{BookView}
+use Rattle.mdl_book.specs.declared.ticket.Ticket.{Ticket}
+use Rattle.mdl_book.specs.Books.{lock_kind, has_obtrusive, has_tickets}
+use Rattle.mdl_book.specs.Granting.{is_lawful}
+use Rattle.mdl_steps.specs.declared.slot.Slot.{Slot}
+use Rattle.mdl_steps.specs.declared.slot.Slot.TheVariants as slot
+use Rattle.mdl_steps.specs.declared.view.Held.{Held}
+use Rattle.mdl_steps.specs.declared.view.Own.{Own}
+use Rattle.mdl_steps.specs.declared.view.Read.{Read}
+use Rattle.mdl_steps.specs.declared.view.View.{View}
+use Rattle.mdl_steps.specs.Cells.{cell, all_fast, held_at}
+use Rattle.mdl_steps.specs.Layout.{latch_word, lock_word, version_word}
+use Rattle.mdl_steps.specs.Rule.{Rule, Counted, Flagged}
+
+-- the fast tickets that all sessions have at a place
+abbrev pub fast_at : State Slot View → ℕ → List Ticket
+fast_at s place = all_fast (cell s place).parts
+
+-- granted tickets of different sessions are compatible by the matrix, fast and slow ones together
+abbrev pub StandsTogether : State Slot View → ℕ → BookView → Type 0
+StandsTogether s place book = is_lawful (lock_kind book) (fast_at s place ++ book.granted) ≡ true
+
+-- whenever a lock's latch is free, its book is in its slot, its word counts exactly the fast tickets held, its two flags tell whether
+-- its lists hold any ticket and an obtrusive one, and granted tickets of different sessions are compatible
+abbrev pub FreeLocksAreAsTheirWordsTell : Type 0
+FreeLocksAreAsTheirWordsTell =
+    (s : State Slot View) → Rule s → (place : ℕ) → 0 < place → place < length s.homes → slice_index s.words (latch_word place) ≡ 0 →
+    (book : BookView) × (get_elem? s.homes place ≡ some (some (slot.Place book)))
+    × Counted (lock_kind book) (slice_index s.words (lock_word place)) (fast_at s place) (has_tickets book) (has_obtrusive book)
+    × StandsTogether s place book
+
+-- while a session holds the latch, its number stands in the latch's word, its record tells the book as it is, its word counts exactly
+-- the fast tickets held, its two flags are those of the record and tell of each ticket in the lists, and granted tickets of different
+-- sessions are compatible
+abbrev pub HeldLocksAreAsTheirRecordsTell : Type 0
+HeldLocksAreAsTheirRecordsTell =
+    (s : State Slot View) → Rule s → (place : ℕ) → 0 < place → place < length s.homes →
+    (i : ℕ) (v : View) → get_elem? s.views i ≡ some v → (h : Held) → held_at place v.latches ≡ Some h →
+    (slice_index s.words (latch_word place) ≡ v.number)
+    × Counted (lock_kind h.book) (slice_index s.words (lock_word place)) (fast_at s place) h.slow h.obtrusive
+    × Flagged h.book h.slow h.obtrusive × StandsTogether s place h.book
+
+-- a version that a session noted under a ticket is the one that stands, as long as it has the ticket
+abbrev pub NotedVersionsStand : Type 0
+NotedVersionsStand =
+    (s : State Slot View) → Rule s → (i : ℕ) (v : View) → get_elem? s.views i ≡ some v →
+    (k : ℕ) (t : Own) → get_elem? (v.slow ++ v.fast) k ≡ some t → 0 < t.place → t.place < length s.homes →
+    (version : ℕ) → t.noted ≡ Some version → slice_index s.words (version_word t.place) ≡ version
+
+-- what a session read in the version that stands is what stands: no two reads of it differ, and while the latch is free the book has it
+abbrev pub ReadsAreOfWhatStands : Type 0
+ReadsAreOfWhatStands =
+    (s : State Slot View) → Rule s → (i : ℕ) (v : View) → get_elem? s.views i ≡ some v →
+    (k : ℕ) (r : Read) → get_elem? v.reads k ≡ some r → 0 < r.place → r.place < length s.homes → slice_index s.words (version_word r.place) ≡ r.standing.version →
+    ((j : ℕ) (q : Read) → get_elem? v.reads j ≡ some q → q.place ≡ r.place → q.standing.version ≡ r.standing.version → q.standing ≡ r.standing)
+    × (slice_index s.words (latch_word r.place) ≡ 0 → (book : BookView) × (get_elem? s.homes r.place ≡ some (some (slot.Place book))) × (book.standing ≡ r.standing))

@@ -1,0 +1,24 @@
+//! What the rule of the table comes to. Each law is proved as the contract of a function that does nothing.
+ghost use Rattle.mdl_steps.specs.RuleLaws.{FreeLocksAreAsTheirWordsTell, HeldLocksAreAsTheirRecordsTell, NotedVersionsStand, ReadsAreOfWhatStands};
+
+/// Whenever a lock's latch is free, its word counts exactly the fast tickets held, its two flags tell whether its lists hold any
+/// ticket and an obtrusive one, and granted tickets of different sessions are compatible by the matrix. The rule holds between any two
+/// steps, so this does, whatever the interleaving.
+pub fn free_locks_are_as_their_words_tell()
+    ensures { FreeLocksAreAsTheirWordsTell }
+{}
+
+/// While a session holds the latch, the same goes by its record of it, but that the flags may tell of more than there is.
+pub fn held_locks_are_as_their_records_tell()
+    ensures { HeldLocksAreAsTheirRecordsTell }
+{}
+
+/// A version that a session noted under a ticket stands as long as it has that ticket: nobody else changes it meanwhile.
+pub fn noted_versions_stand()
+    ensures { NotedVersionsStand }
+{}
+
+/// What a session read in the version that stands is what stands, and each of its reads of that version is the same.
+pub fn reads_are_of_what_stands()
+    ensures { ReadsAreOfWhatStands }
+{}

@@ -1,0 +1,53 @@
+-- Whoever took a latch has it in hand until it is given back, and then holds none.
+use Rattle.std.proofs.Common.{◌≡◌, ℕ, Bool, true, false, not, ◌&&◌, ◌==◌, List, refl, sym, ap, ◌∙◌, subst, inr}
+use Rattle.std.specs.List.{filter}
+use Rattle.mdl_steps.specs.declared.view.Held.{Held}
+use Rattle.mdl_steps.specs.Plays.{Mine, raised, noting, lowered}
+use Rattle.mdl_steps.specs.Seats.{Holds, elsewhere}
+use Rattle.mdl_steps_trials.proofs.visits.visit.Goals as goal
+
+and_true : (b : Bool) → (b && true) ≡ b
+and_true true = refl
+and_true false = refl
+
+pub read_word-lowered-requires-clause-held : goal.read_word-lowered-requires-clause-held
+read_word-lowered-requires-clause-held c =
+    let place = c.in_ok-latch.latch.place in
+    let taken = c.in_ok-latch.ensures.taken in
+    let h = taken.1.0 in
+    let has = subst (λ (q : ℕ). Holds q h h.book c.take_latch.new.self.seat.me) (sym taken.0) taken.1.2 in
+    let same = subst (λ (m : Mine). Holds place h h.book m) (sym c.needs-needs.ensures.same) has in
+    let up = c.raise_flags.ensures.keeps h h.book same in
+    let noted = c.read_word-raised.ensures.keeps (raised true true h) h.book up in
+    let down = c.lower_flags.ensures.keeps (noting c.read_word-raised.result.0 (raised true true h)) h.book noted in
+    (lowered h.book c.needs-needs.result.slow c.needs-needs.result.obtrusive (noting c.read_word-raised.result.0 (raised true true h)), down.recorded)
+
+pub put_latch-requires-clause-put : goal.put_latch-requires-clause-put
+put_latch-requires-clause-put c =
+    let place = c.in_ok-latch.latch.place in
+    let taken = c.in_ok-latch.ensures.taken in
+    let h = taken.1.0 in
+    let needs = c.needs-needs.result in
+    let has = subst (λ (q : ℕ). Holds q h h.book c.take_latch.new.self.seat.me) (sym taken.0) taken.1.2 in
+    let told = c.needs-needs.ensures.told h.book has.carried in
+    let same = subst (λ (m : Mine). Holds place h h.book m) (sym c.needs-needs.ensures.same) has in
+    let up = c.raise_flags.ensures.keeps h h.book same in
+    let noted = c.read_word-raised.ensures.keeps (raised true true h) h.book up in
+    let down = c.lower_flags.ensures.keeps (noting c.read_word-raised.result.0 (raised true true h)) h.book noted in
+    let low = lowered h.book needs.slow needs.obtrusive (noting c.read_word-raised.result.0 (raised true true h)) in
+    let last = c.read_word-lowered.ensures.keeps low h.book down in (
+      noting c.read_word-lowered.result.0 low,
+      record { holds = last; act = inr refl; may = tt },
+      (and_true needs.slow ∙ told.1, and_true needs.obtrusive ∙ told.0),
+    )
+
+pub returns-clause-idle : goal.returns-clause-idle
+returns-clause-idle c =
+    let here = c.in_ok-latch.latch.place in
+    let place = c.args.place in
+    ap (λ (m : Mine). m.0.latches) c.put_latch.ensures.made
+    ∙ c.read_word-lowered.ensures.apart ∙ c.lower_flags.ensures.apart ∙ c.read_word-raised.ensures.apart ∙ c.raise_flags.ensures.apart
+    ∙ ap (elsewhere here) c.needs-needs.ensures.same
+    ∙ ap (λ (q : ℕ). elsewhere q c.take_latch.new.self.seat.me) c.in_ok-latch.ensures.taken.0
+    ∙ c.take_latch.ensures.apart
+    ∙ ap (λ (hs : List Held). filter (λ h. not (h.place == place)) hs) c.requires.idle
