@@ -1,10 +1,10 @@
 -- Steps on the latch of the directory: the cells of all places stay as they are.
-use Rattle.std.proofs.Common.{◌≡◌, ◌≢◌, ℕ, ◌+◌, ◌*◌, ◌<◌, ◌≤◌, ◌==◌, List, [], ◌∷◌, ◌++◌, map, set, length, get_or, Some, None, refl, sym, ap, ◌∙◌, subst, inl, inr, arith, length-set, get_or-set_other, get_or-set_same}
+use Rattle.std.proofs.Common.{◌≡◌, ◌≢◌, ℕ, ◌+◌, ◌*◌, ◌<◌, ◌==◌, List, [], ◌∷◌, ◌++◌, map, set, length, get_or, Some, None, refl, sym, ap, ◌∙◌, subst, inl, inr, arith, length-set, get_or-set_other, get_or-set_same}
 use Rattle.std.specs.Prelude.{Option, nat_lt}
 use Rattle.std.specs.Option.{option_map, option_to_list}
 use Rattle.std.proofs.lemmas.Bool.{ltb-true}
 use Rattle.std.proofs.lemmas.List.{map-set}
-use mathlib.Core.Option.{Option as Maybe, some, none}
+use mathlib.Core.Option.{some, none}
 use lib.ListN.{get_elem?}
 use prog.Atomic.{either}
 use Rattle.atomic_table.specs.Table.{Allows, step, Act, takes, gives, keeps, rest, put_back, stepped as moved_by}
@@ -15,14 +15,14 @@ use Rattle.mdl_steps.specs.declared.slot.Slot.TheVariants as slot
 use Rattle.mdl_steps.specs.declared.view.Keys.{Keys}
 use Rattle.mdl_steps.specs.declared.view.Known.{Known}
 use Rattle.mdl_steps.specs.declared.view.View.{View}
-use Rattle.mdl_steps.specs.Cells.{Part, Desk, part_at, holder_at, desk_of, waits, cell}
+use Rattle.mdl_steps.specs.Cells.{Desk, part_at, holder_at, desk_of, waits, cell}
 use Rattle.mdl_steps.specs.Layout.{latch_word, lock_word, version_word, enrol_word}
 use Rattle.mdl_steps.specs.Lists.{Each}
-use Rattle.mdl_steps.specs.Plays.{Mine, IsDirectory, consulted, informed, logged, takes_directory, puts_directory}
+use Rattle.mdl_steps.specs.Plays.{Mine, consulted, informed, logged, takes_directory, puts_directory}
 use Rattle.mdl_steps.specs.Rule.{Rule, PlaceOk, DirectoryOk, Numbered, KnowsKeys, key_at}
 use Rattle.mdl_steps.specs.Seats.{HasDirectory, learnt}
 use Rattle.mdl_steps.proofs.Lift.{Table, Homes, after}
-use Rattle.mdl_steps.proofs.Views.{by_bool, map_kept, at_unmap}
+use Rattle.mdl_steps.proofs.Views.{by_bool, map_kept, at_inside, at_unmap}
 
 -- what such a step changes: the view from v to w, but for what it has at places, and the slot of the directory
 pub record Consults (s : Table) (id : ℕ) (v w : View) (homes : Homes) : Type 0 where
@@ -136,6 +136,7 @@ module _ (slots id : ℕ) (me : Mine) (some_number : 0 < me.0.number) where
         }) me.0.number (r.views id me.0 seat).1
         (record {
           free = λ none. absurd (omega arith);
+          taken = λ _. (id, desk_of w, all_keys, set_here (map desk_of s.views) id (desk_of w) (at_inside (map desk_of s.views) id (desk_of me.0) desk_there), refl);
           held = λ j d there k is. elim (at_set (map desk_of s.views) id j (desk_of w) d there) [
             | inl same ↦
                 let number_is : d.number ≡ me.0.number = ap (λ (x : Desk). x.number) (sym same.1) in
@@ -186,6 +187,7 @@ module _ (slots id : ℕ) (me : Mine) (some_number : 0 < me.0.number) where
         }) 0 (each-append _ me.0.known more (r.views id me.0 seat).1 (rw (sym same_keys) knows))
         (record {
           free = λ _. set_here s.homes 0 (some (slot.Directory k)) within ∙ ap (λ (ks : List KeyName). some (some (slot.Directory (record { keys = ks })))) same_keys;
+          taken = λ taken. absurd (taken refl);
           held = λ j d there g is. elim (at_set (map desk_of s.views) id j (desk_of w) d there) [
             | inl same ↦ (let gone : None ≡ Some g = ap (λ (x : Desk). x.directory) same.1 ∙ is in absurd (cc))
             | inr other ↦ absurd (other.0 (alone_desk s r id me.0 seat some_number j d other.1 ((r.directory_agrees.held j d other.1 g is).0 ∙ sym mine.0)))

@@ -197,6 +197,9 @@ module _ (id n : ℕ) (some_left : 0 < n) where
         distinct = r.distinct;
         directory_agrees = record {
           free = r.directory_agrees.free;
+          taken = λ taken.
+              (let t = r.directory_agrees.taken taken in
+              (t.0, t.1, t.2, rw (mapped desk_of s.views seat refl) (at_longer (map desk_of s.views) (desk_of (blank 0 0) ∷ []) t.0 t.1 t.3), t.4));
           held = λ j d at k is. elim (at_snoc (map desk_of s.views) (desk_of (blank 0 0)) d j (rw (mapped desk_of s.views seat refl) at at)) [
             | inl old ↦ r.directory_agrees.held j d old k is
             | inr new ↦ (let none : d.directory ≡ None = ap (λ (x : Desk). x.directory) (sym new) in absurd (cc))
@@ -329,6 +332,13 @@ module _ (slots id : ℕ) where
           distinct = r.distinct;
           directory_agrees = record {
             free = λ free. r.directory_agrees.free (sym (word_else (latch_word 0) (λ e. not_enrol e)) ∙ free);
+            taken = λ taken.
+                let t = r.directory_agrees.taken (λ e. taken (word_else (latch_word 0) (λ d. not_enrol d) ∙ e)) in
+                let else : t.0 ≢ id = λ e.
+                (let mine : some t.1 ≡ some (desk_of (blank 0 0)) = sym t.3 ∙ subst (λ (j : ℕ). get_elem? (map desk_of s.views) j ≡ some (desk_of (blank 0 0))) (sym e) (at_map desk_of s.views id (blank 0 0) seat) in
+                let none : t.1.directory ≡ None = ap (λ (d : Desk). d.directory) (some-injective t.1 (desk_of (blank 0 0)) mine) in
+                let has = t.4 in absurd (cc)) in
+                (t.0, t.1, t.2, rw (map-set desk_of s.views id (drawn_view found)) (set_else (map desk_of s.views) id t.0 (desk_of (drawn_view found)) else ∙ t.3), t.4);
             held = λ j d at k is. elim (at_set (map desk_of s.views) id j (desk_of (drawn_view found)) d (rw (map-set desk_of s.views id (drawn_view found)) at at)) [
               | inl new ↦ (let none : d.directory ≡ None = ap (λ (x : Desk). x.directory) (sym new.1) in absurd (cc))
               | inr old ↦ rw (word_else (latch_word 0) (λ e. not_enrol e)) (r.directory_agrees.held j d old.1 k is)

@@ -1,5 +1,5 @@
 -- Beside an exclusive ticket of a session nobody else has a ticket of that lock, fast or slow.
-use Rattle.std.proofs.Common.{◌≡◌, ◌≢◌, ℕ, zero, suc, ◌==◌, Bool, true, false, List, [], ◌∷◌, ◌++◌, map, Some, None, refl, sym, ap, ◌∙◌, subst, rules}
+use Rattle.std.proofs.Common.{◌≡◌, ◌≢◌, ℕ, zero, suc, ◌==◌, Bool, true, List, [], ◌∷◌, ◌++◌, map, Some, None, refl, sym, ◌∙◌, subst, rules}
 use Rattle.std.specs.Prelude.{Option, Contains}
 use Rattle.std.specs.List.{list_all}
 use Rattle.std.specs.Option.{option_to_list}
@@ -16,7 +16,7 @@ use Rattle.mdl_book.specs.declared.ticket.Ticket.{Ticket}
 use Rattle.mdl_book.specs.Granting.{is_compatible, stands_beside}
 use Rattle.mdl_book.specs.Tickets.{is_ticket, ticket_of}
 use Rattle.mdl_steps.specs.declared.view.Own.{Own}
-use Rattle.mdl_steps.specs.Cells.{Part, all_fast, due, slow_tickets, ticket_by}
+use Rattle.mdl_steps.specs.Cells.{Part, all_fast, due, ticket_by}
 use Rattle.mdl_steps.specs.Rule.{Lawful, SlowHeld}
 use Rattle.mdl_steps.proofs.Tickets.{is_itself, of_other}
 use Rattle.mdl_steps.proofs.Views.{by_bool}

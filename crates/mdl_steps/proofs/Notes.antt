@@ -1,10 +1,8 @@
 -- The version of a place, noted under a session's tickets there, and what it read.
 use Rattle.std.proofs.Common.{◌≡◌, ◌≢◌, ℕ, ◌<◌, ◌==◌, cond, List, [], ◌∷◌, ◌++◌, map, length, Some, refl, sym, ap, ◌∙◌, arith}
-use Rattle.std.specs.List.{filter}
 use Rattle.std.proofs.lemmas.Bool.{eq-eqb, eqb-true}
 use Rattle.mdl_defs.specs.declared.standing.Standing.{Standing}
 use Rattle.mdl_book.specs.declared.book_view.BookView.{BookView}
-use Rattle.mdl_book.specs.declared.ticket.Ticket.{Ticket}
 use Rattle.mdl_steps.specs.declared.view.Own.{Own}
 use Rattle.mdl_steps.specs.declared.view.Read.{Read}
 use Rattle.mdl_steps.specs.Cells.{own_at, reads_at, ticket_by}

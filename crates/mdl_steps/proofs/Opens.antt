@@ -66,6 +66,7 @@ module _ (sessions : ℕ) (words : List ℕ) (slots : List Slot) (open_ : IsOpen
     distinct = tt;
     directory_agrees = record {
       free = λ _. at_map some slots 0 (slot.Directory (record { keys = [] })) open_.directory;
+      taken = λ taken. absurd (taken (open_.zeros (latch_word 0) (let first = some_slot slots open_.directory in λ e. omega arith)));
       held = λ j d at k is. (let it = only (desk_of (blank 0 sessions)) d j at in let none : d.directory ≡ None = ap (λ (x : Desk). x.directory) (sym it.1) in absurd (cc));
     };
     views = λ j v at. (let it = only (blank 0 sessions) v j at in subst (λ (x : View). Rattle.mdl_steps.specs.Rule.Numbered x × Rattle.mdl_steps.specs.Rule.KnowsKeys [] x) it.1 (record { fast = tt; slow = tt; asks = λ a none. absurd (cc) }, tt));

@@ -1,14 +1,13 @@
 -- The latch of a place is given back with nothing changed, and what stands there was read.
-use Rattle.std.proofs.Common.{◌≡◌, ℕ, ◌<◌, ◌∷◌, List, set, length, refl, sym, ap, ◌∙◌, subst, arith, length-set}
+use Rattle.std.proofs.Common.{◌≡◌, ℕ, ◌<◌, set, length, refl, sym, ap, ◌∙◌, subst, arith, length-set}
 use mathlib.Core.Option.{some, none}
 use lib.ListN.{get_elem?}
-use Rattle.atomic_table.specs.Table.{Allows, step, gives, rest, put_back}
+use Rattle.atomic_table.specs.Table.{Allows, step, gives, put_back}
 use Rattle.atomic_table.proofs.Lists.{at_map, set_else, set_here}
-use Rattle.mdl_book.specs.declared.book_view.BookView.{BookView}
 use Rattle.mdl_steps.specs.declared.slot.Slot.TheVariants as slot
 use Rattle.mdl_steps.specs.declared.view.Held.{Held}
 use Rattle.mdl_steps.specs.declared.view.View.{View}
-use Rattle.mdl_steps.specs.Cells.{Part, part_at, holder_at, cell, waits}
+use Rattle.mdl_steps.specs.Cells.{part_at, holder_at, cell, waits}
 use Rattle.mdl_steps.specs.Layout.{latch_word}
 use Rattle.mdl_steps.specs.Plays.{Mine, read_and_put, dropped, puts_reading}
 use Rattle.mdl_steps.specs.Rule.{Rule, TellsLists, key_at}

@@ -1,8 +1,8 @@
 -- What the rule tells of the words, the books, and what sessions noted and read.
-use Rattle.std.proofs.Common.{◌≡◌, ℕ, zero, suc, ◌<◌, ◌==◌, Bool, cond, List, [], ◌∷◌, ◌++◌, length, slice_index, Some, refl, sym, ap, ◌∙◌, subst, inl, inr, arith}
+use Rattle.std.proofs.Common.{◌≡◌, ℕ, zero, suc, ◌<◌, ◌==◌, Bool, cond, List, [], ◌∷◌, ◌++◌, length, Some, refl, sym, ap, ◌∙◌, subst, inl, inr}
 use Rattle.std.specs.Prelude.{◌⊎◌}
 use Rattle.std.proofs.lemmas.Bool.{eq-eqb}
-use mathlib.Core.Option.{some, some-injective, some-ne-none}
+use mathlib.Core.Option.{some}
 use lib.ListN.{get_elem?}
 use Rattle.atomic_table.specs.Table.{State}
 use Rattle.atomic_table.proofs.Lists.{at_map}
@@ -11,12 +11,12 @@ use Rattle.mdl_steps.specs.declared.slot.Slot.{Slot}
 use Rattle.mdl_steps.specs.declared.view.Own.{Own}
 use Rattle.mdl_steps.specs.declared.view.Read.{Read}
 use Rattle.mdl_steps.specs.declared.view.View.{View}
-use Rattle.mdl_steps.specs.Cells.{Part, holder_at, part_at, reads_at, waits, cell}
+use Rattle.mdl_steps.specs.Cells.{Part, Holder, holder_at, held_at, part_at, reads_at, waits, cell}
 use Rattle.mdl_steps.specs.Lists.{Each}
 use Rattle.mdl_steps.specs.Rule.{Rule, PlaceOk, NoteAgrees, ReadAgrees, ReadsAgree, key_at}
-use Rattle.mdl_steps.specs.RuleLaws.{FreeLocksAreAsTheirWordsTell, HeldLocksAreAsTheirRecordsTell, NotedVersionsStand, ReadsAreOfWhatStands}
+use Rattle.mdl_steps.specs.RuleLaws.{FreeLocksAreAsTheirWordsTell, HeldLocksAreAsTheirRecordsTell, TakenLatchesAreHeld, NotedVersionsStand, ReadsAreOfWhatStands}
 use Rattle.mdl_steps.proofs.Owns.{each-from_at}
-use Rattle.mdl_steps.proofs.Views.{by_bool, each_at}
+use Rattle.mdl_steps.proofs.Views.{by_bool, each_at, at_unmap}
 use Rattle.mdl_steps.proofs.Holder.{under}
 
 pub free_told : FreeLocksAreAsTheirWordsTell
@@ -32,6 +32,14 @@ held_told s r place first last i v seat h has =
     let held = ok.held i (holder_at place v) there h has in
     let u = under (key_at r.keys place) (cell s place) ok i (holder_at place v) there h has in
     (sym held.mine, u.counted, u.flagged, u.book_ok.lawful.compatible)
+
+pub taken_told : TakenLatchesAreHeld
+taken_told s r place first last taken =
+    let ok = r.places place first last in
+    let t = ok.taken taken in
+    let u = at_unmap (holder_at place) s.views t.0 t.1 t.3 in
+    let has : held_at place u.0.latches ≡ Some t.2 = ap (λ (l : Holder). l.held) u.2 ∙ t.4 in
+    (t.0, u.0, t.2, u.1, has, sym (ok.held t.0 (holder_at place u.0) (at_map (holder_at place) s.views t.0 u.0 u.1) t.2 has).mine)
 
 -- ---- what sessions noted and read
 
@@ -82,5 +90,8 @@ reads_told s r i v seat k x at first last now =
     let standing : x.standing ≡ ok.book.standing = (read_here s r x.place first last i v seat k x at refl).1 (sym now ∙ ok.book_ok.version_is) in (
       (λ j q there same version.
           (read_here s r x.place first last i v seat j q there same).1 (version ∙ sym now ∙ ok.book_ok.version_is) ∙ sym standing),
-      λ free. (ok.book, (ok.free free).0, sym standing),
+      (λ free. (ok.book, (ok.free free).0, sym standing)),
+      λ j w h seat_w has.
+          let held = ok.held j (holder_at x.place w) (at_map (holder_at x.place) s.views j w seat_w) h has in
+          ap (λ (b : BookView). b.standing) held.book_is ∙ sym standing,
     )

@@ -1,5 +1,5 @@
 -- The version of a place is written by the holder of its latch, who has an exclusive ticket there.
-use Rattle.std.proofs.Common.{◌≡◌, ◌≢◌, ℕ, ◌<◌, List, [], set, length, refl, sym, ap, ◌∙◌, arith}
+use Rattle.std.proofs.Common.{◌≡◌, ◌≢◌, ℕ, ◌<◌, List, set, length, refl, sym, ◌∙◌, arith}
 use Rattle.std.specs.Prelude.{Option, Contains}
 use mathlib.Core.Option.{some, none}
 use lib.ListN.{get_elem?}
@@ -13,7 +13,7 @@ use Rattle.mdl_book.specs.declared.ticket.Ticket.{Ticket}
 use Rattle.mdl_book.specs.Books.{lock_kind}
 use Rattle.mdl_steps.specs.declared.view.Held.{Held}
 use Rattle.mdl_steps.specs.declared.view.View.{View}
-use Rattle.mdl_steps.specs.Cells.{Part, part_at, holder_at, held_at, cell, waits}
+use Rattle.mdl_steps.specs.Cells.{Part, part_at, holder_at, cell, waits}
 use Rattle.mdl_steps.specs.Layout.{version_word}
 use Rattle.mdl_steps.specs.Plays.{Mine, redefined, restood, changed, writes_version}
 use Rattle.mdl_steps.specs.Rule.{Rule, BookOk, PartOk, key_at}

@@ -154,6 +154,7 @@ KnowsKeys keys v = Each (λ (k : Known). (0 < k.place) × (key_at keys k.place �
 -- the directory is at home while its latch is free, and otherwise its holder has recorded it
 pub record DirectoryOk (latch : ℕ) (home : Maybe (Maybe Slot)) (desks : List Desk) (keys : List KeyName) : Type 0 where
   pub free : latch ≡ 0 → home ≡ some (some (slot.Directory (record { keys = keys })))
+  pub taken : latch ≢ 0 → (j : ℕ) × (d : Desk) × (k : Keys) × (get_elem? desks j ≡ some d) × (d.directory ≡ Some k)
   pub held : (j : ℕ) (d : Desk) → get_elem? desks j ≡ some d → (k : Keys) → d.directory ≡ Some k →
       (d.number ≡ latch) × (0 < latch) × (k.keys ≡ keys)
 

@@ -45,6 +45,12 @@ HeldLocksAreAsTheirRecordsTell =
     × Counted (lock_kind h.book) (slice_index s.words (lock_word place)) (fast_at s place) h.slow h.obtrusive
     × Flagged h.book h.slow h.obtrusive × StandsTogether s place h.book
 
+-- a latch is taken only by a session that has a record of it, and the session's number stands in the latch's word
+abbrev pub TakenLatchesAreHeld : Type 0
+TakenLatchesAreHeld =
+    (s : State Slot View) → Rule s → (place : ℕ) → 0 < place → place < length s.homes → slice_index s.words (latch_word place) ≢ 0 →
+    (i : ℕ) × (v : View) × (h : Held) × (get_elem? s.views i ≡ some v) × (held_at place v.latches ≡ Some h) × (slice_index s.words (latch_word place) ≡ v.number)
+
 -- a version that a session noted under a ticket is the one that stands, as long as it has the ticket
 abbrev pub NotedVersionsStand : Type 0
 NotedVersionsStand =
@@ -52,10 +58,12 @@ NotedVersionsStand =
     (k : ℕ) (t : Own) → get_elem? (v.slow ++ v.fast) k ≡ some t → 0 < t.place → t.place < length s.homes →
     (version : ℕ) → t.noted ≡ Some version → slice_index s.words (version_word t.place) ≡ version
 
--- what a session read in the version that stands is what stands: no two reads of it differ, and while the latch is free the book has it
+-- what a session read in the version that stands is what stands: no two reads of it differ, while the latch is free the book has it, and
+-- while a session holds the latch the book by its record
 abbrev pub ReadsAreOfWhatStands : Type 0
 ReadsAreOfWhatStands =
     (s : State Slot View) → Rule s → (i : ℕ) (v : View) → get_elem? s.views i ≡ some v →
     (k : ℕ) (r : Read) → get_elem? v.reads k ≡ some r → 0 < r.place → r.place < length s.homes → slice_index s.words (version_word r.place) ≡ r.standing.version →
     ((j : ℕ) (q : Read) → get_elem? v.reads j ≡ some q → q.place ≡ r.place → q.standing.version ≡ r.standing.version → q.standing ≡ r.standing)
     × (slice_index s.words (latch_word r.place) ≡ 0 → (book : BookView) × (get_elem? s.homes r.place ≡ some (some (slot.Place book))) × (book.standing ≡ r.standing))
+    × ((j : ℕ) (w : View) (h : Held) → get_elem? s.views j ≡ some w → held_at r.place w.latches ≡ Some h → h.book.standing ≡ r.standing)

@@ -1,5 +1,5 @@
 //! What the rule of the table comes to. Each law is proved as the contract of a function that does nothing.
-ghost use Rattle.mdl_steps.specs.RuleLaws.{FreeLocksAreAsTheirWordsTell, HeldLocksAreAsTheirRecordsTell, NotedVersionsStand, ReadsAreOfWhatStands};
+ghost use Rattle.mdl_steps.specs.RuleLaws.{FreeLocksAreAsTheirWordsTell, HeldLocksAreAsTheirRecordsTell, TakenLatchesAreHeld, NotedVersionsStand, ReadsAreOfWhatStands};
 
 /// Whenever a lock's latch is free, its word counts exactly the fast tickets held, its two flags tell whether its lists hold any
 /// ticket and an obtrusive one, and granted tickets of different sessions are compatible by the matrix. The rule holds between any two
@@ -11,6 +11,11 @@ pub fn free_locks_are_as_their_words_tell()
 /// While a session holds the latch, the same goes by its record of it, but that the flags may tell of more than there is.
 pub fn held_locks_are_as_their_records_tell()
     ensures { HeldLocksAreAsTheirRecordsTell }
+{}
+
+/// A latch that isn't free is held by a session, whose number it has: one of the two laws above goes for each lock.
+pub fn taken_latches_are_held()
+    ensures { TakenLatchesAreHeld }
 {}
 
 /// A version that a session noted under a ticket stands as long as it has that ticket: nobody else changes it meanwhile.

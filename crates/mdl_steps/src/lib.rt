@@ -25,7 +25,7 @@ pub use deed::Deed;
 pub use directory::LatchedDirectory;
 pub use laws::{
     free_locks_are_as_their_words_tell, held_locks_are_as_their_records_tell, noted_versions_stand,
-    reads_are_of_what_stands,
+    reads_are_of_what_stands, taken_latches_are_held,
 };
 pub use maker::{Maker, OwnedTable};
 pub use plays::Order;

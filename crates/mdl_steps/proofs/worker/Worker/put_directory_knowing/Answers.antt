@@ -1,5 +1,5 @@
 -- The holder of the directory's latch may give it back, and know what stands there.
-use Rattle.std.proofs.Common.{ℕ, ◌<◌, List, sym, subst, arith}
+use Rattle.std.proofs.Common.{◌<◌, List, subst, arith}
 use mathlib.Core.Option.{none}
 use Rattle.atomic_table.specs.Table.{Allows, step}
 use Rattle.mdl_steps.specs.declared.view.Known.{Known}

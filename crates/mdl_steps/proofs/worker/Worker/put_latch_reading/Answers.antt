@@ -1,5 +1,5 @@
 -- The holder of the latch may give it back and have read what stands, where the flags tell the lists exactly.
-use Rattle.std.proofs.Common.{ℕ, ◌*◌, ◌<◌, sym, subst, arith}
+use Rattle.std.proofs.Common.{ℕ, ◌<◌, sym, subst, arith}
 use mathlib.Core.Option.{none}
 use Rattle.atomic_table.specs.Table.{Allows, step}
 use Rattle.mdl_steps.specs.Plays.{puts_reading}

@@ -3,7 +3,7 @@ use Rattle.std.proofs.Common.{ℕ, ◌<◌, ◌==◌, refl, sym, subst, arith}
 use mathlib.Core.Option.{none}
 use prog.Atomic.{either}
 use Rattle.atomic_table.specs.Table.{Allows, step}
-use Rattle.mdl_steps.specs.Plays.{Mine, consulted, takes_directory}
+use Rattle.mdl_steps.specs.Plays.{Mine, takes_directory}
 use Rattle.mdl_steps.specs.Rule.{Rule}
 use Rattle.mdl_steps.specs.Seats.{HasDirectory}
 use Rattle.mdl_steps.proofs.Desks.{takes_directory_allowed}
