@@ -120,8 +120,8 @@ fn standing_of(context: &Context<CoreSpace>) -> Standing {
     }
 }
 
-// Whether these tickets are kept.
-fn are_kept(kept: &[Kept], held: &[Held]) -> bool {
+/// Whether these tickets are kept.
+pub(crate) fn are_kept(kept: &[Kept], held: &[Held]) -> bool {
     for (ticket, other) in kept.iter().zip(held.iter()) {
         if ticket.id != other.id || ticket.place != other.place || ticket.mode != other.mode {
             return false;
