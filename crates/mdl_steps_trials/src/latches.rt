@@ -1,19 +1,7 @@
 //! Latches of a table with three places.
-use crate::visits::{Sight, visit};
-use mdl_book::Needs;
+use crate::visits::{EMPTY, visit};
 use mdl_steps::Maker;
-use mdl_word::Word;
 use std::test::Fail;
-
-// What there is to see where nobody has a ticket.
-const EMPTY: Sight = Sight {
-    needs: Needs {
-        obtrusive: false,
-        slow: false,
-    },
-    raised: Word(Word::SLOW | Word::OBTRUSIVE),
-    lowered: Word(0),
-};
 
 // Sessions have numbers from 1 on. A latch that one holds is found taken by the other, who may take another latch meanwhile.
 #[test]

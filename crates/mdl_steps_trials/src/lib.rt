@@ -7,4 +7,6 @@
 #[cfg(test)]
 mod latches;
 #[cfg(test)]
+mod threads;
+#[cfg(test)]
 mod visits;

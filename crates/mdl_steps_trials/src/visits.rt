@@ -17,6 +17,16 @@ pub(crate) struct Sight {
     pub lowered: Word,
 }
 
+/// What there is to see where nobody has a ticket.
+pub(crate) const EMPTY: Sight = Sight {
+    needs: Needs {
+        obtrusive: false,
+        slow: false,
+    },
+    raised: Word(Word::SLOW | Word::OBTRUSIVE),
+    lowered: Word(0),
+};
+
 /// Takes the latch of a place, looks round there with all flags raised, and gives the latch back; nothing, where it is taken.
 pub(crate) fn visit(worker: &mut Worker, top: &LockTable, place: usize) -> Option<Sight>
     requires table { (worker.old.seat.table_id ≡ top.now.table_id) × IsSized top.now.table_id }
