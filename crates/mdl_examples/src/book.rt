@@ -1,4 +1,4 @@
-//! A change that waits for a reader.
+//! `mdl_book`: a change that waits for a reader.
 use mdl_book::{Book, Sessions, Ticket};
 use mdl_key::{Key, Mode};
 use mdl_word::Word;

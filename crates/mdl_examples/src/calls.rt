@@ -1,4 +1,4 @@
-//! A call that is refused.
+//! `mdl_calls`: a call that is refused.
 use mdl_calls::SpaceError;
 use mdl_defs::{ChangeError, DefError};
 use std::test::Fail;

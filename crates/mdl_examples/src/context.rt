@@ -1,4 +1,4 @@
-//! A session that goes back to a savepoint.
+//! `mdl_context`: a session that goes back to a savepoint.
 use mdl_context::{Acquire, Context, Request};
 use mdl_key::{Duration, Key, Mode};
 use mdl_space::CoreSpace;

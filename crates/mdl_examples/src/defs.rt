@@ -1,4 +1,4 @@
-//! A table that is created and altered.
+//! `mdl_defs`: a table that is created and altered.
 use mdl_defs::{Change, ChangeError, Column, Columns, DefError, Definition, Standing};
 use mdl_key::Namespace;
 use std::test::Fail;

@@ -1,4 +1,4 @@
-//! A deadlock of two sessions, and its victim.
+//! `mdl_graph`: a deadlock of two sessions, and its victim.
 use mdl_book::{Book, Sessions, Ticket};
 use mdl_graph::{WaitGraph, victim};
 use mdl_key::{Key, Mode};

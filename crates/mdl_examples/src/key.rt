@@ -1,4 +1,4 @@
-//! A key, and which modes of it clash.
+//! `mdl_key`: a key, and which modes of it clash.
 use mdl_key::{Key, Kind, Mode, conflicts_granted, conflicts_waiting};
 use std::test::Fail;
 

@@ -1,8 +1,7 @@
-//! An example of each library crate: what its reader does first. The page of the crate's `src/lib.rt` shows the same lines, and
-//! `make/check_examples.sh` compares them.
+//! An example of each library crate: what its reader does first.
 //!
-//! Everything here is for tests. Each file has the name of its crate without the `mdl_`, and one test; so what the pages show is
-//! proved, and run.
+//! Everything here is for tests. Each file names its crate in its first line, and has one test; the head of the crate's `src/lib.rt`
+//! shows the same lines, and `make/check_examples.sh` compares them. So what is shown there is proved, and run.
 #![tactic(auto)]
 
 #[cfg(test)]
@@ -12,7 +11,7 @@ mod calls;
 #[cfg(test)]
 mod context;
 #[cfg(test)]
-mod core;
+mod cores;
 #[cfg(test)]
 mod defs;
 #[cfg(test)]

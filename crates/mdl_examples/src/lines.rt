@@ -1,4 +1,4 @@
-//! The words of a line, and a fault.
+//! `mdl_lines`: the words of a line, and a fault.
 use mdl_lines::{Fault, LineError, first_words, is_comment, report, session_of};
 
 #[test]

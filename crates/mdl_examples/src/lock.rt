@@ -1,4 +1,4 @@
-//! One lock that a script drives.
+//! `mdl_lock`: one lock that a script drives.
 use mdl_key::Kind;
 use mdl_lock::lock_run;
 use std::test::Fail;

@@ -1,4 +1,4 @@
-//! What a program does once its command line is read.
+//! `mdl_program`: what a program does once its command line is read.
 use mdl_key::KeyError;
 use mdl_program::{Run, run_asked};
 

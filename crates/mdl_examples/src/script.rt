@@ -1,4 +1,4 @@
-//! A script of statements, from bytes to bytes.
+//! `mdl_script`: a script of statements, from bytes to bytes.
 use mdl_script::replay;
 use std::test::Fail;
 

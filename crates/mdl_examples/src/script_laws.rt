@@ -1,4 +1,4 @@
-//! A law of scripts, in a contract.
+//! `mdl_script_laws`: a law of scripts, in a contract.
 ghost use Rattle.std.specs.Prelude.{◌≡◌, ℕ, List, take, Ok};
 ghost use Rattle.mdl_core.specs.CoreSystems.{system_of};
 ghost use Rattle.mdl_script.specs.Worlds.{script_played};

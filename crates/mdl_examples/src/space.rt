@@ -1,4 +1,4 @@
-//! A change that waits in a lock space.
+//! `mdl_space`: a change that waits in a lock space.
 use mdl_key::{Key, Mode};
 use mdl_space::{Attempt, Begun, CoreSpace, Ended, LockSpace};
 use std::test::Fail;

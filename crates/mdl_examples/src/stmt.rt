@@ -1,4 +1,4 @@
-//! The statements of a session.
+//! `mdl_stmt`: the statements of a session.
 use mdl_space::CoreSpace;
 use mdl_stmt::{Progress, Reply, Runner};
 use mdl_syntax::parse;

@@ -1,4 +1,4 @@
-//! A script of statements, and one that is refused.
+//! `mdl_syntax`: a script of statements, and one that is refused.
 use mdl_lines::{Fault, LineError};
 use mdl_syntax::{Statement, parse};
 use std::test::Fail;

@@ -1,4 +1,4 @@
-//! What a held mode may become.
+//! `mdl_system`: what a held mode may become.
 use mdl_key::Mode;
 use mdl_system::{covers, may_downgrade, may_upgrade};
 

@@ -1,4 +1,4 @@
-//! A word that counts readers.
+//! `mdl_word`: a word that counts readers.
 use mdl_key::{Kind, Mode};
 use mdl_word::Word;
 

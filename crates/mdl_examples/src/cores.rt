@@ -1,4 +1,4 @@
-//! The words of the space of one thread, in a contract.
+//! `mdl_core`: the words of the space of one thread, in a contract.
 ghost use Rattle.std.specs.Prelude.{◌≡◌, IfOk};
 ghost use Rattle.mdl_core.specs.Words.{SpeaksFor, empty_core};
 
