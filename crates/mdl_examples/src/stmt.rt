@@ -1,26 +1,34 @@
 //! `mdl_stmt`: the statements of a session.
 use mdl_space::CoreSpace;
 use mdl_stmt::{Progress, Reply, Runner};
-use mdl_syntax::parse;
-use std::alloc::AllocError;
+use mdl_syntax::{Line, parse};
+use std::alloc::Global;
 use std::test::Fail;
 
-#[test]
-fn a_session_runs_a_statement(rt: HostRuntime) -> Result<(), Fail> {
-    let alloc = rt.alloc();
-    let text = b"1 CREATE SCHEMA shop\n1 CREATE TABLE shop.orders id\n1 SELECT shop.orders\n";
-    let script = parse(alloc, text)?;
-    let mut space = CoreSpace::new(alloc, 256, 64)?; // places and sessions
-    let mut runner = Runner::new(alloc, 1); // of session 1
-    for line in script.lines() {
+/// How far the last of some statements comes. All are of session 1, which is alone in its space.
+fn last_progress<'s>(alloc: Global, lines: &'s [Line]) -> Option<Progress> {
+    let Ok(mut space) = CoreSpace::new(alloc, 256, 64) else {
+        return None;
+    };
+    let mut runner = Runner::new(alloc, 1);
+    let mut last = None;
+    for line in lines {
         if runner.is_waiting() {
             break;
         }
-        let progress = runner.start(&mut space, &line.statement);
-        match progress.map_err(AllocError::from)? {
-            Progress::Done(Reply::Columns(tables)) => assert_eq!(rt; tables.as_slice().len(), 1),
-            progress => assert!(rt; matches!(progress, Progress::Done(Reply::Ok))),
-        }
+        last = runner.start(&mut space, &line.statement).ok();
+    }
+    last
+}
+
+#[test]
+fn a_session_runs_its_statements(rt: HostRuntime) -> Result<(), Fail> {
+    let alloc = rt.alloc();
+    let text = b"1 CREATE SCHEMA shop\n1 CREATE TABLE shop.orders id\n1 SELECT shop.orders\n";
+    let script = parse(alloc, text)?;
+    match last_progress(alloc, script.lines()) {
+        Some(Progress::Done(Reply::Columns(tables))) => assert_eq!(rt; tables.as_slice().len(), 1),
+        _ => assert!(rt; false),
     }
     Ok(())
 }
