@@ -21,13 +21,7 @@ mod key;
 #[cfg(test)]
 mod lines;
 #[cfg(test)]
-mod lock;
-#[cfg(test)]
-mod program;
-#[cfg(test)]
 mod script;
-#[cfg(test)]
-mod script_laws;
 #[cfg(test)]
 mod space;
 #[cfg(test)]
