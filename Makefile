@@ -46,9 +46,11 @@ test: layout docs examples growths
 layout: kit
 	@sh make/check_layout.sh
 
-# The docs name what there is, and all that they have to name. `sh make/check_docs.sh update` counts the lines of docs/PROOFS.md anew.
+# The docs name what there is, and all that they have to name. `sh make/check_docs.sh update` counts the lines of docs/PROOFS.md anew. Each
+# library crate shows its example of mdl_examples: `sh make/check_examples.sh update` puts it there.
 docs: kit
 	@sh make/check_docs.sh
+	@sh make/check_examples.sh
 
 # Lines a second and peak memory of scripts of three sizes, of one lock and of statements; what calls cost on books of four sizes, and chains
 # of grants.

@@ -1,5 +1,5 @@
 # Prints a table of the lines of each crate, and of its wrong bodies, from the numbers of lines and the paths of its files, as wc tells them.
-# Tests are the crates of trials, and files named tests.rt.
+# Tests are the crates of trials and examples, and files named tests.rt.
 # Usage: wc -l FILE.. | awk -v CRATES="$crates" -f figures.awk
 function grouped(number) {
     return number < 1000 ? number + 0 : int(number / 1000) sprintf(",%03d", number % 1000)
@@ -11,7 +11,7 @@ function row(name) {
 split($2, part, "/") > 3 {
     kind = part[3]
     if (kind == "src") {
-        kind = part[2] ~ /trials$/ || $2 ~ /tests\.rt$/ ? "tests" : "code"
+        kind = part[2] ~ /trials$|examples$/ || $2 ~ /tests\.rt$/ ? "tests" : "code"
     }
     count = kind == "must-fail" ? 1 : $1
     lines["`" part[2] "`", kind] += count

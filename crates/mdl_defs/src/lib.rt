@@ -3,6 +3,27 @@
 //! Under a name stands a [`Definition`], or none: a schema, or a table with its [`Columns`] in order. A statement that
 //! creates, drops or alters asks for a [`Change`], and [`apply`] gives what stands after it, or why it is refused. A [`Standing`]
 //! counts the changes of what stands under one key.
+//!
+//! # Example
+//!
+//! ```
+//! use mdl_defs::{Change, ChangeError, Column, Columns, DefError, Definition, Standing};
+//! use mdl_key::Namespace;
+//!
+//! let alloc = rt.alloc();
+//! let mut columns = Columns::new(alloc);
+//! columns.push(Column::new(alloc, "id")?)?;
+//! let create = Change::Create(Definition::Table(columns));
+//! let add = Change::AddColumn(Column::new(alloc, "note")?);
+//! let mut table = Standing::new();
+//! table.change(alloc, Namespace::Table, &create)?;
+//! table.change(alloc, Namespace::Table, &add)?;
+//! assert_eq!(rt; table.version, 2);
+//! // The table has the column already, and nothing changes.
+//! let refused = table.change(alloc, Namespace::Table, &add);
+//! assert_eq!(rt; refused, Err(ChangeError::Def(DefError::DuplicateColumn)));
+//! assert_eq!(rt; table.version, 2);
+//! ```
 #![tactic(auto)]
 
 mod change;

@@ -4,6 +4,20 @@
 //! A request asks for a [`Mode`]. [`conflicts_granted`] and [`conflicts_waiting`] are the two matrices of metadata
 //! locking in MySQL 5.7: what a request may not stand beside, and what it waits behind. [`at_least`] compares modes by
 //! strength, [`is_obtrusive`] tells which of them no lock merely counts, and [`weight`] how much a wish weighs in a deadlock.
+//!
+//! # Example
+//!
+//! ```
+//! use mdl_key::{Key, Kind, Mode, conflicts_granted, conflicts_waiting};
+//!
+//! let table = Key::table(rt.alloc(), "test", "orders")?;
+//! assert_eq!(rt; table.kind(), Kind::Object);
+//! // A reader stands in the way of a change, and who reads later waits behind that.
+//! assert!(rt; conflicts_granted(table.kind(), Mode::X, Mode::SR));
+//! assert!(rt; conflicts_waiting(table.kind(), Mode::SR, Mode::X));
+//! // High priority waits behind nothing.
+//! assert!(rt; !conflicts_waiting(table.kind(), Mode::SH, Mode::X));
+//! ```
 #![tactic(auto)]
 
 mod key;

@@ -3,6 +3,23 @@
 //! [`is_comment`] looks at a line as a whole, [`first_words`] finds its first words, and [`session_of`] reads the number of a
 //! session. What refuses a line is a [`LineError`], and what keeps a script from being run to its end a [`Fault`], which
 //! [`report`] tells. [`read_all`] and [`write_all`] work on any reader and writer, however little one takes or gives at a time.
+//!
+//! # Example
+//!
+//! ```
+//! use mdl_lines::{Fault, LineError, first_words, is_comment, report, session_of};
+//!
+//! assert_eq!(rt; is_comment(b"# session 3 is done"), Ok(true));
+//! let (who, what) = first_words(b"3 COMMIT").unwrap_or((b"", None));
+//! assert_eq!(rt; session_of(who), Some(3));
+//! assert_eq!(rt; what, Some(b"COMMIT".as_slice()));
+//! // There are 64 sessions at most.
+//! assert_eq!(rt; session_of(b"65"), None);
+//! let mut told = Vec::new(rt.alloc());
+//! let status = report(&Fault::Refused(2, LineError::BadSession), &mut told);
+//! assert_eq!(rt; status, 1);
+//! assert_eq!(rt; told.as_slice(), b"line 2: BadSession\n".as_slice());
+//! ```
 #![tactic(auto)]
 
 mod device;

@@ -1,4 +1,35 @@
 //! The statements of a session, over any lock space.
+//!
+//! # Example
+//!
+//! ```
+//! use mdl_space::CoreSpace;
+//! use mdl_stmt::{Progress, Reply, Runner};
+//! use mdl_syntax::{Line, parse};
+//! use std::alloc::Global;
+//!
+//! /// How far the last of some statements comes. All are of session 1, which is alone in its space.
+//! fn last_progress<'s>(alloc: Global, lines: &'s [Line]) -> Option<Progress> {
+//!     let Ok(mut space) = CoreSpace::new(alloc, 256, 64) else {
+//!         return None;
+//!     };
+//!     let mut runner = Runner::new(alloc, 1);
+//!     let mut last = None;
+//!     for line in lines {
+//!         if runner.is_waiting() {
+//!             break;
+//!         }
+//!         last = runner.start(&mut space, &line.statement).ok();
+//!     }
+//!     last
+//! }
+//!
+//! let alloc = rt.alloc();
+//! let text = b"1 CREATE SCHEMA shop\n1 CREATE TABLE shop.orders id\n1 SELECT shop.orders\n";
+//! let script = parse(alloc, text)?;
+//! let last = last_progress(alloc, script.lines());
+//! assert!(rt; matches!(&last, Some(Progress::Done(Reply::Columns(_)))));
+//! ```
 #![tactic(auto)]
 
 mod altering;

@@ -3,6 +3,28 @@
 //! [`parse`] reads a [`Script`]: its [`Line`]s, each of which asks a session for a [`Statement`]. A statement's tables are
 //! [`Tables`], each the key of its lock, those of LOCK TABLES are [`TableLocks`], and a savepoint's name is a [`Name`]. The forms of statements stand in one table,
 //! key words first.
+//!
+//! # Example
+//!
+//! ```
+//! use mdl_lines::{Fault, LineError};
+//! use mdl_syntax::{Statement, parse};
+//!
+//! let script = parse(
+//!     rt.alloc(),
+//!     b"# who has ordered?\n1 SELECT orders shop.customers\n",
+//! )?;
+//! for line in script.lines() {
+//!     assert_eq!(rt; (line.number, line.session), (2, 1));
+//!     assert!(rt; matches!(line.statement, Statement::Select(_)));
+//! }
+//! // The first refused line refuses a script.
+//! let refused = parse(rt.alloc(), b"1 BEGIN\n65 BEGIN\n");
+//! assert_eq!(rt;
+//!     refused.err(),
+//!     Some(Fault::Refused(2, LineError::BadSession))
+//! );
+//! ```
 #![tactic(auto)]
 
 mod forms;

@@ -2,6 +2,22 @@
 //! can happen in it (`specs/Events`), deadlocks over it (`specs/Deadlocks`), and the laws of these.
 //!
 //! It has no places, no limits, and nothing of how locks are kept. Whoever keeps them shows that what he does is an event here.
+//!
+//! # Example
+//!
+//! ```
+//! use mdl_key::Mode;
+//! use mdl_system::{covers, may_downgrade, may_upgrade};
+//!
+//! // Who alters a table prepares the change in SU, makes it in X, and goes back.
+//! assert!(rt; may_upgrade(Mode::SU, Mode::X));
+//! assert!(rt; may_downgrade(Mode::X, Mode::SU));
+//! // Who only reads it can't come to change it so.
+//! assert!(rt; !may_upgrade(Mode::SR, Mode::X));
+//! // X serves for each wish for SR, and SR for none for X.
+//! assert!(rt; covers(Mode::X, Mode::SR));
+//! assert!(rt; !covers(Mode::SR, Mode::X));
+//! ```
 #![tactic(auto)]
 
 mod laws;

@@ -3,6 +3,22 @@
 //! A fast ticket leaves no entry in a lock's lists. It is only counted, together with those in modes that clash with the
 //! same requests, so that gaining it or giving it up is a single addition to the lock's [`Word`]: see
 //! [`Word::increment`]. Whoever asks for a mode that may clash reads the counts back: [`Word::blocks`].
+//!
+//! # Example
+//!
+//! ```
+//! use mdl_key::{Kind, Mode};
+//! use mdl_word::Word;
+//!
+//! // What one more reader adds to a table's word. A change is counted in none.
+//! assert_eq!(rt; Word::increment(Kind::Object, Mode::SR), Some(1 << 20));
+//! assert_eq!(rt; Word::increment(Kind::Object, Mode::X), None);
+//! // Two readers stand in the way of a change, and of no writer.
+//! let word = Word(2 << 20);
+//! assert_eq!(rt; word.counts(), [0, 2, 0]);
+//! assert!(rt; word.blocks(Kind::Object, Mode::X));
+//! assert!(rt; !word.blocks(Kind::Object, Mode::SW));
+//! ```
 #![tactic(auto)]
 
 mod laws;

@@ -1,0 +1,22 @@
+//! `mdl_defs`: a table that is created and altered.
+use mdl_defs::{Change, ChangeError, Column, Columns, DefError, Definition, Standing};
+use mdl_key::Namespace;
+use std::test::Fail;
+
+#[test]
+fn a_table_is_created_and_altered(rt: HostRuntime) -> Result<(), Fail> {
+    let alloc = rt.alloc();
+    let mut columns = Columns::new(alloc);
+    columns.push(Column::new(alloc, "id")?)?;
+    let create = Change::Create(Definition::Table(columns));
+    let add = Change::AddColumn(Column::new(alloc, "note")?);
+    let mut table = Standing::new();
+    table.change(alloc, Namespace::Table, &create)?;
+    table.change(alloc, Namespace::Table, &add)?;
+    assert_eq!(rt; table.version, 2);
+    // The table has the column already, and nothing changes.
+    let refused = table.change(alloc, Namespace::Table, &add);
+    assert_eq!(rt; refused, Err(ChangeError::Def(DefError::DuplicateColumn)));
+    assert_eq!(rt; table.version, 2);
+    Ok(())
+}

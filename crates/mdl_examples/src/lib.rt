@@ -1,0 +1,34 @@
+//! An example of each library crate: what its reader does first.
+//!
+//! Everything here is for tests. Each file names its crate in its first line, and has one test; the head of the crate's `src/lib.rt`
+//! shows the same lines, and `make/check_examples.sh` compares them. So what is shown there is proved, and run.
+#![tactic(auto)]
+
+#[cfg(test)]
+mod book;
+#[cfg(test)]
+mod calls;
+#[cfg(test)]
+mod context;
+#[cfg(test)]
+mod cores;
+#[cfg(test)]
+mod defs;
+#[cfg(test)]
+mod graph;
+#[cfg(test)]
+mod key;
+#[cfg(test)]
+mod lines;
+#[cfg(test)]
+mod script;
+#[cfg(test)]
+mod space;
+#[cfg(test)]
+mod stmt;
+#[cfg(test)]
+mod syntax;
+#[cfg(test)]
+mod system;
+#[cfg(test)]
+mod word;

@@ -1,0 +1,15 @@
+//! `mdl_word`: a word that counts readers.
+use mdl_key::{Kind, Mode};
+use mdl_word::Word;
+
+#[test]
+fn readers_are_counted(rt: HostRuntime) {
+    // What one more reader adds to a table's word. A change is counted in none.
+    assert_eq!(rt; Word::increment(Kind::Object, Mode::SR), Some(1 << 20));
+    assert_eq!(rt; Word::increment(Kind::Object, Mode::X), None);
+    // Two readers stand in the way of a change, and of no writer.
+    let word = Word(2 << 20);
+    assert_eq!(rt; word.counts(), [0, 2, 0]);
+    assert!(rt; word.blocks(Kind::Object, Mode::X));
+    assert!(rt; !word.blocks(Kind::Object, Mode::SW));
+}

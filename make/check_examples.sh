@@ -1,0 +1,80 @@
+#!/bin/sh
+# Says which library crates show another example at the head of their src/lib.rt than the file of mdl_examples that names them, a line for
+# each, or that there is none.
+# Usage: sh make/check_examples.sh           looks
+#        sh make/check_examples.sh update    puts the examples there
+cd "$(dirname "$0")/.." || exit 1
+sh make/needs.sh awk cmp || exit 1
+LC_ALL=C
+export LC_ALL
+made=$(mktemp -d)
+trap 'rm -rf "$made"' EXIT
+
+# The library crates: those with a src/lib.rt that are no tests. Some have no example yet: mdl_steps, which is begun and can't be used, and
+# mdl_lock, mdl_program and mdl_script_laws.
+libraries() {
+    ls crates/*/src/lib.rt | cut -d/ -f2 | grep -v -x -e '.*trials' -e 'mdl_examples' -e 'mdl_steps' -e 'mdl_lock' -e 'mdl_program' -e 'mdl_script_laws'
+}
+
+# The file of mdl_examples that names a crate in its first line.
+file_of() {
+    grep -l -x "//! \`$1\`: .*" crates/mdl_examples/src/*.rt
+}
+
+# The head of a file is all comments that begin it. Its section of an example is the last one there.
+section() {
+    awk '!/^\/\/!/ { exit } $0 == "//! # Example" { on = 1 } on' "$1"
+}
+
+# A file with the section that the standard input has, at the end of its head.
+with_section() {
+    cat > "$made/section"
+    awk -v SECTION="$made/section" '
+        $0 == "//! # Example" { cut = 1 }
+        !done && /^\/\/!/ { head[++lines] = cut ? "" : $0; if (!cut) { last = lines }; next }
+        !done {
+            while (head[last] == "//!") { last -= 1 }
+            for (i = 1; i <= last; i += 1) { print head[i] }
+            print "//!"
+            while ((getline line < SECTION) > 0) { print line }
+            done = 1
+        }
+        { print }' "$1"
+}
+
+look_at() {
+    file=$(file_of "$1")
+    if [ -z "$file" ]; then
+        echo "crates/mdl_examples/src: there is no example of $1"
+        return
+    fi
+    section "crates/$1/src/lib.rt" > "$made/shown"
+    awk -f make/docs/example.awk "$file" | cmp -s - "$made/shown" \
+        || echo "crates/$1/src/lib.rt: the example isn't that of $file: sh make/check_examples.sh update"
+}
+
+look() {
+    for crate in $(libraries); do
+        look_at "$crate"
+    done
+}
+
+update() {
+    for crate in $(libraries); do
+        file=$(file_of "$crate")
+        if [ -n "$file" ]; then
+            head="crates/$crate/src/lib.rt"
+            awk -f make/docs/example.awk "$file" | with_section "$head" > "$made/page" && cat "$made/page" > "$head" || return 1
+        fi
+    done
+}
+
+case "$1" in
+    update) "$1" || exit 1 ;;
+esac
+look > "$made/stale"
+if [ -s "$made/stale" ]; then
+    cat "$made/stale" >&2
+    exit 1
+fi
+echo 'each library crate shows its example'

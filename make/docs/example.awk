@@ -1,0 +1,28 @@
+# Prints the section at the head of a library crate that shows its example: the lines of the example's file, without what makes them a test.
+# Usage: awk -f example.awk crates/mdl_examples/src/NAME.rt
+BEGIN {
+    print "//! # Example"
+    print "//!"
+    print "//! ```"
+}
+/^\/\/!/ || $0 == "use std::test::Fail;" || $0 == "    Ok(())" {
+    next
+}
+$0 == "#[test]" {
+    getline
+    body = 1
+    next
+}
+body && $0 == "}" {
+    body = 0
+    next
+}
+{
+    if (body) {
+        sub(/^    /, "")
+    }
+    print $0 == "" ? "//!" : "//! " $0
+}
+END {
+    print "//! ```"
+}
