@@ -23,8 +23,6 @@ mod lines;
 #[cfg(test)]
 mod script;
 #[cfg(test)]
-mod space;
-#[cfg(test)]
 mod stmt;
 #[cfg(test)]
 mod syntax;
