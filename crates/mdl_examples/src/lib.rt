@@ -21,6 +21,10 @@ mod key;
 #[cfg(test)]
 mod lines;
 #[cfg(test)]
+mod lock;
+#[cfg(test)]
+mod program;
+#[cfg(test)]
 mod script;
 #[cfg(test)]
 mod stmt;

@@ -2,6 +2,20 @@
 //!
 //! [`lock_run`] reads a script, looks at all of its lines, obeys them over one book, and writes the answers. [`matrix_run`]
 //! prints which modes clash, and which wait behind which.
+//!
+//! # Example
+//!
+//! ```
+//! use mdl_key::Kind;
+//! use mdl_lock::lock_run;
+//!
+//! let alloc = rt.alloc();
+//! let mut script = b"1 SR\n2 X\n1 RELEASE\n".as_slice();
+//! let mut answers = Vec::new(alloc);
+//! lock_run(alloc, Kind::Object, &mut script, &mut answers)?;
+//! let wanted = "1 GRANTED SR\n2 WAITS X\n1 RELEASED SR\n2 GRANTED X\n";
+//! assert_eq!(rt; answers.as_slice(), wanted.as_bytes());
+//! ```
 #![tactic(auto)]
 
 mod answer;

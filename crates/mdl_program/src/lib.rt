@@ -2,6 +2,24 @@
 //! plays a script of statements, or prints the matrices.
 //!
 //! [`run_asked`] does what was asked for, tells a fault on the stream of errors, and answers the status that a program ends with.
+//!
+//! # Example
+//!
+//! ```
+//! use mdl_key::KeyError;
+//! use mdl_program::{Run, run_asked};
+//!
+//! let alloc = rt.alloc();
+//! let asked: Result<Run, KeyError> = Ok(Run::Replay);
+//! let mut input = b"1 BEGIN\n65 BEGIN\n".as_slice();
+//! let mut output = Vec::new(alloc);
+//! let mut errors = Vec::new(alloc);
+//! let status = run_asked(alloc, &asked, &mut input, &mut output, &mut errors);
+//! // A refused line refuses the script, and then nothing is written.
+//! assert_eq!(rt; status, 1);
+//! assert_eq!(rt; errors.as_slice(), b"line 2: BadSession\n".as_slice());
+//! assert!(rt; output.is_empty());
+//! ```
 #![tactic(auto)]
 
 mod program;
