@@ -10,10 +10,9 @@ export LC_ALL
 made=$(mktemp -d)
 trap 'rm -rf "$made"' EXIT
 
-# The library crates: those with a src/lib.rt that are no tests. Some have no example yet: mdl_steps, which is begun and can't be used, and
-# mdl_script_laws and mdl_space.
+# The library crates: those with a src/lib.rt that are no tests.
 libraries() {
-    ls crates/*/src/lib.rt | cut -d/ -f2 | grep -v -x -e '.*trials' -e 'mdl_examples' -e 'mdl_steps' -e 'mdl_script_laws' -e 'mdl_space'
+    ls crates/*/src/lib.rt | cut -d/ -f2 | grep -v -x -e '.*trials' -e 'mdl_examples'
 }
 
 # The file of mdl_examples that names a crate in its first line.

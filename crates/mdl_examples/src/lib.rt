@@ -27,6 +27,12 @@ mod program;
 #[cfg(test)]
 mod script;
 #[cfg(test)]
+mod script_laws;
+#[cfg(test)]
+mod space;
+#[cfg(test)]
+mod steps;
+#[cfg(test)]
 mod stmt;
 #[cfg(test)]
 mod syntax;

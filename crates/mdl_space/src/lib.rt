@@ -13,6 +13,23 @@
 //! [`CoreSpace`] is the space of one thread. Each of its calls is an event of the system of locks that a reader believes in,
 //! which stays lawful, and in which nobody is forgotten: the laws of that stand in `mdl_system` and `mdl_core`, and their names
 //! here too.
+//!
+//! # Example
+//!
+//! ```
+//! use mdl_key::{Key, Mode};
+//! use mdl_space::{Attempt, Begun, CoreSpace, Ended, LockSpace};
+//!
+//! let alloc = rt.alloc();
+//! let mut space = CoreSpace::new(alloc, 256, 64)?; // places and sessions
+//! let place = space.resolve(1, &Key::table(alloc, "test", "orders")?)?;
+//! // Session 1 reads the table, and session 2 waits to change it.
+//! assert_eq!(rt; space.try_now(1, place, Mode::SR)?, Attempt::Granted(1));
+//! assert_eq!(rt; space.begin_wait(2, place, Mode::X)?, Begun::Waiting(1));
+//! // The reader goes, and the change has its turn.
+//! space.release(1, 1)?;
+//! assert_eq!(rt; space.end_wait(2)?, Ended::Granted(1));
+//! ```
 #![tactic(auto)]
 
 mod core_space;

@@ -9,6 +9,25 @@
 //!
 //! What a session does to its own tickets under a latch is a list of [`Deed`]s. After MySQL 5.7, `MDL_lock` and `MDL_context` of
 //! `sql/mdl.cc`; the latch, the words and the views are this project's own.
+//!
+//! # Example
+//!
+//! ```
+//! use mdl_steps::Maker;
+//!
+//! let (table, mut maker) = Maker::of_places(rt.alloc(), 3, 2)?; // places and sessions
+//! let top = &table.shared;
+//! let Some(mut session) = maker.enrol(top, table.slot_count()) else {
+//!     panic!(rt; "there is room for two");
+//! };
+//! let Some(latch) = session.take_latch(top, 2) else {
+//!     panic!(rt; "nobody else is there");
+//! };
+//! // Nobody has a ticket there, so the word's flags may be down.
+//! let needs = session.needs(top, &latch);
+//! assert!(rt; !needs.slow && !needs.obtrusive);
+//! session.put_latch(top, latch, &[]);
+//! ```
 #![tactic(auto)]
 
 mod deed;
