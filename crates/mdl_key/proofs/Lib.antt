@@ -1,2 +1,3 @@
 pub mod MatrixLemmas
+pub mod KeyLemmas
 pub mod ModeLemmas

@@ -84,7 +84,7 @@ module _ (s : Table) (r : Rule s) (id : ℕ) (v w : View) (homes : Homes) (moved
     places = λ q first inside. subst (PlaceOk (key_at r.keys q)) (sym (cell_same q first)) (r.places q first (rw moved.slots at inside));
   }
 
-each-append : {X : Type 0} → (P : X → Type 0) (xs ys : List X) → Each P xs → Each P ys → Each P (xs ++ ys)
+pub each-append : {X : Type 0} → (P : X → Type 0) (xs ys : List X) → Each P xs → Each P ys → Each P (xs ++ ys)
 each-append P [] ys first second = second
 each-append P (x ∷ xs) ys first second = (first.0, each-append P xs ys first.1 second)
 
@@ -100,7 +100,7 @@ learnt_known k m place recorded = rw recorded (by_bool (nat_lt 0 place)
     (λ none. rw none tt))
 
 -- only one seat has the number of a seat that has one
-alone_desk : (s : Table) (r : Rule s) (id : ℕ) (v : View) → get_elem? s.views id ≡ some v → 0 < v.number
+pub alone_desk : (s : Table) (r : Rule s) (id : ℕ) (v : View) → get_elem? s.views id ≡ some v → 0 < v.number
     → (j : ℕ) (d : Desk) → get_elem? (map desk_of s.views) j ≡ some d → d.number ≡ v.number → j ≡ id
 alone_desk s r id v seat some_number j d there same =
     let u = at_unmap desk_of s.views j d there in

@@ -71,7 +71,7 @@ joined key c id ok at =
         once = ok.book_ok.once;
         owned = λ session number t found. (let o = ok.book_ok.owned session number t found in (o.0, o.1, at_longer c.parts (nothing 0 ∷ []) o.0 o.1 o.2, o.3));
         version_is = ok.book_ok.version_is;
-        named = record { key_is = ok.book_ok.named.key_is; vacant = λ none. (let v = ok.book_ok.named.vacant none in (v.0, v.1, fast ∙ v.2)) };
+        named = record { key_is = ok.book_ok.named.key_is; vacant = λ none. (let v = ok.book_ok.named.vacant none in (v.0, fast ∙ v.1)) };
         each = λ j x there. elim (at_snoc c.parts (nothing 0) x j there) [
           | inl old ↦ ok.book_ok.each j x old
           | inr new ↦ subst (PartOk ok.book) new (ok.book_ok.each id (nothing 0) at)
@@ -117,7 +117,7 @@ renumbered key c id n ok holder part fresh =
               | inr e ↦ (o.0, o.1, set_else c.parts id o.0 (nothing n) e ∙ o.2, o.3)
             ];
         version_is = ok.book_ok.version_is;
-        named = record { key_is = ok.book_ok.named.key_is; vacant = λ none. (let v = ok.book_ok.named.vacant none in (v.0, v.1, fast ∙ v.2)) };
+        named = record { key_is = ok.book_ok.named.key_is; vacant = λ none. (let v = ok.book_ok.named.vacant none in (v.0, fast ∙ v.1)) };
         each = λ j x there. elim (at_set c.parts id j (nothing n) x there) [
           | inl new ↦ subst (PartOk ok.book) new.1 (record {
             few = omega arith;

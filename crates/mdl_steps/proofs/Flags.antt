@@ -115,13 +115,12 @@ module _ (slots id place : ℕ) (me : Mine) (some_number : 0 < me.0.number) (fir
           seat = seat;
           number = refl;
           spare = refl;
-          directory = refl;
           numbered = record { fast = row.fast; slow = row.slow; asks = row.asks };
           slots = refl;
           home_else = λ q else. refl;
           part_else = λ q else. refl;
           holder_else = λ q else. λ i. record { number = me.0.number; held = held_at-unchanged place (g (get_or s.words (lock_word place) 0)) (stays (get_or s.words (lock_word place) 0)) q me.0.latches else i };
-        }) (r.views id me.0 seat).1 (f (get_or s.words (lock_word place) 0))
+        }) refl (r.views id me.0 seat).1 (f (get_or s.words (lock_word place) 0))
         (rw (parts_again s place id me.0 w seat refl)
         (holder_cell (key_at r.keys place) (cell s place) ok id (holder_at place me.0) there (seat_there s place id me.0 seat) (holder_at place w) h (g (get_or s.words (lock_word place) 0) h) holds
         (λ j l at same. alone s r place id me.0 seat some_number j l at (same ∙ sym mine.mine)) refl

@@ -22,7 +22,7 @@ use Rattle.mdl_steps.specs.declared.view.Ask.{Ask}
 use Rattle.mdl_steps.specs.declared.view.Held.{Held}
 use Rattle.mdl_steps.specs.declared.view.Known.{Known}
 use Rattle.mdl_steps.specs.declared.view.View.{View}
-use Rattle.mdl_steps.specs.Cells.{part_at, holder_at, cell, waits, ticket_by, own_at, asking_at, due, all_fast}
+use Rattle.mdl_steps.specs.Cells.{part_at, holder_at, desk_of, cell, waits, ticket_by, own_at, asking_at, due, all_fast}
 use Rattle.mdl_steps.specs.Layout.{latch_word}
 use Rattle.mdl_steps.specs.Plays.{Mine, IsFresh, latched, logged, takes_latch}
 use Rattle.mdl_steps.specs.Rule.{Rule, PlaceOk, Numbered, key_at}
@@ -88,6 +88,9 @@ module _ (slots id place : ℕ) (me : Mine) (some_number : 0 < me.0.number) (fir
       named = λ i k there here.
           let knows = each_at (λ (x : Known). (0 < x.place) × (key_at r.keys x.place ≡ Some x.key)) me.0.known (r.views id me.0 seat).1 i k there in
           ok.book_ok.named.key_is k.key (ap (λ (q : ℕ). key_at r.keys q) (sym here) ∙ knows.1);
+      vacant = λ k recorded none.
+          let keys_are = (r.directory_agrees.held id (desk_of me.0) (at_map desk_of s.views id me.0 seat) k recorded).2 in
+          (ok.book_ok.named.vacant (rw (sym keys_are) none)).0;
     }
 
     numbered : (w : View) → w.next ≡ me.0.next → w.fast ≡ me.0.fast → w.slow ≡ me.0.slow → w.asks ≡ me.0.asks → Numbered w
@@ -100,7 +103,6 @@ module _ (slots id place : ℕ) (me : Mine) (some_number : 0 < me.0.number) (fir
       seat = seat;
       number = refl;
       spare = refl;
-      directory = refl;
       numbered = numbered (latched place fresh me).0 refl refl refl refl;
       slots = length-set s.homes place none;
       home_else = λ q else. set_else s.homes place q none else;
@@ -112,7 +114,7 @@ module _ (slots id place : ℕ) (me : Mine) (some_number : 0 < me.0.number) (fir
     unfolding fresh ok
     taken_rule free =
         let w : View = (latched place fresh me).0 in
-        on_latch s r place id me.0 w (set s.homes place none) moved_taken (r.views id me.0 seat).1 me.0.number
+        on_latch s r place id me.0 w (set s.homes place none) moved_taken refl (r.views id me.0 seat).1 me.0.number
         (rw (parts_again s place id me.0 w seat refl)
         (taken_cell (key_at r.keys place) (cell s place) ok id (holder_at place me.0) (at_map (holder_at place) s.views id me.0 seat) (seat_there s place id me.0 seat) (holder_at place w) free some_number refl
         fresh refl refl refl refl (held_at-first place fresh me.0.latches refl) (get_elem? (set s.homes place none) place)))
@@ -127,13 +129,12 @@ module _ (slots id place : ℕ) (me : Mine) (some_number : 0 < me.0.number) (fir
       seat = seat;
       number = refl;
       spare = refl;
-      directory = refl;
       numbered = numbered missed refl refl refl refl;
       slots = refl;
       home_else = λ q else. refl;
       part_else = λ q else. refl;
       holder_else = λ q else. refl;
-    }) (r.views id me.0 seat).1 refl refl
+    }) refl (r.views id me.0 seat).1 refl refl
 
   pub takes_latch_allowed : Allows Rule slots id me (latch_word place) (λ n. either (n == 0) me.0.number n) (takes_latch (step slots (latch_word place) 0 me.0.number none) me)
   unfolding fresh ok missed

@@ -16,6 +16,8 @@ pub mod Reading
 pub mod Hands
 pub mod Tells
 pub mod Desks
+pub mod Looking
+pub mod NewKeys
 pub mod Opens
 pub mod Enrol
 pub mod Starts

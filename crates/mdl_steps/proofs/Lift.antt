@@ -1,5 +1,5 @@
 -- A step at one place leaves the cells of the others as they are, so the rule holds after it if it holds at that place.
-use Rattle.std.proofs.Common.{◌≡◌, ◌≢◌, ℕ, ◌+◌, ◌*◌, ◌<◌, ◌≤◌, List, map, set, length, get_or, sym, ap, ◌∙◌, subst, inl, inr, arith, length-set, get_or-set_other, get_or-set_same}
+use Rattle.std.proofs.Common.{◌≡◌, ◌≢◌, ℕ, ◌+◌, ◌*◌, ◌<◌, ◌≤◌, List, map, set, length, get_or, sym, ap, ◌∙◌, subst, inl, inr, arith, refl, length-set, get_or-set_other, get_or-set_same}
 use Rattle.std.proofs.lemmas.List.{map-set}
 use mathlib.Core.Option.{Option as Maybe, some}
 use lib.ListN.{get_elem?}
@@ -7,9 +7,11 @@ use Rattle.atomic_table.specs.Table.{State}
 use Rattle.atomic_table.proofs.Lists.{at_map, at_set, set_again}
 use Rattle.mdl_steps.specs.declared.slot.Slot.{Slot}
 use Rattle.mdl_steps.specs.declared.view.View.{View}
-use Rattle.mdl_steps.specs.Cells.{Part, Holder, Cell, part_at, holder_at, desk_of, waits, cell}
+use Rattle.mdl_steps.specs.Cells.{Part, Holder, Desk, Cell, part_at, holder_at, desk_of, waits, cell}
 use Rattle.mdl_steps.specs.Layout.{latch_word, lock_word, version_word, enrol_word}
-use Rattle.mdl_steps.specs.Rule.{Rule, PlaceOk, Numbered, KnowsKeys, key_at}
+use Rattle.mdl_key.specs.Words.{KeyName}
+use Rattle.mdl_steps.specs.Lists.{Distinct}
+use Rattle.mdl_steps.specs.Rule.{Rule, PlaceOk, DirectoryOk, Numbered, KnowsKeys, key_at}
 use Rattle.mdl_steps.proofs.Views.{map_kept, at_unmap, at_inside}
 
 abbrev pub Table : Type 0
@@ -24,12 +26,20 @@ pub record Moved (s : Table) (place id : ℕ) (v w : View) (homes : Homes) : Typ
   pub seat : get_elem? s.views id ≡ some v
   pub number : w.number ≡ v.number
   pub spare : w.spare ≡ v.spare
-  pub directory : w.directory ≡ v.directory
   pub numbered : Numbered w
   pub slots : length homes ≡ length s.homes
   pub home_else : (q : ℕ) → q ≢ place → get_elem? homes q ≡ get_elem? s.homes q
   pub part_else : (q : ℕ) → q ≢ place → part_at (waits s) q w ≡ part_at (waits s) q v
   pub holder_else : (q : ℕ) → q ≢ place → holder_at q w ≡ holder_at q v
+
+-- which keys have places after it: those of other places are the same
+pub record Keyed (s : Table) (r : Rule s) (place id : ℕ) (w : View) (keys : List KeyName) : Type 0 where
+  pub fit : length keys < length s.homes
+  pub distinct : Distinct keys
+  pub directory_agrees : DirectoryOk (get_or s.words (latch_word 0) 0) (get_elem? s.homes 0) (set (map desk_of s.views) id (desk_of w)) keys
+  pub mine : KnowsKeys keys w
+  pub others : (j : ℕ) (u : View) → get_elem? s.views j ≡ some u → KnowsKeys keys u
+  pub key_else : (q : ℕ) → 0 < q → q ≢ place → key_at keys q ≡ key_at r.keys q
 
 -- the table after it, and the cell of its place
 abbrev pub after : Table → ℕ → ℕ → ℕ → View → Homes → Table
@@ -92,49 +102,60 @@ module _ (s : Table) (r : Rule s) (place id : ℕ) (v w : View) (homes : Homes) 
     parts = parts_are place x;
   }
 
-  desk_same : desk_of w ≡ desk_of v
-  desk_same = λ x. record { number = moved.number x; directory = moved.directory x }
-
-  pub lifted : KnowsKeys r.keys w
-      → PlaceOk (key_at r.keys place) (cell_after s place id w homes (get_or (set s.words i n) (latch_word place) 0) (get_or (set s.words i n) (lock_word place) 0) (get_or (set s.words i n) (version_word place) 0))
+  pub lifted : (keys : List KeyName) → Keyed s r place id w keys
+      → PlaceOk (key_at keys place) (cell_after s place id w homes (get_or (set s.words i n) (latch_word place) 0) (get_or (set s.words i n) (lock_word place) 0) (get_or (set s.words i n) (version_word place) 0))
       → Rule (after s i n id w homes)
   unfolding new
-  lifted knows ok = record {
+  lifted keys keyed ok = record {
     most = r.most;
     wide = length-set s.words i n ∙ r.wide ∙ ap (λ (l : ℕ). 8 * l + 16 + 8 * r.most) (sym moved.slots);
     enrolled =
         let drawn : get_or (set s.words i n) (8 * length homes) 0 ≡ get_or s.words (8 * length s.homes) 0 =
         ap (λ (l : ℕ). get_or (set s.words i n) (8 * l) 0) moved.slots ∙ word_else (enrol_word (length s.homes)) (let inside = moved.inside.1 in λ e. omega arith) in
         rw (drawn, map_kept (λ (x : View). x.number) s.views id v w moved.seat moved.number, map_kept (λ (x : View). x.spare) s.views id v w moved.seat moved.spare) r.enrolled;
-    keys = r.keys;
-    fit = rw moved.slots r.fit;
-    distinct = r.distinct;
+    keys = keys;
+    fit = rw moved.slots keyed.fit;
+    distinct = keyed.distinct;
     directory_agrees = rw (
       word_else (latch_word 0) (let some = moved.inside.0 in λ e. omega arith),
       moved.home_else 0 (let some = moved.inside.0 in λ e. omega arith),
-      map_kept desk_of s.views id v w moved.seat desk_same,
-    ) r.directory_agrees;
+      map-set desk_of s.views id w,
+    ) keyed.directory_agrees;
     views = λ j u at. elim (at_set s.views id j w u at) [
-      | inl e ↦ subst (λ (x : View). Numbered x × KnowsKeys r.keys x) e.1 (moved.numbered, knows)
-      | inr e ↦ r.views j u e.1
+      | inl e ↦ subst (λ (x : View). Numbered x × KnowsKeys keys x) e.1 (moved.numbered, keyed.mine)
+      | inr e ↦ ((r.views j u e.1).0, keyed.others j u e.1)
     ];
     places = λ q some inside.
         elim (Rattle.std.proofs.lemmas.Bool.cases_eq q place) [
-          | inl e ↦ subst (λ (x : ℕ). PlaceOk (key_at r.keys x) (cell new x)) (sym e) (subst (PlaceOk (key_at r.keys place)) (sym cell_here) ok)
-          | inr e ↦ subst (PlaceOk (key_at r.keys q)) (sym (cell_else q e)) (r.places q some (rw moved.slots at inside))
+          | inl e ↦ subst (λ (x : ℕ). PlaceOk (key_at keys x) (cell new x)) (sym e) (subst (PlaceOk (key_at keys place)) (sym cell_here) ok)
+          | inr e ↦ rw (keyed.key_else q some e) (subst (PlaceOk (key_at r.keys q)) (sym (cell_else q e)) (r.places q some (rw moved.slots at inside)))
         ];
   }
 
--- ---- a step on one of the words of its place
+-- ---- a step on one of the words of its place, by which no place gets a key
 
-module _ (s : Table) (r : Rule s) (place id : ℕ) (v w : View) (homes : Homes) (moved : Moved s place id v w homes) (knows : KnowsKeys r.keys w) where
+module _ (s : Table) (r : Rule s) (place id : ℕ) (v w : View) (homes : Homes) (moved : Moved s place id v w homes) (directory : w.directory ≡ v.directory) (knows : KnowsKeys r.keys w) where
+  desk_same : desk_of w ≡ desk_of v
+  desk_same = λ x. record { number = moved.number x; directory = directory x }
+
+  keyed : Keyed s r place id w r.keys
+  unfolding desk_same
+  keyed = record {
+    fit = r.fit;
+    distinct = r.distinct;
+    directory_agrees = rw (ap (λ (d : Desk). set (map desk_of s.views) id d) desk_same ∙ set_again (map desk_of s.views) id (desk_of v) (at_map desk_of s.views id v moved.seat)) r.directory_agrees;
+    mine = knows;
+    others = λ j u at. (r.views j u at).1;
+    key_else = λ q some else. refl;
+  }
+
   -- the words of a place stand among the words
   inside_words : (i : ℕ) → i < 8 * place + 8 → i < length s.words
   inside_words i below = let wide = r.wide in let inside = moved.inside.1 in omega arith
 
   pub on_latch : (n : ℕ) → PlaceOk (key_at r.keys place) (cell_after s place id w homes n (cell s place).word (cell s place).version) → Rule (after s (latch_word place) n id w homes)
   on_latch n ok =
-      lifted s r place id v w homes moved (latch_word place) n (omega arith, omega arith) knows
+      lifted s r place id v w homes moved (latch_word place) n (omega arith, omega arith) r.keys keyed
       (rw (
         get_or-set_same s.words (latch_word place) n 0 (inside_words (latch_word place) (omega arith)),
         get_or-set_other s.words (latch_word place) (lock_word place) n 0 (λ e. omega arith),
@@ -143,7 +164,7 @@ module _ (s : Table) (r : Rule s) (place id : ℕ) (v w : View) (homes : Homes) 
 
   pub on_word : (n : ℕ) → PlaceOk (key_at r.keys place) (cell_after s place id w homes (cell s place).latch n (cell s place).version) → Rule (after s (lock_word place) n id w homes)
   on_word n ok =
-      lifted s r place id v w homes moved (lock_word place) n (omega arith, omega arith) knows
+      lifted s r place id v w homes moved (lock_word place) n (omega arith, omega arith) r.keys keyed
       (rw (
         get_or-set_other s.words (lock_word place) (latch_word place) n 0 (λ e. omega arith),
         get_or-set_same s.words (lock_word place) n 0 (inside_words (lock_word place) (omega arith)),
@@ -152,7 +173,7 @@ module _ (s : Table) (r : Rule s) (place id : ℕ) (v w : View) (homes : Homes) 
 
   pub on_version : (n : ℕ) → PlaceOk (key_at r.keys place) (cell_after s place id w homes (cell s place).latch (cell s place).word n) → Rule (after s (version_word place) n id w homes)
   on_version n ok =
-      lifted s r place id v w homes moved (version_word place) n (omega arith, omega arith) knows
+      lifted s r place id v w homes moved (version_word place) n (omega arith, omega arith) r.keys keyed
       (rw (
         get_or-set_other s.words (version_word place) (latch_word place) n 0 (λ e. omega arith),
         get_or-set_other s.words (version_word place) (lock_word place) n 0 (λ e. omega arith),
@@ -175,11 +196,11 @@ holders_again s place id v w seat same =
     ∙ set_again (cell s place).holders id (holder_at place v) (at_map (holder_at place) s.views id v seat)
 
 -- a step that changes the list of steps alone
-pub only_logged : (s : Table) (r : Rule s) (place id : ℕ) (v w : View) → Moved s place id v w s.homes → KnowsKeys r.keys w
+pub only_logged : (s : Table) (r : Rule s) (place id : ℕ) (v w : View) → Moved s place id v w s.homes → w.directory ≡ v.directory → KnowsKeys r.keys w
     → part_at (waits s) place w ≡ part_at (waits s) place v → holder_at place w ≡ holder_at place v
     → Rule (after s (latch_word place) (cell s place).latch id w s.homes)
-only_logged s r place id v w moved knows part holder =
-    on_latch s r place id v w s.homes moved knows (cell s place).latch
+only_logged s r place id v w moved directory knows part holder =
+    on_latch s r place id v w s.homes moved directory knows (cell s place).latch
     (rw (parts_again s place id v w moved.seat part, holders_again s place id v w moved.seat holder) (r.places place moved.inside.0 moved.inside.1))
 
 -- only one seat has the number of a seat that has one

@@ -1,5 +1,5 @@
 -- A session notes the version of a place under its tickets there, and what it read.
-use Rattle.std.proofs.Common.{◌≡◌, ◌≢◌, ℕ, zero, suc, List, [], ◌∷◌, ◌++◌, map, set, refl, sym, ap, ◌∙◌, subst, inl, inr, arith}
+use Rattle.std.proofs.Common.{◌≡◌, ◌≢◌, ℕ, zero, suc, List, [], ◌∷◌, ◌++◌, map, set, None, refl, sym, ap, ◌∙◌, subst, inl, inr, arith}
 use Rattle.std.specs.Prelude.{Option}
 use Rattle.std.specs.Option.{option_to_list}
 use Rattle.std.proofs.lemmas.Bool.{cases_eq}
@@ -8,6 +8,7 @@ use lib.ListN.{get_elem?}
 use Rattle.atomic_table.proofs.Lists.{at_set, set_here, set_else}
 use Rattle.mdl_key.specs.Words.{KeyName}
 use Rattle.mdl_defs.specs.declared.standing.Standing.{Standing}
+use Rattle.mdl_defs.specs.Standings.{nothing_yet}
 use Rattle.mdl_book.specs.declared.book_view.BookView.{BookView}
 use Rattle.mdl_book.specs.Tickets.{ticket_of}
 use Rattle.mdl_steps.specs.declared.view.View.{View}
@@ -88,9 +89,9 @@ module _ (key : Option KeyName) (version : ℕ) (parts : List Part) (book : Book
         };
       }
 
-  pub noted_ok : Each (ReadAgrees new_book) mine.reads → ((j : ℕ) (x : Part) → j ≢ id → get_elem? parts j ≡ some x → PartOk new_book x)
+  pub noted_ok : (key ≡ None → standing ≡ nothing_yet) → Each (ReadAgrees new_book) mine.reads → ((j : ℕ) (x : Part) → j ≢ id → get_elem? parts j ≡ some x → PartOk new_book x)
       → BookOk key standing.version (set parts id new) new_book
-  noted_ok earlier others = record {
+  noted_ok unchanged earlier others = record {
     lawful = rw fast_same ok.lawful;
     once = ok.once;
     owned = λ session number u found.
@@ -102,7 +103,7 @@ module _ (key : Option KeyName) (version : ℕ) (parts : List Part) (book : Book
           | inr else ↦ (was.0, was.1, set_else parts id was.0 new else ∙ was.2, was.3)
         ];
     version_is = refl;
-    named = record { key_is = ok.named.key_is; vacant = λ none. let was = ok.named.vacant none in (was.0, was.1, fast_same ∙ was.2) };
+    named = record { key_is = ok.named.key_is; vacant = λ none. let was = ok.named.vacant none in ((was.0.0, was.0.1, unchanged none), fast_same ∙ was.1) };
     each = λ j x here. elim (at_set parts id j new x here) [
       | inl same ↦ subst (λ (y : Part). PartOk new_book y) same.1 (own_part earlier)
       | inr other ↦ others j x other.0 other.1

@@ -39,7 +39,7 @@ module _ (sessions : ℕ) (words : List ℕ) (slots : List Slot) (open_ : IsOpen
       once = tt;
       owned = λ session number t found. absurd (cc);
       version_is = open_.zeros (version_word p) (λ e. omega arith);
-      named = record { key_is = λ k none. absurd (cc); vacant = λ _. (refl, refl, refl) };
+      named = record { key_is = λ k none. absurd (cc); vacant = λ _. ((refl, refl, refl), refl) };
       each = λ j x at.
           let it = only (part_at (waits (opening words slots (blank 0 sessions))) p (blank 0 sessions)) x j at in
           subst (PartOk (empty_book key)) it.1 (record {

@@ -137,13 +137,12 @@ module _ (slots id place : ℕ) (me : Mine) (some_number : 0 < me.0.number) (fir
           seat = seat;
           number = refl;
           spare = refl;
-          directory = refl;
           numbered = record { fast = numbered.fast; slow = numbered.slow; asks = numbered.asks };
           slots = length-set s.homes place (some (slot.Place book));
           home_else = λ q else. set_else s.homes place q (some (slot.Place book)) else;
           part_else = λ q else. λ i. record (part_at (waits s) q me.0) { slow = all_owned_else place q ds me.0.slow else i };
           holder_else = λ q else. λ i. record { number = me.0.number; held = held_at-undropped place q me.0.latches else i };
-        }) (r.views id me.0 seat).1 0
+        }) refl (r.views id me.0 seat).1 0
         (rw (set_here s.homes place (some (slot.Place book)) within)
         (put_cell (key_at r.keys place) (cell s place) ok id (holder_at place me.0) there (seat_there s place id me.0 seat) (holder_at place w) h last_record holds by_itself
         (held_at-dropped place me.0.latches) (key_at r.keys place) parts
@@ -164,13 +163,12 @@ module _ (slots id place : ℕ) (me : Mine) (some_number : 0 < me.0.number) (fir
           seat = seat;
           number = refl;
           spare = refl;
-          directory = refl;
           numbered = record { fast = numbered.fast; slow = numbered.slow; asks = numbered.asks };
           slots = refl;
           home_else = λ q else. refl;
           part_else = λ q else. λ i. record (part_at (waits s) q me.0) { slow = all_owned_else place q ds me.0.slow else i };
           holder_else = λ q else. λ i. record { number = me.0.number; held = held_at-unchanged place (lowered book slow obtrusive) (λ x. refl) q me.0.latches else i };
-        }) (r.views id me.0 seat).1 word
+        }) refl (r.views id me.0 seat).1 word
         (holder_cell (key_at r.keys place) (cell s place) ok id (holder_at place me.0) there (seat_there s place id me.0 seat) (holder_at place w) h h′ holds by_itself refl
         (held_at-changed place (lowered book slow obtrusive) (λ x. refl) me.0.latches h holds)
         (key_at r.keys place) word (cell s place).version parts

@@ -44,7 +44,6 @@ module _ (slots id place : ℕ) (me : Mine) (some_number : 0 < me.0.number) (fir
           seat = seat;
           number = refl;
           spare = refl;
-          directory = refl;
           numbered = record {
             fast = numbered_notes place h.book.standing.version me.0.next me.0.fast row.fast;
             slow = numbered_notes place h.book.standing.version me.0.next me.0.slow row.slow;
@@ -54,7 +53,7 @@ module _ (slots id place : ℕ) (me : Mine) (some_number : 0 < me.0.number) (fir
           home_else = λ q else. set_else s.homes place q (some (slot.Place h.book)) else;
           part_else = noted_away place h.book.standing (dropped place me.0) (waits s);
           holder_else = λ q else. λ i. record { number = me.0.number; held = held_at-undropped place q me.0.latches else i };
-        }) (r.views id me.0 seat).1 0
+        }) refl (r.views id me.0 seat).1 0
         (rw (set_here s.homes place (some (slot.Place h.book)) within, noted_here place h.book.standing (dropped place me.0) (waits s))
         (put_cell key (cell s place) ok id (holder_at place me.0) there (seat_there s place id me.0 seat) (holder_at place put) h h has.recorded
         (λ j l at same. alone s r place id me.0 seat some_number j l at (same ∙ sym mine.mine))
@@ -64,7 +63,7 @@ module _ (slots id place : ℕ) (me : Mine) (some_number : 0 < me.0.number) (fir
           flagged = u.flagged;
           noted = rw fast u.noted;
           book_ok = rw u.book_ok.version_is
-              (noted_ok key (cell s place).version parts h.book place id own part u.book_ok h.book.standing
+              (noted_ok key (cell s place).version parts h.book place id own part u.book_ok h.book.standing (λ none. (u.book_ok.named.vacant none).0.2)
               (u.book_ok.each id own part).versions_agree.reads (λ j x else here. u.book_ok.each j x here));
         }) exact))
 

@@ -1,5 +1,5 @@
 -- The version of a place is written by the holder of its latch, who has an exclusive ticket there.
-use Rattle.std.proofs.Common.{◌≡◌, ◌≢◌, ℕ, ◌<◌, List, set, length, refl, sym, ◌∙◌, arith}
+use Rattle.std.proofs.Common.{◌≡◌, ◌≢◌, ℕ, ◌<◌, List, set, length, refl, sym, ap, ◌∙◌, arith}
 use Rattle.std.specs.Prelude.{Option, Contains}
 use mathlib.Core.Option.{some, none}
 use lib.ListN.{get_elem?}
@@ -76,7 +76,6 @@ module _ (slots id place : ℕ) (me : Mine) (some_number : 0 < me.0.number) (fir
           seat = seat;
           number = refl;
           spare = refl;
-          directory = refl;
           numbered = record {
             fast = numbered_notes place standing.version me.0.next me.0.fast row.fast;
             slow = numbered_notes place standing.version me.0.next me.0.slow row.slow;
@@ -86,7 +85,7 @@ module _ (slots id place : ℕ) (me : Mine) (some_number : 0 < me.0.number) (fir
           home_else = λ q else. refl;
           part_else = noted_away place standing (changed place (restood standing) me.0) (waits s);
           holder_else = λ q else. λ i. record { number = me.0.number; held = held_at-unchanged place (restood standing) (λ x. refl) q me.0.latches else i };
-        }) (r.views id me.0 seat).1 standing.version
+        }) refl (r.views id me.0 seat).1 standing.version
         (rw (noted_here place standing (changed place (restood standing) me.0) (waits s))
         (holder_cell key (cell s place) ok id (holder_at place me.0) there (seat_there s place id me.0 seat) (holder_at place written) h (restood standing h) has.holds.recorded
         (λ j l at same. alone s r place id me.0 seat some_number j l at (same ∙ sym mine.mine)) refl
@@ -97,6 +96,7 @@ module _ (slots id place : ℕ) (me : Mine) (some_number : 0 < me.0.number) (fir
           flagged = u.flagged;
           noted = rw fast u.noted;
           book_ok = noted_ok key (cell s place).version parts h.book place id own part u.book_ok standing
+              (λ none. let empty = ap length (u.book_ok.named.vacant none).0.0 in let some = ticket.1.1 in absurd (omega arith))
               (reads_older h.book standing newer own.reads (u.book_ok.each id own part).versions_agree.reads)
               (other_part key (cell s place).version parts h.book id me.0.number standing by_itself u.book_ok newer ticket.0 ticket.1 ticket.2 ticket.3);
         })))

@@ -4,6 +4,8 @@ use Rattle.std.specs.Prelude.{◌≡◌, ◌≢◌, ℕ, ◌-◌, ◌<◌, ◌==
 use lib.ListN.{get_elem?}
 use mathlib.Core.Option.{some}
 use Rattle.atomic_table.specs.Table.{Me, Step, rest}
+use Rattle.std.specs.Option.{option_map}
+use Rattle.mdl_key.specs.Words.{KeyName}
 use Rattle.mdl_word.specs.Words.{flags_alone, all_but_flags}
 use Rattle.mdl_defs.specs.declared.standing.Standing.{Standing}
 use Rattle.mdl_book.specs.declared.book_view.BookView.{BookView}
@@ -22,7 +24,7 @@ use Rattle.mdl_steps.specs.Cells.{own_at, ticket_by}
 use Rattle.mdl_steps.specs.Deeds.{all_done, NotWaited}
 use Rattle.mdl_steps.specs.Layout.{latch_word, lock_word, version_word}
 use Rattle.mdl_steps.specs.Lists.{Distinct}
-use Rattle.mdl_steps.specs.Rule.{TellsLists, KnowsKeys}
+use Rattle.mdl_steps.specs.Rule.{TellsLists, KnowsKeys, IsUnused, key_at}
 
 -- a session's seat: its view, and the slots that it took
 abbrev pub Mine : Type 0
@@ -44,6 +46,7 @@ pub record IsFresh (place : ℕ) (h : Held) (m : Mine) : Type 0 where
   pub own : (number : ℕ) → NotWaited m.0 number →
       ticket_of m.0.number number h.book.granted ≡ ticket_of m.0.number number (map (ticket_by m.0.number) (own_at place m.0.slow))
   pub named : (i : ℕ) (k : Known) → get_elem? m.0.known i ≡ some k → k.place ≡ place → h.book.key ≡ k.key
+  pub vacant : (k : Keys) → m.0.directory ≡ Some k → key_at k.keys place ≡ None → IsUnused h.book
 
 -- with a flag or both raised
 abbrev pub raised : Bool → Bool → Held → Held
@@ -137,6 +140,16 @@ consulted k m = (logged (latch_word 0) 0 m.0.latches (record m.0 { directory = S
 abbrev pub informed : List Known → Mine → Mine
 informed more m = (logged (latch_word 0) m.0.number m.0.latches (record m.0 { directory = None; known = m.0.known ++ more }), rest m.1)
 
+-- with a key for the place after all others
+abbrev pub listing : KeyName → Keys → Keys
+listing key k = record { keys = k.keys ++ key ∷ [] }
+
+-- the latch of a place was given back with the book of a new key, which the directory's record has from then on
+abbrev pub named : ℕ → KeyName → Mine → Mine
+named place key m =
+    let v = dropped place m.0 in
+    (logged (latch_word place) m.0.number m.0.latches (record v { directory = option_map (listing key) m.0.directory }), rest m.1)
+
 -- ---- the kinds of step: the session keeps its number
 
 -- the directory's latch is taken where it was free, and otherwise only that was met
@@ -170,6 +183,13 @@ puts_reading st m found m′ =
     (m′.0.number ≡ m.0.number)
     × ((place : ℕ) (book : BookView) → st.word ≡ latch_word place → m.1 ≡ (place, slot.Place book) ∷ rest m.1 →
     m′ ≡ read_and_put place book.standing m)
+
+-- the latch of a place is given back with the book of a new key in hand, which has the place from then on
+abbrev pub puts_key : Step Slot → Mine → ℕ → Mine → Type 0
+puts_key st m found m′ =
+    (m′.0.number ≡ m.0.number)
+    × ((place : ℕ) (book : BookView) → st.word ≡ latch_word place → m.1 ≡ (place, slot.Place book) ∷ rest m.1 →
+    m′ ≡ named place book.key m)
 
 -- flags of a place are raised, by `|` with their number
 abbrev pub raises_flags : Step Slot → Mine → ℕ → Mine → Type 0

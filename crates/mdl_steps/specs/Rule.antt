@@ -14,6 +14,7 @@ use Rattle.atomic_table.specs.Table.{State}
 use Rattle.mdl_key.specs.declared.namespace.Kind.{Kind}
 use Rattle.mdl_key.specs.Words.{is_mode_of, is_obtrusive, KeyName}
 use Rattle.mdl_word.specs.Words.{Encodes}
+use Rattle.mdl_defs.specs.Standings.{nothing_yet}
 use Rattle.mdl_book.specs.declared.book_view.BookView.{BookView}
 use Rattle.mdl_book.specs.declared.ticket.Ticket.{Ticket}
 use Rattle.mdl_book.specs.Books.{lock_kind, has_obtrusive, has_tickets}
@@ -80,10 +81,14 @@ pub record ReadsAgree (book : BookView) (x : Part) : Type 0 where
   pub fast : Each (NoteAgrees book) x.fast
   pub slow : Each (NoteAgrees book) x.slow
 
--- the book is that of the place's key. Where the place has none yet, nobody has a ticket there
+-- nobody has a ticket in the book or waits for one, and nothing ever stood under its key
+abbrev pub IsUnused : BookView → Type 0
+IsUnused book = (book.granted ≡ []) × (book.waiting ≡ []) × (book.standing ≡ nothing_yet)
+
+-- the book is that of the place's key. Where the place has none yet, the book is unused, and nobody has a fast ticket there
 pub record Named (key : Option KeyName) (book : BookView) (parts : List Part) : Type 0 where
   pub key_is : (k : KeyName) → key ≡ Some k → book.key ≡ k
-  pub vacant : key ≡ None → (book.granted ≡ []) × (book.waiting ≡ []) × (all_fast parts ≡ [])
+  pub vacant : key ≡ None → IsUnused book × (all_fast parts ≡ [])
 
 -- what is said of one session's part
 pub record PartOk (book : BookView) (x : Part) : Type 0 where

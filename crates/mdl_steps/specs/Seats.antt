@@ -1,13 +1,14 @@
 -- What a caller of the steps knows of its seat, and what it has to know to make a step.
-use Rattle.std.specs.Prelude.{◌≡◌, ℕ, ◌+◌, ◌*◌, ◌^◌, ◌<◌, ◌≤◌, ◌==◌, ◌&&◌, Bool, not, nat_lt, if◌then◌else◌, List, ◌∷◌, filter, Contains, Option, Some, None}
+use Rattle.std.specs.Prelude.{◌≡◌, ℕ, ◌+◌, ◌*◌, ◌^◌, ◌<◌, ◌≤◌, ◌==◌, ◌&&◌, Bool, not, nat_lt, if◌then◌else◌, List, ◌∷◌, length, position, filter, Contains, Option, Some, None}
 use Rattle.atomic_table.specs.Seated.{TableId}
 pub use Rattle.atomic_table.specs.Table.{rest}
 use Rattle.std.specs.Option.{option_map, option_to_list}
-use Rattle.mdl_key.specs.Words.{KeyName}
+use Rattle.mdl_key.specs.Words.{KeyName, key_eq}
 use Rattle.mdl_key.specs.declared.mode.Mode.TheVariants.{X}
 use Rattle.mdl_defs.specs.declared.standing.Standing.{Standing}
 use Rattle.mdl_book.specs.declared.book_view.BookView.{BookView}
 use Rattle.mdl_book.specs.declared.ticket.Ticket.{Ticket}
+use Rattle.mdl_book.specs.Books.{empty_book}
 use Rattle.mdl_steps.specs.declared.deed.Deed.{Deed}
 use Rattle.mdl_steps.specs.declared.slot.Slot.TheVariants as slot
 use Rattle.mdl_steps.specs.declared.view.Held.{Held}
@@ -77,6 +78,23 @@ written place book m = (m.0, (place, slot.Place book) ∷ rest m.1)
 pub record HasDirectory (k : Keys) (m : Mine) : Type 0 where
   pub recorded : m.0.directory ≡ Some k
   pub carried : m.1 ≡ (0, slot.Directory k) ∷ rest m.1
+
+-- the place of a key, by the keys in the order of their places, from place 1 on
+abbrev pub place_among : KeyName → List KeyName → Option ℕ
+place_among key keys = option_map (λ index. index + 1) (position (λ k. key_eq k key) keys)
+
+-- the seat has the directory's latch, with this record of it, and no place has the key
+pub record IsNewKey (key : KeyName) (k : Keys) (m : Mine) : Type 0 where
+  pub recorded : m.0.directory ≡ Some k
+  pub new : place_among key k.keys ≡ None
+
+-- it may give the latch of a place back and the place to a new key: the place comes after all that have one, and the empty book of the key is
+-- in hand, which the flags tell exactly
+pub record MayName (place : ℕ) (key : KeyName) (k : Keys) (h : Held) (m : Mine) : Type 0 where
+  pub key_is : IsNewKey key k m
+  pub next : place ≡ length k.keys + 1
+  pub holds : Holds place h (empty_book key) m
+  pub exact : TellsLists (empty_book key) h.slow h.obtrusive
 
 -- the key at a place, by the record of the directory. Place 0 has none
 abbrev pub recorded_key : Option Keys → ℕ → Option KeyName

@@ -34,6 +34,7 @@ mod deed;
 mod directory;
 mod laws;
 mod maker;
+mod naming;
 mod opening;
 mod plays;
 mod slot;

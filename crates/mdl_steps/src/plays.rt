@@ -3,7 +3,7 @@ ghost use Rattle.std.specs.Prelude.{◌-◌, List, []};
 ghost use Rattle.mdl_steps.specs.declared.deed.Deed.{Deed};
 ghost use Rattle.mdl_steps.specs.declared.view.Known.{Known};
 ghost use Rattle.mdl_steps.specs.Cells.{blank};
-ghost use Rattle.mdl_steps.specs.Plays.{enrols, takes_latch, puts_latch, raises_flags, lowers_flags, reads_word, writes_version, takes_directory, puts_directory, puts_reading};
+ghost use Rattle.mdl_steps.specs.Plays.{enrols, takes_latch, puts_latch, raises_flags, lowers_flags, reads_word, writes_version, takes_directory, puts_directory, puts_reading, puts_key};
 ghost use Rattle.mdl_steps.specs.Rule.{Rule};
 
 use crate::{Slot, View};
@@ -87,6 +87,13 @@ pub(crate) struct PutReading;
 
 impl Play<Slot, View> for PutReading {
     ghost then = { puts_reading };
+}
+
+/// A latch is given back, and its place has a new key.
+pub(crate) struct PutKey;
+
+impl Play<Slot, View> for PutKey {
+    ghost then = { puts_key };
 }
 
 /// Flags are lowered, after some deeds.

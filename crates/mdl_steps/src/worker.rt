@@ -40,7 +40,7 @@ pub struct Worker {
 
 /// The latch of a place, which a session holds. It has to be given back: it can't be dropped.
 pub struct Latched {
-    place: usize,
+    pub(crate) place: usize,
 }
 
 impl Latched {
@@ -363,7 +363,7 @@ impl Worker {
 }
 
 // The word of a place's latch.
-fn latch_word(place: usize) -> usize
+pub(crate) fn latch_word(place: usize) -> usize
     requires { place < 2 ^ 32 }
     ensures { result ≡ latch_word place }
 {

@@ -1,0 +1,56 @@
+-- Where a key stands in the directory.
+use Rattle.std.proofs.Common.{◌≡◌, ◌≢◌, ℕ, zero, suc, ◌+◌, ◌-◌, ◌<◌, ◌≤◌, Bool, true, false, List, [], ◌∷◌, length, Some, None, refl, sym, ap, ◌∙◌, arith}
+use Rattle.std.specs.Prelude.{Option, slice_get, nat_lt}
+use Rattle.std.specs.List.{position_or_len}
+use Rattle.std.proofs.lemmas.Bool.{ltb-true}
+use Rattle.std.proofs.lemmas.Grind.{common_steps}
+use mathlib.Core.Option.{some, some-injective, some-ne-none}
+use lib.ListN.{get_elem?}
+use Rattle.mdl_key.specs.Words.{KeyName, key_eq}
+use Rattle.mdl_key.proofs.KeyLemmas.{key-Decides}
+use Rattle.mdl_steps.specs.Rule.{key_at}
+use Rattle.mdl_steps.specs.Seats.{place_among}
+use Rattle.mdl_steps.proofs.Views.{by_bool}
+
+-- how many keys stand before the first that is this one
+before : KeyName → List KeyName → ℕ
+before key keys = position_or_len (λ (x : KeyName). key_eq x key) keys
+
+none_before : (key : KeyName) (keys : List KeyName) → length keys ≤ before key keys → (i : ℕ) → get_elem? keys i ≡ some key → ⊥
+unfolding before
+none_before key [] past i there = some-ne-none key (sym there)
+none_before key (x ∷ xs) past zero there =
+    let same = (key-Decides x key).1 (some-injective x key there) in
+    let at = rw same at past in
+    absurd (omega arith)
+none_before key (x ∷ xs) past (suc i) there =
+    by_bool (key_eq x key)
+    (λ same. let at = rw same at past in absurd (omega arith))
+    (λ differs. let at = rw differs at past in none_before key xs (omega arith) i there)
+
+at_before : (key : KeyName) (keys : List KeyName) → before key keys < length keys → slice_get keys (before key keys) ≡ Some key
+unfolding before
+at_before key [] within = absurd (omega arith)
+at_before key (x ∷ xs) within =
+    by_bool (key_eq x key)
+    (λ same. rw same (ap (λ (y : KeyName). Some y) ((key-Decides x key).0 same)))
+    (λ differs.
+    let rest = rw differs at within in
+    let next : 1 + before key xs ≡ suc (before key xs) = omega arith in
+    rw differs (ap (slice_get (x ∷ xs)) next ∙ at_before key xs (omega arith)))
+
+-- a key that has no place stands nowhere
+pub not_there : (key : KeyName) (keys : List KeyName) → place_among key keys ≡ None → (i : ℕ) → get_elem? keys i ≡ some key → ⊥
+unfolding before
+not_there key keys none i there =
+    let past : length keys ≤ before key keys = grind (arith, common_steps) in
+    none_before key keys past i there
+
+-- one that has stands there
+pub there : (key : KeyName) (keys : List KeyName) (place : ℕ) → place_among key keys ≡ Some place → (0 < place) × (key_at keys place ≡ Some key)
+unfolding before
+there key keys place e =
+    by_bool (nat_lt (before key keys) (length keys))
+    (λ within. (let at = rw within at e in let is : before key keys + 1 ≡ place = cc in let back : place - 1 ≡ before key keys = omega arith in
+    (omega arith, ap (slice_get keys) back ∙ at_before key keys (ltb-true (before key keys) (length keys) within))))
+    (λ past. let at = rw past at e in absurd (cc))
