@@ -32,6 +32,7 @@
 
 mod deed;
 mod directory;
+mod in_hand;
 mod laws;
 mod maker;
 mod naming;

@@ -1,30 +1,19 @@
 //! The steps of a session.
-ghost use Rattle.std.specs.Prelude.{◌≡◌, ◌≢◌, ℕ, ◌+◌, ◌*◌, ◌^◌, ◌<◌, ◌∷◌, [], Some, IfOk, MatchOption, OnOk, OnErr};
-ghost use Rattle.std.specs.Option.{ok_or};
-ghost use Rattle.mdl_key.specs.Refusals.{Refuses, RefusesJust};
-ghost use Rattle.mdl_book.specs.Books.{lock_kind, grant_fault, change_fault, has_obtrusive, has_tickets};
-ghost use Rattle.mdl_book.specs.FastTickets.{can_be_granted};
-ghost use Rattle.mdl_book.specs.Tickets.{ticket_of};
+ghost use Rattle.std.specs.Prelude.{◌≡◌, ◌≢◌, ℕ, ◌+◌, ◌*◌, ◌^◌, ◌<◌, ◌∷◌, [], Some, MatchOption};
 ghost use Rattle.mdl_book.specs.declared.book_view.BookView.{BookView};
-ghost use Rattle.mdl_steps.specs.declared.deed.Deed.TheVariants.{Gain, Alter, Lose};
 ghost use Rattle.mdl_steps.specs.declared.slot.Slot.TheVariants as slot;
 ghost use Rattle.mdl_steps.specs.declared.view.Held.{Held};
 ghost use Rattle.mdl_steps.specs.Cells.{held_at};
-ghost use Rattle.mdl_steps.specs.Deeds.{booked};
 ghost use Rattle.mdl_steps.specs.Layout.{latch_word, lock_word, version_word};
 ghost use Rattle.mdl_steps.specs.Plays.{IsFresh, latched, unlatched, logged, stepped, settled, raised, noting, lowered, redefined, restood, read_and_put};
-ghost use Rattle.mdl_steps.specs.Seats.{IsSized, IsPlace, IsRising, Holds, MayPut, MayLower, MayWriteVersion, rest, written, elsewhere};
+ghost use Rattle.mdl_steps.specs.Seats.{IsSized, IsPlace, IsRising, Holds, MayPut, MayLower, MayWriteVersion, rest, elsewhere};
 
 use crate::plays::{
     Doing, LowerFlags, Order, PutLatch, PutReading, RaiseFlags, ReadWord, TakeLatch, WriteVersion,
 };
 use crate::{Deed, Slot, View};
 use atomic_table::{Seat, Shared};
-use mdl_book::{BookError, Needs, Ticket};
-use mdl_defs::Standing;
-use mdl_key::Mode;
 use mdl_word::Word;
-use std::alloc::AllocError;
 use std::marker::Brand;
 
 /// The table as its sessions see it.
@@ -84,122 +73,6 @@ impl Worker {
         }
     }
 
-    /// What the lists of the book in hand have to tell those who take fast tickets. Nothing changes.
-    pub fn needs(&mut self, top: &LockTable, latch: &Latched) -> Needs
-        requires table { self.old.seat.table_id ≡ top.now.table_id }
-        requires carried { (book : BookView) × (self.old.seat.me.1 ≡ (latch.now.place, slot.Place book) ∷ rest self.old.seat.me.1) }
-        ensures seat { (self.new.seat.table_id ≡ self.old.seat.table_id) × (self.new.number ≡ self.old.number) }
-        ensures same { self.new.seat.me ≡ self.old.seat.me }
-        ensures told { (book : BookView) → self.old.seat.me.1 ≡ (latch.now.place, slot.Place book) ∷ rest self.old.seat.me.1
-            → (result.obtrusive ≡ has_obtrusive book) × (result.slow ≡ has_tickets book) }
-    {
-        match self.seat.slot_mut(top, latch.place) {
-            Slot::Place(book) => book.needs(),
-            // It is a place that is held.
-            Slot::Directory(_) => Needs {
-                obtrusive: true,
-                slow: true,
-            },
-        }
-    }
-
-    /// Whether the book in hand lets the session's wish for a mode be granted, the place's word being `word`. Nothing changes.
-    pub fn can_grant(&mut self, top: &LockTable, latch: &Latched, mode: Mode, word: Word) -> bool
-        requires table { self.old.seat.table_id ≡ top.now.table_id }
-        requires carried { (book : BookView) × (self.old.seat.me.1 ≡ (latch.now.place, slot.Place book) ∷ rest self.old.seat.me.1) }
-        ensures seat { (self.new.seat.table_id ≡ self.old.seat.table_id) × (self.new.number ≡ self.old.number) }
-        ensures same { self.new.seat.me ≡ self.old.seat.me }
-        ensures told { (book : BookView) → self.old.seat.me.1 ≡ (latch.now.place, slot.Place book) ∷ rest self.old.seat.me.1
-            → result ≡ can_be_granted (lock_kind book) book.granted book.waiting word.0 self.old.number mode }
-    {
-        let session = self.number;
-        match self.seat.slot_mut(top, latch.place) {
-            Slot::Place(book) => book.can_grant(session, mode, word),
-            // It is a place that is held.
-            Slot::Directory(_) => false,
-        }
-    }
-
-    /// Writes a ticket of the session into the book in hand, the place's word being `word`. What waits doesn't count here.
-    pub fn write_gain(
-        &mut self,
-        top: &LockTable,
-        latch: &Latched,
-        number: u64,
-        mode: Mode,
-        word: Word,
-    ) -> Result<(), BookError>
-        requires table { self.old.seat.table_id ≡ top.now.table_id }
-        requires carried { (book : BookView) × (self.old.seat.me.1 ≡ (latch.now.place, slot.Place book) ∷ rest self.old.seat.me.1) }
-        ensures seat { (self.new.seat.table_id ≡ self.old.seat.table_id) × (self.new.number ≡ self.old.number) }
-        ensures written { (book : BookView) → self.old.seat.me.1 ≡ (latch.now.place, slot.Place book) ∷ rest self.old.seat.me.1
-            → OnOk result (self.new.seat.me ≡ written latch.now.place (booked self.old.number (Gain number mode) book) self.old.seat.me) }
-        ensures unchanged { OnErr result (self.new.seat.me ≡ self.old.seat.me) }
-        ensures refused { (book : BookView) → self.old.seat.me.1 ≡ (latch.now.place, slot.Place book) ∷ rest self.old.seat.me.1
-            → Refuses (grant_fault (record { session = self.old.number; number = number; mode = mode }) word.0 book) BookError.OutOfMemory result }
-    {
-        let ticket = Ticket {
-            number,
-            session: self.number,
-            mode,
-        };
-        match self.seat.slot_mut(top, latch.place) {
-            Slot::Place(book) => book.grant(ticket, word),
-            // It is a place that is held.
-            Slot::Directory(_) => Err(BookError::NotHere),
-        }
-    }
-
-    /// Writes another mode of a ticket of the session into the book in hand, the place's word being `word`. What waits doesn't count here.
-    pub fn write_mode(
-        &mut self,
-        top: &LockTable,
-        latch: &Latched,
-        number: u64,
-        mode: Mode,
-        word: Word,
-    ) -> Result<(), BookError>
-        requires table { self.old.seat.table_id ≡ top.now.table_id }
-        requires carried { (book : BookView) × (self.old.seat.me.1 ≡ (latch.now.place, slot.Place book) ∷ rest self.old.seat.me.1) }
-        ensures seat { (self.new.seat.table_id ≡ self.old.seat.table_id) × (self.new.number ≡ self.old.number) }
-        ensures written { (book : BookView) → self.old.seat.me.1 ≡ (latch.now.place, slot.Place book) ∷ rest self.old.seat.me.1
-            → OnOk result (self.new.seat.me ≡ written latch.now.place (booked self.old.number (Alter number mode) book) self.old.seat.me) }
-        ensures unchanged { OnErr result (self.new.seat.me ≡ self.old.seat.me) }
-        ensures refused { (book : BookView) → self.old.seat.me.1 ≡ (latch.now.place, slot.Place book) ∷ rest self.old.seat.me.1
-            → RefusesJust (change_fault self.old.number number mode word.0 book) result }
-    {
-        let session = self.number;
-        match self.seat.slot_mut(top, latch.place) {
-            Slot::Place(book) => book.set_mode(session, number, mode, word),
-            // It is a place that is held.
-            Slot::Directory(_) => Err(BookError::NotHere),
-        }
-    }
-
-    /// Takes a ticket of the session out of the book in hand.
-    pub fn write_loss(
-        &mut self,
-        top: &LockTable,
-        latch: &Latched,
-        number: u64,
-    ) -> Result<Ticket, BookError>
-        requires table { self.old.seat.table_id ≡ top.now.table_id }
-        requires carried { (book : BookView) × (self.old.seat.me.1 ≡ (latch.now.place, slot.Place book) ∷ rest self.old.seat.me.1) }
-        ensures seat { (self.new.seat.table_id ≡ self.old.seat.table_id) × (self.new.number ≡ self.old.number) }
-        ensures written { (book : BookView) → self.old.seat.me.1 ≡ (latch.now.place, slot.Place book) ∷ rest self.old.seat.me.1
-            → OnOk result (self.new.seat.me ≡ written latch.now.place (booked self.old.number (Lose number) book) self.old.seat.me) }
-        ensures unchanged { OnErr result (self.new.seat.me ≡ self.old.seat.me) }
-        ensures refused { (book : BookView) → self.old.seat.me.1 ≡ (latch.now.place, slot.Place book) ∷ rest self.old.seat.me.1
-            → result ≡ ok_or (ticket_of self.old.number number book.granted) BookError.NotHere }
-    {
-        let session = self.number;
-        match self.seat.slot_mut(top, latch.place) {
-            Slot::Place(book) => book.remove(session, number),
-            // It is a place that is held.
-            Slot::Directory(_) => Err(BookError::NotHere),
-        }
-    }
-
     /// Raises flags of the place's word.
     pub fn raise_flags(&mut self, top: &LockTable, latch: &Latched, slow: bool, obtrusive: bool)
         requires table { (self.old.seat.table_id ≡ top.now.table_id) × IsSized top.now.table_id }
@@ -228,22 +101,6 @@ impl Worker {
         ensures apart { elsewhere latch.now.place self.new.seat.me ≡ elsewhere latch.now.place self.old.seat.me }
     {
         Word(top.load::<ReadWord>(&mut self.seat, lock_word(latch.place)))
-    }
-
-    /// The version of what stands by the book in hand. Nothing changes.
-    pub fn version(&mut self, top: &LockTable, latch: &Latched) -> u64
-        requires table { self.old.seat.table_id ≡ top.now.table_id }
-        requires carried { (book : BookView) × (self.old.seat.me.1 ≡ (latch.now.place, slot.Place book) ∷ rest self.old.seat.me.1) }
-        ensures seat { (self.new.seat.table_id ≡ self.old.seat.table_id) × (self.new.number ≡ self.old.number) }
-        ensures same { self.new.seat.me ≡ self.old.seat.me }
-        ensures told { (book : BookView) → self.old.seat.me.1 ≡ (latch.now.place, slot.Place book) ∷ rest self.old.seat.me.1
-            → result ≡ book.standing.version }
-    {
-        match self.seat.slot_mut(top, latch.place) {
-            Slot::Place(book) => book.version(),
-            // It is a place that is held.
-            Slot::Directory(_) => 0,
-        }
     }
 
     /// Writes the version of the book in hand, in which the session has changed what stands under the key. From then on it knows that
@@ -318,22 +175,6 @@ impl Worker {
     {
         let Latched { place } = latch;
         self.put_latch_after::<Brand>(top, place, deeds);
-    }
-
-    /// What stands by the book in hand, copied. Nothing changes, also where memory runs out.
-    pub fn standing(&mut self, top: &LockTable, latch: &Latched) -> Result<Standing, AllocError>
-        requires table { self.old.seat.table_id ≡ top.now.table_id }
-        requires carried { (book : BookView) × (self.old.seat.me.1 ≡ (latch.now.place, slot.Place book) ∷ rest self.old.seat.me.1) }
-        ensures seat { (self.new.seat.table_id ≡ self.old.seat.table_id) × (self.new.number ≡ self.old.number) }
-        ensures same { self.new.seat.me ≡ self.old.seat.me }
-        ensures told { (book : BookView) → self.old.seat.me.1 ≡ (latch.now.place, slot.Place book) ∷ rest self.old.seat.me.1
-            → IfOk result (λ standing. standing ≡ book.standing) }
-    {
-        match self.seat.slot_mut(top, latch.place) {
-            Slot::Place(book) => book.read(),
-            // It is a place that is held.
-            Slot::Directory(_) => Err(AllocError),
-        }
     }
 
     /// Gives the latch back with nothing changed. The session has read what stands by the book in hand, and notes its version under each
