@@ -5,7 +5,7 @@ use Rattle.std.specs.Option.{IfSome}
 use Rattle.std.proofs.lemmas.Bool.Decides.{nat_tests}
 use Rattle.std.proofs.lemmas.List.Elements.{All-push, All-map, All-filter}
 use Rattle.mdl_key.specs.Keys.{KeyName, key_eq}
-use Rattle.mdl_key.proofs.KeyLemmas.{key-Decides}
+use Rattle.mdl_system.proofs.Deciding.{key-Decides}
 use Rattle.mdl_calls.specs.declared.answers.Held.{Held}
 use Rattle.mdl_calls.specs.declared.answers.Settled.{Settled}
 use Rattle.mdl_calls.specs.Words.{Answer, Done, Granted, Lost, Call, End_wait, Unpin, caller, Own, own_after, gaining}

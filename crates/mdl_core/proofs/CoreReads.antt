@@ -6,8 +6,7 @@ use Rattle.std.proofs.lemmas.Bool.Decides.{nat_tests}
 use Rattle.std.proofs.lemmas.List.{length-set, get_or-set_same, get_or-set_other, set-get_or}
 use Rattle.std.proofs.lemmas.List.Quantifiers.{position-Some}
 use Rattle.std.proofs.lemmas.List.Sums.{position_or_len_is}
-use Rattle.mdl_key.proofs.KeyLemmas.{key-Decides}
-use Rattle.mdl_system.proofs.Deciding.{key_told}
+use Rattle.mdl_system.proofs.Deciding.{key_told, key-Decides}
 use Rattle.mdl_key.specs.Keys.{KeyName, key_eq, global_key}
 use Rattle.mdl_book.specs.declared.book_view.BookView.{BookView}
 use Rattle.mdl_book.specs.Books.{empty_book}

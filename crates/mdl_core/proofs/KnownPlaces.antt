@@ -21,7 +21,7 @@ use Rattle.mdl_core.specs.Seats.{SeatView, ticket_of_wait}
 use Rattle.mdl_core.specs.Ties.{IsTied, Has, Awaits}
 use Rattle.mdl_core.proofs.CoreReads.{within}
 use Rattle.mdl_core.proofs.SparedSeats.{Spares, as_wait}
-use Rattle.mdl_key.proofs.KeyLemmas.{key-Decides}
+use Rattle.mdl_system.proofs.Deciding.{key-Decides}
 
 -- ---- a key's place
 

@@ -27,7 +27,7 @@ use Rattle.mdl_core.proofs.PairLemmas.{all-from_members, none-in, pairs-head, pa
 use Rattle.mdl_core.proofs.PlaceAnswers.{key_of-place, place-of_key}
 use Rattle.mdl_core.proofs.RightAnswers.{IsAnswer}
 use Rattle.mdl_core.proofs.TicketLists.{same-ordered}
-use Rattle.mdl_key.proofs.KeyLemmas.{key-Decides}
+use Rattle.mdl_system.proofs.Deciding.{key-Decides}
 use Rattle.mdl_system.proofs.OrderLemmas.{Contains-cons_cases, Contains-here, Contains-later}
 
 -- ---- keys in their order

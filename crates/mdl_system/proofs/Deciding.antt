@@ -8,6 +8,7 @@ use Rattle.mdl_key.specs.declared.mode.Mode.{Mode}
 use Rattle.mdl_key.specs.declared.mode.Mode.TheVariants.{IX}
 use Rattle.mdl_key.specs.Words.{KeyName, namespace_rank, all_modes, mode_rank}
 use Rattle.mdl_key.proofs.KeyLemmas.{namespace_at, namespace_back}
+pub use Rattle.mdl_key.proofs.KeyLemmas.{key-Decides}
 use Rattle.mdl_key.proofs.ModeLemmas.{at_rank}
 use Rattle.mdl_system.specs.Systems.{Holding, GrantedWait}
 
