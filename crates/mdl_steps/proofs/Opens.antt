@@ -10,7 +10,7 @@ use Rattle.mdl_book.specs.Books.{empty_book}
 use Rattle.mdl_steps.specs.declared.slot.Slot.{Slot}
 use Rattle.mdl_steps.specs.declared.slot.Slot.TheVariants as slot
 use Rattle.mdl_steps.specs.declared.view.View.{View}
-use Rattle.mdl_steps.specs.Cells.{Holder, Desk, blank, cell, part_at, holder_at, desk_of, waits}
+use Rattle.mdl_steps.specs.Cells.{Holder, Desk, blank, numbers_for, cell, part_at, holder_at, desk_of, waits}
 use Rattle.mdl_steps.specs.Layout.{latch_word, lock_word, version_word}
 use Rattle.mdl_steps.specs.Openings.{IsOpening}
 use Rattle.mdl_steps.specs.Rule.{Rule, PlaceOk, PartOk}
@@ -21,17 +21,20 @@ only a b zero e = (refl, some-injective a b e)
 only a b (suc j) e = absurd (some-ne-none b (sym e))
 
 module _ (sessions : ℕ) (words : List ℕ) (slots : List Slot) (open_ : IsOpening sessions words slots) where
+  abbrev start : View
+  start = blank 0 (numbers_for sessions 0 0)
+
   homes_count : length (map some slots) ≡ length slots
   homes_count = length-map slots some
 
-  empty_place : (key : KeyName) (p : ℕ) → 0 < p → p < length slots → get_elem? slots p ≡ some (slot.Place (empty_book key)) → PlaceOk None (cell (opening words slots (blank 0 sessions)) p)
+  empty_place : (key : KeyName) (p : ℕ) → 0 < p → p < length slots → get_elem? slots p ≡ some (slot.Place (empty_book key)) → PlaceOk None (cell (opening words slots start) p)
   empty_place key p first last there = record {
     book = empty_book key;
     slow = false;
     obtrusive = false;
     free = λ _. (at_map some slots p (slot.Place (empty_book key)) there, (refl, refl));
     taken = λ taken. absurd (taken (open_.zeros (latch_word p) (λ e. omega arith)));
-    held = λ j l at h is. (let it = only (holder_at p (blank 0 sessions)) l j at in let none : l.held ≡ None = ap (λ (x : Holder). x.held) (sym it.1) in absurd (cc));
+    held = λ j l at h is. (let it = only (holder_at p start) l j at in let none : l.held ≡ None = ap (λ (x : Holder). x.held) (sym it.1) in absurd (cc));
     counted = record { first_fits = omega arith; second_fits = omega arith; third_fits = omega arith; is_encoded = open_.zeros (lock_word p) (λ e. omega arith) };
     flagged = ((λ some. absurd (cc)), λ some. absurd (cc));
     book_ok = record {
@@ -41,7 +44,7 @@ module _ (sessions : ℕ) (words : List ℕ) (slots : List Slot) (open_ : IsOpen
       version_is = open_.zeros (version_word p) (λ e. omega arith);
       named = record { key_is = λ k none. absurd (cc); vacant = λ _. ((refl, refl, refl), refl) };
       each = λ j x at.
-          let it = only (part_at (waits (opening words slots (blank 0 sessions))) p (blank 0 sessions)) x j at in
+          let it = only (part_at (waits (opening words slots start)) p start) x j at in
           subst (PartOk (empty_book key)) it.1 (record {
             few = omega arith;
             slow_held = record { same = λ m. refl; apart = λ t none. absurd (cc) };
@@ -50,14 +53,19 @@ module _ (sessions : ℕ) (words : List ℕ) (slots : List Slot) (open_ : IsOpen
     };
   }
 
-  pub opens : Rule (opening words slots (blank 0 sessions))
+  pub opens : Rule (opening words slots start)
   opens = record {
     most = sessions;
     wide = open_.wide ∙ ap (λ (n : ℕ). 8 * n + 16 + 8 * sessions) (sym homes_count);
     enrolled = record {
       limit = open_.limit;
+      first = numbers_for sessions 0 0;
+      first_is = refl;
+      of_all = refl;
       next = rw homes_count open_.drawn;
-      below = λ j n at. (let it = only 0 n j at in let drawn = open_.drawn in rw homes_count (omega arith));
+      last = omega arith;
+      given = omega arith;
+      below = λ j n at. (let it = only 0 n j at in omega arith);
       apart = λ i j n at there some. (let it = only 0 n i at in let zero_is = it.1 in absurd (omega arith));
       room = omega arith;
     };
@@ -67,9 +75,9 @@ module _ (sessions : ℕ) (words : List ℕ) (slots : List Slot) (open_ : IsOpen
     directory_agrees = record {
       free = λ _. at_map some slots 0 (slot.Directory (record { keys = [] })) open_.directory;
       taken = λ taken. absurd (taken (open_.zeros (latch_word 0) (let first = some_slot slots open_.directory in λ e. omega arith)));
-      held = λ j d at k is. (let it = only (desk_of (blank 0 sessions)) d j at in let none : d.directory ≡ None = ap (λ (x : Desk). x.directory) (sym it.1) in absurd (cc));
+      held = λ j d at k is. (let it = only (desk_of start) d j at in let none : d.directory ≡ None = ap (λ (x : Desk). x.directory) (sym it.1) in absurd (cc));
     };
-    views = λ j v at. (let it = only (blank 0 sessions) v j at in subst (λ (x : View). Rattle.mdl_steps.specs.Rule.Numbered x × Rattle.mdl_steps.specs.Rule.KnowsKeys [] x) it.1 (record { fast = tt; slow = tt; asks = λ a none. absurd (cc) }, tt));
+    views = λ j v at. (let it = only start v j at in subst (λ (x : View). Rattle.mdl_steps.specs.Rule.Numbered x × Rattle.mdl_steps.specs.Rule.KnowsKeys [] x) it.1 (record { fast = tt; slow = tt; asks = λ a none. absurd (cc) }, tt));
     places = λ p first last. (let within : p < length slots = rw homes_count at last in let there = open_.places p first within in no_key p (empty_place there.0 p first within there.1));
   }
     where
@@ -77,5 +85,5 @@ module _ (sessions : ℕ) (words : List ℕ) (slots : List Slot) (open_ : IsOpen
       some_slot [] {a} e = absurd (some-ne-none a (sym e))
       some_slot (x ∷ xs) e = omega arith
 
-      no_key : (p : ℕ) → PlaceOk None (cell (opening words slots (blank 0 sessions)) p) → PlaceOk (Rattle.mdl_steps.specs.Rule.key_at [] p) (cell (opening words slots (blank 0 sessions)) p)
+      no_key : (p : ℕ) → PlaceOk None (cell (opening words slots start) p) → PlaceOk (Rattle.mdl_steps.specs.Rule.key_at [] p) (cell (opening words slots start) p)
       no_key p ok = ok

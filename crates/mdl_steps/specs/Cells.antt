@@ -16,6 +16,7 @@ use Rattle.mdl_steps.specs.declared.view.Held.{Held}
 use Rattle.mdl_steps.specs.declared.view.Keys.{Keys}
 use Rattle.mdl_steps.specs.declared.view.Own.{Own}
 use Rattle.mdl_steps.specs.declared.view.Read.{Read}
+use Rattle.mdl_steps.specs.declared.view.Spare.{Spare}
 use Rattle.mdl_steps.specs.declared.view.View.{View}
 use Rattle.mdl_steps.specs.Layout.{latch_word, lock_word, version_word, wait_word}
 
@@ -127,8 +128,16 @@ slow_tickets x = option_to_list (due x.asks) ++ map (ticket_by x.number) x.slow
 
 -- ---- views
 
--- a view with a number, or 0, and room for so many more seats, that has nothing
-abbrev pub blank : ℕ → ℕ → View
+-- numbers for so many sessions, up to these drawn and given
+abbrev pub numbers_for : ℕ → ℕ → ℕ → Spare
+numbers_for most drawn given = record { most = most; drawn = drawn; given = given }
+
+-- none
+abbrev pub no_numbers : Spare
+no_numbers = numbers_for 0 0 0
+
+-- a view with a number, or 0, and these numbers for others, that has nothing
+abbrev pub blank : ℕ → Spare → View
 blank number spare = record {
   number = number;
   spare = spare;

@@ -1,6 +1,6 @@
 -- What each kind of step tells the session that makes it: of the step, what the seat knew, what the word was, and what it
 -- knows then. Each is added to the session's list of steps.
-use Rattle.std.specs.Prelude.{◌≡◌, ◌≢◌, ℕ, ◌-◌, ◌<◌, ◌==◌, not, Bool, true, ◌&&◌, ◌||◌, List, [], ◌∷◌, ◌++◌, map, filter, length, Some, None, if◌then◌else◌}
+use Rattle.std.specs.Prelude.{◌≡◌, ◌≢◌, ℕ, ◌+◌, ◌-◌, ◌<◌, ◌==◌, not, Bool, true, ◌&&◌, ◌||◌, List, [], ◌∷◌, ◌++◌, map, filter, length, Some, None, if◌then◌else◌}
 use lib.ListN.{get_elem?}
 use mathlib.Core.Option.{some}
 use Rattle.atomic_table.specs.Table.{Me, Step, rest}
@@ -219,6 +219,8 @@ writes_version st m found m′ =
     × ((place : ℕ) (book : BookView) → st.word ≡ version_word place → m.1 ≡ (place, slot.Place book) ∷ rest m.1 →
     m′ ≡ redefined place book.standing m)
 
--- a session's number is drawn. It fits 16 bits
+-- a number is drawn for one more seat: the one after that which was drawn last
 abbrev pub enrols : Step Slot → Mine → ℕ → Mine → Type 0
-enrols st m found m′ = (0 < found) × (found < 65536) × (m′ ≡ (logged st.word found [] (record m.0 { number = found }), m.1))
+enrols st m found m′ =
+    (found ≡ m.0.spare.drawn + 1)
+    × (m′ ≡ (logged st.word found m.0.latches (record m.0 { spare = record m.0.spare { drawn = found } }), m.1))

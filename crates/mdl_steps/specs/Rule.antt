@@ -6,8 +6,8 @@
 -- granted list (`slow_held`); the version's word, the book, and what sessions read and noted agree (`versions_agree`); a noted
 -- word counts at least the fast tickets (`noted_counts`). Of the table: different keys have different places, and the book of a
 -- place is that of its key (`directory_agrees`).
-use Rattle.std.specs.Prelude.{◌≡◌, ◌≢◌, ℕ, ◌+◌, ◌-◌, ◌<◌, ◌≤◌, Bool, true, not, nat_lt, List, [], ◌++◌, map, length, sum, slice_index, slice_get, Option, Some, None}
-use Rattle.std.specs.List.{list_all, count_by}
+use Rattle.std.specs.Prelude.{◌≡◌, ◌≢◌, ℕ, ◌+◌, ◌-◌, ◌<◌, ◌≤◌, Bool, true, not, List, [], ◌++◌, map, length, slice_index, slice_get, Option, Some, None}
+use Rattle.std.specs.List.{list_all}
 use mathlib.Core.Option.{Option as Maybe, some}
 use lib.ListN.{get_elem?}
 use Rattle.atomic_table.specs.Table.{State}
@@ -29,6 +29,7 @@ use Rattle.mdl_steps.specs.declared.view.Keys.{Keys}
 use Rattle.mdl_steps.specs.declared.view.Known.{Known}
 use Rattle.mdl_steps.specs.declared.view.Own.{Own}
 use Rattle.mdl_steps.specs.declared.view.Read.{Read}
+use Rattle.mdl_steps.specs.declared.view.Spare.{Spare}
 use Rattle.mdl_steps.specs.declared.view.View.{View}
 use Rattle.mdl_steps.specs.Cells.{Part, Holder, Desk, Cell, ticket_by, desk_of, cell, all_fast, counted, due, slow_tickets}
 use Rattle.mdl_steps.specs.Layout.{latch_word, enrol_word, word_count}
@@ -134,13 +135,19 @@ pub record PlaceOk (key : Option KeyName) (c : Cell) : Type 0 where
 
 -- ---- the clauses of the whole table
 
--- sessions have numbers of their own, drawn in turn, and there is room for those that are still to come
-pub record Enrolled (most drawn : ℕ) (numbers spares : List ℕ) : Type 0 where
+-- the first seat draws numbers in turn, each for one more seat; so sessions have numbers of their own, from 1 on, and there are no
+-- more of them than there may be
+pub record Enrolled (most drawn : ℕ) (numbers : List ℕ) (spares : List Spare) : Type 0 where
   pub limit : most ≤ 1024
-  pub next : drawn ≡ 1 + count_by (λ n. nat_lt 0 n) numbers
-  pub below : (j n : ℕ) → get_elem? numbers j ≡ some n → n < drawn
+  pub first : Spare
+  pub first_is : get_elem? spares 0 ≡ some first
+  pub of_all : first.most ≡ most
+  pub next : drawn ≡ first.drawn + 1
+  pub last : first.drawn ≤ most
+  pub given : first.given ≤ first.drawn
+  pub below : (j n : ℕ) → get_elem? numbers j ≡ some n → n ≤ first.given
   pub apart : (i j n : ℕ) → get_elem? numbers i ≡ some n → get_elem? numbers j ≡ some n → 0 < n → i ≡ j
-  pub room : length numbers + sum spares ≤ most + 1
+  pub room : length numbers ≡ first.given + 1
 
 -- a session's tickets have numbers below its next one
 pub record Numbered (v : View) : Type 0 where

@@ -51,5 +51,5 @@ pub use laws::{
 pub use maker::{Maker, OwnedTable};
 pub use plays::Order;
 pub use slot::{Directory, Slot};
-pub use view::{Ask, Held, Keys, Known, Met, Own, Read, View};
+pub use view::{Ask, Held, Keys, Known, Met, Own, Read, Spare, View};
 pub use worker::{Latched, LockTable, Worker};

@@ -1,7 +1,6 @@
 //! Seats for the sessions.
-ghost use Rattle.std.specs.Prelude.{◌≡◌, ◌≢◌, ℕ, ◌+◌, ◌-◌, ◌^◌, ◌<◌, ◌≤◌, [], length, IfOk, MatchOption, true};
-ghost use Rattle.atomic_table.specs.Table.{Me};
-ghost use Rattle.mdl_steps.specs.Cells.{blank};
+ghost use Rattle.std.specs.Prelude.{◌≡◌, ℕ, ◌+◌, ◌^◌, ◌<◌, ◌≤◌, [], length, IfOk, MatchOption};
+ghost use Rattle.mdl_steps.specs.Cells.{blank, numbers_for, no_numbers};
 ghost use Rattle.mdl_steps.specs.Layout.{enrol_word, word_count};
 ghost use Rattle.mdl_steps.specs.Openings.{IsOpening};
 ghost use Rattle.mdl_steps.specs.Plays.{logged};
@@ -20,9 +19,12 @@ pub type OwnedTable = Table<Slot, View, usize, Order, Global>;
 /// The first seat at the table, from which those of the sessions are split off.
 #[derive(Drop)]
 pub struct Maker {
-    spare: usize,
+    most: usize,
+    given: usize,
     seat: Seat<Slot, View>,
-    ghost idle: { seat.me ≡ (blank 0 spare, []) },
+    ghost first: { seat.id ≡ 0 },
+    ghost idle: { seat.me ≡ (blank 0 (numbers_for most given given), []) },
+    ghost few: { (given ≤ most) × (most ≤ 1024) },
 }
 
 impl Maker {
@@ -35,7 +37,7 @@ impl Maker {
         requires places { places + 1 < 2 ^ 32 }
         requires sessions { sessions ≤ 1024 }
         ensures { IfOk result (λ made. (made.0.shared.table_id.words ≡ word_count (places + 1) sessions) × (made.0.shared.table_id.slots ≡ places + 1)
-            × (made.1.seat.table_id ≡ made.0.shared.table_id) × (made.1.spare ≡ sessions)) }
+            × (made.1.seat.table_id ≡ made.0.shared.table_id) × (made.1.most ≡ sessions) × (made.1.given ≡ 0)) }
     {
         let slots = opening_slots(alloc, places)?;
         let words = opening_words(alloc, slots.len(), sessions)?;
@@ -51,13 +53,14 @@ impl Maker {
     ) -> Result<(OwnedTable, Maker), AllocError>
         requires { IsOpening sessions words.now slots.items }
         ensures { IfOk result (λ made. (made.0.shared.table_id.words ≡ length words.now) × (made.0.shared.table_id.slots ≡ length slots.items)
-            × (made.1.seat.table_id ≡ made.0.shared.table_id) × (made.1.spare ≡ sessions)) }
+            × (made.1.seat.table_id ≡ made.0.shared.table_id) × (made.1.most ≡ sessions) × (made.1.given ≡ 0)) }
     {
         match Table::new(alloc, words, slots, &sessions) {
             Ok((table, seat)) => Ok((
                 table,
                 Maker {
-                    spare: sessions,
+                    most: sessions,
+                    given: 0,
                     seat,
                 },
             )),
@@ -65,23 +68,25 @@ impl Maker {
         }
     }
 
-    /// A seat for one more session, with a number of its own, unless all have theirs. `slots` is how many slots the table has.
+    /// A seat for one more session, unless all have theirs. Sessions have the numbers from 1 on, in turn. `slots` is how many slots
+    /// the table has.
     pub fn enrol(&mut self, top: &LockTable, slots: usize) -> Option<Worker>
         requires table { (self.old.seat.table_id ≡ top.now.table_id) × IsSized top.now.table_id }
         requires slots { slots ≡ top.now.table_id.slots }
         requires words { enrol_word slots < top.now.table_id.words }
-        ensures seat { self.new.seat.table_id ≡ self.old.seat.table_id }
+        ensures seat { (self.new.seat.table_id ≡ self.old.seat.table_id) × (self.new.most ≡ self.old.most) }
         ensures enrolled { MatchOption result
-            ((self.old.spare ≡ 0) × (self.new.spare ≡ 0))
-            (λ worker. (0 < self.old.spare) × (self.new.spare ≡ self.old.spare - 1) × (worker.seat.table_id ≡ top.now.table_id)
-            × (worker.seat.me ≡ (logged (enrol_word slots) worker.number [] (blank worker.number 0), []))) }
+            ((self.old.given ≡ self.old.most) × (self.new.given ≡ self.old.given))
+            (λ worker. (self.old.given < self.old.most) × (self.new.given ≡ self.old.given + 1) × (worker.number ≡ self.old.given + 1)
+            × (worker.seat.table_id ≡ top.now.table_id)
+            × (worker.seat.me ≡ (logged (enrol_word slots) worker.number [] (blank worker.number no_numbers), []))) }
     {
-        if self.spare == 0 {
+        if self.given == self.most {
             return None;
         }
-        let mut seat = top.split_seat::<SplitOff>(&mut self.seat);
-        self.spare -= 1;
-        let number = top.fetch_add::<Enrol>(&mut seat, 8 * slots, 1);
+        let number = top.fetch_add::<Enrol>(&mut self.seat, 8 * slots, 1);
+        let seat = top.split_seat::<SplitOff>(&mut self.seat);
+        self.given += 1;
         Some(Worker {
             number: number as u16,
             seat,

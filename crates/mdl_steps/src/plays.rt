@@ -1,8 +1,8 @@
 //! The rule of the table, and what each kind of step tells its session.
-ghost use Rattle.std.specs.Prelude.{◌-◌, List, []};
+ghost use Rattle.std.specs.Prelude.{List, []};
 ghost use Rattle.mdl_steps.specs.declared.deed.Deed.{Deed};
 ghost use Rattle.mdl_steps.specs.declared.view.Known.{Known};
-ghost use Rattle.mdl_steps.specs.Cells.{blank};
+ghost use Rattle.mdl_steps.specs.Cells.{blank, numbers_for, no_numbers};
 ghost use Rattle.mdl_steps.specs.Plays.{enrols, takes_latch, puts_latch, raises_flags, lowers_flags, reads_word, writes_version, takes_directory, puts_directory, puts_reading, puts_key};
 ghost use Rattle.mdl_steps.specs.Rule.{Rule};
 
@@ -16,19 +16,19 @@ pub struct Order;
 impl TableRule<Slot, View, usize> for Order {
     ghost holds = { λ _. Rule };
 
-    ghost first = { λ sessions. blank 0 sessions };
+    ghost first = { λ sessions. blank 0 (numbers_for sessions 0 0) };
 }
 
-/// A seat without a number is split off.
+/// A seat is split off. It gets the number that was drawn for it, and the step that drew it.
 pub(crate) struct SplitOff;
 
 impl Split<View> for SplitOff {
-    ghost left = { λ v. record v { spare = v.spare - 1 } };
+    ghost left = { λ v. record v { spare = record v.spare { given = v.spare.drawn }; log = [] } };
 
-    ghost right = { λ _. blank 0 0 };
+    ghost right = { λ v. record (blank v.spare.drawn no_numbers) { log = v.log } };
 }
 
-/// A number is drawn.
+/// A number is drawn for one more seat.
 pub(crate) struct Enrol;
 
 impl Play<Slot, View> for Enrol {

@@ -79,13 +79,24 @@ pub struct Met {
     pub held: [Held; 0],
 }
 
+/// The numbers that the first seat draws for the sessions. Any other seat has none.
+#[derive(Drop)]
+pub struct Spare {
+    /// How many may be drawn, which is how many sessions there may be.
+    pub most: u64,
+    /// The last one that was drawn, or 0.
+    pub drawn: u64,
+    /// The last one that a session got, or 0.
+    pub given: u64,
+}
+
 /// The view of a session: only its own steps change it.
 #[derive(Drop)]
 pub struct View {
     /// The session's number, from 1 on, and 0 before it has one.
     pub number: u64,
-    /// How many seats may still be split off.
-    pub spare: u64,
+    /// The numbers that it draws for seats that are split off.
+    pub spare: Spare,
     /// The number of its next ticket.
     pub next: u64,
     /// The number of its last wait.

@@ -1,31 +1,49 @@
--- A seat may be split off, and draws its number.
-use Rattle.std.proofs.Common.{ℕ, ◌+◌, ◌-◌, ◌*◌, ◌%◌, ◌^◌, ◌<◌, [], sym, ◌∙◌, subst, arith}
+-- A number is drawn, and a seat that has it may be split off.
+use Rattle.std.proofs.Common.{◌≡◌, ℕ, ◌+◌, ◌*◌, ◌%◌, ◌^◌, ◌<◌, [], sym, ◌∙◌, subst, arith}
 use mathlib.Core.Option.{none}
 use Rattle.atomic_table.specs.Table.{Allows, Splits, step}
-use Rattle.mdl_steps.specs.Cells.{blank}
-use Rattle.mdl_steps.specs.Plays.{Mine, enrols}
+use Rattle.mdl_steps.specs.Cells.{blank, numbers_for, no_numbers}
+use Rattle.mdl_steps.specs.Plays.{Mine, enrols, logged}
 use Rattle.mdl_steps.specs.Rule.{Rule}
 use Rattle.mdl_steps.proofs.Enrol.{splits, draws}
 use Rattle.mdl_steps.proofs.maker.Maker.enrol.Goals as goal
 
+pub fetch_add-number-requires : goal.fetch_add-number-requires
+fetch_add-number-requires c =
+    let maker = c.args.self.now in
+    let slots = c.args.top.now.table_id.slots in
+    let few = maker.few in
+    let some_left : maker.given < maker.most = omega arith in
+    let at : ℕ → ℕ → Mine → Type 0 = λ id k m. Allows Rule slots id m (8 * k) (λ n. (n + 1) % 2 ^ 64) (enrols (step slots (8 * k) 1 0 none) m) in (
+      c.requires.table.0,
+      c.requires.words,
+      subst (at maker.seat.id c.args.slots) (sym maker.idle)
+          (subst (λ (id : ℕ). at id c.args.slots (blank 0 (numbers_for maker.most maker.given maker.given), [])) (sym maker.first)
+          (subst (λ (k : ℕ). at 0 k (blank 0 (numbers_for maker.most maker.given maker.given), [])) (sym c.requires.slots) (draws slots maker.most maker.given some_left))),
+    )
+
+-- the seat, with a number drawn, may be split so
+abbrev MaySplit : ℕ → Mine → Type 0
+MaySplit id m =
+    Splits Rule id m.0 (record m.0 { spare = record m.0.spare { given = m.0.spare.drawn }; log = [] }) (record (blank m.0.spare.drawn no_numbers) { log = m.0.log })
+
+abbrev having_drawn : ℕ → ℕ → ℕ → ℕ → Mine
+having_drawn most given word number = (logged word number [] (blank 0 (numbers_for most number given)), [])
+
+may_split : (most given word number id : ℕ) (m : Mine) → id ≡ 0 → number ≡ given + 1 → m ≡ having_drawn most given word number → MaySplit id m
+may_split most given word number id m first next drawn =
+    subst (MaySplit id) (sym drawn) (subst (λ (n : ℕ). MaySplit id (having_drawn most given word n)) (sym next)
+    (subst (λ (i : ℕ). MaySplit i (having_drawn most given word (given + 1))) (sym first) (splits most given (having_drawn most given word (given + 1)).0.log)))
+
 pub split_seat-seat-requires : goal.split_seat-seat-requires
 split_seat-seat-requires c =
     let maker = c.args.self.now in
+    let made = c.fetch_add-number.ensures in
+    let number = c.fetch_add-number.result in
+    let seat = c.fetch_add-number.new.seat in
     let words = c.requires.words in
-    let some_left : 0 < maker.spare = omega arith in
-    let inside : 0 < c.args.top.now.table_id.words = omega arith in (
-      c.requires.table.0,
-      inside,
-      subst (λ (m : Mine). Splits Rule maker.seat.id m.0 (record m.0 { spare = m.0.spare - 1 }) (blank 0 0)) (sym maker.idle) (splits maker.seat.id maker.spare some_left),
-    )
-
-pub fetch_add-number-requires : goal.fetch_add-number-requires
-fetch_add-number-requires c =
-    let made = c.split_seat-seat.ensures in
-    let seat = c.split_seat-seat.result in
-    let slots = c.args.top.now.table_id.slots in (
-      made.3 ∙ c.requires.table.0,
-      c.requires.words,
-      subst (λ (m : Mine). Allows Rule slots seat.id m (8 * c.args.slots) (λ n. (n + 1) % 2 ^ 64) (enrols (step slots (8 * c.args.slots) 1 0 none) m)) (sym made.4)
-          (subst (λ (k : ℕ). Allows Rule slots seat.id (blank 0 0, []) (8 * k) (λ n. (n + 1) % 2 ^ 64) (enrols (step slots (8 * k) 1 0 none) (blank 0 0, []))) (sym c.requires.slots) (draws slots seat.id)),
+    let told = subst (λ (m : Mine). enrols (step c.args.top.now.table_id.slots (8 * c.args.slots) 1 0 none) m number seat.me) maker.idle made.2 in (
+      made.0 ∙ c.requires.table.0,
+      omega arith,
+      may_split maker.most maker.given (8 * c.args.slots) number seat.id seat.me (made.1 ∙ maker.first) told.0 told.1,
     )
