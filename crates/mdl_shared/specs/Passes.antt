@@ -1,0 +1,28 @@
+-- The passes of a space's sessions.
+use Rattle.std.specs.Prelude.{◌≡◌, ℕ, ◌+◌, ◌<◌, List, [], length, slice_index_or}
+use Rattle.std.specs.Arc.{arc_value}
+use Rattle.atomic_table.specs.Seated.{TableId}
+use Rattle.mdl_shared.specs.declared.manager.Manager.{Manager}
+use Rattle.mdl_shared.specs.declared.pass.Pass.{Pass}
+
+-- the table of a space
+abbrev pub table_of : Manager → TableId
+table_of manager = (arc_value manager.table).shared.table_id
+
+-- the table at which the session of a pass has its seat
+abbrev pub pass_table : Pass → TableId
+pass_table pass = (arc_value pass.member.table).shared.table_id
+
+-- the session's number
+abbrev pub pass_number : Pass → ℕ
+pass_number pass = pass.member.worker.number
+
+-- a pass of a session of this number at this table, which knows no key
+pub record IsPass (table : TableId) (number : ℕ) (pass : Pass) : Type 0 where
+  pub theirs : pass_table pass ≡ table
+  pub numbered : pass_number pass ≡ number
+  pub nothing_known : pass.member.known.items ≡ []
+
+-- the passes of the sessions from 1 on, in order
+abbrev pub ArePasses : TableId → List Pass → Type 0
+ArePasses table passes = (k : ℕ) (d : Pass) → k < length passes → IsPass table (k + 1) (slice_index_or passes k d)

@@ -1,0 +1,81 @@
+//! The space, and the passes of its sessions.
+ghost use Rattle.std.specs.Prelude.{◌≡◌, ℕ, ◌+◌, ◌<◌, ◌≤◌, length, IfOk};
+ghost use Rattle.std.specs.Arc.{arc_value};
+ghost use Rattle.mdl_key.specs.Refusals.{Refuses};
+ghost use Rattle.mdl_shared.specs.Limits.{new_fault};
+ghost use Rattle.mdl_steps.specs.Layout.{enrol_word};
+ghost use Rattle.mdl_steps.specs.Seats.{IsSized};
+
+use crate::member::Member;
+use crate::{NewError, Pass};
+use mdl_steps::{Maker, OwnedTable};
+use std::alloc::{AllocError, Global};
+use std::sync::Arc;
+
+const MOST_PLACES: u16 = 256;
+
+const MOST_SESSIONS: u16 = 64;
+
+/// A lock space that threads share.
+#[derive(Drop)]
+pub struct Manager {
+    table: Arc<OwnedTable, Global>,
+}
+
+impl Manager {
+    ghost use Rattle.mdl_shared.specs.Passes.{ArePasses, table_of};
+
+    /// A space of so many places and sessions, where nobody has asked for anything, and the passes of the sessions, which have the
+    /// numbers from 1 on, in order.
+    pub fn new(alloc: Global, places: u16, sessions: u16) -> Result<(Manager, Vec<Pass>), NewError>
+        ensures made { IfOk result (λ made. ((table_of made.0).slots ≡ places + 1) × (length made.1.items ≡ sessions)
+            × ArePasses (table_of made.0) made.1.items) }
+        ensures refused { Refuses (new_fault places sessions) NewError.OutOfMemory result }
+    {
+        if places == 0 || places > MOST_PLACES {
+            return Err(NewError::BadPlaces);
+        }
+        if sessions == 0 || sessions > MOST_SESSIONS {
+            return Err(NewError::BadSessions);
+        }
+        match Manager::of(alloc, usize::from(places), usize::from(sessions)) {
+            Ok(made) => Ok(made),
+            Err(AllocError) => Err(NewError::OutOfMemory),
+        }
+    }
+
+    // The same, where there can be such a space.
+    fn of(alloc: Global, places: usize, sessions: usize) -> Result<(Manager, Vec<Pass>), AllocError>
+        requires places { places ≤ 256 }
+        requires sessions { sessions ≤ 64 }
+        ensures { IfOk result (λ made. ((table_of made.0).slots ≡ places + 1) × (length made.1.items ≡ sessions)
+            × ArePasses (table_of made.0) made.1.items) }
+    {
+        let (table, maker) = Maker::of_places(alloc, places, sessions)?;
+        let table = Arc::new(alloc, table)?;
+        let passes = Manager::enrol_all(alloc, &table, maker, places + 1)?;
+        Ok((Manager { table }, passes))
+    }
+
+    // A pass for each session that the table has room for.
+    fn enrol_all(
+        alloc: Global,
+        table: &Arc<OwnedTable, Global>,
+        mut maker: Maker,
+        slots: usize,
+    ) -> Result<Vec<Pass>, AllocError>
+        requires seated { maker.seat.table_id ≡ (arc_value table.now).shared.table_id }
+        requires sized { IsSized (arc_value table.now).shared.table_id }
+        requires slots { slots ≡ (arc_value table.now).shared.table_id.slots }
+        requires words { enrol_word slots < (arc_value table.now).shared.table_id.words }
+        requires first { maker.given ≡ 0 }
+        ensures { IfOk result (λ passes. (length passes.items ≡ maker.most) × ArePasses (arc_value table.now).shared.table_id passes.items) }
+    {
+        let mut passes = Vec::new(alloc);
+        while let Some(worker) = maker.enrol(&table.shared, slots) {
+            let member = Member::new(alloc, Arc::try_clone(table)?, worker);
+            passes.push(Pass { member })?;
+        }
+        Ok(passes)
+    }
+}

@@ -1,0 +1,47 @@
+//! What a session has of the space, whether it is open or not.
+ghost use Rattle.std.specs.Prelude.{◌≡◌, ℕ, [], length};
+ghost use Rattle.std.specs.Arc.{arc_value};
+ghost use Rattle.mdl_steps.specs.Cells.{blank, no_numbers};
+ghost use Rattle.mdl_steps.specs.Plays.{logged};
+ghost use Rattle.mdl_steps.specs.Seats.{IsSized};
+ghost use Rattle.mdl_shared.specs.Idle.{IsIdle, HasSlowAlone};
+
+use mdl_steps::{Known, Own, OwnedTable, Worker};
+use std::alloc::Global;
+use std::sync::Arc;
+
+/// A session's seat at the table, and its own lists of what the seat's view tells.
+#[derive(Drop)]
+pub(crate) struct Member {
+    /// The table. Each session has a share of its own, so that opening one takes no memory.
+    pub(crate) table: Arc<OwnedTable, Global>,
+    pub(crate) worker: Worker,
+    /// The tickets that it has.
+    pub(crate) tickets: Vec<Own>,
+    /// The keys that it looked up.
+    pub(crate) known: Vec<Known>,
+    ghost seated: { worker.seat.table_id ≡ (arc_value table).shared.table_id },
+    ghost sized: { IsSized (arc_value table).shared.table_id },
+    ghost idle: { IsIdle worker.seat.me },
+    ghost slow: { HasSlowAlone worker.seat.me },
+    ghost listed: { tickets.items ≡ worker.seat.me.0.slow },
+    ghost known_is: { known.items ≡ worker.seat.me.0.known },
+}
+
+impl Member {
+    /// Of a session that has nothing yet. It takes no memory.
+    pub(crate) fn new(alloc: Global, table: Arc<OwnedTable, Global>, worker: Worker) -> Member
+        requires seated { worker.seat.table_id ≡ (arc_value table).shared.table_id }
+        requires sized { IsSized (arc_value table).shared.table_id }
+        requires fresh { (word : ℕ) × (worker.seat.me ≡ (logged word worker.number [] (blank worker.number no_numbers), [])) }
+        ensures made { (result.table ≡ table) × (result.worker ≡ worker) }
+        ensures nothing { (result.tickets.items ≡ []) × (result.known.items ≡ []) }
+    {
+        Member {
+            table,
+            worker,
+            tickets: Vec::new(alloc),
+            known: Vec::new(alloc),
+        }
+    }
+}

@@ -1,0 +1,16 @@
+//! Why a lock space can't be made.
+use thiserror::Error;
+
+/// Why a lock space can't be made. Of several causes the first in this order is answered.
+#[derive(Clone, Copy, Debug, PartialEq, Eq, Error)]
+pub enum NewError {
+    /// A space has 1 to 256 places.
+    #[error("not a number of places")]
+    BadPlaces,
+    /// A space has 1 to 64 sessions.
+    #[error("not a number of sessions")]
+    BadSessions,
+    /// Memory ran out.
+    #[error("out of memory")]
+    OutOfMemory,
+}

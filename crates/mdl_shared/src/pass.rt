@@ -1,0 +1,22 @@
+//! The right to a session.
+ghost use Rattle.std.specs.Prelude.{◌≡◌, length};
+
+use crate::member::Member;
+
+/// The right to one session of a space, while it isn't open. There is one for each session.
+#[derive(Drop)]
+pub struct Pass {
+    pub(crate) member: Member,
+    ghost empty: { length member.tickets.items ≡ 0 },
+}
+
+impl Pass {
+    ghost use Rattle.mdl_shared.specs.Passes.{pass_number};
+
+    /// The session's number.
+    pub fn number(&self) -> u16
+        ensures { result ≡ pass_number self.now }
+    {
+        self.member.worker.number()
+    }
+}

@@ -1,0 +1,53 @@
+//! Sessions, which make the calls.
+ghost use Rattle.std.specs.Prelude.{◌≡◌, ◌<◌, length, MatchResult};
+
+use crate::member::Member;
+use crate::{Manager, Pass};
+
+/// A session of a space. It has to be closed: it can't be dropped.
+///
+/// `R` is what its calls have to wait by, where they wait.
+pub struct Session<R> {
+    rt: R,
+    member: Member,
+}
+
+/// A session isn't closed while it holds tickets. Here it is again.
+pub struct HoldsTickets<R>(pub Session<R>);
+
+impl<R> Session<R> {
+    ghost use Rattle.mdl_shared.specs.Passes.{table_of, pass_table};
+
+    /// Opens the session of a pass, which is one of this manager's. It takes no memory.
+    pub fn open(rt: R, manager: &Manager, pass: Pass) -> Session<R>
+        requires theirs { pass_table pass ≡ table_of manager.now }
+        ensures { (result.rt ≡ rt) × (result.member ≡ pass.member) }
+    {
+        let _manager = manager;
+        let Pass { member } = pass;
+        Session { rt, member }
+    }
+
+    /// The session's number: that of its pass.
+    pub fn number(&self) -> u16
+        ensures { result ≡ self.now.member.worker.number }
+    {
+        self.member.worker.number()
+    }
+}
+
+impl<R: Drop> Session<R> {
+    /// Closes the session, and gives its pass back. While it has a ticket, that is refused, and the session stays as it is. It
+    /// takes no memory.
+    pub fn close(self) -> Result<Pass, HoldsTickets<R>>
+        ensures { MatchResult result
+            (λ pass. (length self.member.tickets.items ≡ 0) × (pass.member ≡ self.member))
+            (λ held. (0 < length self.member.tickets.items) × (held.0 ≡ self)) }
+    {
+        if !self.member.tickets.is_empty() {
+            return Err(HoldsTickets(self));
+        }
+        let Session { rt: _, member } = self;
+        Ok(Pass { member })
+    }
+}

@@ -1,0 +1,39 @@
+//! How many places and sessions a space may have, and the passes of its sessions.
+use mdl_shared::{Manager, NewError};
+use std::alloc::Global;
+use std::test::Fail;
+
+const LIMITS: [(u16, u16, Option<NewError>); 6] = [
+    (0, 0, Some(NewError::BadPlaces)),
+    (257, 1, Some(NewError::BadPlaces)),
+    (1, 0, Some(NewError::BadSessions)),
+    (256, 65, Some(NewError::BadSessions)),
+    (1, 1, None),
+    (256, 64, None),
+];
+
+// Why there can't be a space of so many places and sessions.
+fn fault(alloc: Global, places: u16, sessions: u16) -> Option<NewError> {
+    Manager::new(alloc, places, sessions).err()
+}
+
+#[test]
+fn spaces_have_their_limits(rt: HostRuntime) {
+    for (places, sessions, wanted) in LIMITS {
+        assert_eq!(rt;
+            fault(rt.alloc(), places, sessions),
+            wanted,
+            "{places} places, {sessions} sessions"
+        );
+    }
+}
+
+#[test]
+fn passes_have_the_numbers_from_1_on(rt: HostRuntime) -> Result<(), Fail> {
+    let (_manager, passes) = Manager::new(rt.alloc(), 2, 3)?;
+    assert_eq!(rt; passes.len(), 3);
+    for (pass, number) in passes.iter().zip([1, 2, 3]) {
+        assert_eq!(rt; pass.number(), number);
+    }
+    Ok(())
+}

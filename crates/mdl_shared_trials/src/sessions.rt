@@ -1,0 +1,55 @@
+//! Sessions open and close, on one thread and on two.
+ghost use Rattle.std.specs.Prelude.{◌≡◌};
+ghost use Rattle.mdl_shared.specs.Passes.{table_of, pass_table};
+
+use mdl_shared::{Manager, Pass, Session};
+use std::test::Fail;
+use std::thread;
+
+// Opens a pass's session, and closes it. It has no ticket yet.
+fn reopen(manager: &Manager, pass: Pass) -> Pass
+    requires { pass_table pass ≡ table_of manager.now }
+    ensures { result.member ≡ pass.member }
+{
+    let session = Session::open((), manager, pass);
+    match session.close() {
+        Ok(pass) => pass,
+        Err(_) => unreachable!(),
+    }
+}
+
+// The number of a session that was opened and closed so many times.
+fn reopened(manager: &Manager, mut pass: Pass, times: u32) -> u16
+    requires { pass_table pass ≡ table_of manager.now }
+{
+    for _ in 0..times {
+        pass = reopen(manager, pass);
+    }
+    pass.number()
+}
+
+#[test]
+fn a_session_has_its_number_each_time(rt: HostRuntime) -> Result<(), Fail> {
+    let (manager, passes) = Manager::new(rt.alloc(), 1, 3)?;
+    let mut numbers = Vec::new(rt.alloc());
+    for pass in passes {
+        numbers.push(reopened(&manager, pass, 3))?;
+    }
+    assert_eq!(rt; numbers.as_slice(), [1, 2, 3].as_slice());
+    Ok(())
+}
+
+#[test]
+fn two_threads_open_two_sessions(rt: HostRuntime) -> Result<(), Fail> {
+    let (manager, mut passes) = Manager::new(rt.alloc(), 1, 2)?;
+    let two = passes.remove(1);
+    let one = passes.remove(0);
+    let manager = &manager;
+    let (first, second) = thread::join(
+        &rt,
+        move || reopened(manager, one, 20_000),
+        move || reopened(manager, two, 20_000),
+    );
+    assert_eq!(rt; (first, second), (1, 2));
+    Ok(())
+}
