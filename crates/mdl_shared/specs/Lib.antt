@@ -1,3 +1,6 @@
 pub mod Idle
+pub mod Leavings
 pub mod Limits
+pub mod Members
 pub mod Passes
+pub mod Visits

@@ -6,11 +6,16 @@
 //! After MySQL 5.7, `MDL_map` and `MDL_context` of `sql/mdl.cc`; passes are this project's own.
 #![tactic(auto)]
 
+mod definitions;
+mod latches;
 mod manager;
 mod member;
 mod new_error;
 mod pass;
+mod releasing;
 mod session;
+mod settling;
+mod tickets;
 
 pub use manager::Manager;
 pub use new_error::NewError;

@@ -1,10 +1,11 @@
 //! What a session has of the space, whether it is open or not.
-ghost use Rattle.std.specs.Prelude.{◌≡◌, ℕ, [], length};
+ghost use Rattle.std.specs.Prelude.{◌≡◌, ℕ, true, [], length};
 ghost use Rattle.std.specs.Arc.{arc_value};
 ghost use Rattle.mdl_steps.specs.Cells.{blank, no_numbers};
 ghost use Rattle.mdl_steps.specs.Plays.{logged};
 ghost use Rattle.mdl_steps.specs.Seats.{IsSized};
 ghost use Rattle.mdl_shared.specs.Idle.{IsIdle, HasSlowAlone};
+ghost use Rattle.mdl_shared.specs.Members.{are_placed, are_within};
 
 use mdl_steps::{Known, Own, OwnedTable, Worker};
 use std::alloc::Global;
@@ -26,6 +27,8 @@ pub(crate) struct Member {
     ghost slow: { HasSlowAlone worker.seat.me },
     ghost listed: { tickets.items ≡ worker.seat.me.0.slow },
     ghost known_is: { known.items ≡ worker.seat.me.0.known },
+    ghost placed: { are_placed known.items tickets.items ≡ true },
+    ghost within: { are_within (arc_value table).shared.table_id.slots known.items ≡ true },
 }
 
 impl Member {

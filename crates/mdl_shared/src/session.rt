@@ -8,8 +8,8 @@ use crate::{Manager, Pass};
 ///
 /// `R` is what its calls have to wait by, where they wait.
 pub struct Session<R> {
-    rt: R,
-    member: Member,
+    pub(crate) rt: R,
+    pub(crate) member: Member,
 }
 
 /// A session isn't closed while it holds tickets. Here it is again.

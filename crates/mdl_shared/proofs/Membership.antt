@@ -1,0 +1,62 @@
+-- A session's own lists: its tickets are of places that it knows, and these are places of the table.
+use Rattle.std.proofs.Common.{◌≡◌, ℕ, zero, suc, ◌<◌, ◌==◌, ◌&&◌, ◌||◌, Bool, true, false, not, List, [], ◌∷◌, Some, None, refl, sym, ap, ◌∙◌}
+use Rattle.std.specs.Prelude.{nat_lt, find}
+use Rattle.std.specs.List.{list_all, filter}
+use Rattle.std.specs.Option.{option_map}
+use Rattle.std.proofs.lemmas.Bool.{and_parts, and_from, eqb-true, ltb-true}
+use mathlib.Core.Option.{some, some-injective, some-ne-none}
+use lib.ListN.{get_elem?}
+use Rattle.mdl_steps.specs.declared.view.Known.{Known}
+use Rattle.mdl_steps.specs.declared.view.Own.{Own}
+use Rattle.mdl_steps.specs.Deeds.{is_own}
+use Rattle.mdl_steps.proofs.Views.{by_bool}
+use Rattle.mdl_shared.specs.Leavings.{HasTicket}
+use Rattle.mdl_shared.specs.Members.{is_known_place, are_placed, are_within, numbered, without_at}
+
+-- the ticket of a number stands in the list
+pub has_numbered : (place number : ℕ) (tickets : List Own) → option_map (λ (t : Own). t.place) (numbered number tickets) ≡ Some place → HasTicket place number tickets
+has_numbered place number [] e = absurd (cc)
+has_numbered place number (t ∷ ts) e =
+    by_bool (t.number == number)
+    (λ hit. let here = rw hit at e in let is : t.place ≡ place = cc in (zero, t, refl, is, eqb-true t.number number hit))
+    (λ miss. let later = has_numbered place number ts (rw miss at e) in (suc later.0, later.1, later.2, later.3, later.4))
+
+-- a place that is known is that of a key
+pub some_key : (place : ℕ) (known : List Known) → is_known_place known place ≡ true → (i : ℕ) × (k : Known) × (get_elem? known i ≡ some k) × (k.place ≡ place)
+some_key place [] e = absurd (cc)
+some_key place (k ∷ ks) e =
+    by_bool (k.place == place)
+    (λ hit. (zero, k, refl, eqb-true k.place place hit))
+    (λ miss. let later = some_key place ks (rw miss at e) in (suc later.0, later.1, later.2, later.3))
+
+-- and it is a place of the table
+pub known_within : (slots place : ℕ) (known : List Known) → are_within slots known ≡ true → is_known_place known place ≡ true → (0 < place) × (place < slots)
+known_within slots place [] all e = absurd (cc)
+known_within slots place (k ∷ ks) all e =
+    let parts = and_parts (nat_lt 0 k.place && nat_lt k.place slots) (are_within slots ks) all in
+    by_bool (k.place == place)
+    (λ hit.
+    let is = eqb-true k.place place hit in
+    let here = and_parts (nat_lt 0 k.place) (nat_lt k.place slots) parts.0 in
+    rw (sym is) (ltb-true 0 k.place here.0, ltb-true k.place slots here.1))
+    (λ miss. known_within slots place ks parts.1 (rw miss at e))
+
+-- a ticket that stands in the list is of a known place
+pub placed_at : (known : List Known) (tickets : List Own) (place number : ℕ) → are_placed known tickets ≡ true → HasTicket place number tickets → is_known_place known place ≡ true
+placed_at known tickets place number all has = at tickets all has.0 has.1 has.2 has.3
+  where
+    at : (ts : List Own) → are_placed known ts ≡ true → (k : ℕ) (t : Own) → get_elem? ts k ≡ some t → t.place ≡ place → is_known_place known place ≡ true
+    at [] all k t there here = absurd (some-ne-none t (sym there))
+    at (x ∷ xs) all zero t there here =
+        let is = some-injective x t there in
+        ap (is_known_place known) (sym (ap (λ (o : Own). o.place) is ∙ here)) ∙ (and_parts (is_known_place known x.place) (are_placed known xs) all).0
+    at (x ∷ xs) all (suc k) t there here = at xs (and_parts (is_known_place known x.place) (are_placed known xs) all).1 k t there here
+
+-- with one ticket less the others are placed still
+pub still_placed : (known : List Known) (tickets : List Own) (place number : ℕ) → are_placed known tickets ≡ true → are_placed known (without_at place number tickets) ≡ true
+still_placed known [] place number all = refl
+still_placed known (t ∷ ts) place number all =
+    let parts = and_parts (is_known_place known t.place) (are_placed known ts) all in
+    by_bool (is_own place number t)
+    (λ gone. rw gone (still_placed known ts place number parts.1))
+    (λ stays. rw stays (and_from _ _ parts.0 (still_placed known ts place number parts.1)))

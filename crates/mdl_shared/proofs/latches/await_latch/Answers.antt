@@ -1,0 +1,12 @@
+-- The latch was taken after some steps that only met it.
+use Rattle.std.proofs.Common.{ap, ◌∙◌}
+use Rattle.mdl_steps.specs.Plays.{Mine, latched}
+use Rattle.mdl_shared.proofs.Visiting.{inside_taken}
+use Rattle.mdl_shared.proofs.latches.await_latch.Goals as goal
+
+pub returns-in-Some-take_latch-clause-inside : goal.returns-in-Some-take_latch-clause-inside
+returns-in-Some-take_latch-clause-inside g c =
+    let place = c.args.place in
+    let told = c.in-Some-take_latch.ensures.taken.1 in
+    let steps = c.loop.invariant.steps in
+    inside_taken place told.0 c.args.worker.now.seat.me c.take_latch.new.self.seat.me steps.0 c.requires.rising told.1.here (◌∙◌ {A = Mine} told.3 (ap (latched place told.0) steps.1))

@@ -1,0 +1,43 @@
+-- The ticket is of a place whose key the session knows.
+use Rattle.std.proofs.Common.{◌≡◌, ◌<◌, List, true, sym, ap, ◌∙◌, subst}
+use Rattle.mdl_steps.specs.declared.view.Known.{Known}
+use Rattle.mdl_steps.specs.declared.view.Own.{Own}
+use Rattle.mdl_steps.specs.Plays.{Mine}
+use Rattle.mdl_shared.specs.Idle.{IsIdle, HasSlowAlone}
+use Rattle.mdl_shared.specs.Leavings.{HasTicket}
+use Rattle.mdl_shared.specs.Members.{are_placed, are_within, is_known_place, without_at}
+use Rattle.mdl_shared.proofs.Membership.{has_numbered, some_key, known_within, placed_at, still_placed}
+use Rattle.mdl_shared.proofs.member.Member.release.Goals as goal
+
+pub release-requires-clause-place : goal.release-requires-clause-place
+release-requires-clause-place g c =
+    let self = c.args.self.now in
+    let has = has_numbered c.args.place c.args.id self.tickets.items c.requires.held in
+    let known = placed_at self.known.items self.tickets.items c.args.place c.args.id self.placed has in
+    subst (λ table. (0 < c.args.place) × (c.args.place < table.shared.table_id.slots)) (sym c.deref.ensures) (known_within _ c.args.place self.known.items self.within known)
+
+pub release-requires-clause-known : goal.release-requires-clause-known
+release-requires-clause-known g c =
+    let self = c.args.self.now in
+    let has = has_numbered c.args.place c.args.id self.tickets.items c.requires.held in
+    let known = placed_at self.known.items self.tickets.items c.args.place c.args.id self.placed has in
+    some_key c.args.place self.worker.seat.me.0.known (ap (λ ks. is_known_place ks c.args.place) (sym self.known_is) ∙ known)
+
+pub release-requires-clause-held : goal.release-requires-clause-held
+release-requires-clause-held g c =
+    let self = c.args.self.now in
+    subst (λ (ts : List Own). HasTicket c.args.place c.args.id ts) self.listed (has_numbered c.args.place c.args.id self.tickets.items c.requires.held)
+
+pub invariant_of-self : goal.invariant_of-self
+invariant_of-self g c =
+    let self = c.args.self.now in
+    let now = c.release.ensures.released.now in record {
+      seated = c.release.ensures.seat.0 ∙ self.seated;
+      sized = self.sized;
+      idle = subst IsIdle (sym now) self.idle;
+      slow = subst HasSlowAlone (sym now) self.slow;
+      listed = c.strike.ensures ∙ ap (without_at c.args.place c.args.id) self.listed ∙ sym (ap (λ (m : Mine). m.0.slow) now);
+      known_is = self.known_is ∙ sym (ap (λ (m : Mine). m.0.known) now);
+      placed = ap (are_placed self.known.items) c.strike.ensures ∙ still_placed self.known.items self.tickets.items c.args.place c.args.id self.placed;
+      within = self.within;
+    }

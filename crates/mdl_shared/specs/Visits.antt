@@ -1,0 +1,109 @@
+-- A visit of a session to a place: it takes the latch there, does what it came for, and gives the latch back. What it met
+-- there stands in its list of steps.
+use Rattle.std.specs.Prelude.{◌≡◌, ℕ, ◌≤◌, ◌==◌, not, Bool, true, false, List, [], ◌∷◌, ◌++◌, filter, Some}
+use lib.ListN.{get_elem?}
+use mathlib.Core.Option.{some}
+use Rattle.mdl_key.specs.declared.mode.Mode.{Mode}
+use Rattle.mdl_key.specs.declared.namespace.Kind.{Kind}
+use Rattle.mdl_key.specs.Words.{kind_of}
+use Rattle.mdl_book.specs.declared.book_view.BookView.{BookView}
+use Rattle.mdl_book.specs.declared.ticket.Ticket.{Ticket}
+use Rattle.mdl_book.specs.Books.{lock_kind, ticket_count}
+use Rattle.mdl_book.specs.FastTickets.{AreOfOthers, CountsFastTickets, can_be_granted}
+use Rattle.mdl_book.specs.Granting.{goes_first, is_grantable}
+use Rattle.mdl_steps.specs.declared.deed.Deed.{Deed}
+use Rattle.mdl_steps.specs.declared.slot.Slot.TheVariants as slot
+use Rattle.mdl_steps.specs.declared.view.Held.{Held}
+use Rattle.mdl_steps.specs.declared.view.Known.{Known}
+use Rattle.mdl_steps.specs.declared.view.Met.{Met}
+use Rattle.mdl_steps.specs.declared.view.View.{View}
+use Rattle.mdl_steps.specs.Cells.{held_at}
+use Rattle.mdl_steps.specs.Deeds.{MayJoin, all_done}
+use Rattle.mdl_steps.specs.Layout.{latch_word, lock_word}
+use Rattle.mdl_steps.specs.Plays.{Mine, IsFresh, noting, raised}
+use Rattle.mdl_steps.specs.Rule.{Flagged}
+use Rattle.mdl_steps.specs.Seats.{Holds}
+
+-- ---- steps
+
+-- with these steps more
+abbrev pub and_made : List Met → Mine → Mine
+and_made made m = (record m.0 { log = m.0.log ++ made }, m.1)
+
+-- steps were made between the two, and nothing else changed
+abbrev pub MakesSteps : Mine → Mine → Type 0
+MakesSteps m m′ = (made : List Met) × (m′ ≡ and_made made m)
+
+-- the list of steps grew between the two
+abbrev pub GoesOn : Mine → Mine → Type 0
+GoesOn m m′ = (made : List Met) × (m′.0.log ≡ m.0.log ++ made)
+
+-- a step that was made between the two
+abbrev pub IsStepOf : Mine → Mine → Met → Type 0
+IsStepOf m m′ e = (before : List Met) × (after : List Met) × (m′.0.log ≡ (m.0.log ++ before) ++ e ∷ after)
+
+-- ---- a visit
+
+-- the session came to a place: it took the latch there and made steps, a book of the place is in its hand, and nothing else changed
+pub record IsInside (place : ℕ) (m m′ : Mine) : Type 0 where
+  pub latches : List Held
+  pub made : List Met
+  pub book : BookView
+  pub now : m′ ≡ (record m.0 { latches = latches; log = m.0.log ++ made }, (place, slot.Place book) ∷ m.1)
+  pub others : filter (λ h. not (h.place == place)) latches ≡ m.0.latches
+
+-- the session came to a place, did these deeds there and went: it has the latches and the slots that it had, and nothing else changed
+pub record Visits (place : ℕ) (ds : List Deed) (m m′ : Mine) : Type 0 where
+  pub made : List Met
+  pub now : m′ ≡ and_made made (all_done place ds m.0, m.1)
+
+-- it came in, raised the flag SLOW, and OBTRUSIVE where its wish is obtrusive, and then read this word of the lock
+pub record Enters (place : ℕ) (obtrusive : Bool) (word : ℕ) (m m′ : Mine) : Type 0 where
+  pub found : Held
+  pub fresh : IsFresh place found m
+  pub holds : Holds place (noting word (raised true obtrusive found)) found.book m′
+  pub inside : IsInside place m m′
+  pub read : (before : List Met) × (m′.0.log ≡ (m.0.log ++ before) ++ record { word = lock_word place; found = word; held = m′.0.latches } ∷ [])
+
+-- it may go: the book is as it was, and the flags tell of each ticket in it
+abbrev pub MayLeave : ℕ → Mine → Type 0
+MayLeave place m = (h : Held) × Holds place h h.book m × Flagged h.book h.slow h.obtrusive
+
+-- ---- what a step met
+
+-- a step that read the lock's word under the latch, whose record shows that the session's wish for a mode can't be granted
+pub record MeetsBlocked (place who : ℕ) (mode : Mode) (e : Met) : Type 0 where
+  pub word : e.word ≡ lock_word place
+  pub latch : Held
+  pub held : held_at place e.held ≡ Some latch
+  pub blocked : can_be_granted (lock_kind latch.book) latch.book.granted latch.book.waiting e.found who mode ≡ false
+
+-- a step that gave the latch back, whose record shows that the session's wish for a mode can be granted: it may stand beside all that is
+-- granted, and it waits behind no waiting ticket
+pub record MeetsGrantable (place who : ℕ) (mode : Mode) (e : Met) : Type 0 where
+  pub word : e.word ≡ latch_word place
+  pub latch : Held
+  pub held : held_at place e.held ≡ Some latch
+  pub beside : MayJoin who latch.book latch.noted mode
+  pub first : goes_first (lock_kind latch.book) latch.book.waiting who mode ≡ true
+
+-- a step that read the lock's word under the latch, whose record shows that the book has no room for one ticket more
+pub record MeetsFull (place : ℕ) (e : Met) : Type 0 where
+  pub word : e.word ≡ lock_word place
+  pub latch : Held
+  pub held : held_at place e.held ≡ Some latch
+  pub full : 65535 ≤ ticket_count latch.book
+
+-- at the step the session's wish wasn't grantable: whichever fast tickets of other sessions the word counted, by the book it clashed with a
+-- granted ticket or had to wait behind a waiting one
+abbrev pub WasNotGrantable : ℕ → ℕ → Mode → Met → Type 0
+WasNotGrantable place who mode e =
+    (latch : Held) × (e.word ≡ lock_word place) × (held_at place e.held ≡ Some latch)
+    × ((fast : List Ticket) → CountsFastTickets (lock_kind latch.book) e.found fast → AreOfOthers who fast
+    → is_grantable (lock_kind latch.book) (fast ++ latch.book.granted) latch.book.waiting who mode ≡ false)
+
+-- ---- what a session knows
+
+-- the session has looked up a key whose place this is, of this kind
+abbrev pub KnowsKind : View → ℕ → Kind → Type 0
+KnowsKind v place kind = (i : ℕ) × (k : Known) × (get_elem? v.known i ≡ some k) × (k.place ≡ place) × (kind_of k.key.namespace ≡ kind)

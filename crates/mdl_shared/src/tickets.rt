@@ -1,0 +1,73 @@
+//! What a session does with its tickets.
+ghost use Rattle.std.specs.Prelude.{◌≡◌, ℕ, Some, find, ◌==◌, OnOk, OnErr};
+ghost use Rattle.std.specs.Option.{option_map};
+ghost use Rattle.mdl_key.specs.Refusals.{RefusesJust};
+ghost use Rattle.mdl_steps.specs.declared.view.Met.{Met};
+ghost use Rattle.mdl_steps.specs.declared.view.Own.{Own};
+ghost use Rattle.mdl_steps.specs.Deeds.{is_own};
+ghost use Rattle.mdl_shared.specs.Leavings.{MeetsOwn};
+ghost use Rattle.mdl_shared.specs.Members.{numbered, without_at, release_fault};
+ghost use Rattle.mdl_shared.specs.Visits.{IsStepOf};
+
+use crate::Session;
+use crate::member::Member;
+use crate::releasing::release;
+use mdl_calls::{SpaceError, TicketId};
+use mdl_steps::Own;
+use std::sync::Wait;
+
+impl Member {
+    // The place of the ticket of a number.
+    fn place_held(&self, id: TicketId) -> Option<usize>
+        ensures { result ≡ option_map (λ (t : Own). t.place) (numbered id self.now.tickets.items) }
+    {
+        self.tickets
+            .iter()
+            .find(|ticket| ticket.number == id)
+            .map(|ticket| ticket.place)
+    }
+
+    // Gives up the ticket of a number, which is at this place.
+    fn release<R: Wait>(&mut self, rt: &R, place: usize, id: TicketId)
+        requires held { option_map (λ (t : Own). t.place) (numbered id self.old.tickets.items) ≡ Some place }
+        ensures same { (self.new.table ≡ self.old.table) × (self.new.worker.number ≡ self.old.worker.number) × (self.new.known.items ≡ self.old.known.items) }
+        ensures released { self.new.tickets.items ≡ without_at place id self.old.tickets.items }
+        ensures step { (e : Met) × IsStepOf self.old.worker.seat.me self.new.worker.seat.me e × MeetsOwn place self.old.worker.number id e }
+    {
+        release(rt, &mut self.worker, &self.table.shared, place, id);
+        strike(&mut self.tickets, place, id);
+    }
+}
+
+// Strikes the ticket of a number at a place from a list.
+fn strike(tickets: &mut Vec<Own>, place: usize, id: TicketId)
+    ensures { tickets.new.items ≡ without_at place id tickets.old.items }
+{
+    tickets.retain(|ticket| !is_at(ticket, place, id));
+}
+
+// Whether a ticket is of a number at a place.
+fn is_at(ticket: &Own, place: usize, id: TicketId) -> bool
+    ensures { result ≡ is_own place id ticket.now }
+{
+    ticket.place == place && ticket.number == id
+}
+
+impl<R: Wait> Session<R> {
+    /// Gives up a ticket. It takes no memory.
+    pub fn release(&mut self, id: TicketId) -> Result<(), SpaceError>
+        ensures session { (self.new.member.table ≡ self.old.member.table) × (self.new.member.worker.number ≡ self.old.member.worker.number)
+            × (self.new.member.known.items ≡ self.old.member.known.items) }
+        ensures released { OnOk result ((t : Own) × (numbered id self.old.member.tickets.items ≡ Some t)
+            × (self.new.member.tickets.items ≡ without_at t.place id self.old.member.tickets.items)
+            × ((e : Met) × IsStepOf self.old.member.worker.seat.me self.new.member.worker.seat.me e × MeetsOwn t.place self.old.member.worker.number id e)) }
+        ensures unchanged { OnErr result (self.new.member.tickets.items ≡ self.old.member.tickets.items) }
+        ensures refused { RefusesJust (release_fault id self.old.member.tickets.items) result }
+    {
+        let Some(place) = self.member.place_held(id) else {
+            return Err(SpaceError::NotHeld);
+        };
+        self.member.release(&self.rt, place, id);
+        Ok(())
+    }
+}
