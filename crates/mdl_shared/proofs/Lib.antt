@@ -1,4 +1,5 @@
 pub mod Visiting
+pub mod Trying
 pub mod Leaving
 pub mod Losing
 pub mod Membership

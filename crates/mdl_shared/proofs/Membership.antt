@@ -1,17 +1,18 @@
 -- A session's own lists: its tickets are of places that it knows, and these are places of the table.
-use Rattle.std.proofs.Common.{◌≡◌, ℕ, zero, suc, ◌<◌, ◌==◌, ◌&&◌, ◌||◌, Bool, true, false, not, List, [], ◌∷◌, Some, None, refl, sym, ap, ◌∙◌}
-use Rattle.std.specs.Prelude.{nat_lt, find}
-use Rattle.std.specs.List.{list_all, filter}
+use Rattle.std.proofs.Common.{◌≡◌, ℕ, zero, suc, ◌<◌, ◌==◌, ◌&&◌, true, List, [], ◌∷◌, ◌++◌, Some, refl, sym, ap, ◌∙◌}
+use Rattle.std.specs.Prelude.{nat_lt}
 use Rattle.std.specs.Option.{option_map}
 use Rattle.std.proofs.lemmas.Bool.{and_parts, and_from, eqb-true, ltb-true}
 use mathlib.Core.Option.{some, some-injective, some-ne-none}
 use lib.ListN.{get_elem?}
+use Rattle.mdl_key.specs.declared.namespace.Kind.{Kind}
+use Rattle.mdl_key.specs.Words.{kind_of}
 use Rattle.mdl_steps.specs.declared.view.Known.{Known}
 use Rattle.mdl_steps.specs.declared.view.Own.{Own}
 use Rattle.mdl_steps.specs.Deeds.{is_own}
 use Rattle.mdl_steps.proofs.Views.{by_bool}
 use Rattle.mdl_shared.specs.Leavings.{HasTicket}
-use Rattle.mdl_shared.specs.Members.{is_known_place, are_placed, are_within, numbered, without_at}
+use Rattle.mdl_shared.specs.Members.{is_known_place, are_placed, are_within, kind_known, numbered, without_at}
 
 -- the ticket of a number stands in the list
 pub has_numbered : (place number : ℕ) (tickets : List Own) → option_map (λ (t : Own). t.place) (numbered number tickets) ≡ Some place → HasTicket place number tickets
@@ -60,3 +61,23 @@ still_placed known (t ∷ ts) place number all =
     by_bool (is_own place number t)
     (λ gone. rw gone (still_placed known ts place number parts.1))
     (λ stays. rw stays (and_from _ _ parts.0 (still_placed known ts place number parts.1)))
+
+-- a known kind is that of a key that the session has looked up
+pub kind_there : (place : ℕ) (kind : Kind) (known : List Known) → kind_known place known ≡ Some kind
+    → (i : ℕ) × (k : Known) × (get_elem? known i ≡ some k) × (k.place ≡ place) × (kind_of k.key.namespace ≡ kind)
+kind_there place kind [] e = absurd (cc)
+kind_there place kind (k ∷ ks) e =
+    by_bool (k.place == place)
+    (λ hit. let here = rw hit at e in let is : kind_of k.key.namespace ≡ kind = cc in (zero, k, refl, eqb-true k.place place hit, is))
+    (λ miss. let later = kind_there place kind ks (rw miss at e) in (suc later.0, later.1, later.2, later.3, later.4))
+
+pub kind_place : (place : ℕ) (kind : Kind) (known : List Known) → kind_known place known ≡ Some kind → is_known_place known place ≡ true
+kind_place place kind [] e = absurd (cc)
+kind_place place kind (k ∷ ks) e = by_bool (k.place == place) (λ hit. rw hit refl) (λ miss. rw miss (kind_place place kind ks (rw miss at e)))
+
+-- a ticket at a known place is placed
+pub one_placed : (known : List Known) (tickets : List Own) (t : Own) → are_placed known tickets ≡ true → is_known_place known t.place ≡ true → are_placed known (tickets ++ t ∷ []) ≡ true
+one_placed known [] t all here = and_from _ _ here refl
+one_placed known (x ∷ xs) t all here =
+    let parts = and_parts (is_known_place known x.place) (are_placed known xs) all in
+    and_from _ _ parts.0 (one_placed known xs t parts.1 here)

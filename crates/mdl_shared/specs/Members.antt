@@ -1,12 +1,19 @@
 -- What a session keeps of its own between two calls.
-use Rattle.std.specs.Prelude.{ℕ, Bool, ◌==◌, ◌&&◌, not, nat_lt, List, Option, Some, None, find, filter, is_some, if◌then◌else◌}
+use Rattle.std.specs.Prelude.{ℕ, ◌^◌, Bool, ◌==◌, ◌&&◌, not, nat_le, nat_lt, List, Option, Some, None, find, filter, is_some, if◌then◌else◌}
 use Rattle.std.specs.List.{list_all, list_any}
 use Rattle.std.specs.Option.{option_map}
+use Rattle.mdl_key.specs.declared.mode.Mode.{Mode}
+use Rattle.mdl_key.specs.declared.namespace.Kind.{Kind}
+use Rattle.mdl_key.specs.Words.{is_mode_of, kind_of}
 use Rattle.mdl_calls.specs.declared.space_error.SpaceError.{SpaceError}
-use Rattle.mdl_calls.specs.declared.space_error.SpaceError.TheVariants.{NotHeld}
+use Rattle.mdl_calls.specs.declared.space_error.SpaceError.TheVariants.{NoPlace, NotHeld, BadMode, CounterFull}
 use Rattle.mdl_steps.specs.declared.view.Known.{Known}
 use Rattle.mdl_steps.specs.declared.view.Own.{Own}
 use Rattle.mdl_steps.specs.Deeds.{is_own}
+
+-- a session's tickets have numbers below this
+abbrev pub most_numbers : ℕ
+most_numbers = 2 ^ 60
 
 -- whether a session has looked up a key of the place
 abbrev pub is_known_place : List Known → ℕ → Bool
@@ -31,3 +38,12 @@ without_at place number tickets = filter (λ t. not (is_own place number t)) tic
 -- why a ticket can't be given up
 abbrev pub release_fault : ℕ → List Own → Option SpaceError
 release_fault number tickets = if is_some (numbered number tickets) then None else Some NotHeld
+
+-- the kind of the key at a place that the session has looked up
+abbrev pub kind_known : ℕ → List Known → Option Kind
+kind_known place known = option_map (λ (k : Known). kind_of k.key.namespace) (find (λ (k : Known). k.place == place) known)
+
+-- why a wish for a mode isn't even tried, at a place whose key is of this kind, or isn't known; the next ticket has this number
+abbrev pub wish_fault : Option Kind → Mode → ℕ → Option SpaceError
+wish_fault None mode next = Some NoPlace
+wish_fault (Some kind) mode next = if not (is_mode_of kind mode) then Some BadMode else (if nat_le most_numbers next then Some CounterFull else None)

@@ -21,7 +21,7 @@ use Rattle.mdl_steps.specs.Cells.{held_at}
 use Rattle.mdl_steps.specs.Deeds.{MayJoin, all_done}
 use Rattle.mdl_steps.specs.Layout.{latch_word, lock_word}
 use Rattle.mdl_steps.specs.Plays.{Mine, IsFresh, noting, raised}
-use Rattle.mdl_steps.specs.Rule.{Flagged}
+use Rattle.mdl_steps.specs.Rule.{Flagged, Lawful, NotedCounts}
 use Rattle.mdl_steps.specs.Seats.{Holds}
 
 -- ---- steps
@@ -71,23 +71,24 @@ MayLeave place m = (h : Held) × Holds place h h.book m × Flagged h.book h.slow
 
 -- ---- what a step met
 
--- a step that read the lock's word under the latch, whose record shows that the session's wish for a mode can't be granted
+-- a step on the lock's word under the latch, whose record shows that the session's wish for a mode can't be granted
 pub record MeetsBlocked (place who : ℕ) (mode : Mode) (e : Met) : Type 0 where
   pub word : e.word ≡ lock_word place
   pub latch : Held
   pub held : held_at place e.held ≡ Some latch
   pub blocked : can_be_granted (lock_kind latch.book) latch.book.granted latch.book.waiting e.found who mode ≡ false
 
--- a step that gave the latch back, whose record shows that the session's wish for a mode can be granted: it may stand beside all that is
--- granted, and it waits behind no waiting ticket
+-- a step that gave the latch back, whose record shows that the session's wish for a mode could be granted: it may stand beside all that was
+-- granted, and it waited behind no waiting ticket
 pub record MeetsGrantable (place who : ℕ) (mode : Mode) (e : Met) : Type 0 where
   pub word : e.word ≡ latch_word place
+  pub freed : e.found ≡ who
   pub latch : Held
   pub held : held_at place e.held ≡ Some latch
   pub beside : MayJoin who latch.book latch.noted mode
   pub first : goes_first (lock_kind latch.book) latch.book.waiting who mode ≡ true
 
--- a step that read the lock's word under the latch, whose record shows that the book has no room for one ticket more
+-- a step on the lock's word under the latch, whose record shows that the book has no room for one ticket more
 pub record MeetsFull (place : ℕ) (e : Met) : Type 0 where
   pub word : e.word ≡ lock_word place
   pub latch : Held
@@ -101,6 +102,21 @@ WasNotGrantable place who mode e =
     (latch : Held) × (e.word ≡ lock_word place) × (held_at place e.held ≡ Some latch)
     × ((fast : List Ticket) → CountsFastTickets (lock_kind latch.book) e.found fast → AreOfOthers who fast
     → is_grantable (lock_kind latch.book) (fast ++ latch.book.granted) latch.book.waiting who mode ≡ false)
+
+-- at the step the session's wish was grantable, as its latch was given back: whichever fast tickets there were by the rule of the table, no
+-- granted ticket of another session clashed with it, and it waited behind no waiting one
+abbrev pub WasGrantable : ℕ → ℕ → Mode → Met → Type 0
+WasGrantable place who mode e =
+    (latch : Held) × (e.word ≡ latch_word place) × (e.found ≡ who) × (held_at place e.held ≡ Some latch)
+    × ((fast : List Ticket) → Lawful (lock_kind latch.book) fast latch.book.granted → NotedCounts (lock_kind latch.book) fast latch.obtrusive latch.noted
+    → is_grantable (lock_kind latch.book) (fast ++ latch.book.granted) latch.book.waiting who mode ≡ true)
+
+-- the laws of both
+abbrev pub BlockedWishesWerentGrantable : Type 0
+BlockedWishesWerentGrantable = (place who : ℕ) (mode : Mode) (e : Met) → MeetsBlocked place who mode e → WasNotGrantable place who mode e
+
+abbrev pub GrantedWishesWereGrantable : Type 0
+GrantedWishesWereGrantable = (place who : ℕ) (mode : Mode) (e : Met) → MeetsGrantable place who mode e → WasGrantable place who mode e
 
 -- ---- what a session knows
 

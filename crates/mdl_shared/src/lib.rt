@@ -16,6 +16,8 @@ mod releasing;
 mod session;
 mod settling;
 mod tickets;
+mod tries;
+mod wishes;
 
 pub use manager::Manager;
 pub use new_error::NewError;

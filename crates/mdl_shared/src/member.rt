@@ -21,12 +21,15 @@ pub(crate) struct Member {
     pub(crate) tickets: Vec<Own>,
     /// The keys that it looked up.
     pub(crate) known: Vec<Known>,
+    /// The number of its next ticket.
+    pub(crate) next: u64,
     ghost seated: { worker.seat.table_id ≡ (arc_value table).shared.table_id },
     ghost sized: { IsSized (arc_value table).shared.table_id },
     ghost idle: { IsIdle worker.seat.me },
     ghost slow: { HasSlowAlone worker.seat.me },
     ghost listed: { tickets.items ≡ worker.seat.me.0.slow },
     ghost known_is: { known.items ≡ worker.seat.me.0.known },
+    ghost next_is: { next ≡ worker.seat.me.0.next },
     ghost placed: { are_placed known.items tickets.items ≡ true },
     ghost within: { are_within (arc_value table).shared.table_id.slots known.items ≡ true },
 }
@@ -38,13 +41,14 @@ impl Member {
         requires sized { IsSized (arc_value table).shared.table_id }
         requires fresh { (word : ℕ) × (worker.seat.me ≡ (logged word worker.number [] (blank worker.number no_numbers), [])) }
         ensures made { (result.table ≡ table) × (result.worker ≡ worker) }
-        ensures nothing { (result.tickets.items ≡ []) × (result.known.items ≡ []) }
+        ensures nothing { (result.tickets.items ≡ []) × (result.known.items ≡ []) × (result.next ≡ 1) }
     {
         Member {
             table,
             worker,
             tickets: Vec::new(alloc),
             known: Vec::new(alloc),
+            next: 1,
         }
     }
 }

@@ -1,11 +1,10 @@
 -- The ticket is of a place whose key the session knows.
-use Rattle.std.proofs.Common.{◌≡◌, ◌<◌, List, true, sym, ap, ◌∙◌, subst}
-use Rattle.mdl_steps.specs.declared.view.Known.{Known}
+use Rattle.std.proofs.Common.{◌<◌, List, sym, ap, ◌∙◌, subst}
 use Rattle.mdl_steps.specs.declared.view.Own.{Own}
 use Rattle.mdl_steps.specs.Plays.{Mine}
 use Rattle.mdl_shared.specs.Idle.{IsIdle, HasSlowAlone}
 use Rattle.mdl_shared.specs.Leavings.{HasTicket}
-use Rattle.mdl_shared.specs.Members.{are_placed, are_within, is_known_place, without_at}
+use Rattle.mdl_shared.specs.Members.{are_placed, is_known_place, without_at}
 use Rattle.mdl_shared.proofs.Membership.{has_numbered, some_key, known_within, placed_at, still_placed}
 use Rattle.mdl_shared.proofs.member.Member.release.Goals as goal
 
@@ -38,6 +37,7 @@ invariant_of-self g c =
       slow = subst HasSlowAlone (sym now) self.slow;
       listed = c.strike.ensures ∙ ap (without_at c.args.place c.args.id) self.listed ∙ sym (ap (λ (m : Mine). m.0.slow) now);
       known_is = self.known_is ∙ sym (ap (λ (m : Mine). m.0.known) now);
+      next_is = self.next_is ∙ sym (ap (λ (m : Mine). m.0.next) now);
       placed = ap (are_placed self.known.items) c.strike.ensures ∙ still_placed self.known.items self.tickets.items c.args.place c.args.id self.placed;
       within = self.within;
     }

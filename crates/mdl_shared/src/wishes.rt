@@ -1,0 +1,112 @@
+//! What a session wishes for.
+ghost use Rattle.std.specs.Prelude.{◌≡◌, ◌⊎◌, ℕ, ◌+◌, ◌∷◌, [], ◌++◌, ◌<◌, Ok, Some, None, true, OnErr, IfErr};
+ghost use Rattle.std.specs.Option.{option_map};
+ghost use Rattle.mdl_key.specs.Words.{is_mode_of};
+ghost use Rattle.mdl_calls.specs.declared.answers.Attempt.TheVariants.{Granted, WouldWait};
+ghost use Rattle.mdl_calls.specs.declared.space_error.SpaceError.TheVariants as cause;
+ghost use Rattle.mdl_steps.specs.declared.view.Met.{Met};
+ghost use Rattle.mdl_steps.specs.declared.view.Own.{Own};
+ghost use Rattle.mdl_shared.specs.Members.{kind_known, most_numbers, wish_fault};
+ghost use Rattle.mdl_shared.specs.Visits.{IsStepOf, MeetsBlocked, MeetsFull, MeetsGrantable};
+
+use crate::Session;
+use crate::member::Member;
+use crate::tries::{Tried, try_grant};
+use mdl_book::BookError;
+use mdl_calls::{Attempt, Place, SpaceError};
+use mdl_key::{Kind, Mode};
+use mdl_steps::Own;
+use std::sync::Wait;
+
+// The greatest number of a ticket.
+const MOST_NUMBERS: u64 = (1 << 60) - 1;
+
+impl Member {
+    // The kind of the lock at a place, where the session has looked its key up.
+    fn kind_at(&self, place: usize) -> Option<Kind>
+        ensures { result ≡ kind_known place self.now.known.items }
+    {
+        self.known
+            .iter()
+            .find(|known| known.place == place)
+            .map(|known| known.key.kind())
+    }
+
+    // Tries to get a ticket at a place whose key the session knows, in a mode of its kind.
+    fn try_for<R: Wait>(
+        &mut self,
+        rt: &R,
+        place: usize,
+        kind: Kind,
+        mode: Mode,
+    ) -> Result<Attempt, SpaceError>
+        requires known { kind_known place self.old.known.items ≡ Some kind }
+        requires mode { is_mode_of kind mode ≡ true }
+        requires room { self.old.next < most_numbers }
+        ensures same { (self.new.table ≡ self.old.table) × (self.new.worker.number ≡ self.old.worker.number) × (self.new.known.items ≡ self.old.known.items) }
+        ensures granted { (id : ℕ) → result ≡ Ok (Granted id) → (id ≡ self.old.next)
+            × (self.new.tickets.items ≡ self.old.tickets.items ++ record { number = id; place = place; mode = mode; noted = None } ∷ [])
+            × ((e : Met) × IsStepOf self.old.worker.seat.me self.new.worker.seat.me e × MeetsGrantable place self.old.worker.number mode e) }
+        ensures would_wait { result ≡ Ok WouldWait → (self.new.tickets.items ≡ self.old.tickets.items)
+            × ((e : Met) × IsStepOf self.old.worker.seat.me self.new.worker.seat.me e × MeetsBlocked place self.old.worker.number mode e) }
+        ensures unchanged { OnErr result (self.new.tickets.items ≡ self.old.tickets.items) }
+        ensures refused { IfErr result (λ why. (why ≡ cause.OutOfMemory)
+            ⊎ ((why ≡ cause.Full) × ((e : Met) × IsStepOf self.old.worker.seat.me self.new.worker.seat.me e × MeetsFull place e))) }
+    {
+        if self.tickets.reserve(1).is_err() {
+            return Err(SpaceError::OutOfMemory);
+        }
+        let number = self.next;
+        match try_grant(
+            rt,
+            &mut self.worker,
+            &self.table.shared,
+            place,
+            kind,
+            number,
+            mode,
+        ) {
+            Ok(Tried::Granted) => {
+                self.tickets.push_reserved(Own {
+                    number,
+                    place,
+                    mode,
+                    noted: None,
+                });
+                self.next += 1;
+                Ok(Attempt::Granted(number))
+            }
+            Ok(Tried::Blocked) => Ok(Attempt::WouldWait),
+            Err(BookError::Full) => Err(SpaceError::Full),
+            Err(_) => Err(SpaceError::OutOfMemory),
+        }
+    }
+}
+
+impl<R: Wait> Session<R> {
+    /// Asks for a lock, without waiting. Nobody is waited for but those who hold the latch of the place.
+    pub fn try_now(&mut self, place: Place, mode: Mode) -> Result<Attempt, SpaceError>
+        ensures session { (self.new.member.table ≡ self.old.member.table) × (self.new.member.worker.number ≡ self.old.member.worker.number)
+            × (self.new.member.known.items ≡ self.old.member.known.items) }
+        ensures granted { (id : ℕ) → result ≡ Ok (Granted id) → (id ≡ self.old.member.next)
+            × (self.new.member.tickets.items ≡ self.old.member.tickets.items ++ record { number = id; place = place; mode = mode; noted = None } ∷ [])
+            × ((e : Met) × IsStepOf self.old.member.worker.seat.me self.new.member.worker.seat.me e × MeetsGrantable place self.old.member.worker.number mode e) }
+        ensures would_wait { result ≡ Ok WouldWait → (self.new.member.tickets.items ≡ self.old.member.tickets.items)
+            × ((e : Met) × IsStepOf self.old.member.worker.seat.me self.new.member.worker.seat.me e × MeetsBlocked place self.old.member.worker.number mode e) }
+        ensures unchanged { OnErr result (self.new.member.tickets.items ≡ self.old.member.tickets.items) }
+        ensures refused { IfErr result (λ why. (wish_fault (kind_known place self.old.member.known.items) mode self.old.member.next ≡ Some why)
+            ⊎ ((why ≡ cause.OutOfMemory) ⊎ ((why ≡ cause.Full) × ((e : Met) × IsStepOf self.old.member.worker.seat.me self.new.member.worker.seat.me e × MeetsFull place e)))) }
+    {
+        let place = place as usize;
+        let Some(kind) = self.member.kind_at(place) else {
+            return Err(SpaceError::NoPlace);
+        };
+        if !kind.has_mode(mode) {
+            return Err(SpaceError::BadMode);
+        }
+        if self.member.next > MOST_NUMBERS {
+            return Err(SpaceError::CounterFull);
+        }
+        self.member.try_for(&self.rt, place, kind, mode)
+    }
+}
