@@ -4,3 +4,5 @@ pub mod Leaving
 pub mod Losing
 pub mod Membership
 pub mod Changing
+pub mod Lookups
+pub mod Naming

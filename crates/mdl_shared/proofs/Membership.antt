@@ -2,17 +2,17 @@
 use Rattle.std.proofs.Common.{◌≡◌, ℕ, zero, suc, ◌<◌, ◌==◌, ◌&&◌, true, List, [], ◌∷◌, ◌++◌, Some, refl, sym, ap, ◌∙◌}
 use Rattle.std.specs.Prelude.{nat_lt}
 use Rattle.std.specs.Option.{option_map}
-use Rattle.std.proofs.lemmas.Bool.{and_parts, and_from, eqb-true, ltb-true}
+use Rattle.std.proofs.lemmas.Bool.{and_parts, and_from, eqb-true, lt-ltb, ltb-true}
 use mathlib.Core.Option.{some, some-injective, some-ne-none}
 use lib.ListN.{get_elem?}
 use Rattle.mdl_key.specs.declared.namespace.Kind.{Kind}
-use Rattle.mdl_key.specs.Words.{kind_of}
+use Rattle.mdl_key.specs.Words.{KeyName, key_eq, kind_of}
 use Rattle.mdl_steps.specs.declared.view.Known.{Known}
 use Rattle.mdl_steps.specs.declared.view.Own.{Own}
 use Rattle.mdl_steps.specs.Deeds.{is_own}
 use Rattle.mdl_steps.proofs.Views.{by_bool}
 use Rattle.mdl_shared.specs.Leavings.{HasTicket}
-use Rattle.mdl_shared.specs.Members.{is_known_place, are_placed, are_within, kind_known, numbered, without_at}
+use Rattle.mdl_shared.specs.Members.{is_known_place, are_placed, are_within, kind_known, numbered, place_known, without_at}
 
 -- the ticket of a number stands in the list
 pub has_numbered : (place number : ℕ) (tickets : List Own) → option_map (λ (t : Own). t.place) (numbered number tickets) ≡ Some place → HasTicket place number tickets
@@ -81,3 +81,35 @@ one_placed known [] t all here = and_from _ _ here refl
 one_placed known (x ∷ xs) t all here =
     let parts = and_parts (is_known_place known x.place) (are_placed known xs) all in
     and_from _ _ parts.0 (one_placed known xs t parts.1 here)
+
+-- ---- with one key more that the session knows
+
+still_known : (known : List Known) (one : Known) (place : ℕ) → is_known_place known place ≡ true → is_known_place (known ++ one ∷ []) place ≡ true
+still_known [] one place e = absurd (cc)
+still_known (k ∷ ks) one place e =
+    by_bool (k.place == place) (λ hit. rw hit refl) (λ miss. rw miss (still_known ks one place (rw miss at e)))
+
+pub known_more : (known : List Known) (one : Known) (tickets : List Own) → are_placed known tickets ≡ true → are_placed (known ++ one ∷ []) tickets ≡ true
+known_more known one [] all = refl
+known_more known one (t ∷ ts) all =
+    let parts = and_parts (is_known_place known t.place) (are_placed known ts) all in
+    and_from _ _ (still_known known one t.place parts.0) (known_more known one ts parts.1)
+
+pub within_more : (slots : ℕ) (known : List Known) (one : Known) → are_within slots known ≡ true → (0 < one.place) × (one.place < slots) → are_within slots (known ++ one ∷ []) ≡ true
+within_more slots [] one all here = and_from _ _ (and_from _ _ (lt-ltb 0 one.place here.0) (lt-ltb one.place slots here.1)) refl
+within_more slots (k ∷ ks) one all here =
+    let parts = and_parts (nat_lt 0 k.place && nat_lt k.place slots) (are_within slots ks) all in
+    and_from _ _ parts.0 (within_more slots ks one parts.1 here)
+
+-- the place of a key that the session has looked up is one of the table's
+pub place_within : (slots place : ℕ) (key : KeyName) (known : List Known) → are_within slots known ≡ true → place_known key known ≡ Some place → (0 < place) × (place < slots)
+place_within slots place key [] all e = absurd (cc)
+place_within slots place key (k ∷ ks) all e =
+    let parts = and_parts (nat_lt 0 k.place && nat_lt k.place slots) (are_within slots ks) all in
+    by_bool (key_eq k.key key)
+    (λ hit.
+        let found = rw hit at e in
+        let is : k.place ≡ place = cc in
+        let here = and_parts (nat_lt 0 k.place) (nat_lt k.place slots) parts.0 in
+        rw (sym is) (ltb-true 0 k.place here.0, ltb-true k.place slots here.1))
+    (λ miss. place_within slots place key ks parts.1 (rw miss at e))

@@ -24,7 +24,7 @@ use Rattle.mdl_steps.specs.Rule.{TellsLists}
 use Rattle.mdl_steps.specs.Seats.{Holds, MayPut, written}
 use Rattle.mdl_steps.proofs.Hands.{holds_written}
 use Rattle.mdl_steps.proofs.Views.{by_bool}
-use Rattle.mdl_shared.specs.Visits.{Enters, GoesOn, IsStepOf, KnowsKind, MayLeave, MeetsBlocked, MeetsFull, MeetsGrantable}
+use Rattle.mdl_shared.specs.Visits.{Enters, GoesOn, IsStepOf, KnowsKind, MayLeave, MeetsFull, MeetsGrantable}
 
 -- ---- flags
 
@@ -154,16 +154,7 @@ module _ (place word : ℕ) (asks : Bool) (m m′ : Mine) (entered : Enters plac
     goes.1 ∙ ap (λ (log : List Met). log ++ goes.0) entered.read.1 ∙ append_assoc (m.0.log ++ entered.read.0) (read ∷ []) goes.0,
   )
 
-  pub blocked : (session : ℕ) (mode : Mode) (m″ : Mine) → GoesOn m′ m″
-      → can_be_granted (lock_kind entered.found.book) entered.found.book.granted entered.found.book.waiting word session mode ≡ false
-      → (e : Met) × IsStepOf m m″ e × MeetsBlocked place session mode e
-  blocked session mode m″ goes cannot = (
-    read,
-    read_there m″ goes,
-    record { word = refl; latch = noting word (raised true asks entered.found); held = entered.holds.recorded; blocked = cannot },
-  )
-
-  pub full : (m″ : Mine) → GoesOn m′ m″ → 65535 ≤ ticket_count entered.found.book → (e : Met) × IsStepOf m m″ e × MeetsFull place e
+  full : (m″ : Mine) → GoesOn m′ m″ → 65535 ≤ ticket_count entered.found.book → (e : Met) × IsStepOf m m″ e × MeetsFull place e
   full m″ goes many = (
     read,
     read_there m″ goes,

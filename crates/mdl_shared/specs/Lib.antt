@@ -1,6 +1,7 @@
 pub mod Idle
 pub mod Leavings
 pub mod Limits
+pub mod Lookups
 pub mod Members
 pub mod Passes
 pub mod Visits

@@ -1,10 +1,10 @@
 -- What a session keeps of its own between two calls.
-use Rattle.std.specs.Prelude.{ℕ, ◌^◌, Bool, ◌==◌, ◌&&◌, not, nat_le, nat_lt, List, Option, Some, None, find, filter, is_some, if◌then◌else◌}
+use Rattle.std.specs.Prelude.{◌≡◌, ◌++◌, ◌∷◌, [], ℕ, ◌^◌, Bool, ◌==◌, ◌&&◌, not, nat_le, nat_lt, List, Option, Some, None, find, filter, is_some, if◌then◌else◌}
 use Rattle.std.specs.List.{list_all, list_any}
 use Rattle.std.specs.Option.{option_map}
 use Rattle.mdl_key.specs.declared.mode.Mode.{Mode}
 use Rattle.mdl_key.specs.declared.namespace.Kind.{Kind}
-use Rattle.mdl_key.specs.Words.{is_mode_of, kind_of}
+use Rattle.mdl_key.specs.Words.{KeyName, is_mode_of, key_eq, kind_of}
 use Rattle.mdl_calls.specs.declared.space_error.SpaceError.{SpaceError}
 use Rattle.mdl_calls.specs.declared.space_error.SpaceError.TheVariants.{NoPlace, NotHeld, BadMode, CounterFull}
 use Rattle.mdl_steps.specs.declared.view.Known.{Known}
@@ -47,3 +47,12 @@ kind_known place known = option_map (λ (k : Known). kind_of k.key.namespace) (f
 abbrev pub wish_fault : Option Kind → Mode → ℕ → Option SpaceError
 wish_fault None mode next = Some NoPlace
 wish_fault (Some kind) mode next = if not (is_mode_of kind mode) then Some BadMode else (if nat_le most_numbers next then Some CounterFull else None)
+
+-- the place of a key that the session has looked up
+abbrev pub place_known : KeyName → List Known → Option ℕ
+place_known key known = option_map (λ (k : Known). k.place) (find (λ (k : Known). key_eq k.key key) known)
+
+-- a key is at this place by what the session knew of it, or was looked up and is the last that it knows
+abbrev pub Learns : KeyName → ℕ → Option ℕ → List Known → List Known → Type 0
+Learns key place (Some known) before after = (place ≡ known) × (after ≡ before)
+Learns key place None before after = after ≡ before ++ record { key = key; place = place } ∷ []

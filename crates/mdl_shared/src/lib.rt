@@ -7,12 +7,15 @@
 #![tactic(auto)]
 
 mod definitions;
+mod directories;
 mod latches;
 mod manager;
 mod member;
 mod new_error;
 mod pass;
+mod places;
 mod releasing;
+mod resolve_error;
 mod session;
 mod settling;
 mod tickets;

@@ -68,6 +68,7 @@ impl Manager {
         requires sized { IsSized (arc_value table.now).shared.table_id }
         requires slots { slots ≡ (arc_value table.now).shared.table_id.slots }
         requires words { enrol_word slots < (arc_value table.now).shared.table_id.words }
+        requires narrow { (0 < slots) × (slots ≤ 65536) }
         requires first { maker.given ≡ 0 }
         ensures { IfOk result (λ passes. (length passes.items ≡ maker.most) × ArePasses (arc_value table.now).shared.table_id passes.items) }
     {

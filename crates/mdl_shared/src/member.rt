@@ -1,5 +1,5 @@
 //! What a session has of the space, whether it is open or not.
-ghost use Rattle.std.specs.Prelude.{◌≡◌, ℕ, true, [], length};
+ghost use Rattle.std.specs.Prelude.{◌≡◌, ◌<◌, ◌≤◌, ℕ, true, [], length};
 ghost use Rattle.std.specs.Arc.{arc_value};
 ghost use Rattle.mdl_steps.specs.Cells.{blank, no_numbers};
 ghost use Rattle.mdl_steps.specs.Plays.{logged};
@@ -25,6 +25,7 @@ pub(crate) struct Member {
     pub(crate) next: u64,
     ghost seated: { worker.seat.table_id ≡ (arc_value table).shared.table_id },
     ghost sized: { IsSized (arc_value table).shared.table_id },
+    ghost narrow: { (0 < (arc_value table).shared.table_id.slots) × ((arc_value table).shared.table_id.slots ≤ 65536) },
     ghost idle: { IsIdle worker.seat.me },
     ghost slow: { HasSlowAlone worker.seat.me },
     ghost listed: { tickets.items ≡ worker.seat.me.0.slow },
@@ -39,6 +40,7 @@ impl Member {
     pub(crate) fn new(alloc: Global, table: Arc<OwnedTable, Global>, worker: Worker) -> Member
         requires seated { worker.seat.table_id ≡ (arc_value table).shared.table_id }
         requires sized { IsSized (arc_value table).shared.table_id }
+        requires narrow { (0 < (arc_value table).shared.table_id.slots) × ((arc_value table).shared.table_id.slots ≤ 65536) }
         requires fresh { (word : ℕ) × (worker.seat.me ≡ (logged word worker.number [] (blank worker.number no_numbers), [])) }
         ensures made { (result.table ≡ table) × (result.worker ≡ worker) }
         ensures nothing { (result.tickets.items ≡ []) × (result.known.items ≡ []) × (result.next ≡ 1) }

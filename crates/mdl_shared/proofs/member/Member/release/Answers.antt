@@ -33,6 +33,7 @@ invariant_of-self g c =
     let now = c.release.ensures.released.now in record {
       seated = c.release.ensures.seat.0 ∙ self.seated;
       sized = self.sized;
+      narrow = self.narrow;
       idle = subst IsIdle (sym now) self.idle;
       slow = subst HasSlowAlone (sym now) self.slow;
       listed = c.strike.ensures ∙ ap (without_at c.args.place c.args.id) self.listed ∙ sym (ap (λ (m : Mine). m.0.slow) now);

@@ -26,6 +26,7 @@ invariant_of-self-in-Ok-Granted g c =
     let pushed = c.push_reserved.ensures.items ∙ ap (λ (ts : List Own). ts ++ t ∷ []) c.reserve.ensures.items in record {
       seated = c.try_grant.ensures.seat.0 ∙ self.seated;
       sized = self.sized;
+      narrow = self.narrow;
       idle = subst IsIdle (sym now) self.idle;
       slow = subst HasSlowAlone (sym now) self.slow;
       listed = pushed ∙ ap (λ (ts : List Own). ts ++ t ∷ []) self.listed ∙ sym (ap (λ (m : Mine). m.0.slow) now);

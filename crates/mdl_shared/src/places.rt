@@ -1,0 +1,74 @@
+//! The places of keys, as a session looks them up.
+ghost use Rattle.std.specs.Prelude.{◌≡◌, ◌⊎◌, ℕ, ◌<◌, ◌++◌, ◌∷◌, [], Ok, None, IfOk, IfErr, OnErr};
+ghost use Rattle.std.specs.Arc.{arc_value};
+ghost use Rattle.mdl_calls.specs.declared.space_error.SpaceError.TheVariants as cause;
+ghost use Rattle.mdl_steps.specs.declared.view.Keys.{Keys};
+ghost use Rattle.mdl_shared.specs.Lookups.{TookDirectory, IsAnswer};
+ghost use Rattle.mdl_shared.specs.Members.{Learns, place_known};
+
+use crate::Session;
+use crate::directories::resolve;
+use crate::member::Member;
+use crate::resolve_error::ResolveError;
+use mdl_calls::{Place, SpaceError};
+use mdl_key::Key;
+use mdl_steps::Known;
+use std::sync::Wait;
+
+impl Member {
+    // The place of a key that the session has looked up.
+    fn known_place(&self, key: &Key) -> Option<usize>
+        ensures { result ≡ place_known key.now self.now.known.items }
+    {
+        self.known
+            .iter()
+            .find(|known| known.key == *key)
+            .map(|known| known.place)
+    }
+
+    // Looks a key up in the directory. All that takes memory of its own is done before.
+    fn look_up<R: Wait>(&mut self, rt: &R, key: &Key) -> Result<usize, ResolveError>
+        ensures same { (self.new.table ≡ self.old.table) × (self.new.worker.number ≡ self.old.worker.number) × (self.new.tickets.items ≡ self.old.tickets.items) }
+        ensures known { IfOk result (λ place. (0 < place) × (place < (arc_value self.old.table).shared.table_id.slots)
+            × (self.new.known.items ≡ self.old.known.items ++ record { key = key.now; place = place } ∷ [])) }
+        ensures unchanged { OnErr result (self.new.known.items ≡ self.old.known.items) }
+        ensures answer { IfOk result (λ place. (k : Keys) × TookDirectory (arc_value self.old.table).shared.table_id.slots k self.old.worker.seat.me self.new.worker.seat.me
+            × IsAnswer (arc_value self.old.table).shared.table_id.slots key.now k (Ok place)) }
+    {
+        let alloc = *self.known.allocator();
+        if self.known.reserve(1).is_err() {
+            return Err(ResolveError::OutOfMemory);
+        }
+        let Ok(key_kept) = key.clone() else {
+            return Err(ResolveError::OutOfMemory);
+        };
+        let slots = self.table.slot_count();
+        let place = resolve(rt, &mut self.worker, &self.table.shared, alloc, slots, key)?;
+        self.known.push_reserved(Known {
+            key: key_kept,
+            place,
+        });
+        Ok(place)
+    }
+}
+
+impl<R: Wait> Session<R> {
+    /// The place of a key, which stays its place. A new key takes the next place that is free. The directory is looked at once for a key.
+    pub fn resolve(&mut self, key: &Key) -> Result<Place, SpaceError>
+        ensures session { (self.new.member.table ≡ self.old.member.table) × (self.new.member.worker.number ≡ self.old.member.worker.number)
+            × (self.new.member.tickets.items ≡ self.old.member.tickets.items) }
+        ensures known { IfOk result (λ place. (0 < place) × (place < (arc_value self.old.member.table).shared.table_id.slots)
+            × Learns key.now place (place_known key.now self.old.member.known.items) self.old.member.known.items self.new.member.known.items) }
+        ensures unchanged { OnErr result (self.new.member.known.items ≡ self.old.member.known.items) }
+        ensures refused { IfErr result (λ why. (place_known key.now self.old.member.known.items ≡ None) × ((why ≡ cause.NoPlace) ⊎ (why ≡ cause.OutOfMemory))) }
+    {
+        if let Some(place) = self.member.known_place(key) {
+            return Ok(place as u16);
+        }
+        match self.member.look_up(&self.rt, key) {
+            Ok(place) => Ok(place as u16),
+            Err(ResolveError::NoPlace) => Err(SpaceError::NoPlace),
+            Err(ResolveError::OutOfMemory) => Err(SpaceError::OutOfMemory),
+        }
+    }
+}
