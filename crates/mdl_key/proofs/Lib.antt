@@ -1,3 +1,2 @@
 pub mod MatrixLemmas
-pub mod KeyLemmas
 pub mod ModeLemmas

@@ -16,6 +16,7 @@ pub mod Reading
 pub mod Hands
 pub mod Tells
 pub mod Desks
+pub mod KeyLemmas
 pub mod Looking
 pub mod NewKeys
 pub mod Opens

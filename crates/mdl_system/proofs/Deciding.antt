@@ -1,14 +1,13 @@
 -- Keys, modes and tickets can be told apart.
 use Rattle.std.proofs.Common.{◌≡◌, ◌≢◌, ◌⊎◌, ℕ, Bool, true, false, inl, inr, List, [], ◌∷◌, get_or, refl, sym, ap, ◌∙◌}
 use Rattle.std.specs.Prelude.{Decides}
-use Rattle.std.proofs.lemmas.Bool.Decides.{eqb_tells}
+use Rattle.std.proofs.lemmas.Bool.Decides.{eqb_tells, Decides-eqb, Decides-and, Decides-like}
 use Rattle.std.proofs.lemmas.Slice.Eq.{bytes_eq-Decides}
 use Rattle.mdl_key.specs.declared.namespace.Namespace.{Namespace}
+use Rattle.mdl_key.specs.declared.namespace.Namespace.TheVariants.{Global, Schema, Table, Commit}
 use Rattle.mdl_key.specs.declared.mode.Mode.{Mode}
 use Rattle.mdl_key.specs.declared.mode.Mode.TheVariants.{IX}
-use Rattle.mdl_key.specs.Words.{KeyName, namespace_rank, all_modes, mode_rank}
-use Rattle.mdl_key.proofs.KeyLemmas.{namespace_at, namespace_back}
-pub use Rattle.mdl_key.proofs.KeyLemmas.{key-Decides}
+use Rattle.mdl_key.specs.Words.{KeyName, namespace_rank, key_eq, all_modes, mode_rank}
 use Rattle.mdl_key.proofs.ModeLemmas.{at_rank}
 use Rattle.mdl_system.specs.Systems.{Holding, GrantedWait}
 
@@ -32,6 +31,16 @@ like_told there back (inl p) = inl (there p)
 like_told there back (inr p) = inr (λ q. p (back q))
 
 -- ---- namespaces and modes, by their ranks
+
+namespace_at : ℕ → Namespace
+namespace_at n = get_or (Global ∷ Schema ∷ Table ∷ Commit ∷ []) n Global
+
+namespace_back : (n : Namespace) → namespace_at (namespace_rank n) ≡ n
+unfolding namespace_at
+namespace_back Global = refl
+namespace_back Schema = refl
+namespace_back Table = refl
+namespace_back Commit = refl
 
 namespace_told : (m n : Namespace) → (m ≡ n) ⊎ (m ≢ n)
 namespace_told m n =
@@ -62,3 +71,13 @@ wait_told v w =
     like_told (λ e i. record { session = e.0.0 i; wait = e.0.1 i; ticket = e.1 i })
     (λ e. ((ap (λ (x : GrantedWait). x.session) e, ap (λ (x : GrantedWait). x.wait) e), ap (λ (x : GrantedWait). x.ticket) e))
     (both_told (both_told (nat_told v.session w.session) (nat_told v.wait w.wait)) (nat_told v.ticket w.ticket))
+
+-- keys are equal exactly where the test says so
+pub key-Decides : (j k : KeyName) → Decides (key_eq j k) (j ≡ k)
+key-Decides j k =
+    Decides-like _ (λ e i. record { namespace = e.0 i; schema = e.1.0 i; table = e.1.1 i })
+    (λ e. (ap (λ (x : KeyName). x.namespace) e, (ap (λ (x : KeyName). x.schema) e, ap (λ (x : KeyName). x.table) e)))
+    (Decides-and _ _
+    (Decides-like _ (λ e. sym (namespace_back j.namespace) ∙ ap namespace_at e ∙ namespace_back k.namespace) (λ e. ap namespace_rank e)
+    (Decides-eqb (namespace_rank j.namespace) (namespace_rank k.namespace)))
+    (Decides-and _ _ (bytes_eq-Decides j.schema k.schema) (bytes_eq-Decides j.table k.table)))

@@ -1,4 +1,4 @@
--- Keys and their namespaces can be told apart.
+-- Keys can be told apart.
 use Rattle.std.proofs.Common.{◌≡◌, ℕ, List, [], ◌∷◌, get_or, refl, sym, ap, ◌∙◌}
 use Rattle.std.specs.Prelude.{Decides}
 use Rattle.std.proofs.lemmas.Bool.Decides.{Decides-eqb, Decides-and, Decides-like}
@@ -8,10 +8,10 @@ use Rattle.mdl_key.specs.declared.namespace.Namespace.TheVariants.{Global, Schem
 use Rattle.mdl_key.specs.Words.{KeyName, namespace_rank, key_eq}
 
 -- a namespace is known by its rank
-pub namespace_at : ℕ → Namespace
+namespace_at : ℕ → Namespace
 namespace_at n = get_or (Global ∷ Schema ∷ Table ∷ Commit ∷ []) n Global
 
-pub namespace_back : (n : Namespace) → namespace_at (namespace_rank n) ≡ n
+namespace_back : (n : Namespace) → namespace_at (namespace_rank n) ≡ n
 unfolding namespace_at
 namespace_back Global = refl
 namespace_back Schema = refl
