@@ -9,6 +9,7 @@
 mod definitions;
 mod directories;
 mod latches;
+mod laws;
 mod manager;
 mod member;
 mod new_error;
@@ -22,6 +23,7 @@ mod tickets;
 mod tries;
 mod wishes;
 
+pub use laws::{blocked_wishes_werent_grantable, granted_wishes_were_grantable};
 pub use manager::Manager;
 pub use new_error::NewError;
 pub use pass::Pass;
