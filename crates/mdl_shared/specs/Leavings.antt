@@ -11,7 +11,7 @@ use Rattle.mdl_steps.specs.declared.view.Own.{Own}
 use Rattle.mdl_steps.specs.declared.view.View.{View}
 use Rattle.mdl_steps.specs.Cells.{held_at}
 use Rattle.mdl_steps.specs.Deeds.{all_done}
-use Rattle.mdl_steps.specs.Layout.{lock_word}
+use Rattle.mdl_steps.specs.Layout.{latch_word, lock_word}
 use Rattle.mdl_steps.specs.Plays.{Mine, noting_version}
 use Rattle.mdl_steps.specs.Seats.{elsewhere, rest}
 use Rattle.mdl_shared.specs.Visits.{and_made}
@@ -42,3 +42,15 @@ pub record MeetsOwn (place session number : ℕ) (e : Met) : Type 0 where
 -- one of the tickets is of this number, at this place
 abbrev pub HasTicket : ℕ → ℕ → List Own → Type 0
 HasTicket place number tickets = (k : ℕ) × (t : Own) × (get_elem? tickets k ≡ some t) × (t.place ≡ place) × (t.number ≡ number)
+
+-- the session came to a place, read or changed what stands there and went: it knows that, and nothing else changed but its list of steps
+abbrev pub Learns : ℕ → Standing → Mine → Mine → Type 0
+Learns place standing m m′ = (made : List Met) × (m′ ≡ and_made made (knowing place standing m.0, m.1))
+
+-- a step that gave the latch of a place back, whose record tells that this stood there
+pub record MeetsStanding (place session : ℕ) (standing : Standing) (e : Met) : Type 0 where
+  pub word : e.word ≡ latch_word place
+  pub freed : e.found ≡ session
+  pub latch : Held
+  pub held : held_at place e.held ≡ Some latch
+  pub stands : latch.book.standing ≡ standing

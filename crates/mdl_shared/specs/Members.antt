@@ -53,6 +53,6 @@ abbrev pub place_known : KeyName → List Known → Option ℕ
 place_known key known = option_map (λ (k : Known). k.place) (find (λ (k : Known). key_eq k.key key) known)
 
 -- a key is at this place by what the session knew of it, or was looked up and is the last that it knows
-abbrev pub Learns : KeyName → ℕ → Option ℕ → List Known → List Known → Type 0
-Learns key place (Some known) before after = (place ≡ known) × (after ≡ before)
-Learns key place None before after = after ≡ before ++ record { key = key; place = place } ∷ []
+abbrev pub LearnsPlace : KeyName → ℕ → Option ℕ → List Known → List Known → Type 0
+LearnsPlace key place (Some known) before after = (place ≡ known) × (after ≡ before)
+LearnsPlace key place None before after = after ≡ before ++ record { key = key; place = place } ∷ []

@@ -4,21 +4,40 @@ ghost use Rattle.mdl_key.specs.Refusals.{Refuses, RefusesJust};
 ghost use Rattle.mdl_defs.specs.Standings.{standing_fault, standing_after};
 ghost use Rattle.mdl_defs.specs.declared.standing.Standing.{Standing};
 ghost use Rattle.mdl_steps.specs.declared.view.Held.{Held};
+ghost use Rattle.mdl_steps.specs.declared.view.Met.{Met};
 ghost use Rattle.mdl_steps.specs.Plays.{read_and_put};
 ghost use Rattle.mdl_steps.specs.Rule.{TellsLists};
-ghost use Rattle.mdl_steps.specs.Seats.{IsSized, IsPlace, Holds, HasExclusive, HasRedefined};
-ghost use Rattle.mdl_shared.specs.Leavings.{Leaves, LeavesWith, knowing};
+ghost use Rattle.mdl_steps.specs.Seats.{IsSized, IsPlace, IsRising, Holds, HasExclusive, HasRedefined};
+ghost use Rattle.mdl_shared.specs.Leavings.{Learns, Leaves, LeavesWith, MeetsStanding, knowing};
+ghost use Rattle.mdl_shared.specs.Visits.{IsStepOf, Visits};
 
+use crate::latches::await_latch;
 use mdl_defs::{Change, ChangeError, Standing};
 use mdl_steps::{Latched, LockTable, Worker};
 use std::alloc::AllocError;
+use std::sync::Wait;
 
-/// Reads what stands at the latched place, and gives the latch back. The session notes the version under each ticket that it has there.
-pub(crate) fn read(
+/// Reads what stands at a place. The session notes the version under each ticket that it has there.
+pub(crate) fn read_at<R: Wait>(
+    rt: &R,
     worker: &mut Worker,
     top: &LockTable,
-    latch: Latched,
+    place: usize,
 ) -> Result<Standing, AllocError>
+    requires table { (worker.old.seat.table_id ≡ top.now.table_id) × IsSized top.now.table_id }
+    requires place { IsPlace top.now.table_id place }
+    requires rising { IsRising place worker.old.seat.me }
+    ensures seat { (worker.new.seat.table_id ≡ worker.old.seat.table_id) × (worker.new.number ≡ worker.old.number) }
+    ensures learnt { IfOk result (λ standing. Learns place standing worker.old.seat.me worker.new.seat.me
+        × ((e : Met) × IsStepOf worker.old.seat.me worker.new.seat.me e × MeetsStanding place worker.old.number standing e)) }
+    ensures unchanged { OnErr result (Visits place [] worker.old.seat.me worker.new.seat.me) }
+{
+    let latch = await_latch(rt, worker, top, place);
+    read(worker, top, latch)
+}
+
+// The same at the latched place, and the latch is given back.
+fn read(worker: &mut Worker, top: &LockTable, latch: Latched) -> Result<Standing, AllocError>
     requires table { (worker.old.seat.table_id ≡ top.now.table_id) × IsSized top.now.table_id }
     requires place { IsPlace top.now.table_id latch.place }
     requires held { (h : Held) × Holds latch.place h h.book worker.old.seat.me × TellsLists h.book h.slow h.obtrusive }

@@ -4,7 +4,7 @@ ghost use Rattle.std.specs.Arc.{arc_value};
 ghost use Rattle.mdl_calls.specs.declared.space_error.SpaceError.TheVariants as cause;
 ghost use Rattle.mdl_steps.specs.declared.view.Keys.{Keys};
 ghost use Rattle.mdl_shared.specs.Lookups.{TookDirectory, IsAnswer};
-ghost use Rattle.mdl_shared.specs.Members.{Learns, place_known};
+ghost use Rattle.mdl_shared.specs.Members.{LearnsPlace, place_known};
 
 use crate::Session;
 use crate::directories::resolve;
@@ -58,7 +58,7 @@ impl<R: Wait> Session<R> {
         ensures session { (self.new.member.table ≡ self.old.member.table) × (self.new.member.worker.number ≡ self.old.member.worker.number)
             × (self.new.member.tickets.items ≡ self.old.member.tickets.items) }
         ensures known { IfOk result (λ place. (0 < place) × (place < (arc_value self.old.member.table).shared.table_id.slots)
-            × Learns key.now place (place_known key.now self.old.member.known.items) self.old.member.known.items self.new.member.known.items) }
+            × LearnsPlace key.now place (place_known key.now self.old.member.known.items) self.old.member.known.items self.new.member.known.items) }
         ensures unchanged { OnErr result (self.new.member.known.items ≡ self.old.member.known.items) }
         ensures refused { IfErr result (λ why. (place_known key.now self.old.member.known.items ≡ None) × ((why ≡ cause.NoPlace) ⊎ (why ≡ cause.OutOfMemory))) }
     {

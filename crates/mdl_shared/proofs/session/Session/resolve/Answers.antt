@@ -1,7 +1,7 @@
 -- A place that the session knows is one of the table's, of which there are fewer than 16 bits can tell.
 use Rattle.std.proofs.Common.{◌≡◌, ◌<◌, ◌≤◌, refl, sym, ap, ◌∙◌, subst, arith}
 use Rattle.std.specs.Prelude.{Option, Some}
-use Rattle.mdl_shared.specs.Members.{Learns}
+use Rattle.mdl_shared.specs.Members.{LearnsPlace}
 use Rattle.mdl_shared.proofs.Membership.{place_within}
 use Rattle.mdl_shared.proofs.session.Session.resolve.Goals as goal
 
@@ -18,4 +18,4 @@ returns-in-Some-clause-known g c =
     let member = c.args.self.now.member in
     let found = sym c.known_place.ensures ∙ c.in-Some.is in
     let within = place_within _ c.in-Some.place c.args.key.now member.known.items member.within found in
-    (within.0, within.1, subst (λ (known : Option _). Learns c.args.key.now c.in-Some.place known member.known.items member.known.items) (sym found) (refl, refl))
+    (within.0, within.1, subst (λ (known : Option _). LearnsPlace c.args.key.now c.in-Some.place known member.known.items member.known.items) (sym found) (refl, refl))
