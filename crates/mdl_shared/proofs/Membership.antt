@@ -1,5 +1,5 @@
 -- A session's own lists: its tickets are of places that it knows, and these are places of the table.
-use Rattle.std.proofs.Common.{◌≡◌, ℕ, zero, suc, ◌<◌, ◌==◌, ◌&&◌, true, List, [], ◌∷◌, ◌++◌, Some, refl, sym, ap, ◌∙◌}
+use Rattle.std.proofs.Common.{◌≡◌, ℕ, zero, suc, ◌<◌, ◌==◌, ◌&&◌, true, List, [], ◌∷◌, ◌++◌, Some, None, length, get_or, refl, sym, ap, ◌∙◌, arith}
 use Rattle.std.specs.Prelude.{nat_lt}
 use Rattle.std.specs.Option.{option_map}
 use Rattle.std.proofs.lemmas.Bool.{and_parts, and_from, eqb-true, lt-ltb, ltb-true}
@@ -9,7 +9,9 @@ use Rattle.mdl_key.specs.declared.namespace.Kind.{Kind}
 use Rattle.mdl_key.specs.Words.{KeyName, key_eq, kind_of}
 use Rattle.mdl_steps.specs.declared.view.Known.{Known}
 use Rattle.mdl_steps.specs.declared.view.Own.{Own}
+use Rattle.mdl_key.specs.declared.mode.Mode.TheVariants.{IX}
 use Rattle.mdl_steps.specs.Deeds.{is_own}
+use Rattle.mdl_steps.specs.Plays.{noting_version}
 use Rattle.mdl_steps.proofs.Views.{by_bool}
 use Rattle.mdl_shared.specs.Leavings.{HasTicket}
 use Rattle.mdl_shared.specs.Members.{is_known_place, are_placed, are_within, kind_known, numbered, place_known, without_at}
@@ -113,3 +115,27 @@ place_within slots place key (k ∷ ks) all e =
     let here = and_parts (nat_lt 0 k.place) (nat_lt k.place slots) parts.0 in
     rw (sym is) (ltb-true 0 k.place here.0, ltb-true k.place slots here.1))
     (λ miss. place_within slots place key ks parts.1 (rw miss at e))
+
+-- ---- with a version noted under some of its tickets
+
+abbrev pub no_ticket : Own
+no_ticket = record { number = 0; place = 0; mode = IX; noted = None }
+
+-- an element is the one that is there
+pub item_there : {X : Type 0} (xs : List X) (i : ℕ) (d : X) → i < length xs → get_or xs i d ≡ get_or xs i (get_or xs i d)
+item_there [] i d inside = absurd (omega arith)
+item_there (x ∷ xs) zero d inside = refl
+item_there (x ∷ xs) (suc i) d inside = item_there xs i d (omega (arith, inside))
+
+-- each stays at its place
+pub noted_placed : (known : List Known) (tickets : List Own) (place version : ℕ) → are_placed known tickets ≡ true → are_placed known (noting_version place version tickets) ≡ true
+noted_placed known [] place version all = refl
+noted_placed known (t ∷ ts) place version all =
+    let parts = and_parts (is_known_place known t.place) (are_placed known ts) all in
+    by_bool (t.place == place)
+    (λ here. rw here (and_from _ _ parts.0 (noted_placed known ts place version parts.1)))
+    (λ elsewhere. rw elsewhere (and_from _ _ parts.0 (noted_placed known ts place version parts.1)))
+
+pub none_noted : (place version : ℕ) (tickets : List Own) → length tickets ≡ 0 → length (noting_version place version tickets) ≡ 0
+none_noted place version [] none = refl
+none_noted place version (t ∷ ts) none = absurd (omega arith)

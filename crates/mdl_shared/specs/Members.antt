@@ -35,9 +35,9 @@ numbered number tickets = find (λ t. t.number == number) tickets
 abbrev pub without_at : ℕ → ℕ → List Own → List Own
 without_at place number tickets = filter (λ t. not (is_own place number t)) tickets
 
--- why a ticket can't be given up
-abbrev pub release_fault : ℕ → List Own → Option SpaceError
-release_fault number tickets = if is_some (numbered number tickets) then None else Some NotHeld
+-- why a call on a ticket of a number is refused
+abbrev pub holding_fault : ℕ → List Own → Option SpaceError
+holding_fault number tickets = if is_some (numbered number tickets) then None else Some NotHeld
 
 -- the kind of the key at a place that the session has looked up
 abbrev pub kind_known : ℕ → List Known → Option Kind
@@ -56,3 +56,7 @@ place_known key known = option_map (λ (k : Known). k.place) (find (λ (k : Know
 abbrev pub LearnsPlace : KeyName → ℕ → Option ℕ → List Known → List Known → Type 0
 LearnsPlace key place (Some known) before after = (place ≡ known) × (after ≡ before)
 LearnsPlace key place None before after = after ≡ before ++ record { key = key; place = place } ∷ []
+
+-- a ticket with a version noted under it, where it is at the place
+abbrev pub noting_at : ℕ → ℕ → Own → Own
+noting_at place version t = if t.place == place then record t { noted = Some version } else t

@@ -15,6 +15,7 @@ mod member;
 mod new_error;
 mod pass;
 mod places;
+mod reads;
 mod releasing;
 mod resolve_error;
 mod session;

@@ -6,7 +6,7 @@ ghost use Rattle.mdl_steps.specs.declared.view.Met.{Met};
 ghost use Rattle.mdl_steps.specs.declared.view.Own.{Own};
 ghost use Rattle.mdl_steps.specs.Deeds.{is_own};
 ghost use Rattle.mdl_shared.specs.Leavings.{MeetsOwn};
-ghost use Rattle.mdl_shared.specs.Members.{numbered, without_at, release_fault};
+ghost use Rattle.mdl_shared.specs.Members.{numbered, without_at, holding_fault};
 ghost use Rattle.mdl_shared.specs.Visits.{IsStepOf};
 
 use crate::Session;
@@ -18,7 +18,7 @@ use std::sync::Wait;
 
 impl Member {
     // The place of the ticket of a number.
-    fn place_held(&self, id: TicketId) -> Option<usize>
+    pub(crate) fn place_held(&self, id: TicketId) -> Option<usize>
         ensures { result ≡ option_map (λ (t : Own). t.place) (numbered id self.now.tickets.items) }
     {
         self.tickets
@@ -62,7 +62,7 @@ impl<R: Wait> Session<R> {
             × (self.new.member.tickets.items ≡ without_at t.place id self.old.member.tickets.items)
             × ((e : Met) × IsStepOf self.old.member.worker.seat.me self.new.member.worker.seat.me e × MeetsOwn t.place self.old.member.worker.number id e)) }
         ensures unchanged { OnErr result (self.new.member.tickets.items ≡ self.old.member.tickets.items) }
-        ensures refused { RefusesJust (release_fault id self.old.member.tickets.items) result }
+        ensures refused { RefusesJust (holding_fault id self.old.member.tickets.items) result }
     {
         let Some(place) = self.member.place_held(id) else {
             return Err(SpaceError::NotHeld);

@@ -16,7 +16,7 @@ returns-clause-learnt g c =
     let went : Mine = c.read.new.worker.seat.me in
     let has = subst (λ (q : ℕ). Holds q h h.book came) (sym latch.ensures.place) taken.2 in
     ok_told c.read.result (λ standing e.
-        let read : went ≡ read_and_put place standing came = e.1 ∙ ap (λ (q : ℕ). read_and_put q standing came) latch.ensures.place in (
-          learns place standing worker.seat.me came went latch.ensures.inside read,
-          meets_standing place standing worker.seat.me came went latch.ensures.inside read h worker.number worker.numbered.0 taken.2.recorded e.0,
-        )) (c.read.ensures.told h has)
+    let read : went ≡ read_and_put place standing came = e.1 ∙ ap (λ (q : ℕ). read_and_put q standing came) latch.ensures.place in (
+      learns place standing worker.seat.me came went latch.ensures.inside read,
+      meets_standing place standing worker.seat.me came went latch.ensures.inside read h worker.number worker.numbered.0 taken.2.recorded e.0,
+    )) (c.read.ensures.told h has)

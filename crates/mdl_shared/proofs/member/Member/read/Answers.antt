@@ -1,0 +1,36 @@
+-- The ticket is of a place whose key the session knows, and what it noted under its tickets its view has.
+use Rattle.std.specs.Prelude.{is_some}
+use Rattle.std.proofs.Common.{◌≡◌, ◌<◌, List, length, sym, ap, ◌∙◌, subst}
+use Rattle.mdl_steps.specs.declared.view.Own.{Own}
+use Rattle.mdl_steps.specs.Plays.{Mine, noting_version}
+use Rattle.mdl_shared.specs.Idle.{IsIdle}
+use Rattle.mdl_shared.specs.Members.{are_placed}
+use Rattle.mdl_shared.proofs.Membership.{has_numbered, known_within, placed_at, noted_placed, none_noted}
+use Rattle.mdl_shared.proofs.member.Member.read.Goals as goal
+
+pub read_at-requires-clause-place : goal.read_at-requires-clause-place
+read_at-requires-clause-place g c =
+    let self = c.args.self.now in
+    let has = has_numbered c.args.place c.args._id self.tickets.items c.requires.held in
+    let known = placed_at self.known.items self.tickets.items c.args.place c.args._id self.placed has in
+    subst (λ table. (0 < c.args.place) × (c.args.place < table.shared.table_id.slots)) (sym c.deref.ensures) (known_within _ c.args.place self.known.items self.within known)
+
+pub invariant_of-self-2 : goal.invariant_of-self-2
+invariant_of-self-2 g c =
+    let self = c.args.self.now in
+    let place = c.args.place in
+    let learnt = c.in_ok-standing.ensures.learnt in
+    let version = c.in_ok-standing.standing.version in
+    let noted = c.note_all.ensures in
+    let now = learnt.0.1 in record {
+      seated = c.read_at.ensures.seat.0 ∙ self.seated;
+      sized = self.sized;
+      narrow = self.narrow;
+      idle = subst IsIdle (sym now) self.idle;
+      slow = (ap (λ (m : Mine). length m.0.fast) now ∙ none_noted place version self.worker.seat.me.0.fast self.slow.0, ap (λ (m : Mine). is_some m.0.asks) now ∙ self.slow.1);
+      listed = noted ∙ ap (noting_version place version) self.listed ∙ sym (ap (λ (m : Mine). m.0.slow) now);
+      known_is = self.known_is ∙ sym (ap (λ (m : Mine). m.0.known) now);
+      next_is = self.next_is ∙ sym (ap (λ (m : Mine). m.0.next) now);
+      placed = ap (are_placed self.known.items) noted ∙ noted_placed self.known.items self.tickets.items place version self.placed;
+      within = self.within;
+    }
