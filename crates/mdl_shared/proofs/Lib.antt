@@ -3,6 +3,6 @@ pub mod Trying
 pub mod Leaving
 pub mod Losing
 pub mod Membership
-pub mod Changing
+pub mod Reading
 pub mod Lookups
 pub mod Naming

@@ -16,15 +16,12 @@ use Rattle.mdl_steps.specs.Plays.{Mine, noting_version}
 use Rattle.mdl_steps.specs.Seats.{elsewhere, rest}
 use Rattle.mdl_shared.specs.Visits.{and_made}
 
--- the seat has this view and not the latch of the place, nor the slot that it took last; and steps were made
-abbrev pub LeavesWith : ℕ → View → Mine → Mine → Type 0
-LeavesWith place v m m′ = (made : List Met) × (m′ ≡ and_made made (record v { latches = elsewhere place m }, rest m.1))
-
--- the latch of a place, which the session held, was given back after these deeds, and nothing else changed
+-- the latch of a place, which the session held, and the slot that it took last were given back after these deeds, steps were made, and nothing
+-- else changed
 abbrev pub Leaves : ℕ → List Deed → Mine → Mine → Type 0
-Leaves place ds m m′ = LeavesWith place (all_done place ds m.0) m m′
+Leaves place ds m m′ = (made : List Met) × (m′ ≡ and_made made (record (all_done place ds m.0) { latches = elsewhere place m }, rest m.1))
 
--- what a session knows once it has read or changed what stands at a place: this, under each ticket that it has there
+-- what a session knows once it has read what stands at a place: this, under each ticket that it has there
 abbrev pub knowing : ℕ → Standing → View → View
 knowing place standing v = record v {
   fast = noting_version place standing.version v.fast;
@@ -43,7 +40,7 @@ pub record MeetsOwn (place session number : ℕ) (e : Met) : Type 0 where
 abbrev pub HasTicket : ℕ → ℕ → List Own → Type 0
 HasTicket place number tickets = (k : ℕ) × (t : Own) × (get_elem? tickets k ≡ some t) × (t.place ≡ place) × (t.number ≡ number)
 
--- the session came to a place, read or changed what stands there and went: it knows that, and nothing else changed but its list of steps
+-- the session came to a place, read what stands there and went: it knows that, and nothing else changed but its list of steps
 abbrev pub Learns : ℕ → Standing → Mine → Mine → Type 0
 Learns place standing m m′ = (made : List Met) × (m′ ≡ and_made made (knowing place standing m.0, m.1))
 

@@ -2,7 +2,7 @@
 use Rattle.std.proofs.Common.{◌≡◌, ℕ, sym, ap, ◌∙◌, subst}
 use Rattle.mdl_steps.specs.Plays.{Mine, read_and_put}
 use Rattle.mdl_steps.specs.Seats.{Holds}
-use Rattle.mdl_shared.proofs.Changing.{learns, meets_standing, ok_told}
+use Rattle.mdl_shared.proofs.Reading.{learns, meets_standing, ok_told}
 use Rattle.mdl_shared.proofs.definitions.read_at.Goals as goal
 
 pub returns-clause-learnt : goal.returns-clause-learnt

@@ -1,7 +1,6 @@
 -- The ticket is of a place whose key the session knows, and what it noted under its tickets its view has.
 use Rattle.std.specs.Prelude.{is_some}
-use Rattle.std.proofs.Common.{◌≡◌, ◌<◌, List, length, sym, ap, ◌∙◌, subst}
-use Rattle.mdl_steps.specs.declared.view.Own.{Own}
+use Rattle.std.proofs.Common.{◌<◌, length, sym, ap, ◌∙◌, subst}
 use Rattle.mdl_steps.specs.Plays.{Mine, noting_version}
 use Rattle.mdl_shared.specs.Idle.{IsIdle}
 use Rattle.mdl_shared.specs.Members.{are_placed}

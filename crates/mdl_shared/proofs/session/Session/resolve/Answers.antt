@@ -1,6 +1,6 @@
 -- A place that the session knows is one of the table's, of which there are fewer than 16 bits can tell.
-use Rattle.std.proofs.Common.{◌≡◌, ◌<◌, ◌≤◌, refl, sym, ap, ◌∙◌, subst, arith}
-use Rattle.std.specs.Prelude.{Option, Some}
+use Rattle.std.proofs.Common.{refl, sym, ◌∙◌, subst, arith}
+use Rattle.std.specs.Prelude.{Option}
 use Rattle.mdl_shared.specs.Members.{LearnsPlace}
 use Rattle.mdl_shared.proofs.Membership.{place_within}
 use Rattle.mdl_shared.proofs.session.Session.resolve.Goals as goal
