@@ -17,7 +17,7 @@ use Rattle.mdl_steps.proofs.Looking.{there}
 use Rattle.mdl_shared.specs.Idle.{IsIdle}
 use Rattle.mdl_shared.specs.Lookups.{TookDirectory, HasLooked, knowing, relisted}
 use Rattle.mdl_shared.specs.Visits.{and_made, MakesSteps}
-use Rattle.mdl_shared.proofs.Naming.{key_last}
+use Rattle.mdl_steps.proofs.NewKeys.{key_last}
 
 -- ---- a session between two calls
 

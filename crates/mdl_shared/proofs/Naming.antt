@@ -17,17 +17,8 @@ use Rattle.mdl_steps.specs.Rule.{key_at, IsUnused}
 use Rattle.mdl_steps.specs.Seats.{HasDirectory, Holds, MayName, place_among, rest, written}
 use Rattle.mdl_steps.proofs.Hands.{elsewhere-taken, holds_taken, holds_written}
 use Rattle.mdl_shared.specs.Lookups.{IsListed, relisted}
+use Rattle.mdl_steps.proofs.NewKeys.{none_after}
 use Rattle.mdl_shared.specs.Visits.{and_made}
-
--- after the last key there is none
-none_after : (keys : List KeyName) → slice_get keys (length keys) ≡ None
-none_after [] = refl
-none_after (x ∷ xs) = none_after xs
-
--- the last of some keys is there
-pub key_last : (keys : List KeyName) (key : KeyName) → slice_get (keys ++ key ∷ []) (length keys) ≡ Some key
-key_last [] key = refl
-key_last (x ∷ xs) key = key_last xs key
 
 -- a book that nobody uses has nothing to tell
 unused_tells : (book : BookView) → IsUnused book → (has_tickets book ≡ false) × (has_obtrusive book ≡ false)

@@ -1,5 +1,5 @@
 -- A visit to a place, put together of its steps.
-use Rattle.std.proofs.Common.{◌≡◌, ℕ, ◌==◌, Bool, true, false, cond, ◌&&◌, List, [], ◌∷◌, ◌++◌, map, refl, sym, ap, ◌∙◌, subst, append_assoc, append-nil}
+use Rattle.std.proofs.Common.{◌≡◌, ℕ, ◌==◌, Bool, true, cond, List, [], ◌∷◌, ◌++◌, map, refl, sym, ap, ◌∙◌, subst, append_assoc, append-nil}
 use Rattle.std.proofs.lemmas.Bool.{eq-eqb}
 use Rattle.mdl_book.specs.declared.book_view.BookView.{BookView}
 use Rattle.mdl_steps.specs.declared.deed.Deed.{Deed}
@@ -8,10 +8,10 @@ use Rattle.mdl_steps.specs.declared.view.Held.{Held}
 use Rattle.mdl_steps.specs.declared.view.Met.{Met}
 use Rattle.mdl_steps.specs.Deeds.{all_done}
 use Rattle.mdl_steps.specs.Layout.{latch_word, lock_word}
-use Rattle.mdl_steps.specs.Plays.{Mine, IsFresh, latched, unlatched, logged, stepped, settled, raised, noting, lowered, changed}
+use Rattle.mdl_steps.specs.Plays.{Mine, IsFresh, latched, unlatched, logged, stepped, raised, noting, changed}
 use Rattle.mdl_steps.specs.Seats.{Holds, IsRising, written}
-use Rattle.mdl_steps.proofs.Hands.{elsewhere-stepped, elsewhere-settled, elsewhere-rising}
-use Rattle.mdl_shared.specs.Visits.{and_made, MakesSteps, GoesOn, IsInside, Visits, Enters}
+use Rattle.mdl_steps.proofs.Hands.{elsewhere-stepped, elsewhere-rising}
+use Rattle.mdl_shared.specs.Visits.{and_made, MakesSteps, IsInside, Visits, Enters}
 
 -- ---- steps
 
@@ -66,19 +66,6 @@ inside_stepped place found f m m′ m″ stays inside made =
       others = elsewhere-stepped place found f (inside_at place inside.latches inside.book m log) stays ∙ inside.others;
     }
 
-pub inside_settled : (place found : ℕ) (book : BookView) (slow obtrusive : Bool) (m m′ m″ : Mine) → IsInside place m m′ → m″ ≡ settled place [] found book slow obtrusive m′ → IsInside place m m″
-inside_settled place found book slow obtrusive m m′ m″ inside made =
-    let latches = map (λ (h : Held). cond (h.place == place) (lowered book slow obtrusive h) h) inside.latches in
-    let e : Met = record { word = lock_word place; found = found; held = inside.latches } in
-    let log = m.0.log ++ inside.made in
-    record {
-      latches = latches;
-      made = inside.made ++ e ∷ [];
-      book = inside.book;
-      now = made ∙ ap (settled place [] found book slow obtrusive) inside.now ∙ (λ i. inside_at place latches inside.book m (append_assoc m.0.log inside.made (e ∷ []) i));
-      others = elsewhere-settled place [] found slow obtrusive book (inside_at place inside.latches inside.book m log) ∙ inside.others;
-    }
-
 -- another book was written
 pub inside_written : (place : ℕ) (book : BookView) (m m′ m″ : Mine) → IsInside place m m′ → m″ ≡ written place book m′ → IsInside place m m″
 inside_written place book m m′ m″ inside made = record {
@@ -99,21 +86,6 @@ visits_put place ds m m′ m″ inside put =
       now = put ∙ ap (unlatched place ds) inside.now
           ∙ (λ i. (record (all_done place ds m.0) { latches = inside.others i; log = append_assoc m.0.log inside.made (e ∷ []) i }, m.1));
     }
-
--- two steps with nothing done: flags are lowered, and the latch is put
-pub goes_on : (place found : ℕ) (book : BookView) (slow obtrusive : Bool) (m m′ m″ : Mine) → m′ ≡ settled place [] found book slow obtrusive m → m″ ≡ unlatched place [] m′ → GoesOn m m″
-goes_on place found book slow obtrusive m m′ m″ lowers puts =
-    let low = settled place [] found book slow obtrusive m in
-    let e : Met = record { word = lock_word place; found = found; held = m.0.latches } in
-    let d : Met = record { word = latch_word place; found = m.0.number; held = low.0.latches } in
-    (e ∷ d ∷ [], ap (λ (x : Mine). x.0.log) (◌∙◌ {A = Mine} puts (ap (unlatched place []) lowers)) ∙ append_assoc m.0.log (e ∷ []) (d ∷ []))
-
--- ---- what may be done inside
-
--- the flags that the lists don't ask for may be lowered
-pub asked : (a b : Bool) → (a ≡ true → b ≡ true) → (a && b) ≡ a
-asked true b e = e refl
-asked false b e = refl
 
 -- ---- as it was entered
 

@@ -10,6 +10,7 @@ ghost use Rattle.mdl_shared.specs.declared.tries.Tried.TheVariants.{Granted, Blo
 ghost use Rattle.mdl_shared.specs.Visits.{Enters, GoesOn, IsInside, IsStepOf, KnowsKind, MayLeave, MeetsBlocked, MeetsFull, MeetsGrantable, Visits};
 
 use crate::latches::await_latch;
+use crate::settling::settle;
 use mdl_book::BookError;
 use mdl_key::{Kind, Mode, is_obtrusive};
 use mdl_steps::{Deed, Latched, LockTable, Worker};
@@ -55,9 +56,7 @@ fn leave(worker: &mut Worker, top: &LockTable, latch: Latched)
     ensures visited { (m : Mine) → IsInside latch.place m worker.old.seat.me → Visits latch.place [] m worker.new.seat.me }
     ensures steps { GoesOn worker.old.seat.me worker.new.seat.me }
 {
-    let needs = worker.needs(top, &latch);
-    worker.lower_flags(top, &latch, needs.slow, needs.obtrusive, &[]);
-    worker.put_latch(top, latch, &[]);
+    settle(worker, top, latch, &[]);
 }
 
 /// Grants the session a ticket of this number in this mode, where that can be done now, beside all that others hold and before

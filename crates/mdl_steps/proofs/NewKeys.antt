@@ -36,11 +36,11 @@ key_before [] key (suc i) else = refl
 key_before (x ∷ xs) key zero else = refl
 key_before (x ∷ xs) key (suc i) else = key_before xs key i (λ e. else (ap suc e))
 
-key_last : (keys : List KeyName) (key : KeyName) → slice_get (keys ++ key ∷ []) (length keys) ≡ Some key
+pub key_last : (keys : List KeyName) (key : KeyName) → slice_get (keys ++ key ∷ []) (length keys) ≡ Some key
 key_last [] key = refl
 key_last (x ∷ xs) key = key_last xs key
 
-none_after : (keys : List KeyName) → slice_get keys (length keys) ≡ None
+pub none_after : (keys : List KeyName) → slice_get keys (length keys) ≡ None
 none_after [] = refl
 none_after (x ∷ xs) = none_after xs
 
