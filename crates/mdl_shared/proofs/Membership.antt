@@ -108,8 +108,8 @@ place_within slots place key (k ∷ ks) all e =
     let parts = and_parts (nat_lt 0 k.place && nat_lt k.place slots) (are_within slots ks) all in
     by_bool (key_eq k.key key)
     (λ hit.
-        let found = rw hit at e in
-        let is : k.place ≡ place = cc in
-        let here = and_parts (nat_lt 0 k.place) (nat_lt k.place slots) parts.0 in
-        rw (sym is) (ltb-true 0 k.place here.0, ltb-true k.place slots here.1))
+    let found = rw hit at e in
+    let is : k.place ≡ place = cc in
+    let here = and_parts (nat_lt 0 k.place) (nat_lt k.place slots) parts.0 in
+    rw (sym is) (ltb-true 0 k.place here.0, ltb-true k.place slots here.1))
     (λ miss. place_within slots place key ks parts.1 (rw miss at e))

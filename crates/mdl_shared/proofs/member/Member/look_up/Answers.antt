@@ -18,8 +18,8 @@ invariant_of-self-2 g c =
     let inside = subst (λ (n : ℕ). c.in_ok-place.place < n) slots known.1 in
     let kept : ◌≡◌ {A = KeyName} c.in-Ok.key_kept c.args.key.now = c.in-Ok.ensures.cases in
     let pushed = c.push_reserved.ensures.items
-        ∙ ap (λ (key : KeyName). c.reserve.new.self.items ++ record { key = key; place = c.in_ok-place.place } ∷ []) kept
-        ∙ ap (λ (ks : List Known). ks ++ one ∷ []) c.reserve.ensures.items in record {
+    ∙ ap (λ (key : KeyName). c.reserve.new.self.items ++ record { key = key; place = c.in_ok-place.place } ∷ []) kept
+    ∙ ap (λ (ks : List Known). ks ++ one ∷ []) c.reserve.ensures.items in record {
       seated = c.resolve.ensures.seat.0 ∙ self.seated;
       sized = self.sized;
       narrow = self.narrow;
