@@ -29,6 +29,8 @@ mod script;
 #[cfg(test)]
 mod script_laws;
 #[cfg(test)]
+mod shared;
+#[cfg(test)]
 mod space;
 #[cfg(test)]
 mod steps;
