@@ -1,19 +1,69 @@
-//! Growths refused in turn: where each allocation fails once, a space is made at the second try.
+//! Growths refused in turn: where each allocation fails once, each call does at the second try what it would have done at the first.
 //!
 //! `rt try --test --fail-alloc N` refuses the allocation of that number.
-use mdl_shared::{Manager, NewError};
-use std::alloc::Global;
+ghost use Rattle.std.specs.Prelude.{◌≡◌, ◌+◌, length, IfOk};
+ghost use Rattle.mdl_shared.specs.Passes.{ArePasses, table_of};
 
-// How many passes a space of three sessions gives, at the second try, where memory was refused to the first.
-fn pass_count(alloc: Global) -> Result<usize, NewError> {
-    let (_manager, passes) = match Manager::new(alloc, 2, 3) {
-        Err(NewError::OutOfMemory) => Manager::new(alloc, 2, 3)?,
-        outcome => outcome?,
-    };
-    Ok(passes.len())
+use crate::sessions::closed;
+use mdl_calls::{Attempt, Place, SpaceError};
+use mdl_key::{Key, KeyError, Mode};
+use mdl_shared::{Manager, NewError, Pass, Session};
+use std::alloc::Global;
+use std::sync::Wait;
+use std::test::Fail;
+
+// A space of three sessions, at the second try where memory was refused to the first.
+fn space(alloc: Global) -> Result<(Manager, Vec<Pass>), NewError>
+    ensures { IfOk result (λ made. (length made.1.items ≡ 3) × ArePasses (table_of made.0) made.1.items) }
+{
+    match Manager::new(alloc, 2, 3) {
+        Err(NewError::OutOfMemory) => Manager::new(alloc, 2, 3),
+        outcome => outcome,
+    }
+}
+
+// The key of a table, in the same way.
+fn table_key(alloc: Global) -> Result<Key, KeyError> {
+    match Key::table(alloc, "shop", "sales") {
+        Err(KeyError::OutOfMemory) => Key::table(alloc, "shop", "sales"),
+        outcome => outcome,
+    }
+}
+
+// The place of a key, in the same way.
+fn resolve<R: Wait>(session: &mut Session<R>, key: &Key) -> Result<Place, SpaceError> {
+    match session.resolve(key) {
+        Err(SpaceError::OutOfMemory) => session.resolve(key),
+        outcome => outcome,
+    }
+}
+
+// What comes of trying for a lock, in the same way.
+fn try_now<R: Wait>(
+    session: &mut Session<R>,
+    place: Place,
+    mode: Mode,
+) -> Result<Attempt, SpaceError> {
+    match session.try_now(place, mode) {
+        Err(SpaceError::OutOfMemory) => session.try_now(place, mode),
+        outcome => outcome,
+    }
 }
 
 #[test]
-fn outlives_want_of_memory(rt: HostRuntime) {
-    assert_eq!(rt; pass_count(rt.alloc()), Ok(3));
+fn outlives_want_of_memory(rt: HostRuntime) -> Result<(), Fail> {
+    let (manager, mut passes) = space(rt.alloc())?;
+    let sales = table_key(rt.alloc())?;
+    let mut two = Session::open(&rt, &manager, passes.remove(1));
+    let mut one = Session::open(&rt, &manager, passes.remove(0));
+    assert_eq!(rt; resolve(&mut one, &sales), Ok(1));
+    assert_eq!(rt; resolve(&mut two, &sales), Ok(1));
+    assert_eq!(rt; try_now(&mut one, 1, Mode::SNW), Ok(Attempt::Granted(1)));
+    assert_eq!(rt; try_now(&mut two, 1, Mode::X), Ok(Attempt::WouldWait));
+    assert_eq!(rt; try_now(&mut two, 1, Mode::S), Ok(Attempt::Granted(1)));
+    assert_eq!(rt; one.release(1), Ok(()));
+    assert_eq!(rt; two.release(1), Ok(()));
+    closed(&rt, one);
+    closed(&rt, two);
+    Ok(())
 }

@@ -2,9 +2,18 @@
 ghost use Rattle.std.specs.Prelude.{◌≡◌};
 ghost use Rattle.mdl_shared.specs.Passes.{table_of, pass_table};
 
-use mdl_shared::{Manager, Pass, Session};
+use mdl_shared::{HoldsTickets, Manager, Pass, Session};
+use std::process::Abort;
 use std::test::Fail;
 use std::thread;
+
+/// The pass of a session that has no ticket: it is closed.
+pub(crate) fn closed<R: Drop>(rt: &impl Abort, session: Session<R>) -> Pass {
+    match session.close() {
+        Ok(pass) => pass,
+        Err(HoldsTickets(_session)) => panic!(rt; "the session holds no ticket"),
+    }
+}
 
 // Opens a pass's session, and closes it. It has no ticket yet.
 fn reopen(manager: &Manager, pass: Pass) -> Pass
