@@ -1,6 +1,7 @@
 //! Sessions try for locks, and give them up, on one thread.
 use crate::sessions::closed;
 use mdl_calls::{Attempt, SpaceError};
+use mdl_defs::Standing;
 use mdl_key::{Key, Mode};
 use mdl_shared::{HoldsTickets, Manager, Session};
 use std::test::Fail;
@@ -69,5 +70,22 @@ fn a_session_with_a_ticket_stays_open(rt: HostRuntime) -> Result<(), Fail> {
     assert_eq!(rt; session.release(2), Ok(()));
     let pass = closed(&rt, session);
     assert_eq!(rt; pass.number(), 1);
+    Ok(())
+}
+
+// Under a ticket a session reads what stands at its place, and under none nothing.
+#[test]
+fn a_ticket_lets_its_session_read(rt: HostRuntime) -> Result<(), Fail> {
+    let (manager, mut passes) = Manager::new(rt.alloc(), 1, 1)?;
+    let sales = Key::table(rt.alloc(), "shop", "sales")?;
+    let mut session = Session::open(&rt, &manager, passes.remove(0));
+    assert_eq!(rt; session.resolve(&sales), Ok(1));
+    assert!(rt; session.read_definition(1) == Err(SpaceError::NotHeld));
+    assert_eq!(rt; session.try_now(1, Mode::SR), Ok(Attempt::Granted(1)));
+    assert!(rt; session.read_definition(1) == Ok(Standing::new()));
+    assert!(rt; session.read_definition(2) == Err(SpaceError::NotHeld));
+    assert_eq!(rt; session.release(1), Ok(()));
+    assert!(rt; session.read_definition(1) == Err(SpaceError::NotHeld));
+    closed(&rt, session);
     Ok(())
 }

@@ -1,11 +1,11 @@
 -- The only ticket of a session, once it is given up, leaves none.
 use Rattle.std.proofs.Common.{◌≡◌, List, [], ◌∷◌, ◌++◌, length, refl, ap, ◌∙◌, subst}
-use Rattle.std.specs.Prelude.{Option, Some, None, Result, Ok, Err, OnOk}
+use Rattle.std.specs.Prelude.{Some, Result, Ok, Err, OnOk}
 use Rattle.std.proofs.lemmas.Bool.{eq-eqb, false≢true}
 use Rattle.mdl_key.specs.Refusals.{RefusesJust}
 use Rattle.mdl_calls.specs.declared.space_error.SpaceError.{SpaceError}
 use Rattle.mdl_steps.specs.declared.view.Own.{Own}
-use Rattle.mdl_shared.specs.Members.{numbered, without_at, release_fault}
+use Rattle.mdl_shared.specs.Members.{numbered, without_at, holding_fault}
 use Rattle.mdl_shared_trials.proofs.threads.got.Goals as goal
 
 found_alone : (t : Own) → numbered t.number (t ∷ []) ≡ Some t
@@ -15,7 +15,7 @@ none_left : (t : Own) → without_at t.place t.number (t ∷ []) ≡ []
 none_left t = rw (eq-eqb t.place t.place refl) (rw (eq-eqb t.number t.number refl) refl)
 
 given_up : {T : Type 0} (P : Own → Type 0) (t : Own) (old before after : List Own) (r : Result T SpaceError)
-    → length old ≡ 0 → before ≡ old ++ t ∷ [] → RefusesJust (release_fault t.number before) r
+    → length old ≡ 0 → before ≡ old ++ t ∷ [] → RefusesJust (holding_fault t.number before) r
     → OnOk r ((x : Own) × (numbered t.number before ≡ Some x) × (after ≡ without_at x.place t.number before) × P x) → length after ≡ 0
 given_up P t (x ∷ xs) before after r none is ok told = absurd (cc)
 given_up P t [] before after (Err e) none is ok told =
