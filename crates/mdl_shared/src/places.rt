@@ -28,7 +28,7 @@ impl Member {
 
     // Looks a key up in the directory. All that takes memory of its own is done before.
     fn look_up<R: Wait>(&mut self, rt: &R, key: &Key) -> Result<usize, ResolveError>
-        ensures same { (self.new.table ≡ self.old.table) × (self.new.worker.number ≡ self.old.worker.number) × (self.new.tickets.items ≡ self.old.tickets.items) }
+        ensures same { (self.new.table ≡ self.old.table) × (self.new.worker.number ≡ self.old.worker.number) × (self.new.next ≡ self.old.next) × (self.new.tickets.items ≡ self.old.tickets.items) }
         ensures known { IfOk result (λ place. (0 < place) × (place < (arc_value self.old.table).shared.table_id.slots)
             × (self.new.known.items ≡ self.old.known.items ++ record { key = key.now; place = place } ∷ [])) }
         ensures unchanged { OnErr result (self.new.known.items ≡ self.old.known.items) }
@@ -56,7 +56,7 @@ impl<R: Wait> Session<R> {
     /// The place of a key, which stays its place. A new key takes the next place that is free. The directory is looked at once for a key.
     pub fn resolve(&mut self, key: &Key) -> Result<Place, SpaceError>
         ensures session { (self.new.member.table ≡ self.old.member.table) × (self.new.member.worker.number ≡ self.old.member.worker.number)
-            × (self.new.member.tickets.items ≡ self.old.member.tickets.items) }
+            × (self.new.member.next ≡ self.old.member.next) × (self.new.member.tickets.items ≡ self.old.member.tickets.items) }
         ensures known { IfOk result (λ place. (0 < place) × (place < (arc_value self.old.member.table).shared.table_id.slots)
             × LearnsPlace key.now place (place_known key.now self.old.member.known.items) self.old.member.known.items self.new.member.known.items) }
         ensures unchanged { OnErr result (self.new.member.known.items ≡ self.old.member.known.items) }

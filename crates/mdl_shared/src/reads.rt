@@ -24,7 +24,7 @@ impl Member {
     // Reads what stands at the place of the ticket of a number, and notes the version under each ticket there.
     fn read<R: Wait>(&mut self, rt: &R, place: usize, _id: TicketId) -> Result<Standing, AllocError>
         requires held { option_map (λ (t : Own). t.place) (numbered _id self.old.tickets.items) ≡ Some place }
-        ensures same { (self.new.table ≡ self.old.table) × (self.new.worker.number ≡ self.old.worker.number) × (self.new.known.items ≡ self.old.known.items) }
+        ensures same { (self.new.table ≡ self.old.table) × (self.new.worker.number ≡ self.old.worker.number) × (self.new.next ≡ self.old.next) × (self.new.known.items ≡ self.old.known.items) }
         ensures read { IfOk result (λ standing. (self.new.tickets.items ≡ noting_version place standing.version self.old.tickets.items)
             × ((e : Met) × IsStepOf self.old.worker.seat.me self.new.worker.seat.me e × MeetsStanding place self.old.worker.number standing e)) }
         ensures unchanged { OnErr result (self.new.tickets.items ≡ self.old.tickets.items) }
@@ -69,7 +69,7 @@ impl<R: Wait> Session<R> {
     /// What stands under the key of a ticket's place, and its version.
     pub fn read_definition(&mut self, id: TicketId) -> Result<Standing, SpaceError>
         ensures session { (self.new.member.table ≡ self.old.member.table) × (self.new.member.worker.number ≡ self.old.member.worker.number)
-            × (self.new.member.known.items ≡ self.old.member.known.items) }
+            × (self.new.member.next ≡ self.old.member.next) × (self.new.member.known.items ≡ self.old.member.known.items) }
         ensures read { IfOk result (λ standing. (t : Own) × (numbered id self.old.member.tickets.items ≡ Some t)
             × (self.new.member.tickets.items ≡ noting_version t.place standing.version self.old.member.tickets.items)
             × ((e : Met) × IsStepOf self.old.member.worker.seat.me self.new.member.worker.seat.me e × MeetsStanding t.place self.old.member.worker.number standing e)) }

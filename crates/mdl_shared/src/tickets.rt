@@ -30,7 +30,7 @@ impl Member {
     // Gives up the ticket of a number, which is at this place.
     fn release<R: Wait>(&mut self, rt: &R, place: usize, id: TicketId)
         requires held { option_map (λ (t : Own). t.place) (numbered id self.old.tickets.items) ≡ Some place }
-        ensures same { (self.new.table ≡ self.old.table) × (self.new.worker.number ≡ self.old.worker.number) × (self.new.known.items ≡ self.old.known.items) }
+        ensures same { (self.new.table ≡ self.old.table) × (self.new.worker.number ≡ self.old.worker.number) × (self.new.next ≡ self.old.next) × (self.new.known.items ≡ self.old.known.items) }
         ensures released { self.new.tickets.items ≡ without_at place id self.old.tickets.items }
         ensures step { (e : Met) × IsStepOf self.old.worker.seat.me self.new.worker.seat.me e × MeetsOwn place self.old.worker.number id e }
     {
@@ -57,7 +57,7 @@ impl<R: Wait> Session<R> {
     /// Gives up a ticket. It takes no memory.
     pub fn release(&mut self, id: TicketId) -> Result<(), SpaceError>
         ensures session { (self.new.member.table ≡ self.old.member.table) × (self.new.member.worker.number ≡ self.old.member.worker.number)
-            × (self.new.member.known.items ≡ self.old.member.known.items) }
+            × (self.new.member.next ≡ self.old.member.next) × (self.new.member.known.items ≡ self.old.member.known.items) }
         ensures released { OnOk result ((t : Own) × (numbered id self.old.member.tickets.items ≡ Some t)
             × (self.new.member.tickets.items ≡ without_at t.place id self.old.member.tickets.items)
             × ((e : Met) × IsStepOf self.old.member.worker.seat.me self.new.member.worker.seat.me e × MeetsOwn t.place self.old.member.worker.number id e)) }

@@ -1,5 +1,5 @@
 //! What a session wishes for.
-ghost use Rattle.std.specs.Prelude.{◌≡◌, ◌⊎◌, ℕ, ◌+◌, ◌∷◌, [], ◌++◌, ◌<◌, Ok, Some, None, true, OnErr, IfErr};
+ghost use Rattle.std.specs.Prelude.{◌≡◌, ◌⊎◌, ℕ, ◌+◌, ◌∷◌, [], ◌++◌, ◌<◌, Ok, Some, None, true, OnErr, IfErr, IfSome, Err};
 ghost use Rattle.std.specs.Option.{option_map};
 ghost use Rattle.mdl_key.specs.Words.{is_mode_of};
 ghost use Rattle.mdl_calls.specs.declared.answers.Attempt.TheVariants.{Granted, WouldWait};
@@ -47,9 +47,10 @@ impl Member {
         ensures granted { (id : ℕ) → result ≡ Ok (Granted id) → (id ≡ self.old.next)
             × (self.new.tickets.items ≡ self.old.tickets.items ++ record { number = id; place = place; mode = mode; noted = None } ∷ [])
             × ((e : Met) × IsStepOf self.old.worker.seat.me self.new.worker.seat.me e × MeetsGrantable place self.old.worker.number mode e) }
-        ensures would_wait { result ≡ Ok WouldWait → (self.new.tickets.items ≡ self.old.tickets.items)
+        ensures next { (id : ℕ) → result ≡ Ok (Granted id) → self.new.next ≡ id + 1 }
+        ensures would_wait { result ≡ Ok WouldWait → (self.new.tickets.items ≡ self.old.tickets.items) × (self.new.next ≡ self.old.next)
             × ((e : Met) × IsStepOf self.old.worker.seat.me self.new.worker.seat.me e × MeetsBlocked place self.old.worker.number mode e) }
-        ensures unchanged { OnErr result (self.new.tickets.items ≡ self.old.tickets.items) }
+        ensures unchanged { OnErr result ((self.new.tickets.items ≡ self.old.tickets.items) × (self.new.next ≡ self.old.next)) }
         ensures refused { IfErr result (λ why. (why ≡ cause.OutOfMemory)
             ⊎ ((why ≡ cause.Full) × ((e : Met) × IsStepOf self.old.worker.seat.me self.new.worker.seat.me e × MeetsFull place e))) }
     {
@@ -91,9 +92,11 @@ impl<R: Wait> Session<R> {
         ensures granted { (id : ℕ) → result ≡ Ok (Granted id) → (id ≡ self.old.member.next)
             × (self.new.member.tickets.items ≡ self.old.member.tickets.items ++ record { number = id; place = place; mode = mode; noted = None } ∷ [])
             × ((e : Met) × IsStepOf self.old.member.worker.seat.me self.new.member.worker.seat.me e × MeetsGrantable place self.old.member.worker.number mode e) }
-        ensures would_wait { result ≡ Ok WouldWait → (self.new.member.tickets.items ≡ self.old.member.tickets.items)
+        ensures next { (id : ℕ) → result ≡ Ok (Granted id) → self.new.member.next ≡ id + 1 }
+        ensures would_wait { result ≡ Ok WouldWait → (self.new.member.tickets.items ≡ self.old.member.tickets.items) × (self.new.member.next ≡ self.old.member.next)
             × ((e : Met) × IsStepOf self.old.member.worker.seat.me self.new.member.worker.seat.me e × MeetsBlocked place self.old.member.worker.number mode e) }
-        ensures unchanged { OnErr result (self.new.member.tickets.items ≡ self.old.member.tickets.items) }
+        ensures unchanged { OnErr result ((self.new.member.tickets.items ≡ self.old.member.tickets.items) × (self.new.member.next ≡ self.old.member.next)) }
+        ensures unfit { IfSome (wish_fault (kind_known place self.old.member.known.items) mode self.old.member.next) (λ why. result ≡ Err why) }
         ensures refused { IfErr result (λ why. (wish_fault (kind_known place self.old.member.known.items) mode self.old.member.next ≡ Some why)
             ⊎ ((why ≡ cause.OutOfMemory) ⊎ ((why ≡ cause.Full) × ((e : Met) × IsStepOf self.old.member.worker.seat.me self.new.member.worker.seat.me e × MeetsFull place e)))) }
     {
