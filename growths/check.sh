@@ -1,8 +1,7 @@
 #!/bin/sh
 # Leads the lives of mdl_growth_trials once for each of their allocations, which is refused: they have to go well all the same.
-# The program makes as many allocations before its lives as its word has bytes, and to each run the allocation of the same
-# number is refused, so each word has another one of the lives refused. It is built here without its proof, which `rt ci` gives. Starting
-# a run takes most of its time, so three parts of the runs go side by side.
+# The program makes as many allocations before its lives as its word says, and to each run the allocation of the same
+# number is refused, so each word has another one of the lives refused. It is built here once, without its proof, which `rt ci` gives.
 # Usage: sh growths/check.sh
 growths=$(cd "$(dirname "$0")" && pwd)
 sh "$growths/../make/needs.sh" rt python3 || exit 1
@@ -13,27 +12,15 @@ trap 'rm -rf "$made"' EXIT
 refused=1450
 
 cd "$growths/../crates/mdl_growth_trials" || exit 1
-mkdir "$made/part0" "$made/part1" "$made/part2"
-word=
-for bytes in $(seq 1 $refused); do
-    word="${word}x"
-    cases=$made/part$((bytes % 3))
-    : > "$cases/$bytes"
-    echo "$word" > "$cases/$bytes.args"
-    cp stdout "$cases/$bytes.stdout"
+mkdir "$made/cases"
+for lead in $(seq 1 $refused); do
+    : > "$made/cases/$lead"
+    echo "$lead" > "$made/cases/$lead.args"
+    cp stdout "$made/cases/$lead.stdout"
 done
 
-# Runs a part, and notes that it went well.
-run() {
-    rt try --seconds 900 --fail-alloc $refused --cases "$made/$1" > "$made/$1.log" 2>&1 && : > "$made/$1.well"
-}
-
-run part0 & run part1 & run part2 &
-wait
-for part in part0 part1 part2; do
-    if [ ! -e "$made/$part.well" ]; then
-        cat "$made/$part.log" >&2
-        exit 1
-    fi
-done
+if ! rt try --seconds 900 --fail-alloc $refused --cases "$made/cases" > "$made/log" 2>&1; then
+    cat "$made/log" >&2
+    exit 1
+fi
 echo "each growth was refused once, and nothing was lost"

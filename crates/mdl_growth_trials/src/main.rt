@@ -1,9 +1,9 @@
 //! `mdl_growth_trials` leads short lives of the crates below, and says which of them went wrong.
 //!
 //! Each life is a row of public calls. Where a call is refused for want of memory, it is seen that nothing has changed, and
-//! the call is made again, so a life bears that any one of its allocations is refused. Which one that is the word of the
-//! command line says: before the lives, the program makes as many allocations as the word has bytes, so one that is refused by
-//! its number in the whole run comes so much the earlier in the lives.
+//! the call is made again, so a life bears that any one of its allocations is refused. Which one that is the number on the
+//! command line says: before the lives, the program makes so many allocations, so one that is refused by its number in the
+//! whole run comes so much the earlier in the lives.
 #![tactic(auto)]
 
 mod books;
@@ -39,14 +39,14 @@ fn main(rt: HostRuntime) -> ExitCode {
     }
 }
 
-// How many bytes the words of the command line have, the program's name left out.
+// The number on the command line, and 0 where there is none.
 fn lead_of(rt: &HostRuntime) -> std::io::Result<usize> {
     let words = std::env::args(rt)?;
-    let mut bytes = 0usize;
+    let mut lead = 0;
     for word in words.skip(1) {
-        bytes = bytes.saturating_add(word.len());
+        lead = word.parse::<usize>().unwrap_or(0);
     }
-    Ok(bytes)
+    Ok(lead)
 }
 
 // Makes so many allocations, one of which may be refused.
