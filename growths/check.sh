@@ -1,9 +1,10 @@
 #!/bin/sh
 # Leads the lives of mdl_growth_trials once for each of their allocations, which is refused: they have to go well all the same.
 # The program makes as many allocations before its lives as its word says, and to each run the allocation of the same
-# number is refused, so each word has another one of the lives refused. It is built here without its proof, which `rt ci` gives. A run
-# takes half a second, so three parts of the runs go side by side.
-# Usage: sh growths/check.sh
+# number is refused, so each word has another one of the lives refused. It is built here once, without its proof, which `rt ci` gives, and
+# runs compiled alone: the kit's interpreter can't run a program that reads its words, and one step is enough for it to say so.
+# Usage: sh growths/check.sh        each allocation, in some ten minutes
+#        sh growths/check.sh 3      every third of them
 growths=$(cd "$(dirname "$0")" && pwd)
 sh "$growths/../make/needs.sh" rt python3 || exit 1
 made=$(mktemp -d)
@@ -13,25 +14,15 @@ trap 'rm -rf "$made"' EXIT
 refused=1450
 
 cd "$growths/../crates/mdl_growth_trials" || exit 1
-mkdir "$made/part0" "$made/part1" "$made/part2"
-for lead in $(seq 1 $refused); do
-    cases=$made/part$((lead % 3))
-    : > "$cases/$lead"
-    echo "$lead" > "$cases/$lead.args"
-    cp stdout "$cases/$lead.stdout"
+mkdir "$made/cases"
+for lead in $(seq 1 "${1:-1}" $refused); do
+    : > "$made/cases/$lead"
+    echo "$lead" > "$made/cases/$lead.args"
+    cp stdout "$made/cases/$lead.stdout"
 done
 
-# Runs a part, and notes that it went well.
-run() {
-    rt try --seconds 900 --fail-alloc $refused --cases "$made/$1" > "$made/$1.log" 2>&1 && : > "$made/$1.well"
-}
-
-run part0 & run part1 & run part2 &
-wait
-for part in part0 part1 part2; do
-    if [ ! -e "$made/$part.well" ]; then
-        cat "$made/$part.log" >&2
-        exit 1
-    fi
-done
-echo "each growth was refused once, and nothing was lost"
+if ! rt try --steps 1 --seconds 900 --fail-alloc $refused --cases "$made/cases" > "$made/log" 2>&1; then
+    cat "$made/log" >&2
+    exit 1
+fi
+echo "$(ls "$made/cases" | grep -c args) growths were refused, one in each run, and nothing was lost"
