@@ -14,5 +14,8 @@ mod passes;
 mod places;
 #[cfg(test)]
 mod sessions;
+mod taking;
 #[cfg(test)]
 mod threads;
+
+pub use taking::{takings, takings_of_two};

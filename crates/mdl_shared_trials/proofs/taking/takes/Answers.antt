@@ -6,7 +6,7 @@ use Rattle.mdl_key.specs.Refusals.{RefusesJust}
 use Rattle.mdl_calls.specs.declared.space_error.SpaceError.{SpaceError}
 use Rattle.mdl_steps.specs.declared.view.Own.{Own}
 use Rattle.mdl_shared.specs.Members.{numbered, without_at, holding_fault}
-use Rattle.mdl_shared_trials.proofs.threads.got.Goals as goal
+use Rattle.mdl_shared_trials.proofs.taking.takes.Goals as goal
 
 found_alone : (t : Own) → numbered t.number (t ∷ []) ≡ Some t
 found_alone t = rw (eq-eqb t.number t.number refl) refl
