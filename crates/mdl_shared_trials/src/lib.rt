@@ -15,4 +15,6 @@ mod places;
 #[cfg(test)]
 mod sessions;
 #[cfg(test)]
+mod tables;
+#[cfg(test)]
 mod threads;
