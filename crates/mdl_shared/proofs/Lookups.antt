@@ -21,7 +21,7 @@ use Rattle.mdl_steps.proofs.NewKeys.{key_last}
 
 -- ---- a session between two calls
 
-no_record : (d : Option Keys) → is_some d ≡ false → None ≡ d
+pub no_record : (d : Option Keys) → is_some d ≡ false → None ≡ d
 no_record None e = refl
 no_record (Some k) e = absurd (cc)
 
@@ -41,7 +41,7 @@ relisted_nothing k m has =
     ∙ ap (λ (d : Option Keys). (record m.0 { log = m.0.log ++ []; directory = d }, m.1)) has.recorded
     ∙ ap (λ (hand : List (ℕ × Slot)). (record m.0 { log = m.0.log ++ []; directory = Some k }, hand)) has.carried
 
-some_there : (keys : List KeyName) (i : ℕ) (key : KeyName) → slice_get keys i ≡ Some key → i < length keys
+pub some_there : (keys : List KeyName) (i : ℕ) (key : KeyName) → slice_get keys i ≡ Some key → i < length keys
 some_there [] i key e = absurd (cc)
 some_there (x ∷ xs) zero key e = omega arith
 some_there (x ∷ xs) (suc i) key e = let next = some_there xs i key e in omega arith

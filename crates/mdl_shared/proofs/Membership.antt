@@ -1,7 +1,8 @@
 -- A session's own lists: its tickets are of places that it knows, and these are places of the table.
-use Rattle.std.proofs.Common.{◌≡◌, ℕ, zero, suc, ◌<◌, ◌==◌, ◌&&◌, true, List, [], ◌∷◌, ◌++◌, Some, None, length, get_or, refl, sym, ap, ◌∙◌, arith}
+use Rattle.std.proofs.Common.{◌≡◌, ℕ, zero, suc, ◌<◌, ◌==◌, ◌&&◌, true, List, [], ◌∷◌, ◌++◌, Some, None, length, get_or, refl, sym, ap, ◌∙◌, arith, append_assoc, append-nil}
 use Rattle.std.specs.Prelude.{nat_lt}
 use Rattle.std.specs.Option.{option_map}
+use Rattle.std.proofs.lemmas.List.Elements.{All-head, All-tail}
 use Rattle.std.proofs.lemmas.Bool.{and_parts, and_from, eqb-true, lt-ltb, ltb-true}
 use mathlib.Core.Option.{some, some-injective, some-ne-none}
 use lib.ListN.{get_elem?}
@@ -15,6 +16,7 @@ use Rattle.mdl_steps.specs.Plays.{noting_version}
 use Rattle.mdl_steps.proofs.Views.{by_bool}
 use Rattle.mdl_shared.specs.Leavings.{HasTicket}
 use Rattle.mdl_shared.specs.Members.{is_known_place, are_placed, are_within, kind_known, numbered, place_known, without_at}
+use Rattle.mdl_shared.specs.Tables.{AreWithin}
 
 -- the ticket of a number stands in the list
 pub has_numbered : (place number : ℕ) (tickets : List Own) → option_map (λ (t : Own). t.place) (numbered number tickets) ≡ Some place → HasTicket place number tickets
@@ -139,3 +141,17 @@ noted_placed known (t ∷ ts) place version all =
 pub none_noted : (place version : ℕ) (tickets : List Own) → length tickets ≡ 0 → length (noting_version place version tickets) ≡ 0
 none_noted place version [] none = refl
 none_noted place version (t ∷ ts) none = absurd (omega arith)
+
+-- ---- with several keys more
+
+pub known_and : (known more : List Known) (tickets : List Own) → are_placed known tickets ≡ true → are_placed (known ++ more) tickets ≡ true
+known_and known [] tickets all = ap (λ (ks : List Known). are_placed ks tickets) (append-nil known) ∙ all
+known_and known (x ∷ xs) tickets all =
+    ap (λ (ks : List Known). are_placed ks tickets) (sym (append_assoc known (x ∷ []) xs)) ∙ known_and (known ++ x ∷ []) xs tickets (known_more known x tickets all)
+
+pub within_and : (slots : ℕ) (known more : List Known) → are_within slots known ≡ true → AreWithin slots more → are_within slots (known ++ more) ≡ true
+within_and slots known [] all here = ap (are_within slots) (append-nil known) ∙ all
+within_and slots known (x ∷ xs) all here =
+    let inside : Known → Type 0 = λ k. (0 < k.place) × (k.place < slots) in
+    ap (are_within slots) (sym (append_assoc known (x ∷ []) xs))
+    ∙ within_and slots (known ++ x ∷ []) xs (within_more slots known x all (All-head inside x xs here)) (All-tail inside x xs here)

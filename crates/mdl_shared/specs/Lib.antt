@@ -4,4 +4,5 @@ pub mod Limits
 pub mod Lookups
 pub mod Members
 pub mod Passes
+pub mod Tables
 pub mod Visits

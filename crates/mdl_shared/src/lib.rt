@@ -37,6 +37,7 @@
 //! ```
 #![tactic(auto)]
 
+mod askings;
 mod definitions;
 mod directories;
 mod latches;
@@ -49,8 +50,10 @@ mod places;
 mod reads;
 mod releasing;
 mod resolve_error;
+mod schemas;
 mod session;
 mod settling;
+mod tables;
 mod tickets;
 mod tries;
 mod wishes;

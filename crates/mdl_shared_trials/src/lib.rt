@@ -16,6 +16,8 @@ mod places;
 mod sessions;
 mod taking;
 #[cfg(test)]
+mod tables;
+#[cfg(test)]
 mod threads;
 
 pub use taking::{takings, takings_of_two};

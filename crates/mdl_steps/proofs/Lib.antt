@@ -22,3 +22,4 @@ pub mod NewKeys
 pub mod Opens
 pub mod Enrol
 pub mod Starts
+pub mod SchemaLemmas

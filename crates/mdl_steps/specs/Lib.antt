@@ -6,4 +6,5 @@ pub mod Openings
 pub mod Plays
 pub mod Rule
 pub mod RuleLaws
+pub mod Schemas
 pub mod Seats

@@ -2,10 +2,13 @@
 ghost use Rattle.std.specs.Prelude.{◌≡◌, ◌≢◌, ℕ, ◌<◌, ◌∷◌, MatchOption};
 ghost use Rattle.mdl_steps.specs.declared.slot.Slot.TheVariants as slot;
 ghost use Rattle.mdl_steps.specs.declared.view.Keys.{Keys};
+ghost use Rattle.mdl_steps.specs.declared.view.Keys.{Keys};
 ghost use Rattle.mdl_steps.specs.Layout.{latch_word};
 ghost use Rattle.mdl_steps.specs.Plays.{IsDirectory, consulted, informed, logged};
+ghost use Rattle.mdl_steps.specs.Schemas.{StandThere, unknown};
 ghost use Rattle.mdl_steps.specs.Seats.{IsSized, HasDirectory, MayInform, learnt, rest};
 
+use crate::Known;
 use crate::plays::{Learning, PutDirectory, TakeDirectory};
 use crate::worker::{LockTable, Worker};
 use std::marker::Brand;
@@ -49,6 +52,31 @@ impl Worker {
         requires put { MayInform self.old.seat.me }
         ensures seat { (self.new.seat.table_id ≡ self.old.seat.table_id) × (self.new.number ≡ self.old.number) }
         ensures made { self.new.seat.me ≡ informed (learnt self.old.seat.me _place) self.old.seat.me }
+    {
+        top.store::<PutDirectory<J>>(&mut self.seat, 0, 0);
+    }
+    /// Gives the directory's latch back. From then on the session knows those of these keys that it didn't know.
+    pub fn put_directory_telling(
+        &mut self,
+        top: &LockTable,
+        latch: LatchedDirectory,
+        known: &[Known],
+    )
+        requires table { (self.old.seat.table_id ≡ top.now.table_id) × IsSized top.now.table_id × (0 < top.now.table_id.slots) }
+        requires put { (k : Keys) × HasDirectory k self.old.seat.me × StandThere k known.now }
+        ensures seat { (self.new.seat.table_id ≡ self.old.seat.table_id) × (self.new.number ≡ self.old.number) }
+        ensures made { self.new.seat.me ≡ informed (unknown self.old.seat.me.0.known known.now) self.old.seat.me }
+    {
+        let LatchedDirectory { marker: () } = latch;
+        self.put_directory_after::<Brand>(top, known);
+    }
+
+    fn put_directory_after<J: Learning>(&mut self, top: &LockTable, _known: &[Known])
+        requires table { (self.old.seat.table_id ≡ top.now.table_id) × IsSized top.now.table_id × (0 < top.now.table_id.slots) }
+        requires picked { unknown self.old.seat.me.0.known _known.now ≡ J.learnt }
+        requires put { (k : Keys) × HasDirectory k self.old.seat.me × StandThere k _known.now }
+        ensures seat { (self.new.seat.table_id ≡ self.old.seat.table_id) × (self.new.number ≡ self.old.number) }
+        ensures made { self.new.seat.me ≡ informed (unknown self.old.seat.me.0.known _known.now) self.old.seat.me }
     {
         top.store::<PutDirectory<J>>(&mut self.seat, 0, 0);
     }

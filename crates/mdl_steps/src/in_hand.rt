@@ -1,5 +1,5 @@
 //! The book in hand: under its latch a session reads and writes the book as plain memory, which is no step.
-ghost use Rattle.std.specs.Prelude.{◌≡◌, ◌∷◌, IfOk, OnOk, OnErr};
+ghost use Rattle.std.specs.Prelude.{◌≡◌, ◌∷◌, is_some, IfOk, OnOk, OnErr};
 ghost use Rattle.std.specs.Option.{ok_or};
 ghost use Rattle.mdl_key.specs.Refusals.{Refuses, RefusesJust};
 ghost use Rattle.mdl_defs.specs.Standings.{standing_fault};
@@ -70,6 +70,22 @@ impl Worker {
             Slot::Place(book) => book.version(),
             // It is a place that is held.
             Slot::Directory(_) => 0,
+        }
+    }
+
+    /// Whether a definition stands by the book in hand. Nothing changes.
+    pub fn has_definition(&mut self, top: &LockTable, latch: &Latched) -> bool
+        requires table { self.old.seat.table_id ≡ top.now.table_id }
+        requires carried { (book : BookView) × (self.old.seat.me.1 ≡ (latch.now.place, slot.Place book) ∷ rest self.old.seat.me.1) }
+        ensures seat { (self.new.seat.table_id ≡ self.old.seat.table_id) × (self.new.number ≡ self.old.number) }
+        ensures same { self.new.seat.me ≡ self.old.seat.me }
+        ensures told { (book : BookView) → self.old.seat.me.1 ≡ (latch.now.place, slot.Place book) ∷ rest self.old.seat.me.1
+            → result ≡ is_some book.standing.definition }
+    {
+        match self.seat.slot_mut(top, latch.place) {
+            Slot::Place(book) => book.definition().is_some(),
+            // It is a place that is held.
+            Slot::Directory(_) => false,
         }
     }
 

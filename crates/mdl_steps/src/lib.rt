@@ -38,6 +38,7 @@ mod maker;
 mod naming;
 mod opening;
 mod plays;
+mod schemas;
 mod slot;
 mod view;
 mod worker;

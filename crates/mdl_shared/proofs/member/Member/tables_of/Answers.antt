@@ -1,0 +1,62 @@
+-- The session's lists are those of its view, with the schema's tables that it didn't know.
+use Rattle.std.proofs.Common.{◌≡◌, ℕ, ◌<◌, not, List, ◌++◌, sym, ap, ◌∙◌, subst}
+use Rattle.std.specs.Arc.{arc_value}
+use Rattle.std.proofs.lemmas.List.Elements.{All-filter}
+use Rattle.mdl_steps.specs.declared.view.Known.{Known}
+use Rattle.mdl_steps.specs.Plays.{Mine}
+use Rattle.mdl_steps.specs.Schemas.{is_known, unknown}
+use Rattle.mdl_shared.specs.Idle.{IsIdle, HasSlowAlone}
+use Rattle.mdl_shared.specs.Lookups.{TookDirectory}
+use Rattle.mdl_shared.specs.Members.{are_placed, are_within}
+use Rattle.mdl_shared.specs.Tables.{AreWithin, HasAsked, knowing_all}
+use Rattle.mdl_shared.specs.Visits.{and_made}
+use Rattle.mdl_shared.proofs.Asking.{asked_after, goes_on}
+use Rattle.mdl_shared.proofs.Listing.{took_earlier}
+use Rattle.mdl_shared.proofs.Membership.{known_and, within_and}
+use Rattle.mdl_shared.proofs.member.Member.tables_of.Goals as goal
+
+pub invariant_of-self-2 : goal.invariant_of-self-2
+invariant_of-self-2 g c =
+    let self = c.args.self.now in
+    let tables : List Known = c.in_ok-tables.tables.items in
+    let slots : ℕ = (arc_value self.table).shared.table_id.slots in
+    let found = c.in_ok-tables.ensures.found in
+    let asked = c.ask_all.ensures.steps in
+    let now : c.ask_all.new.worker.seat.me ≡ and_made asked.0 (and_made found.3.0 (knowing_all tables self.worker.seat.me)) =
+    asked.1 ∙ ap (and_made asked.0) found.3.1 in
+    let learnt = c.learn.ensures ∙ ap (λ (ks : List Known). ks ++ unknown ks tables) c.in_ok-tables.ensures.same in
+    let new : List Known = unknown self.known.items tables in
+    let within : AreWithin slots tables = subst (λ table. AreWithin table.shared.table_id.slots tables) c.deref.ensures c.in_ok-tables.ensures.within in record {
+      seated = c.ask_all.ensures.seat.0 ∙ c.find_tables.ensures.seat.0 ∙ self.seated;
+      sized = self.sized;
+      narrow = self.narrow;
+      idle = subst IsIdle (sym now) self.idle;
+      slow = subst HasSlowAlone (sym now) self.slow;
+      listed = self.listed ∙ sym (ap (λ (m : Mine). m.0.slow) now);
+      known_is = learnt ∙ ap (λ (ks : List Known). ks ++ unknown ks tables) self.known_is ∙ sym (ap (λ (m : Mine). m.0.known) now);
+      next_is = self.next_is ∙ sym (ap (λ (m : Mine). m.0.next) now);
+      placed = ap (λ (ks : List Known). are_placed ks self.tickets.items) learnt ∙ known_and self.known.items new self.tickets.items self.placed;
+      within = ap (are_within slots) learnt ∙ within_and slots self.known.items new self.within
+          (All-filter (λ (k : Known). not (is_known self.known.items k.key)) (λ (x : Known). (0 < x.place) × (x.place < slots)) tables within);
+    }
+
+pub returns-clause-told : goal.returns-clause-told
+returns-clause-told g c =
+    let self = c.args.self.now in
+    let tables : List Known = c.in_ok-tables.tables.items in
+    let old : Mine = self.worker.seat.me in
+    let mid : Mine = c.find_tables.new.worker.seat.me in
+    let new : Mine = c.ask_all.new.worker.seat.me in
+    let found = c.in_ok-tables.ensures.found in
+    let places : List ℕ = c.ask_all.new.places.items in
+    let took = subst (λ table. TookDirectory table.shared.table_id.slots found.0 old mid) c.deref.ensures found.1 in
+    let asked : HasAsked self.worker.number tables places mid new =
+    subst (λ (n : ℕ). HasAsked n tables places mid new) c.find_tables.ensures.seat.1
+    (subst (λ (ts : List Known). HasAsked c.find_tables.new.worker.number ts places mid new) c.deref-3.ensures.value c.ask_all.ensures.asked) in (
+      found.0,
+      tables,
+      took_earlier (arc_value self.table).shared.table_id.slots found.0 old mid new took (goes_on mid new c.ask_all.ensures.steps),
+      found.2,
+      asked_after self.worker.number tables places old mid new (goes_on (knowing_all tables old) mid found.3) asked,
+      c.learn.ensures ∙ ap (λ (ks : List Known). ks ++ unknown ks tables) c.in_ok-tables.ensures.same,
+    )

@@ -1,0 +1,98 @@
+//! Which tables of a schema have a definition.
+ghost use Rattle.std.specs.Prelude.{◌≡◌, ◌+◌, ◌≤◌, ◌++◌, List, length, IfOk, IsOkUnless, OnErr};
+ghost use Rattle.std.specs.Arc.{arc_value};
+ghost use Rattle.std.specs.Vec.{vec_capacity, vec_len};
+ghost use Rattle.mdl_key.specs.Words.{KeyName};
+ghost use Rattle.mdl_calls.specs.declared.space_error.SpaceError.TheVariants as cause;
+ghost use Rattle.mdl_steps.specs.declared.view.Keys.{Keys};
+ghost use Rattle.mdl_steps.specs.declared.view.Known.{Known};
+ghost use Rattle.mdl_steps.specs.Schemas.{is_known, unknown};
+ghost use Rattle.mdl_shared.specs.Lookups.{TookDirectory};
+ghost use Rattle.mdl_shared.specs.Tables.{AreTables, HasAsked};
+
+use crate::Session;
+use crate::askings::ask_all;
+use crate::member::Member;
+use crate::schemas::find_tables;
+use mdl_calls::{Place, SpaceError};
+use mdl_key::Key;
+use mdl_steps::Known;
+use std::alloc::AllocError;
+use std::sync::Wait;
+
+impl Member {
+    // The places of a schema's tables that have a definition. All memory is had before the session knows more keys.
+    fn tables_of<R: Wait>(&mut self, rt: &R, schema: &str) -> Result<Vec<Place>, AllocError>
+        ensures same { (self.new.table ≡ self.old.table) × (self.new.worker.number ≡ self.old.worker.number) × (self.new.next ≡ self.old.next) × (self.new.tickets.items ≡ self.old.tickets.items) }
+        ensures told { IfOk result (λ places. (k : Keys) × (tables : List Known)
+            × TookDirectory (arc_value self.old.table).shared.table_id.slots k self.old.worker.seat.me self.new.worker.seat.me
+            × AreTables schema.now k tables
+            × HasAsked self.old.worker.number tables places.items self.old.worker.seat.me self.new.worker.seat.me
+            × (self.new.known.items ≡ self.old.known.items ++ unknown self.old.known.items tables)) }
+        ensures unchanged { OnErr result (self.new.known.items ≡ self.old.known.items) }
+    {
+        let alloc = *self.known.allocator();
+        let (tables, mut places) = find_tables(
+            rt,
+            &mut self.worker,
+            &self.table.shared,
+            alloc,
+            &mut self.known,
+            schema,
+        )?;
+        ask_all(
+            rt,
+            &mut self.worker,
+            &self.table.shared,
+            &tables,
+            &mut places,
+        );
+        learn(&mut self.known, tables);
+        Ok(places)
+    }
+}
+
+// Adds the keys that aren't known yet, for which there is room.
+fn learn(known: &mut Vec<Known>, mut tables: Vec<Known>)
+    requires room { vec_len known.old + vec_len tables ≤ vec_capacity known.old }
+    ensures { known.new.items ≡ known.old.items ++ unknown known.old.items tables.items }
+{
+    keep_unknown(known, &mut tables);
+    let _reserved = known.append(&mut tables);
+}
+
+// Strikes the keys that are known.
+fn keep_unknown(known: &[Known], tables: &mut Vec<Known>)
+    ensures kept { tables.new.items ≡ unknown known.now tables.old.items }
+    ensures fewer { vec_len tables.new ≤ vec_len tables.old }
+{
+    tables.retain(|table| !is_known(known, &table.key));
+}
+
+// Whether a key is known.
+fn is_known(known: &[Known], key: &Key) -> bool
+    ensures { result ≡ is_known known.now key.now }
+{
+    known.iter().any(|other| other.key == *key)
+}
+
+impl<R: Wait> Session<R> {
+    /// The places of a schema's tables that have a definition, in the order of their keys. The session knows the schema's tables from
+    /// then on. The directory is looked at once, and then each table's place.
+    pub fn tables_of(&mut self, schema: &str) -> Result<Vec<Place>, SpaceError>
+        ensures session { (self.new.member.table ≡ self.old.member.table) × (self.new.member.worker.number ≡ self.old.member.worker.number)
+            × (self.new.member.next ≡ self.old.member.next) × (self.new.member.tickets.items ≡ self.old.member.tickets.items) }
+        ensures told { IfOk result (λ places. (k : Keys) × (tables : List Known)
+            × TookDirectory (arc_value self.old.member.table).shared.table_id.slots k self.old.member.worker.seat.me self.new.member.worker.seat.me
+            × AreTables schema.now k tables
+            × HasAsked self.old.member.worker.number tables places.items self.old.member.worker.seat.me self.new.member.worker.seat.me
+            × (self.new.member.known.items ≡ self.old.member.known.items ++ unknown self.old.member.known.items tables)) }
+        ensures unchanged { OnErr result (self.new.member.known.items ≡ self.old.member.known.items) }
+        ensures refused { IsOkUnless result cause.OutOfMemory }
+    {
+        match self.member.tables_of(&self.rt, schema) {
+            Ok(places) => Ok(places),
+            Err(AllocError) => Err(SpaceError::OutOfMemory),
+        }
+    }
+}

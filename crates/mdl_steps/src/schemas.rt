@@ -1,0 +1,80 @@
+//! The tables of a schema, as the directory in hand has them.
+ghost use Rattle.std.specs.Prelude.{◌≡◌, ◌∷◌, ◌++◌, IfOk, OnOk};
+ghost use Rattle.mdl_steps.specs.declared.slot.Slot.TheVariants as slot;
+ghost use Rattle.mdl_steps.specs.declared.view.Keys.{Keys};
+ghost use Rattle.mdl_steps.specs.Schemas.{is_table_of, table_at, tables_from};
+ghost use Rattle.mdl_steps.specs.Seats.{rest};
+
+use crate::directory::LatchedDirectory;
+use crate::worker::{LockTable, Worker};
+use crate::{Directory, Known, Slot};
+use mdl_key::{Key, Namespace};
+use std::alloc::{AllocError, Global};
+
+impl Directory {
+    /// The tables of a schema and their places, in the order of the places.
+    pub fn tables_of(&self, alloc: Global, schema: &str) -> Result<Vec<Known>, AllocError>
+        ensures { IfOk result (λ tables. tables.items ≡ tables_from schema.now 1 self.now.keys) }
+    {
+        list_tables(&self.keys, alloc, schema)
+    }
+}
+
+// The same by the keys.
+fn list_tables(keys: &[Key], alloc: Global, schema: &str) -> Result<Vec<Known>, AllocError>
+    ensures { IfOk result (λ tables. tables.items ≡ tables_from schema.now 1 keys.now) }
+{
+    let mut tables = Vec::new(alloc);
+    for (index, key) in keys.iter().enumerate() {
+        list_table(&mut tables, schema, key, index + 1)?;
+    }
+    Ok(tables)
+}
+
+// Lists a key and its place, where it is that of a table of the schema.
+fn list_table(
+    tables: &mut Vec<Known>,
+    schema: &str,
+    key: &Key,
+    place: usize,
+) -> Result<(), AllocError>
+    ensures { OnOk result (tables.new.items ≡ tables.old.items ++ table_at schema.now place key.now) }
+{
+    if is_table_of(key, schema) {
+        let key = key.clone()?;
+        tables.push(Known { key, place })?;
+    }
+    Ok(())
+}
+
+// Whether a key is that of a table of the schema.
+fn is_table_of(key: &Key, schema: &str) -> bool
+    ensures { result ≡ is_table_of schema.now key.now }
+{
+    matches!(key.namespace(), Namespace::Table) && key.schema_name() == schema
+}
+
+impl Worker {
+    /// The tables of a schema and their places by the directory in hand, in the order of the places. Nothing changes, also where memory
+    /// runs out.
+    pub fn tables_of(
+        &mut self,
+        top: &LockTable,
+        _latch: &LatchedDirectory,
+        alloc: Global,
+        schema: &str,
+    ) -> Result<Vec<Known>, AllocError>
+        requires table { self.old.seat.table_id ≡ top.now.table_id }
+        requires carried { (k : Keys) × (self.old.seat.me.1 ≡ (0, slot.Directory k) ∷ rest self.old.seat.me.1) }
+        ensures seat { (self.new.seat.table_id ≡ self.old.seat.table_id) × (self.new.number ≡ self.old.number) }
+        ensures same { self.new.seat.me ≡ self.old.seat.me }
+        ensures told { (k : Keys) → self.old.seat.me.1 ≡ (0, slot.Directory k) ∷ rest self.old.seat.me.1
+            → IfOk result (λ tables. tables.items ≡ tables_from schema.now 1 k.keys) }
+    {
+        match self.seat.slot_mut(top, 0) {
+            Slot::Directory(directory) => directory.tables_of(alloc, schema),
+            // It is the directory that is held.
+            Slot::Place(_) => Err(AllocError),
+        }
+    }
+}
