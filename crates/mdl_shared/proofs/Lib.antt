@@ -6,3 +6,5 @@ pub mod Membership
 pub mod Reading
 pub mod Lookups
 pub mod Naming
+pub mod Gathering
+pub mod Telling

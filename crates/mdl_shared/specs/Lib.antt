@@ -1,7 +1,9 @@
+pub mod Audits
 pub mod Idle
 pub mod Leavings
 pub mod Limits
 pub mod Lookups
 pub mod Members
+pub mod OwnLists
 pub mod Passes
 pub mod Visits

@@ -17,7 +17,11 @@ use std::sync::Wait;
 use std::thread;
 
 /// Takes the directory's latch, and waits as long as another session holds it.
-fn await_directory<R: Wait>(rt: &R, worker: &mut Worker, top: &LockTable) -> LatchedDirectory
+pub(crate) fn await_directory<R: Wait>(
+    rt: &R,
+    worker: &mut Worker,
+    top: &LockTable,
+) -> LatchedDirectory
     requires table { (worker.old.seat.table_id ≡ top.now.table_id) × IsSized top.now.table_id × (0 < top.now.table_id.slots) }
     ensures seat { (worker.new.seat.table_id ≡ worker.old.seat.table_id) × (worker.new.number ≡ worker.old.number) }
     ensures taken { (made : List Met) × (k : Keys) × IsDirectory top.now.table_id.slots k (and_made made worker.old.seat.me)
