@@ -14,7 +14,7 @@ IsRecorded place latches a = (a.place ≡ place) × ((h : Held) × (held_at plac
 -- these are the books of as many places, from a place on, in order
 abbrev pub AreRecorded : ℕ → List Held → List Audited → Type 0
 AreRecorded place latches [] = Unit {0}
-AreRecorded place latches (a ∷ as) = IsRecorded place latches a × AreRecorded (place + 1) latches as
+AreRecorded place latches (a ∷ more) = IsRecorded place latches a × AreRecorded (place + 1) latches more
 
 -- the session had just these latches when it began, or at a step that it made between the two
 abbrev pub HadLatches : List Held → Mine → Mine → Type 0

@@ -1,5 +1,6 @@
 //! What a session tells of its own lists: its tickets, and the keys that it has looked up. No step is needed for that.
 ghost use Rattle.std.specs.Prelude.{◌≡◌, ℕ, ◌<◌, length, map, slice_index_or, Some, IfOk, IfErr};
+ghost use Rattle.std.specs.Option.{option_copied};
 ghost use Rattle.mdl_key.specs.Refusals.{Refuses};
 ghost use Rattle.mdl_calls.specs.declared.space_error.SpaceError.TheVariants as cause;
 ghost use Rattle.mdl_steps.specs.declared.view.Own.{Own};
@@ -20,18 +21,14 @@ impl Member {
         list(*self.tickets.allocator(), &self.tickets)
     }
 
-    // A copy of the key of a place, where the session has looked it up.
-    fn key_at(&self, place: usize) -> Result<Key, SpaceError>
-        ensures told { IfOk result (λ key. key_known place self.now.known.items ≡ Some key) }
-        ensures refused { Refuses (naming_fault place self.now.known.items) cause.OutOfMemory result }
+    // The key of a place, where the session has looked it up.
+    fn key_at(&self, place: usize) -> Option<&Key>
+        ensures { option_copied result ≡ key_known place self.now.known.items }
     {
-        let Some(known) = self.known.iter().find(|known| known.place == place) else {
-            return Err(SpaceError::NoPlace);
-        };
-        match known.key.clone() {
-            Ok(key) => Ok(key),
-            Err(AllocError) => Err(SpaceError::OutOfMemory),
-        }
+        self.known
+            .iter()
+            .find(|known| known.place == place)
+            .map(|known| &known.key)
     }
 }
 
@@ -77,6 +74,12 @@ impl<R> Session<R> {
         ensures told { IfOk result (λ key. key_known place self.old.member.known.items ≡ Some key) }
         ensures refused { Refuses (naming_fault place self.old.member.known.items) cause.OutOfMemory result }
     {
-        self.member.key_at(place as usize)
+        let Some(key) = self.member.key_at(place as usize) else {
+            return Err(SpaceError::NoPlace);
+        };
+        match key.clone() {
+            Ok(key) => Ok(key),
+            Err(AllocError) => Err(SpaceError::OutOfMemory),
+        }
     }
 }
