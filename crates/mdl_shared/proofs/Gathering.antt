@@ -171,8 +171,12 @@ module _ (slots : ℕ) (k : Keys) (made : List Met) (m m′ m″ : Mine) (taken 
     first_then : IsStepOf m m‴ first
     first_then = (
         made,
-        took_first.after,
-        took_first.listed ∙ append_assoc (m.0.log ++ made) (first ∷ []) took_first.after,
+        steps.0 ++ final ∷ [],
+        log_final
+            ∙ ap (λ (x : Mine). x.0.log ++ final ∷ []) steps.1
+            ∙ append_assoc m′.0.log steps.0 (final ∷ [])
+            ∙ ap (λ (x : Mine). x.0.log ++ (steps.0 ++ final ∷ [])) taken
+            ∙ append_assoc (m.0.log ++ made) (first ∷ []) (steps.0 ++ final ∷ []),
     )
 
     moment_of : (latches : List Held) → HadLatches latches m′ m″ → (e : Met) × IsStepOf m m‴ e × (e.held ≡ latches)

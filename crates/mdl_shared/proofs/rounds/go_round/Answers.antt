@@ -12,8 +12,8 @@ use Rattle.mdl_shared.proofs.Gathering.{audits, has_still, makes_all, none_risin
 use Rattle.mdl_shared.proofs.Lookups.{has_taken}
 use Rattle.mdl_shared.proofs.rounds.go_round.Goals as goal
 
-pub gather-requires-clause-places : goal.gather-requires-clause-places
-gather-requires-clause-places g c =
+pub gather-outcome-requires-clause-places : goal.gather-outcome-requires-clause-places
+gather-outcome-requires-clause-places g c =
     let taken = c.await_directory-directory.ensures.taken in
     let has = subst (λ (m : Mine). HasDirectory taken.1 m) (sym taken.3) (has_taken taken.1 (and_made taken.0 c.args.worker.now.seat.me)) in
     let count = c.key_count-last.ensures.told taken.1 has.carried in
@@ -21,8 +21,8 @@ gather-requires-clause-places g c =
     let few = c.requires.slots.1 in
     (omega arith, omega arith, omega arith, omega arith)
 
-pub gather-requires-clause-rising : goal.gather-requires-clause-rising
-gather-requires-clause-rising g c =
+pub gather-outcome-requires-clause-rising : goal.gather-outcome-requires-clause-rising
+gather-outcome-requires-clause-rising g c =
     let taken = c.await_directory-directory.ensures.taken in
     let then = ◌∙◌ {A = Mine} c.key_count-last.ensures.same taken.3 in
     subst (IsRising 1) (sym then) (none_rising c.args.worker.now.seat.me taken.1 taken.0 c.requires.idle)
