@@ -1,8 +1,5 @@
 -- The books of places in turn, gathered while their latches are held.
 use Rattle.std.proofs.Common.{◌≡◌, ℕ, ◌+◌, ◌<◌, ◌≤◌, List, [], ◌∷◌, ◌++◌, length, Some, refl, sym, ap, ◌∙◌, subst, inl, inr, ⊎_elim, arith, append_assoc, append-nil}
-use Rattle.mdl_book.specs.declared.book_view.BookView.{BookView}
-use Rattle.mdl_steps.specs.declared.slot.Slot.{Slot}
-use Rattle.mdl_steps.specs.declared.slot.Slot.TheVariants as slot
 use Rattle.mdl_steps.specs.declared.view.Held.{Held}
 use Rattle.mdl_steps.specs.declared.view.Keys.{Keys}
 use Rattle.mdl_steps.specs.declared.view.Met.{Met}
@@ -11,7 +8,7 @@ use Rattle.mdl_steps.specs.Layout.{latch_word}
 use Rattle.mdl_steps.specs.Lists.{Each}
 use Rattle.mdl_steps.specs.Plays.{Mine, IsDirectory, consulted, informed, latched, unlatched}
 use Rattle.mdl_steps.specs.Rule.{TellsLists}
-use Rattle.mdl_steps.specs.Seats.{HasDirectory, Holds, IsRising, MayPut, learnt, rest}
+use Rattle.mdl_steps.specs.Seats.{HasDirectory, Holds, IsRising, MayPut, learnt}
 use Rattle.mdl_steps.proofs.Views.{held_at-past}
 use Rattle.mdl_shared.specs.declared.audited.Audited.{Audited}
 use Rattle.mdl_shared.specs.Audits.{AreRecorded, Audits, Gathers, HadLatches}
@@ -26,17 +23,17 @@ use Rattle.mdl_shared.proofs.Visiting.{inside_at, visits_put, makes_none}
 -- a step was one of those that began later, or earlier
 pub step_from : (m m′ m″ : Mine) (before : List Met) (e : Met) → m′.0.log ≡ m.0.log ++ before → IsStepOf m′ m″ e → IsStepOf m m″ e
 step_from m m′ m″ before e grew step = (
-    before ++ step.0,
-    step.1,
-    step.2 ∙ ap (λ (log : List Met). (log ++ step.0) ++ e ∷ step.1) grew ∙ ap (λ (log : List Met). log ++ e ∷ step.1) (append_assoc m.0.log before step.0),
+  before ++ step.0,
+  step.1,
+  step.2 ∙ ap (λ (log : List Met). (log ++ step.0) ++ e ∷ step.1) grew ∙ ap (λ (log : List Met). log ++ e ∷ step.1) (append_assoc m.0.log before step.0),
 )
 
 -- and of those that ended later
 pub step_till : (m m′ m″ : Mine) (after : List Met) (e : Met) → m″.0.log ≡ m′.0.log ++ after → IsStepOf m m′ e → IsStepOf m m″ e
 step_till m m′ m″ after e grew step = (
-    step.0,
-    step.1 ++ after,
-    grew ∙ ap (λ (log : List Met). log ++ after) step.2 ∙ append_assoc (m.0.log ++ step.0) (e ∷ step.1) after,
+  step.0,
+  step.1 ++ after,
+  grew ∙ ap (λ (log : List Met). log ++ after) step.2 ∙ append_assoc (m.0.log ++ step.0) (e ∷ step.1) after,
 )
 
 pub makes_same : (m m′ : Mine) → m′ ≡ m → MakesSteps m m′
@@ -57,6 +54,10 @@ inside_steps place m m′ m″ inside steps = record {
   others = inside.others;
 }
 
+-- the latch that was given back is that of the place
+pub unlatched_at : (place q : ℕ) (m m′ : Mine) → q ≡ place → m′ ≡ unlatched q [] m → m′ ≡ unlatched place [] m
+unlatched_at place q m m′ at put = subst (λ (p : ℕ). m′ ≡ unlatched p [] m) at put
+
 pub there_and_back : (place : ℕ) (m m′ m″ m‴ : Mine) → IsInside place m m′ → MakesSteps m′ m″ → m‴ ≡ unlatched place [] m″ → MakesSteps m m‴
 there_and_back place m m′ m″ m‴ inside steps put =
     let visit = visits_put place [] m m″ m‴ (inside_steps place m m′ m″ inside steps) put in
@@ -64,9 +65,9 @@ there_and_back place m m′ m″ m‴ inside steps put =
 
 pub may_put : (place : ℕ) (h : Held) (m m′ : Mine) → TellsLists h.book h.slow h.obtrusive → Holds place h h.book m → MakesSteps m m′ → MayPut place [] m′
 may_put place h m m′ tells holds steps = subst (MayPut place []) (sym steps.1) (
-    h,
-    record { holds = record { recorded = holds.recorded; carried = holds.carried }; act = inr refl; may = tt },
-    tells,
+  h,
+  record { holds = record { recorded = holds.recorded; carried = holds.carried }; act = inr refl; may = tt },
+  tells,
 )
 
 module _ (place : ℕ) (h : Held) (made : List Met) (m m′ : Mine) (here : h.place ≡ place) (taken : m′ ≡ latched place h (and_made made m)) where
@@ -95,9 +96,9 @@ module _ (place : ℕ) (h : Held) (made : List Met) (m m′ : Mine) (here : h.pl
 
     took_then : IsStepOf m m‴ took
     took_then = (
-        made,
-        steps.0 ++ gave ∷ [],
-        log_all ∙ ap (λ (x : Mine). x.0.log ++ (steps.0 ++ gave ∷ [])) taken ∙ append_assoc (m.0.log ++ made) (took ∷ []) (steps.0 ++ gave ∷ []),
+      made,
+      steps.0 ++ gave ∷ [],
+      log_all ∙ ap (λ (x : Mine). x.0.log ++ (steps.0 ++ gave ∷ [])) taken ∙ append_assoc (m.0.log ++ made) (took ∷ []) (steps.0 ++ gave ∷ []),
     )
 
     had_all : (latches : List Held) → HadLatches latches m′ m″ → HadLatches latches m m‴
@@ -106,10 +107,10 @@ module _ (place : ℕ) (h : Held) (made : List Met) (m m′ : Mine) (here : h.pl
         (λ later. inr (later.0, step_from m m′ m‴ (made ++ took ∷ []) later.0 log_then (step_till m′ m″ m‴ (gave ∷ []) later.0 log_put later.1), later.2))
         had
 
-    pub gathers_more : (last : ℕ) (before middle after : List Audited) → held_at place m′.0.latches ≡ Some h
-        → middle ≡ before ++ record { place = place; book = h.book } ∷ [] → Gathers (place + 1) last middle after m′ m″ → Gathers place last before after m m‴
-    gathers_more last before middle after recorded added more =
-        let one : Audited = record { place = place; book = h.book } in
+    pub gathers_more : (last q : ℕ) (before middle after : List Audited) → q ≡ place → held_at place m′.0.latches ≡ Some h
+        → middle ≡ before ++ record { place = q; book = h.book } ∷ [] → Gathers (place + 1) last middle after m′ m″ → Gathers place last before after m m‴
+    gathers_more last q before middle after at recorded added more =
+        let one : Audited = record { place = q; book = h.book } in
         let count = more.all in
         record {
           latches = more.latches;
@@ -118,7 +119,7 @@ module _ (place : ℕ) (h : Held) (made : List Met) (m m′ : Mine) (here : h.pl
           books = one ∷ more.books;
           listed = more.listed ∙ ap (λ (xs : List Audited). xs ++ more.books) added ∙ append_assoc before (one ∷ []) more.books;
           all = omega arith;
-          recorded = ((refl, (h, more.kept place h (omega arith) recorded, refl)), more.recorded);
+          recorded = ((at, (h, more.kept place h (omega arith) recorded, refl)), more.recorded);
         }
 
 -- behind the last place there is nothing to gather
@@ -170,13 +171,13 @@ module _ (slots : ℕ) (k : Keys) (made : List Met) (m m′ m″ : Mine) (taken 
 
     first_then : IsStepOf m m‴ first
     first_then = (
-        made,
-        steps.0 ++ final ∷ [],
-        log_final
-            ∙ ap (λ (x : Mine). x.0.log ++ final ∷ []) steps.1
-            ∙ append_assoc m′.0.log steps.0 (final ∷ [])
-            ∙ ap (λ (x : Mine). x.0.log ++ (steps.0 ++ final ∷ [])) taken
-            ∙ append_assoc (m.0.log ++ made) (first ∷ []) (steps.0 ++ final ∷ []),
+      made,
+      steps.0 ++ final ∷ [],
+      log_final
+          ∙ ap (λ (x : Mine). x.0.log ++ final ∷ []) steps.1
+          ∙ append_assoc m′.0.log steps.0 (final ∷ [])
+          ∙ ap (λ (x : Mine). x.0.log ++ (steps.0 ++ final ∷ [])) taken
+          ∙ append_assoc (m.0.log ++ made) (first ∷ []) (steps.0 ++ final ∷ []),
     )
 
     moment_of : (latches : List Held) → HadLatches latches m′ m″ → (e : Met) × IsStepOf m m‴ e × (e.held ≡ latches)

@@ -33,7 +33,10 @@ fn an_audit_tells_each_book(rt: HostRuntime) -> Result<(), Fail> {
     let [ticket] = second.book.granted.as_slice() else {
         panic!(rt; "one ticket is granted");
     };
-    assert_eq!(rt; (ticket.session, ticket.number, ticket.mode), (2, 1, Mode::SNW));
+    assert_eq!(rt;
+        (ticket.session, ticket.number, ticket.mode),
+        (2, 1, Mode::SNW)
+    );
     assert!(rt; first.book.waiting.is_empty() && second.book.waiting.is_empty());
     assert!(rt; second.book.standing == Standing::new());
     assert_eq!(rt; two.release(1), Ok(()));

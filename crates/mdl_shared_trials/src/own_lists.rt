@@ -26,7 +26,11 @@ fn tickets_are_told_in_order_of_gain(rt: HostRuntime) -> Result<(), Fail> {
     assert_eq!(rt; two.try_now(2, Mode::SR), Ok(Attempt::Granted(1)));
     assert_eq!(rt; one.try_now(2, Mode::X), Ok(Attempt::WouldWait));
     assert_eq!(rt; one.try_now(2, Mode::SR), Ok(Attempt::Granted(3)));
-    let all = [ticket(1, 2, Mode::S), ticket(2, 1, Mode::IX), ticket(3, 2, Mode::SR)];
+    let all = [
+        ticket(1, 2, Mode::S),
+        ticket(2, 1, Mode::IX),
+        ticket(3, 2, Mode::SR),
+    ];
     let Ok(held) = one.held() else {
         panic!(rt; "there is memory");
     };

@@ -1,11 +1,11 @@
 -- Each book is copied under its latch, whose record stays until the latches of the places behind it are given back.
-use Rattle.std.proofs.Common.{◌≡◌, ℕ, [], ◌∷◌, ◌++◌, sym, ap, ◌∙◌, subst, arith, rules}
+use Rattle.std.proofs.Common.{◌≡◌, ℕ, [], Some, sym, ◌∙◌, subst, arith, rules}
 use Rattle.std.proofs.lemmas.Result.{on_ok_weaker}
-use Rattle.mdl_steps.specs.Plays.{Mine, unlatched}
+use Rattle.mdl_steps.specs.Plays.{Mine}
 use Rattle.mdl_steps.specs.Seats.{Holds, MayPut}
 use Rattle.mdl_steps.specs.Cells.{held_at}
 use Rattle.mdl_shared.specs.Visits.{IsInside}
-use Rattle.mdl_shared.proofs.Gathering.{gathers_more, gathers_none, makes_same, may_put, rising_next, there_and_back}
+use Rattle.mdl_shared.proofs.Gathering.{gathers_more, gathers_none, makes_same, may_put, rising_next, there_and_back, unlatched_at}
 use Rattle.mdl_shared.proofs.rounds.+gather.Goals as goal
 
 pub add_book-requires-clause-carried : goal.add_book-requires-clause-carried
@@ -30,7 +30,7 @@ returns-in-Err-clause-steps g t c =
     let copied = c.add_book.new.worker.seat.me in
     let went = c.put_latch.new.self.seat.me in
     there_and_back c.args.place c.args.worker.now.seat.me came copied went latch.ensures.inside (makes_same came copied c.add_book.ensures.same)
-    (c.put_latch.ensures.made ∙ ap (λ (q : ℕ). unlatched q [] copied) latch.ensures.place)
+    (unlatched_at c.args.place latch.result.place copied went latch.ensures.place c.put_latch.ensures.made)
 
 pub gather-outcome-requires : goal.gather-outcome-requires
 gather-outcome-requires g t c =
@@ -63,7 +63,7 @@ returns-clause-steps g t c =
     let went = c.put_latch-2.new.self.seat.me in
     let inside = subst (λ (m : Mine). IsInside c.args.place c.args.worker.now.seat.me m) (sym {A = Mine} c.add_book.ensures.same) latch.ensures.inside in
     there_and_back c.args.place c.args.worker.now.seat.me copied gathered went inside c.gather-outcome.ensures.steps
-    (c.put_latch-2.ensures.made ∙ ap (λ (q : ℕ). unlatched q [] gathered) latch.ensures.place)
+    (unlatched_at c.args.place latch.result.place gathered went latch.ensures.place c.put_latch-2.ensures.made)
 
 pub returns-clause-gathered : goal.returns-clause-gathered
 returns-clause-gathered g t c =
@@ -81,8 +81,7 @@ returns-clause-gathered g t c =
     let added = c.in_default.ensures.added h.book has.carried in
     on_ok_weaker c.gather-outcome.result
     (λ more. gathers_more c.args.place h taken.3.0 m copied taken.1.here (◌∙◌ {A = Mine} same taken.3.1) gathered went c.gather-outcome.ensures.steps
-    (c.put_latch-2.ensures.made ∙ ap (λ (q : ℕ). unlatched q [] gathered) at)
-    c.args.last c.args.audited.now.items c.add_book.new.audited.items c.gather-outcome.new.audited.items
-    (ap (λ (x : Mine). held_at c.args.place x.0.latches) same ∙ taken.2.recorded)
-    (added ∙ ap (λ (q : ℕ). c.args.audited.now.items ++ record { place = q; book = h.book } ∷ []) at) more)
+    (unlatched_at c.args.place latch.result.place gathered went at c.put_latch-2.ensures.made)
+    c.args.last latch.result.place c.args.audited.now.items c.add_book.new.audited.items c.gather-outcome.new.audited.items at
+    (subst (λ (x : Mine). held_at c.args.place x.0.latches ≡ Some h) (sym {A = Mine} same) taken.2.recorded) added more)
     c.gather-outcome.ensures.gathered
