@@ -7,4 +7,6 @@ pub mod Reading
 pub mod Lookups
 pub mod Naming
 pub mod Asking
+pub mod Gathering
 pub mod Listing
+pub mod Telling

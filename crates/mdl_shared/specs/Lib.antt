@@ -1,8 +1,10 @@
+pub mod Audits
 pub mod Idle
 pub mod Leavings
 pub mod Limits
 pub mod Lookups
 pub mod Members
+pub mod OwnLists
 pub mod Passes
 pub mod Tables
 pub mod Visits

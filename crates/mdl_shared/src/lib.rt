@@ -38,6 +38,8 @@
 #![tactic(auto)]
 
 mod askings;
+mod audited;
+mod audits;
 mod definitions;
 mod directories;
 mod latches;
@@ -45,11 +47,13 @@ mod laws;
 mod manager;
 mod member;
 mod new_error;
+mod own_lists;
 mod pass;
 mod places;
 mod reads;
 mod releasing;
 mod resolve_error;
+mod rounds;
 mod schemas;
 mod session;
 mod settling;
@@ -58,6 +62,7 @@ mod tickets;
 mod tries;
 mod wishes;
 
+pub use audited::Audited;
 pub use laws::{blocked_wishes_werent_grantable, granted_wishes_were_grantable};
 pub use manager::Manager;
 pub use new_error::NewError;

@@ -5,9 +5,13 @@
 #![tactic(auto)]
 
 #[cfg(test)]
+mod audits;
+#[cfg(test)]
 mod locks;
 #[cfg(test)]
 mod memory;
+#[cfg(test)]
+mod own_lists;
 #[cfg(test)]
 mod passes;
 #[cfg(test)]

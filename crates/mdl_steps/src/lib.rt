@@ -30,6 +30,7 @@
 //! ```
 #![tactic(auto)]
 
+mod copies;
 mod deed;
 mod directory;
 mod in_hand;
@@ -43,6 +44,7 @@ mod slot;
 mod view;
 mod worker;
 
+pub use copies::BookCopy;
 pub use deed::Deed;
 pub use directory::LatchedDirectory;
 pub use laws::{

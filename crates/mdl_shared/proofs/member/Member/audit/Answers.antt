@@ -1,0 +1,21 @@
+-- Only steps were made, so that all is as it was between two calls.
+use Rattle.std.proofs.Common.{sym, ap, ◌∙◌, subst}
+use Rattle.mdl_steps.specs.Plays.{Mine}
+use Rattle.mdl_shared.specs.Idle.{IsIdle, HasSlowAlone}
+use Rattle.mdl_shared.proofs.member.Member.audit.Goals as goal
+
+pub invariant_of-self : goal.invariant_of-self
+invariant_of-self g c =
+    let self = c.args.self.now in
+    let now = c.go_round.ensures.steps.1 in record {
+      seated = c.go_round.ensures.seat.0 ∙ self.seated;
+      sized = self.sized;
+      narrow = self.narrow;
+      idle = subst IsIdle (sym now) self.idle;
+      slow = subst HasSlowAlone (sym now) self.slow;
+      listed = self.listed ∙ sym (ap (λ (m : Mine). m.0.slow) now);
+      known_is = self.known_is ∙ sym (ap (λ (m : Mine). m.0.known) now);
+      next_is = self.next_is ∙ sym (ap (λ (m : Mine). m.0.next) now);
+      placed = self.placed;
+      within = self.within;
+    }

@@ -1,0 +1,47 @@
+//! An audit of the table.
+ghost use Rattle.std.specs.Prelude.{◌≡◌, length, IfOk, IfErr};
+ghost use Rattle.std.specs.Arc.{arc_value};
+ghost use Rattle.mdl_calls.specs.declared.space_error.SpaceError.TheVariants as cause;
+ghost use Rattle.mdl_steps.specs.declared.view.Keys.{Keys};
+ghost use Rattle.mdl_shared.specs.Audits.{Audits};
+ghost use Rattle.mdl_shared.specs.Lookups.{TookDirectory};
+
+use crate::member::Member;
+use crate::rounds::go_round;
+use crate::{Audited, Session};
+use mdl_calls::SpaceError;
+use std::alloc::AllocError;
+use std::sync::Wait;
+
+impl Member {
+    // The books of all places that have a key.
+    fn audit<R: Wait>(&mut self, rt: &R) -> Result<Vec<Audited>, AllocError>
+        ensures same { (self.new.table ≡ self.old.table) × (self.new.worker.number ≡ self.old.worker.number) × (self.new.next ≡ self.old.next)
+            × (self.new.known.items ≡ self.old.known.items) × (self.new.tickets.items ≡ self.old.tickets.items) }
+        ensures told { IfOk result (λ audited. (k : Keys) × TookDirectory (arc_value self.old.table).shared.table_id.slots k self.old.worker.seat.me self.new.worker.seat.me
+            × Audits (length k.keys) audited.items self.old.worker.seat.me self.new.worker.seat.me) }
+    {
+        let mut audited = Vec::new(*self.known.allocator());
+        go_round(rt, &mut self.worker, &self.table.shared, &mut audited)?;
+        Ok(audited)
+    }
+}
+
+impl<R: Wait> Session<R> {
+    /// The books of all places that have a key, from place 1 on, all as they were at one moment. Fast tickets are in none of them.
+    ///
+    /// The latches of these places are all taken for it, so other sessions' calls there wait meanwhile.
+    pub fn audit(&mut self) -> Result<Vec<Audited>, SpaceError>
+        ensures session { (self.new.member.table ≡ self.old.member.table) × (self.new.member.worker.number ≡ self.old.member.worker.number)
+            × (self.new.member.next ≡ self.old.member.next) × (self.new.member.known.items ≡ self.old.member.known.items)
+            × (self.new.member.tickets.items ≡ self.old.member.tickets.items) }
+        ensures told { IfOk result (λ audited. (k : Keys) × TookDirectory (arc_value self.old.member.table).shared.table_id.slots k self.old.member.worker.seat.me self.new.member.worker.seat.me
+            × Audits (length k.keys) audited.items self.old.member.worker.seat.me self.new.member.worker.seat.me) }
+        ensures refused { IfErr result (λ why. why ≡ cause.OutOfMemory) }
+    {
+        match self.member.audit(&self.rt) {
+            Ok(audited) => Ok(audited),
+            Err(AllocError) => Err(SpaceError::OutOfMemory),
+        }
+    }
+}
