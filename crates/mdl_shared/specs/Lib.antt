@@ -4,4 +4,6 @@ pub mod Limits
 pub mod Lookups
 pub mod Members
 pub mod Passes
+pub mod Redefinitions
+pub mod Upgrades
 pub mod Visits

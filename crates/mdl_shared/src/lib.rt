@@ -37,6 +37,7 @@
 //! ```
 #![tactic(auto)]
 
+mod changes;
 mod definitions;
 mod directories;
 mod latches;
@@ -47,12 +48,15 @@ mod new_error;
 mod pass;
 mod places;
 mod reads;
+mod redefining;
 mod releasing;
 mod resolve_error;
 mod session;
 mod settling;
+mod strengthening;
 mod tickets;
 mod tries;
+mod upgrades;
 mod wishes;
 
 pub use laws::{blocked_wishes_werent_grantable, granted_wishes_were_grantable};

@@ -1,9 +1,12 @@
 //! Tests of the lock space that threads share.
 //!
-//! Everything here is for tests: spaces are made, and sessions open, look keys up, try for locks, give them up and close, on one thread
-//! and on several. The tests stand over what `mdl_shared` shows to all, so that it has none itself and is proved once.
+//! Everything here is for tests: spaces are made, and sessions open, look keys up, try for locks, upgrade them, change what stands under
+//! keys, give locks up and close, on one thread and on several. The tests stand over what `mdl_shared` shows to all, so that it has none
+//! itself and is proved once.
 #![tactic(auto)]
 
+#[cfg(test)]
+mod changes;
 #[cfg(test)]
 mod locks;
 #[cfg(test)]
@@ -16,3 +19,5 @@ mod places;
 mod sessions;
 #[cfg(test)]
 mod threads;
+#[cfg(test)]
+mod upgrades;
