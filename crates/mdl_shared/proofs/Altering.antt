@@ -1,16 +1,11 @@
 -- A ticket in another mode: in the book, and in the session's own list.
 use Rattle.std.proofs.Common.{◌≡◌, ℕ, ◌+◌, ◌<◌, Bool, true, false, ◌||◌, List, [], ◌∷◌, length, Option, None, Result, Ok, Err, refl, sym, ap, ◌∙◌, arith}
-use Rattle.std.specs.Prelude.{is_some, not, OnOk}
-use Rattle.std.specs.List.{list_all}
+use Rattle.std.specs.Prelude.{is_some, OnOk}
 use Rattle.std.proofs.lemmas.Bool.{and_parts, and_from, lt-ltb}
 use Rattle.mdl_key.specs.Refusals.{RefusesJust}
 use Rattle.mdl_key.specs.declared.mode.Mode.{Mode}
 use Rattle.mdl_key.specs.declared.namespace.Kind.{Kind}
-use Rattle.mdl_key.specs.declared.namespace.Kind.TheVariants.{Scoped, Object}
-use Rattle.mdl_key.specs.Words.{all_modes, is_obtrusive}
-use Rattle.mdl_key.proofs.MatrixLemmas.{each_mode}
-use Rattle.mdl_system.specs.Strength.{may_upgrade}
-use Rattle.mdl_system.proofs.LawfulLemmas.{implied}
+use Rattle.mdl_key.specs.Words.{is_obtrusive}
 use Rattle.mdl_book.specs.declared.book_error.BookError.{BookError}
 use Rattle.mdl_book.specs.declared.book_view.BookView.{BookView}
 use Rattle.mdl_book.specs.declared.ticket.Ticket.{Ticket}
@@ -67,19 +62,6 @@ module _ (session number : ℕ) (mode : Mode) where
 pub just_done : {T : Type 0} {P : Type 0} (fault : Option BookError) (result : Result T BookError) → fault ≡ None → RefusesJust fault result → OnOk result P → P
 just_done fault (Ok x) none told done = done
 just_done {T} fault (Err e) none told done = let is = rw none at told in absurd (cc)
-
--- ---- by its mode
-
-abbrev raises : Kind → Mode → Mode → Bool
-raises kind held mode = not (may_upgrade held mode) || is_obtrusive kind mode
-
-all_raise : (kind : Kind) → list_all (λ held. list_all (raises kind held) all_modes) all_modes ≡ true
-all_raise Scoped = refl
-all_raise Object = refl
-
--- a mode that another may be upgraded to is obtrusive
-pub upgrade_obtrusive : (kind : Kind) (held mode : Mode) → may_upgrade held mode ≡ true → is_obtrusive kind mode ≡ true
-upgrade_obtrusive kind held mode may = implied _ _ (each_mode (raises kind held) (each_mode (λ h. list_all (raises kind h) all_modes) (all_raise kind) held) mode) may
 
 -- ---- in the session's list
 

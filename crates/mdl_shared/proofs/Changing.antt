@@ -91,7 +91,7 @@ module _ (place : ℕ) (standing : Standing) (m m′ m″ : Mine) (put : m″ �
   -- the step that wrote the version came right after the one that took the latch
   steps : (h : Held) (made : List Met) → m′ ≡ latched place h (and_made made m)
       → AreStepsOf m m″ (record { word = latch_word place; found = 0; held = h ∷ m.0.latches })
-          (record { word = version_word place; found = standing.version - 1; held = (redefined place standing m′).0.latches })
+      (record { word = version_word place; found = standing.version - 1; held = (redefined place standing m′).0.latches })
   steps h made took =
       let takes : Met = record { word = latch_word place; found = 0; held = h ∷ m.0.latches } in
       let writes : Met = record { word = version_word place; found = standing.version - 1; held = (redefined place standing m′).0.latches } in

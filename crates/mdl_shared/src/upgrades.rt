@@ -40,14 +40,7 @@ impl Member {
         ensures would_wait { result ≡ WouldWait → (self.new.tickets.items ≡ self.old.tickets.items)
             × ((e : Met) × IsStepOf self.old.worker.seat.me self.new.worker.seat.me e × MeetsBlocked place self.old.worker.number mode e) }
     {
-        match try_strengthen(
-            rt,
-            &mut self.worker,
-            &self.table.shared,
-            place,
-            id,
-            mode,
-        ) {
+        match try_strengthen(rt, &mut self.worker, &self.table.shared, place, id, mode) {
             Tried::Granted => {
                 alter_all(&mut self.tickets, place, id, mode);
                 Upgrade::Upgraded

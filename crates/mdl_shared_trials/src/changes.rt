@@ -16,10 +16,16 @@ fn a_change_is_one_version_more(rt: HostRuntime) -> Result<(), Fail> {
     assert_eq!(rt; one.resolve(&shop), Ok(1));
     assert_eq!(rt; two.resolve(&shop), Ok(1));
     assert_eq!(rt; one.try_now(1, Mode::X), Ok(Attempt::Granted(1)));
-    assert_eq!(rt; one.change_definition(1, &Change::Create(Definition::Schema)), Ok(1));
+    assert_eq!(rt;
+        one.change_definition(1, &Change::Create(Definition::Schema)),
+        Ok(1)
+    );
     assert!(rt; one.read_definition(1) == Ok(schema_of(1)));
     assert_eq!(rt; one.change_definition(1, &Change::Drop), Ok(2));
-    assert_eq!(rt; one.change_definition(1, &Change::Put(Definition::Schema)), Ok(3));
+    assert_eq!(rt;
+        one.change_definition(1, &Change::Put(Definition::Schema)),
+        Ok(3)
+    );
     assert_eq!(rt; one.release(1), Ok(()));
     assert_eq!(rt; two.try_now(1, Mode::S), Ok(Attempt::Granted(1)));
     assert!(rt; two.read_definition(1) == Ok(schema_of(3)));
@@ -47,16 +53,31 @@ fn a_change_that_cannot_be_made_is_refused(rt: HostRuntime) -> Result<(), Fail> 
     let create = Change::Create(Definition::Schema);
     assert_eq!(rt; session.resolve(&shop), Ok(1));
     assert_eq!(rt; session.resolve(&sales), Ok(2));
-    assert_eq!(rt; session.change_definition(1, &create), Err(SpaceError::NotHeld));
+    assert_eq!(rt;
+        session.change_definition(1, &create),
+        Err(SpaceError::NotHeld)
+    );
     assert_eq!(rt; session.try_now(2, Mode::SNRW), Ok(Attempt::Granted(1)));
-    assert_eq!(rt; session.change_definition(1, &create), Err(SpaceError::NotExclusive));
+    assert_eq!(rt;
+        session.change_definition(1, &create),
+        Err(SpaceError::NotExclusive)
+    );
     assert_eq!(rt; session.try_now(2, Mode::X), Ok(Attempt::Granted(2)));
-    assert_eq!(rt; session.change_definition(2, &create), Err(SpaceError::WrongKind));
-    assert_eq!(rt; session.change_definition(2, &Change::Drop), Err(SpaceError::Def(DefError::Missing)));
+    assert_eq!(rt;
+        session.change_definition(2, &create),
+        Err(SpaceError::WrongKind)
+    );
+    assert_eq!(rt;
+        session.change_definition(2, &Change::Drop),
+        Err(SpaceError::Def(DefError::Missing))
+    );
     assert!(rt; session.read_definition(2) == Ok(Standing::new()));
     assert_eq!(rt; session.try_now(1, Mode::X), Ok(Attempt::Granted(3)));
     assert_eq!(rt; session.change_definition(3, &create), Ok(1));
-    assert_eq!(rt; session.change_definition(3, &create), Err(SpaceError::Def(DefError::Exists)));
+    assert_eq!(rt;
+        session.change_definition(3, &create),
+        Err(SpaceError::Def(DefError::Exists))
+    );
     assert!(rt; session.read_definition(3) == Ok(schema_of(1)));
     assert_eq!(rt; session.release(1), Ok(()));
     assert_eq!(rt; session.release(2), Ok(()));
@@ -79,7 +100,10 @@ fn the_versions_run_out(rt: HostRuntime) -> Result<(), Fail> {
         last = session.change_definition(1, &put);
     }
     assert_eq!(rt; last, Ok(1_000_000));
-    assert_eq!(rt; session.change_definition(1, &put), Err(SpaceError::VersionFull));
+    assert_eq!(rt;
+        session.change_definition(1, &put),
+        Err(SpaceError::VersionFull)
+    );
     assert_eq!(rt; session.release(1), Ok(()));
     closed(&rt, session);
     Ok(())

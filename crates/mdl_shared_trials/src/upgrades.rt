@@ -43,11 +43,17 @@ fn an_upgrade_that_cannot_be_asked_for_is_refused(rt: HostRuntime) -> Result<(),
     assert_eq!(rt; session.resolve(&sales), Ok(1));
     assert_eq!(rt; session.upgrade_now(1, Mode::X), Err(SpaceError::NotHeld));
     assert_eq!(rt; session.try_now(1, Mode::SR), Ok(Attempt::Granted(1)));
-    assert_eq!(rt; session.upgrade_now(1, Mode::X), Err(SpaceError::NotUpgradable));
+    assert_eq!(rt;
+        session.upgrade_now(1, Mode::X),
+        Err(SpaceError::NotUpgradable)
+    );
     assert_eq!(rt; session.upgrade_now(1, Mode::S), Ok(Upgrade::Upgraded));
     assert_eq!(rt; session.try_now(1, Mode::X), Ok(Attempt::Granted(2)));
     assert_eq!(rt; session.upgrade_now(2, Mode::SNW), Ok(Upgrade::Upgraded));
-    assert_eq!(rt; session.upgrade_now(2, Mode::IX), Err(SpaceError::NotUpgradable));
+    assert_eq!(rt;
+        session.upgrade_now(2, Mode::IX),
+        Err(SpaceError::NotUpgradable)
+    );
     assert_eq!(rt; session.release(2), Ok(()));
     assert_eq!(rt; session.upgrade_now(2, Mode::X), Err(SpaceError::NotHeld));
     assert_eq!(rt; session.release(1), Ok(()));

@@ -27,8 +27,8 @@ try_strengthen-requires-clause-held g c =
     let self = c.args.self.now in
     subst (λ (ts : List Own). HasTicket c.args.place c.args.id ts) self.listed (has_numbered c.args.place c.args.id self.tickets.items c.requires.held)
 
-pub invariant_of-self-in-Granted : goal.invariant_of-self-in-Granted
-invariant_of-self-in-Granted g c =
+pub invariant_of-self : goal.invariant_of-self
+invariant_of-self g c =
     let self = c.args.self.now in
     let now = (c.try_strengthen.ensures.granted c.in-Granted.is).0.now in record {
       seated = c.try_strengthen.ensures.seat.0 ∙ self.seated;
