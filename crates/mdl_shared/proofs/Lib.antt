@@ -1,9 +1,11 @@
 pub mod Visiting
+pub mod Altering
 pub mod Trying
 pub mod Leaving
 pub mod Losing
 pub mod Membership
 pub mod Reading
+pub mod Changing
 pub mod Lookups
 pub mod Naming
 pub mod Asking

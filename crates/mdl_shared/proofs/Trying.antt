@@ -1,6 +1,6 @@
 -- What a try comes to, by the record of the latch as it was entered.
 use Rattle.std.proofs.Common.{◌≡◌, ℕ, ◌+◌, ◌≤◌, Bool, true, false, cond, ◌||◌, List, [], ◌∷◌, ◌++◌, length, Option, Some, Result, Err, refl, sym, ap, ◌∙◌, subst, inl, inr, append_assoc, length-append, arith}
-use Rattle.std.specs.Prelude.{◌⊎◌, nat_lt, nat_le}
+use Rattle.std.specs.Prelude.{◌⊎◌, nat_lt, nat_le, is_some}
 use Rattle.std.proofs.lemmas.Bool.{and_parts, lt-ltb, leb-true, or_right}
 use Rattle.std.proofs.lemmas.List.Folds.{list_any-append}
 use Rattle.mdl_key.specs.declared.mode.Mode.{Mode}
@@ -13,17 +13,21 @@ use Rattle.mdl_book.specs.declared.book_view.BookView.{BookView}
 use Rattle.mdl_book.specs.declared.ticket.Ticket.{Ticket}
 use Rattle.mdl_book.specs.Books.{lock_kind, granting, grant_fault, any_obtrusive, ticket_count}
 use Rattle.mdl_book.specs.FastTickets.{can_be_granted, may_stand}
+use Rattle.mdl_book.specs.Tickets.{ticket_of}
 use Rattle.mdl_steps.specs.declared.deed.Deed.{Deed}
-use Rattle.mdl_steps.specs.declared.deed.Deed.TheVariants.{Gain}
+use Rattle.mdl_steps.specs.declared.deed.Deed.TheVariants.{Gain, Alter}
 use Rattle.mdl_steps.specs.declared.view.Held.{Held}
 use Rattle.mdl_steps.specs.declared.view.Met.{Met}
-use Rattle.mdl_steps.specs.Deeds.{MayJoin, booked}
+use Rattle.mdl_steps.specs.Deeds.{May, MayJoin, NotWaited, booked}
 use Rattle.mdl_steps.specs.Layout.{latch_word, lock_word}
 use Rattle.mdl_steps.specs.Plays.{Mine, noting, raised, unlatched}
 use Rattle.mdl_steps.specs.Rule.{TellsLists}
 use Rattle.mdl_steps.specs.Seats.{Holds, MayPut, written}
 use Rattle.mdl_steps.proofs.Hands.{holds_written}
 use Rattle.mdl_steps.proofs.Views.{by_bool}
+use Rattle.mdl_shared.proofs.Altering.{altered_exactly}
+use Rattle.mdl_shared.proofs.Leaving.{own_found}
+use Rattle.mdl_shared.specs.Leavings.{HasTicket}
 use Rattle.mdl_shared.specs.Visits.{Enters, GoesOn, IsStepOf, KnowsKind, MayLeave, MeetsFull, MeetsGrantable}
 
 -- ---- flags
@@ -86,32 +90,58 @@ module _ (place word session number : ℕ) (mode : Mode) (kind : Kind) (asks : B
   joins : can_be_granted (lock_kind book) book.granted book.waiting word session mode ≡ true → MayJoin session book latch.noted mode
   joins can = may_join book word session mode asks entered.found.obtrusive entered.found.noted (is ∙ ap (λ k. is_obtrusive k mode) (sym kind_is)) (and_parts _ _ can).0
 
-  -- it has the ticket written, and may give the latch back
-  pub ready : (m″ : Mine) → m.0.number ≡ session → number ≡ m.0.next → can_be_granted (lock_kind book) book.granted book.waiting word session mode ≡ true
-      → m″ ≡ written place (booked session (Gain number mode) book) m′ → MayPut place (Gain number mode ∷ []) m″
-  ready m″ mine next can wrote =
-      let who : session ≡ m′.0.number = sym mine ∙ sym (ap (λ (x : Mine). x.0.number) entered.inside.now) in
-      let known = subst (λ (x : Mine). KnowsKind x.0 place kind) (sym entered.inside.now) knows in
-      let t : Ticket = record { session = session; number = number; mode = mode } in
-      let has : Holds place latch (granting t book) (written place (granting t book) m′) = holds_written place latch book (granting t book) m′ entered.holds in
-      let has_it = subst (λ (s : ℕ). Holds place latch (booked s (Gain number mode) book) (written place (granting t book) m′)) who has in
-      subst (MayPut place (Gain number mode ∷ [])) (sym wrote) (
-        latch,
-        record {
-          holds = has_it;
-          act = inl (known.0, known.1, known.2, known.3);
-          may = (
-            (
-              next ∙ sym (ap (λ (x : Mine). x.0.next) entered.inside.now),
-              ap (λ k. is_mode_of k mode) kind_is ∙ is_mode,
-              subst (λ (s : ℕ). MayJoin s book latch.noted mode) who (joins can),
-            ),
-            tt,
-          );
-        },
-        subst (λ (s : ℕ). TellsLists (booked s (Gain number mode) book) true (asks || entered.found.obtrusive)) who
-            (granted_exactly t book entered.found.slow entered.found.obtrusive asks entered.fresh.exact (is ∙ ap (λ k. is_obtrusive k mode) (sym kind_is))),
-      )
+  is_mode_here : is_mode_of (lock_kind book) mode ≡ true
+  is_mode_here = ap (λ k. is_mode_of k mode) kind_is ∙ is_mode
+
+  asks_here : asks ≡ is_obtrusive (lock_kind book) mode
+  asks_here = is ∙ ap (λ k. is_obtrusive k mode) (sym kind_is)
+
+  module _ (mine : m.0.number ≡ session) where
+    me : session ≡ m′.0.number
+    me = sym mine ∙ sym (ap (λ (x : Mine). x.0.number) entered.inside.now)
+
+    joins_here : can_be_granted (lock_kind book) book.granted book.waiting word session mode ≡ true → MayJoin m′.0.number book latch.noted mode
+    joins_here can = subst (λ (s : ℕ). MayJoin s book latch.noted mode) me (joins can)
+
+    -- it has a deed written that it may do, and may give the latch back
+    may_put : (d : Deed) (m″ : Mine) → May m′.0 book latch.noted d → TellsLists (booked session d book) true (asks || entered.found.obtrusive)
+        → m″ ≡ written place (booked session d book) m′ → MayPut place (d ∷ []) m″
+    may_put d m″ may told wrote =
+        let known = subst (λ (x : Mine). KnowsKind x.0 place kind) (sym entered.inside.now) knows in
+        let has : Holds place latch (booked session d book) (written place (booked session d book) m′) = holds_written place latch book (booked session d book) m′ entered.holds in
+        subst (MayPut place (d ∷ [])) (sym wrote) (
+          latch,
+          record {
+            holds = subst (λ (s : ℕ). Holds place latch (booked s d book) (written place (booked session d book) m′)) me has;
+            act = inl (known.0, known.1, known.2, known.3);
+            may = (may, tt);
+          },
+          subst (λ (s : ℕ). TellsLists (booked s d book) true (asks || entered.found.obtrusive)) me told,
+        )
+
+    -- the deed is the ticket that it gains
+    pub ready : (m″ : Mine) → number ≡ m.0.next → can_be_granted (lock_kind book) book.granted book.waiting word session mode ≡ true
+        → m″ ≡ written place (booked session (Gain number mode) book) m′ → MayPut place (Gain number mode ∷ []) m″
+    ready m″ next can wrote =
+        may_put (Gain number mode) m″
+        (next ∙ sym (ap (λ (x : Mine). x.0.next) entered.inside.now), is_mode_here, joins_here can)
+        (granted_exactly (record { session = session; number = number; mode = mode }) book entered.found.slow entered.found.obtrusive asks entered.fresh.exact asks_here)
+        wrote
+
+    -- the ticket that it has there stands in the book
+    pub stands : NotWaited m.0 number → HasTicket place number m.0.slow → is_some (ticket_of session number book.granted) ≡ true
+    stands unwaited has =
+        subst (λ (s : ℕ). is_some (ticket_of s number book.granted) ≡ true) mine (ap is_some (entered.fresh.own number unwaited) ∙ own_found m.0.number place number m.0.slow has)
+
+    -- the deed is the other mode of that ticket, an obtrusive one
+    pub ready_altered : (m″ : Mine) → asks ≡ true → NotWaited m.0 number → HasTicket place number m.0.slow
+        → can_be_granted (lock_kind book) book.granted book.waiting word session mode ≡ true
+        → m″ ≡ written place (booked session (Alter number mode) book) m′ → MayPut place (Alter number mode ∷ []) m″
+    ready_altered m″ up unwaited has can wrote =
+        may_put (Alter number mode) m″
+        (subst (λ (x : Mine). NotWaited x.0 number) (sym entered.inside.now) unwaited, is_mode_here, joins_here can)
+        (altered_exactly session number mode book asks entered.found.obtrusive up (sym asks_here ∙ up) (stands unwaited has))
+        wrote
 
   -- the step that gave it back shows that the wish could be granted
   pub grantable : (m″ m‴ : Mine) (wrote : BookView) (ds : List Deed) → m.0.number ≡ session → can_be_granted (lock_kind book) book.granted book.waiting word session mode ≡ true

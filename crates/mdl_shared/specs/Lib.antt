@@ -6,5 +6,7 @@ pub mod Lookups
 pub mod Members
 pub mod OwnLists
 pub mod Passes
+pub mod Redefinitions
 pub mod Tables
+pub mod Upgrades
 pub mod Visits

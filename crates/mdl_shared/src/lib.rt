@@ -40,6 +40,7 @@
 mod askings;
 mod audited;
 mod audits;
+mod changes;
 mod definitions;
 mod directories;
 mod latches;
@@ -51,15 +52,18 @@ mod own_lists;
 mod pass;
 mod places;
 mod reads;
+mod redefining;
 mod releasing;
 mod resolve_error;
 mod rounds;
 mod schemas;
 mod session;
 mod settling;
+mod strengthening;
 mod tables;
 mod tickets;
 mod tries;
+mod upgrades;
 mod wishes;
 
 pub use audited::Audited;

@@ -35,8 +35,8 @@ impl Member {
     }
 }
 
-// Notes a version under each ticket at a place.
-fn note_all(tickets: &mut Vec<Own>, place: usize, version: u64)
+/// Notes a version under each ticket at a place.
+pub(crate) fn note_all(tickets: &mut Vec<Own>, place: usize, version: u64)
     ensures { tickets.new.items ≡ noting_version place version tickets.old.items }
 {
     note(tickets, place, version);

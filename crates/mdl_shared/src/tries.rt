@@ -27,7 +27,7 @@ pub(crate) enum Tried {
 }
 
 /// Comes to a place for a wish: takes the latch, raises the flags that keep others from passing by, and reads the lock's word.
-fn enter<R: Wait>(
+pub(crate) fn enter<R: Wait>(
     rt: &R,
     worker: &mut Worker,
     top: &LockTable,
@@ -48,7 +48,7 @@ fn enter<R: Wait>(
 }
 
 /// Goes from a place with nothing done: lowers the flags that the lists don't ask for, and gives the latch back.
-fn leave(worker: &mut Worker, top: &LockTable, latch: Latched)
+pub(crate) fn leave(worker: &mut Worker, top: &LockTable, latch: Latched)
     requires table { (worker.old.seat.table_id ≡ top.now.table_id) × IsSized top.now.table_id }
     requires place { IsPlace top.now.table_id latch.place }
     requires left { MayLeave latch.place worker.old.seat.me }

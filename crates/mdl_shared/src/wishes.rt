@@ -23,7 +23,7 @@ const MOST_NUMBERS: u64 = (1 << 60) - 1;
 
 impl Member {
     // The kind of the lock at a place, where the session has looked its key up.
-    fn kind_at(&self, place: usize) -> Option<Kind>
+    pub(crate) fn kind_at(&self, place: usize) -> Option<Kind>
         ensures { result ≡ kind_known place self.now.known.items }
     {
         self.known

@@ -1,11 +1,18 @@
 //! Tests of the lock space that threads share.
 //!
-//! Everything here is for tests: spaces are made, and sessions open, look keys up, try for locks, give them up and close, on one thread
-//! and on several. The tests stand over what `mdl_shared` shows to all, so that it has none itself and is proved once.
+//! Everything here is for tests: spaces are made, and sessions open, look keys up, try for locks, upgrade them, change what stands under
+//! keys, give locks up and close, on one thread and on several. The tests stand over what `mdl_shared` shows to all, so that it has none
+//! itself and is proved once.
 #![tactic(auto)]
 
 #[cfg(test)]
 mod audits;
+#[cfg(test)]
+mod chance;
+#[cfg(test)]
+mod changes;
+#[cfg(test)]
+mod counting;
 #[cfg(test)]
 mod locks;
 #[cfg(test)]
@@ -18,10 +25,14 @@ mod passes;
 mod places;
 #[cfg(test)]
 mod sessions;
-mod taking;
+#[cfg(test)]
+mod stress;
 #[cfg(test)]
 mod tables;
+mod taking;
 #[cfg(test)]
 mod threads;
+#[cfg(test)]
+mod upgrades;
 
 pub use taking::{takings, takings_of_two};

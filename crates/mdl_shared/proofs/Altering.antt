@@ -1,0 +1,75 @@
+-- A ticket in another mode: in the book, and in the session's own list.
+use Rattle.std.proofs.Common.{◌≡◌, ℕ, ◌+◌, ◌<◌, Bool, true, ◌||◌, List, [], ◌∷◌, length, Option, None, Result, Ok, Err, refl, sym, ap, ◌∙◌, arith}
+use Rattle.std.specs.Prelude.{is_some, OnOk}
+use Rattle.std.proofs.lemmas.Bool.{and_parts, and_from, lt-ltb}
+use Rattle.mdl_key.specs.Refusals.{RefusesJust}
+use Rattle.mdl_key.specs.declared.mode.Mode.{Mode}
+use Rattle.mdl_key.specs.declared.namespace.Kind.{Kind}
+use Rattle.mdl_key.specs.Words.{is_obtrusive}
+use Rattle.mdl_book.specs.declared.book_error.BookError.{BookError}
+use Rattle.mdl_book.specs.declared.book_view.BookView.{BookView}
+use Rattle.mdl_book.specs.declared.ticket.Ticket.{Ticket}
+use Rattle.mdl_book.specs.Books.{any_obtrusive, change_fault, changing, lock_kind}
+use Rattle.mdl_book.specs.FastTickets.{may_stand}
+use Rattle.mdl_book.specs.Tickets.{is_ticket, ticket_of, with_mode}
+use Rattle.mdl_steps.specs.declared.view.Known.{Known}
+use Rattle.mdl_steps.specs.declared.view.Own.{Own}
+use Rattle.mdl_steps.specs.Deeds.{is_own}
+use Rattle.mdl_steps.specs.Rule.{TellsLists}
+use Rattle.mdl_steps.proofs.Tickets.{with_mode-hit, with_mode-miss}
+use Rattle.mdl_steps.proofs.Views.{by_bool}
+use Rattle.mdl_shared.specs.Members.{are_placed, is_known_place}
+use Rattle.mdl_shared.specs.Upgrades.{with_mode_at}
+
+-- ---- in the book
+
+module _ (session number : ℕ) (mode : Mode) where
+  -- the ticket is one of the list still
+  some_left : (ts : List Ticket) → is_some (ticket_of session number ts) ≡ true → 0 < length (with_mode session number mode ts)
+  some_left [] there = absurd (cc)
+  some_left (t ∷ ts) there =
+      by_bool (is_ticket session number t)
+      (λ hit. let is = ap length (with_mode-hit session number mode t ts hit) in omega arith)
+      (λ miss. let is = ap length (with_mode-miss session number mode t ts miss) in omega arith)
+
+  -- and it is obtrusive where the mode is
+  obtrusive_there : (kind : Kind) (ts : List Ticket) → is_obtrusive kind mode ≡ true → is_some (ticket_of session number ts) ≡ true
+      → any_obtrusive kind (with_mode session number mode ts) ≡ true
+  obtrusive_there kind [] asks there = absurd (cc)
+  obtrusive_there kind (t ∷ ts) asks there =
+      by_bool (is_ticket session number t)
+      (λ hit. ap (any_obtrusive kind) (with_mode-hit session number mode t ts hit) ∙ rw asks refl)
+      (λ miss.
+      let later = obtrusive_there kind ts asks (rw miss at there) in
+      ap (any_obtrusive kind) (with_mode-miss session number mode t ts miss) ∙ by_bool (is_obtrusive kind t.mode) (λ yes. rw yes refl) (λ no. rw no later))
+
+  -- so the flags that were raised for it tell the lists exactly
+  pub altered_exactly : (book : BookView) (asks obtrusive : Bool) → asks ≡ true → is_obtrusive (lock_kind book) mode ≡ true → is_some (ticket_of session number book.granted) ≡ true
+      → TellsLists (changing session number mode book) true (asks || obtrusive)
+  altered_exactly book asks obtrusive up is there =
+      let some = some_left book.granted there in
+      let any = obtrusive_there (lock_kind book) book.granted is there in (
+        sym (lt-ltb 0 (length (with_mode session number mode book.granted) + length book.waiting) (omega (arith, some))),
+        rw up (sym (rw any refl)),
+      )
+
+  -- what may stand and is there can be written
+  pub none_clashes : (word : ℕ) (book : BookView) → is_some (ticket_of session number book.granted) ≡ true → may_stand (lock_kind book) book.granted word session mode ≡ true
+      → change_fault session number mode word book ≡ None
+  none_clashes word book there stands = rw (there, stands) refl
+
+-- where there is no fault it was done
+pub just_done : {T : Type 0} {P : Type 0} (fault : Option BookError) (result : Result T BookError) → fault ≡ None → RefusesJust fault result → OnOk result P → P
+just_done fault (Ok x) none told done = done
+just_done {T} fault (Err e) none told done = let is = rw none at told in absurd (cc)
+
+-- ---- in the session's list
+
+-- each ticket stays at its place
+pub altered_placed : (known : List Known) (tickets : List Own) (place number : ℕ) (mode : Mode) → are_placed known tickets ≡ true → are_placed known (with_mode_at place number mode tickets) ≡ true
+altered_placed known [] place number mode all = refl
+altered_placed known (t ∷ ts) place number mode all =
+    let parts = and_parts (is_known_place known t.place) (are_placed known ts) all in
+    by_bool (is_own place number t)
+    (λ here. rw here (and_from _ _ parts.0 (altered_placed known ts place number mode parts.1)))
+    (λ elsewhere. rw elsewhere (and_from _ _ parts.0 (altered_placed known ts place number mode parts.1)))

@@ -1,0 +1,43 @@
+-- The ticket is of a place whose key the session knows, and what is noted under its tickets its view has.
+use Rattle.std.specs.Prelude.{is_some}
+use Rattle.std.proofs.Common.{ℕ, ◌<◌, Some, List, length, sym, ap, ◌∙◌, subst}
+use Rattle.std.specs.Option.{option_map}
+use Rattle.mdl_steps.specs.declared.view.Own.{Own}
+use Rattle.mdl_steps.specs.Plays.{Mine, noting_version}
+use Rattle.mdl_shared.specs.Idle.{IsIdle}
+use Rattle.mdl_shared.specs.Members.{are_placed}
+use Rattle.mdl_shared.specs.Redefinitions.{HasExclusiveAt}
+use Rattle.mdl_shared.proofs.Membership.{has_numbered, known_within, placed_at, noted_placed, none_noted}
+use Rattle.mdl_shared.proofs.member.Member.change.Goals as goal
+
+pub redefine_at-requires-clause-place : goal.redefine_at-requires-clause-place
+redefine_at-requires-clause-place g c =
+    let self = c.args.self.now in
+    let held = c.requires.held in
+    let at = ap (option_map (λ (t : Own). t.place)) held.2 ∙ ap Some held.3 in
+    let has = has_numbered c.args.place held.0 self.tickets.items at in
+    let known = placed_at self.known.items self.tickets.items c.args.place held.0 self.placed has in
+    subst (λ table. (0 < c.args.place) × (c.args.place < table.shared.table_id.slots)) (sym c.deref.ensures) (known_within _ c.args.place self.known.items self.within known)
+
+pub redefine_at-requires-clause-held : goal.redefine_at-requires-clause-held
+redefine_at-requires-clause-held g c = subst (λ (ts : List Own). HasExclusiveAt c.args.place ts) c.args.self.now.listed c.requires.held
+
+pub invariant_of-self-2 : goal.invariant_of-self-2
+invariant_of-self-2 g c =
+    let self = c.args.self.now in
+    let place = c.args.place in
+    let knows = c.in_ok-version.ensures.changed.1 in
+    let standing = knows.0 in
+    let now = knows.2.1 in
+    let noted = c.note_all.ensures ∙ ap (λ (n : ℕ). noting_version place n self.tickets.items) (sym knows.1) in record {
+      seated = c.redefine_at.ensures.seat.0 ∙ self.seated;
+      sized = self.sized;
+      narrow = self.narrow;
+      idle = subst IsIdle (sym now) self.idle;
+      slow = (ap (λ (m : Mine). length m.0.fast) now ∙ none_noted place standing.version self.worker.seat.me.0.fast self.slow.0, ap (λ (m : Mine). is_some m.0.asks) now ∙ self.slow.1);
+      listed = noted ∙ ap (noting_version place standing.version) self.listed ∙ sym (ap (λ (m : Mine). m.0.slow) now);
+      known_is = self.known_is ∙ sym (ap (λ (m : Mine). m.0.known) now);
+      next_is = self.next_is ∙ sym (ap (λ (m : Mine). m.0.next) now);
+      placed = ap (are_placed self.known.items) noted ∙ noted_placed self.known.items self.tickets.items place standing.version self.placed;
+      within = self.within;
+    }

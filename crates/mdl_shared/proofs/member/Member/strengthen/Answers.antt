@@ -1,0 +1,44 @@
+-- The ticket is of a place whose key the session knows, and its mode is the same in the session's list and in its view.
+use Rattle.std.proofs.Common.{◌<◌, List, sym, ap, ◌∙◌, subst}
+use Rattle.mdl_steps.specs.declared.view.Own.{Own}
+use Rattle.mdl_steps.specs.Plays.{Mine}
+use Rattle.mdl_shared.specs.Idle.{IsIdle, HasSlowAlone}
+use Rattle.mdl_shared.specs.Leavings.{HasTicket}
+use Rattle.mdl_shared.specs.Members.{are_placed, kind_known}
+use Rattle.mdl_shared.specs.Upgrades.{with_mode_at}
+use Rattle.mdl_shared.proofs.Altering.{altered_placed}
+use Rattle.mdl_shared.proofs.Membership.{has_numbered, kind_place, kind_there, known_within}
+use Rattle.mdl_shared.proofs.member.Member.strengthen.Goals as goal
+
+pub try_strengthen-requires-clause-place : goal.try_strengthen-requires-clause-place
+try_strengthen-requires-clause-place g c =
+    let self = c.args.self.now in
+    let known = kind_place c.args.place c.args._kind self.known.items c.requires.known in
+    subst (λ table. (0 < c.args.place) × (c.args.place < table.shared.table_id.slots)) (sym c.deref.ensures) (known_within _ c.args.place self.known.items self.within known)
+
+pub try_strengthen-requires-clause-mode : goal.try_strengthen-requires-clause-mode
+try_strengthen-requires-clause-mode g c =
+    let self = c.args.self.now in
+    let knows = kind_there c.args.place c.args._kind self.worker.seat.me.0.known (ap (kind_known c.args.place) (sym self.known_is) ∙ c.requires.known) in
+    (c.args._kind, knows, c.requires.mode.0, c.requires.mode.1)
+
+pub try_strengthen-requires-clause-held : goal.try_strengthen-requires-clause-held
+try_strengthen-requires-clause-held g c =
+    let self = c.args.self.now in
+    subst (λ (ts : List Own). HasTicket c.args.place c.args.id ts) self.listed (has_numbered c.args.place c.args.id self.tickets.items c.requires.held)
+
+pub invariant_of-self : goal.invariant_of-self
+invariant_of-self g c =
+    let self = c.args.self.now in
+    let now = (c.try_strengthen.ensures.granted c.in-Granted.is).0.now in record {
+      seated = c.try_strengthen.ensures.seat.0 ∙ self.seated;
+      sized = self.sized;
+      narrow = self.narrow;
+      idle = subst IsIdle (sym now) self.idle;
+      slow = subst HasSlowAlone (sym now) self.slow;
+      listed = c.alter_all.ensures ∙ ap (with_mode_at c.args.place c.args.id c.args.mode) self.listed ∙ sym (ap (λ (m : Mine). m.0.slow) now);
+      known_is = self.known_is ∙ sym (ap (λ (m : Mine). m.0.known) now);
+      next_is = self.next_is ∙ sym (ap (λ (m : Mine). m.0.next) now);
+      placed = ap (are_placed self.known.items) c.alter_all.ensures ∙ altered_placed self.known.items self.tickets.items c.args.place c.args.id c.args.mode self.placed;
+      within = self.within;
+    }

@@ -1,0 +1,113 @@
+//! What a session asks for beyond a ticket that it has.
+ghost use Rattle.std.specs.Prelude.{◌≡◌, Ok, Some, true, false, OnErr};
+ghost use Rattle.std.specs.Option.{option_map};
+ghost use Rattle.mdl_key.specs.Refusals.{RefusesJust};
+ghost use Rattle.mdl_key.specs.Words.{is_mode_of, is_obtrusive};
+ghost use Rattle.mdl_system.specs.Strength.{covers};
+ghost use Rattle.mdl_calls.specs.declared.answers.Upgrade.TheVariants.{Upgraded, WouldWait};
+ghost use Rattle.mdl_steps.specs.declared.view.Met.{Met};
+ghost use Rattle.mdl_steps.specs.declared.view.Own.{Own};
+ghost use Rattle.mdl_shared.specs.Members.{kind_known, numbered};
+ghost use Rattle.mdl_shared.specs.Upgrades.{altered_at, upgrade_fault, with_mode_at};
+ghost use Rattle.mdl_shared.specs.Visits.{IsStepOf, MeetsBlocked, MeetsGrantable};
+
+use crate::Session;
+use crate::member::Member;
+use crate::strengthening::try_strengthen;
+use crate::tries::Tried;
+use mdl_calls::{SpaceError, TicketId, Upgrade};
+use mdl_key::{Kind, Mode};
+use mdl_steps::Own;
+use mdl_system::{covers, may_upgrade};
+use std::sync::Wait;
+
+impl Member {
+    // Tries to get an obtrusive mode for the ticket of a number, at its place, whose key is of this kind.
+    fn strengthen<R: Wait>(
+        &mut self,
+        rt: &R,
+        place: usize,
+        _kind: Kind,
+        id: TicketId,
+        mode: Mode,
+    ) -> Upgrade
+        requires held { option_map (λ (t : Own). t.place) (numbered id self.old.tickets.items) ≡ Some place }
+        requires known { kind_known place self.old.known.items ≡ Some _kind }
+        requires mode { (is_mode_of _kind mode ≡ true) × (is_obtrusive _kind mode ≡ true) }
+        ensures same { (self.new.table ≡ self.old.table) × (self.new.worker.number ≡ self.old.worker.number) × (self.new.next ≡ self.old.next) × (self.new.known.items ≡ self.old.known.items) }
+        ensures upgraded { result ≡ Upgraded → (self.new.tickets.items ≡ with_mode_at place id mode self.old.tickets.items)
+            × ((e : Met) × IsStepOf self.old.worker.seat.me self.new.worker.seat.me e × MeetsGrantable place self.old.worker.number mode e) }
+        ensures would_wait { result ≡ WouldWait → (self.new.tickets.items ≡ self.old.tickets.items)
+            × ((e : Met) × IsStepOf self.old.worker.seat.me self.new.worker.seat.me e × MeetsBlocked place self.old.worker.number mode e) }
+    {
+        match try_strengthen(rt, &mut self.worker, &self.table.shared, place, id, mode) {
+            Tried::Granted => {
+                alter_all(&mut self.tickets, place, id, mode);
+                Upgrade::Upgraded
+            }
+            Tried::Blocked => Upgrade::WouldWait,
+        }
+    }
+}
+
+// Lets the ticket of a number at a place have another mode.
+fn alter_all(tickets: &mut Vec<Own>, place: usize, id: TicketId, mode: Mode)
+    ensures { tickets.new.items ≡ with_mode_at place id mode tickets.old.items }
+{
+    alter(tickets, place, id, mode);
+}
+
+// The same in a slice.
+fn alter(tickets: &mut [Own], place: usize, id: TicketId, mode: Mode)
+    ensures { tickets.new ≡ with_mode_at place id mode tickets.old }
+{
+    for ticket in tickets.iter_mut() {
+        *ticket = altered(*ticket, place, id, mode);
+    }
+}
+
+// A ticket in another mode, where it is that of a number at a place.
+fn altered(ticket: Own, place: usize, id: TicketId, mode: Mode) -> Own
+    ensures { result ≡ altered_at place id mode ticket }
+{
+    if ticket.place == place && ticket.number == id {
+        Own { mode, ..ticket }
+    } else {
+        ticket
+    }
+}
+
+impl<R: Wait> Session<R> {
+    /// Asks for a stronger mode of a ticket, without waiting: of SU for SNW, SNRW or X, of SNW for SNRW or X, of SNRW for X. A mode that
+    /// the ticket's covers it has already. The session's other tickets don't stand in the way. It takes no memory.
+    pub fn upgrade_now(&mut self, id: TicketId, mode: Mode) -> Result<Upgrade, SpaceError>
+        ensures session { (self.new.member.table ≡ self.old.member.table) × (self.new.member.worker.number ≡ self.old.member.worker.number)
+            × (self.new.member.next ≡ self.old.member.next) × (self.new.member.known.items ≡ self.old.member.known.items) }
+        ensures covered { (t : Own) → numbered id self.old.member.tickets.items ≡ Some t → covers t.mode mode ≡ true
+            → self.new.member.tickets.items ≡ self.old.member.tickets.items }
+        ensures upgraded { (t : Own) → numbered id self.old.member.tickets.items ≡ Some t → covers t.mode mode ≡ false → result ≡ Ok Upgraded
+            → (self.new.member.tickets.items ≡ with_mode_at t.place id mode self.old.member.tickets.items)
+            × ((e : Met) × IsStepOf self.old.member.worker.seat.me self.new.member.worker.seat.me e × MeetsGrantable t.place self.old.member.worker.number mode e) }
+        ensures would_wait { result ≡ Ok WouldWait → (self.new.member.tickets.items ≡ self.old.member.tickets.items)
+            × ((t : Own) × (numbered id self.old.member.tickets.items ≡ Some t) × (covers t.mode mode ≡ false)
+            × ((e : Met) × IsStepOf self.old.member.worker.seat.me self.new.member.worker.seat.me e × MeetsBlocked t.place self.old.member.worker.number mode e)) }
+        ensures unchanged { OnErr result (self.new.member.tickets.items ≡ self.old.member.tickets.items) }
+        ensures refused { RefusesJust (upgrade_fault mode self.old.member.known.items (numbered id self.old.member.tickets.items)) result }
+    {
+        let Some((place, held)) = self.member.place_and_mode(id) else {
+            return Err(SpaceError::NotHeld);
+        };
+        let Some(kind) = self.member.kind_at(place) else {
+            return Err(SpaceError::NotUpgradable);
+        };
+        let is_covered = covers(held, mode);
+        let is_allowed = is_covered || may_upgrade(held, mode);
+        if !is_allowed || !kind.has_mode(mode) {
+            return Err(SpaceError::NotUpgradable);
+        }
+        if is_covered {
+            return Ok(Upgrade::Upgraded);
+        }
+        Ok(self.member.strengthen(&self.rt, place, kind, id, mode))
+    }
+}

@@ -1,0 +1,252 @@
+//! Four sessions on four threads make calls of every kind by chance, over the locks of eight tables. From time to time, and in the end, all
+//! is looked at from under all latches.
+ghost use Rattle.std.specs.Prelude.{◌≡◌};
+ghost use Rattle.mdl_shared.specs.Passes.{table_of, pass_table};
+
+use crate::chance::Chance;
+use crate::sessions::closed;
+use mdl_calls::{Held, Place, SpaceError};
+use mdl_defs::{Change, Columns, Definition};
+use mdl_key::{Key, Kind, conflicts_granted};
+use mdl_shared::{Audited, HoldsTickets, Manager, Pass, Session};
+use std::alloc::Global;
+use std::process::Abort;
+use std::sync::Wait;
+use std::test::Fail;
+use std::thread;
+use std::thread::Threads;
+
+const TABLES: [&str; 8] = [
+    "sales", "goods", "staff", "rooms", "bills", "tills", "desks", "doors",
+];
+
+// How many calls a session makes, and how many of them go by between two looks at all.
+const CALLS: u32 = 25_000;
+
+const UNWATCHED: u32 = 2_500;
+
+const MOST_HELD: usize = 4;
+
+// What goes wrong: a call is refused that must not be, or what is seen can't be so.
+#[derive(Clone, Copy, Debug, PartialEq, Eq)]
+struct Wrong;
+
+impl From<SpaceError> for Wrong {
+    fn from(_refused: SpaceError) -> Wrong {
+        Wrong
+    }
+}
+
+// A session's row of chances, the change that it makes, and of each table how often it changed that, and the last version that it saw.
+struct Player {
+    chance: Chance,
+    change: Change,
+    changes: [u64; 8],
+    seen: [u64; 8],
+}
+
+impl Player {
+    // Notes a version that was read of a place's table. Versions don't fall.
+    fn see(&mut self, place: Place, version: u64) -> Result<(), Wrong> {
+        match self.seen.get_mut(usize::from(place) - 1) {
+            Some(seen) if *seen <= version => {
+                *seen = version;
+                Ok(())
+            }
+            _ => Err(Wrong),
+        }
+    }
+
+    // Notes a change, which has brought a place's table to a version.
+    fn count(&mut self, place: Place, version: u64) -> Result<(), Wrong> {
+        if let Some(changes) = self.changes.get_mut(usize::from(place) - 1) {
+            *changes = changes.saturating_add(1);
+        }
+        self.see(place, version)
+    }
+}
+
+// Whether a call was made, or refused for what it asked.
+fn was_answered<T>(outcome: Result<T, SpaceError>) -> Result<(), Wrong> {
+    match outcome {
+        Ok(_)
+        | Err(SpaceError::NotUpgradable)
+        | Err(SpaceError::NotExclusive)
+        | Err(SpaceError::BadMode) => Ok(()),
+        Err(_) => Err(Wrong),
+    }
+}
+
+// One call of any kind.
+fn make_call<R: Wait>(session: &mut Session<R>, player: &mut Player) -> Result<(), Wrong> {
+    let held = session.held()?;
+    match player.chance.ticket(&held) {
+        Some(ticket) if held.len() >= MOST_HELD || player.chance.below(3) > 0 => {
+            use_ticket(session, player, ticket, &held)
+        }
+        _ => ask(session, player),
+    }
+}
+
+// A lock is asked for, or what is known of a table or of all.
+fn ask<R: Wait>(session: &mut Session<R>, player: &mut Player) -> Result<(), Wrong> {
+    let place = player.chance.below(TABLES.len()) as u16 + 1;
+    match player.chance.below(40) {
+        0 => was_answered(session.key_of(place)),
+        1 => was_answered(session.tables_of("shop")),
+        _ => was_answered(session.try_now(place, player.chance.mode())),
+    }
+}
+
+// Something is done with a ticket.
+fn use_ticket<R: Wait>(
+    session: &mut Session<R>,
+    player: &mut Player,
+    ticket: Held,
+    held: &[Held],
+) -> Result<(), Wrong> {
+    let Held { id, place, .. } = ticket;
+    let mode = player.chance.mode();
+    match player.chance.below(8) {
+        0 => was_answered(session.clone_ticket(id, mode)),
+        1 => was_answered(session.upgrade_now(id, mode)),
+        2 => was_answered(session.downgrade(id, mode)),
+        3 => match player.chance.ticket(held) {
+            Some(other) => was_answered(session.merge(id, other.id)),
+            None => Err(Wrong),
+        },
+        4 => {
+            let standing = session.read_definition(id)?;
+            player.see(place, standing.version)
+        }
+        5 => match session.change_definition(id, &player.change) {
+            Ok(version) => player.count(place, version),
+            outcome => was_answered(outcome),
+        },
+        _ => was_answered(session.release(id)),
+    }
+}
+
+// Whether the granted tickets of different sessions are compatible in each book.
+fn are_lawful(books: &[Audited]) -> bool {
+    books.iter().all(is_lawful)
+}
+
+fn is_lawful(book: &Audited) -> bool {
+    book.granted.iter().all(|asked| {
+        book.granted.iter().all(|held| {
+            asked.session == held.session
+                || !conflicts_granted(Kind::Object, asked.mode, held.mode)
+        })
+    })
+}
+
+// All calls of a session, which knows the tables. In the end it gives all its tickets up.
+fn make_calls<R: Wait>(session: &mut Session<R>, player: &mut Player) -> Result<(), Wrong> {
+    for call in 0..CALLS {
+        make_call(session, player)?;
+        if call % UNWATCHED == 0 && !are_lawful(&session.audit()?) {
+            return Err(Wrong);
+        }
+    }
+    for ticket in session.held()? {
+        session.release(ticket.id)?;
+    }
+    Ok(())
+}
+
+// Looks all tables up, which get the places from 1 on in this order.
+fn look_up<R: Wait>(alloc: Global, session: &mut Session<R>) -> Result<(), Wrong> {
+    for table in TABLES {
+        let Ok(key) = Key::table(alloc, "shop", table) else {
+            return Err(Wrong);
+        };
+        session.resolve(&key)?;
+    }
+    Ok(())
+}
+
+// A table without columns is put, whatever stands.
+fn change(alloc: Global) -> Change {
+    Change::Put(Definition::Table(Columns::new(alloc)))
+}
+
+// What became of a session's part: how often it changed each table.
+fn play<R: Wait + Abort>(rt: &R, alloc: Global, manager: &Manager, pass: Pass) -> Result<[u64; 8], Wrong>
+    requires { pass_table pass ≡ table_of manager.now }
+{
+    let mut player = Player {
+        chance: Chance::new(pass.number()),
+        change: change(alloc),
+        changes: [0; 8],
+        seen: [0; 8],
+    };
+    let mut session = Session::open(rt, manager, pass);
+    let outcome = match look_up(alloc, &mut session) {
+        Ok(()) => make_calls(&mut session, &mut player),
+        Err(Wrong) => Err(Wrong),
+    };
+    match session.close() {
+        Ok(_) => outcome.map(|()| player.changes),
+        Err(HoldsTickets(_session)) => panic!(rt; "a session keeps a ticket"),
+    }
+}
+
+// The same of two passes, on two threads.
+fn play_two<R: Threads + Wait + Abort + Sync>(
+    rt: &R,
+    alloc: Global,
+    manager: &Manager,
+    one: Pass,
+    two: Pass,
+) -> Result<[u64; 8], Wrong>
+    requires { (pass_table one ≡ table_of manager.now) × (pass_table two ≡ table_of manager.now) }
+{
+    let (early, late) = thread::join(
+        rt,
+        move || play(rt, alloc, manager, one),
+        move || play(rt, alloc, manager, two),
+    );
+    Ok(sums(early?, late?))
+}
+
+// How often two sessions together changed each table.
+fn sums(mut early: [u64; 8], late: [u64; 8]) -> [u64; 8] {
+    for (sum, more) in early.iter_mut().zip(late) {
+        *sum = sum.saturating_add(more);
+    }
+    early
+}
+
+// What is left in the end: no ticket, and of each table as many versions as changes.
+fn is_left(books: &[Audited], changes: [u64; 8]) -> bool {
+    books.len() == changes.len()
+        && books.iter().zip(changes).all(|(book, changes)| {
+            book.granted.is_empty() && book.waiting.is_empty() && book.standing.version == changes
+        })
+}
+
+#[test]
+fn four_threads_make_all_calls(rt: HostRuntime) -> Result<(), Fail> {
+    let alloc = rt.alloc();
+    let (manager, mut passes) = Manager::new(alloc, 8, 5)?;
+    let five = passes.remove(4);
+    let four = passes.remove(3);
+    let three = passes.remove(2);
+    let two = passes.remove(1);
+    let one = passes.remove(0);
+    let (runtime, manager) = (&rt, &manager);
+    let (early, late) = thread::join(
+        runtime,
+        move || play_two(runtime, alloc, manager, one, two),
+        move || play_two(runtime, alloc, manager, three, four),
+    );
+    let mut watcher = Session::open(&rt, manager, five);
+    let books = watcher.audit();
+    closed(&rt, watcher);
+    match (early, late, books) {
+        (Ok(early), Ok(late), Ok(books)) => assert!(rt; is_left(&books, sums(early, late))),
+        _ => panic!(rt; "a call went wrong"),
+    }
+    Ok(())
+}
