@@ -1,7 +1,9 @@
+pub mod Coverings
 pub mod Idle
 pub mod Leavings
 pub mod Limits
 pub mod Lookups
 pub mod Members
+pub mod Modes
 pub mod Passes
 pub mod Visits

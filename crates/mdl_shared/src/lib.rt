@@ -37,12 +37,17 @@
 //! ```
 #![tactic(auto)]
 
+mod clones;
+mod covering;
 mod definitions;
 mod directories;
+mod downgrades;
+mod holdings;
 mod latches;
 mod laws;
 mod manager;
 mod member;
+mod merges;
 mod new_error;
 mod pass;
 mod places;

@@ -19,11 +19,11 @@ use mdl_steps::Own;
 use std::sync::Wait;
 
 // The greatest number of a ticket.
-const MOST_NUMBERS: u64 = (1 << 60) - 1;
+pub(crate) const MOST_NUMBERS: u64 = (1 << 60) - 1;
 
 impl Member {
     // The kind of the lock at a place, where the session has looked its key up.
-    fn kind_at(&self, place: usize) -> Option<Kind>
+    pub(crate) fn kind_at(&self, place: usize) -> Option<Kind>
         ensures { result ≡ kind_known place self.now.known.items }
     {
         self.known
