@@ -3,6 +3,11 @@ pub mod Altering
 pub mod Trying
 pub mod Leaving
 pub mod Losing
+pub mod Covered
+pub mod Weaker
+pub mod Meeting
+pub mod Uniting
+pub mod Fitting
 pub mod Membership
 pub mod Reading
 pub mod Changing

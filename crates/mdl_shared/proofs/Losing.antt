@@ -45,18 +45,18 @@ module _ (session number : ℕ) where
       let rest = no_longer ts in
       omega arith)
 
-  -- so flags that tell the lists tell them still
-  pub still_flagged : (book : BookView) (slow obtrusive : Bool) → TellsLists book slow obtrusive → Flagged (removing session number book) slow obtrusive
-  still_flagged book slow obtrusive exact = (
+  -- so flags that tell of each ticket in the lists do so still
+  pub still_flagged : (book : BookView) (slow obtrusive : Bool) → Flagged book slow obtrusive → Flagged (removing session number book) slow obtrusive
+  still_flagged book slow obtrusive flagged = (
     λ e. (
         let shorter = no_longer book.granted in
         let some = ltb-true 0 (length (without session number book.granted) + length book.waiting) e in
         let more : 0 < length book.granted + length book.waiting = omega arith in
-        exact.0 ∙ lt-ltb 0 (length book.granted + length book.waiting) more),
-    λ e. exact.1
-        ∙ by_bool (any_obtrusive (lock_kind book) book.waiting)
+        flagged.0 (lt-ltb 0 (length book.granted + length book.waiting) more)),
+    λ e. flagged.1
+        (by_bool (any_obtrusive (lock_kind book) book.waiting)
         (λ waits. rw waits (or_true (any_obtrusive (lock_kind book) book.granted)))
-        (λ none. let granted = rw none at e in rw none (or_false (any_obtrusive (lock_kind book) book.granted) (any_before _ book.granted (or_only (any_obtrusive (lock_kind book) (without session number book.granted)) granted)))),
+        (λ none. let granted = rw none at e in rw none (or_false (any_obtrusive (lock_kind book) book.granted) (any_before _ book.granted (or_only (any_obtrusive (lock_kind book) (without session number book.granted)) granted))))),
   )
     where
       or_true : (b : Bool) → (b || true) ≡ true
@@ -87,7 +87,7 @@ has_lost place who number h m m′ number_is has exact known unwaited is =
     (subst (λ (w : ℕ). (g : Held) × HasDone place (Lose number ∷ []) g (written place (booked w (Lose number) h.book) m) × Flagged (removing m.0.number number g.book) g.slow g.obtrusive) number_is (
       h,
       record { holds = holds_written place h h.book (removing m.0.number number h.book) m has; act = inl known; may = (unwaited, tt) },
-      still_flagged m.0.number number h.book h.slow h.obtrusive exact,
+      still_flagged m.0.number number h.book h.slow h.obtrusive ((λ e. exact.0 ∙ e), λ e. exact.1 ∙ e),
     ))
 
 -- what was left after a write was left before it

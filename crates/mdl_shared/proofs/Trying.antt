@@ -64,7 +64,7 @@ err_is : (T : Type 0) (a b : BookError) → ◌≡◌ {A = Result T BookError} (
 err_is T a b e = cc
 
 -- why a ticket that may stand wasn't written
-refusal : (T : Type 0) (ticket : Ticket) (word : ℕ) (book : BookView) (cause : BookError) → may_stand (lock_kind book) book.granted word ticket.session ticket.mode ≡ true
+pub refusal : (T : Type 0) (ticket : Ticket) (word : ℕ) (book : BookView) (cause : BookError) → may_stand (lock_kind book) book.granted word ticket.session ticket.mode ≡ true
     → Refuses {T = T} (grant_fault ticket word book) fault.OutOfMemory (Err cause) → (cause ≡ fault.OutOfMemory) ⊎ ((cause ≡ fault.Full) × (65535 ≤ ticket_count book))
 refusal T ticket word book cause stands refuses =
     let left = rw stands at refuses in

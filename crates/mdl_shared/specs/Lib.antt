@@ -1,9 +1,11 @@
 pub mod Audits
+pub mod Coverings
 pub mod Idle
 pub mod Leavings
 pub mod Limits
 pub mod Lookups
 pub mod Members
+pub mod Modes
 pub mod OwnLists
 pub mod Passes
 pub mod Redefinitions

@@ -39,15 +39,15 @@ impl Member {
     }
 }
 
-// Strikes the ticket of a number at a place from a list.
-fn strike(tickets: &mut Vec<Own>, place: usize, id: TicketId)
+/// Strikes the ticket of a number at a place from a list.
+pub(crate) fn strike(tickets: &mut Vec<Own>, place: usize, id: TicketId)
     ensures { tickets.new.items ≡ without_at place id tickets.old.items }
 {
     tickets.retain(|ticket| !is_at(ticket, place, id));
 }
 
-// Whether a ticket is of a number at a place.
-fn is_at(ticket: &Own, place: usize, id: TicketId) -> bool
+/// Whether a ticket is of a number at a place.
+pub(crate) fn is_at(ticket: &Own, place: usize, id: TicketId) -> bool
     ensures { result ≡ is_own place id ticket.now }
 {
     ticket.place == place && ticket.number == id

@@ -19,7 +19,7 @@ use mdl_steps::Own;
 use std::sync::Wait;
 
 // The greatest number of a ticket.
-const MOST_NUMBERS: u64 = (1 << 60) - 1;
+pub(crate) const MOST_NUMBERS: u64 = (1 << 60) - 1;
 
 impl Member {
     // The kind of the lock at a place, where the session has looked its key up.

@@ -90,9 +90,9 @@ fn versions_count_the_changes_of_four_threads(rt: HostRuntime) -> Result<(), Fai
     let books = watcher.audit();
     closed(&rt, watcher);
     let books = books?;
-    let versions: u64 = books.iter().map(|book| book.standing.version).sum();
+    let versions: u64 = books.iter().map(|book| book.book.standing.version).sum();
     assert_eq!(rt; versions, early.saturating_add(late));
     assert!(rt; versions >= 1);
-    assert!(rt; books.iter().all(|book| book.granted.is_empty() && book.waiting.is_empty()));
+    assert!(rt; books.iter().all(|book| book.book.granted.is_empty() && book.book.waiting.is_empty()));
     Ok(())
 }

@@ -133,8 +133,8 @@ fn are_lawful(books: &[Audited]) -> bool {
 }
 
 fn is_lawful(book: &Audited) -> bool {
-    book.granted.iter().all(|asked| {
-        book.granted.iter().all(|held| {
+    book.book.granted.iter().all(|asked| {
+        book.book.granted.iter().all(|held| {
             asked.session == held.session
                 || !conflicts_granted(Kind::Object, asked.mode, held.mode)
         })
@@ -222,7 +222,7 @@ fn sums(mut early: [u64; 8], late: [u64; 8]) -> [u64; 8] {
 fn is_left(books: &[Audited], changes: [u64; 8]) -> bool {
     books.len() == changes.len()
         && books.iter().zip(changes).all(|(book, changes)| {
-            book.granted.is_empty() && book.waiting.is_empty() && book.standing.version == changes
+            book.book.granted.is_empty() && book.book.waiting.is_empty() && book.book.standing.version == changes
         })
 }
 

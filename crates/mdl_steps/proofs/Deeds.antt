@@ -65,7 +65,7 @@ unobtrusive_beside kind session mode (t ∷ ts) wish all =
     (rw (unobtrusive_pair kind mode t.mode wish (not_true (is_obtrusive kind t.mode) parts.0)) (or_true (t.session == session)))
     (unobtrusive_beside kind session mode ts wish parts.1)
 
-weaker_stands : (kind : Kind) (session : ℕ) (strong weak : Mode) → IsAtLeast kind strong weak → (xs : List Ticket) → is_compatible kind xs session strong ≡ true → is_compatible kind xs session weak ≡ true
+pub weaker_stands : (kind : Kind) (session : ℕ) (strong weak : Mode) → IsAtLeast kind strong weak → (xs : List Ticket) → is_compatible kind xs session strong ≡ true → is_compatible kind xs session weak ≡ true
 weaker_stands kind session strong weak least [] all = refl
 weaker_stands kind session strong weak least (x ∷ xs) all =
     let parts = and_parts (stands_beside kind session strong x) (is_compatible kind xs session strong) all in

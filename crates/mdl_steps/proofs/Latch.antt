@@ -11,6 +11,7 @@ use prog.Atomic.{either}
 use Rattle.atomic_table.specs.Table.{State, Allows, step, Act, takes, keeps, stepped as moved_by}
 use Rattle.atomic_table.proofs.Lists.{at_map, set_else, exchanged}
 use Rattle.mdl_key.specs.declared.namespace.Kind.{Kind}
+use Rattle.mdl_key.specs.Words.{is_mode_of}
 use Rattle.mdl_book.specs.declared.ticket.Ticket.{Ticket}
 use Rattle.mdl_book.specs.Books.{lock_kind}
 use Rattle.mdl_book.specs.Granting.{is_lawful}
@@ -62,6 +63,12 @@ lawful_granted : (kind : Kind) (fast granted : List Ticket) → is_lawful kind (
 lawful_granted kind fast granted lawful =
     lawful_part kind (fast ++ granted) granted (λ test all. (and_parts (list_all test fast) (list_all test granted) (sym (list_all-append test fast granted) ∙ all)).1) lawful
 
+-- and in modes of the kind
+modes_granted : (kind : Kind) (fast granted : List Ticket) → list_all (λ t. is_mode_of kind t.mode) (fast ++ granted) ≡ true → list_all (λ t. is_mode_of kind t.mode) granted ≡ true
+modes_granted kind fast granted all =
+    let test : Ticket → Bool = λ t. is_mode_of kind t.mode in
+    (and_parts (list_all test fast) (list_all test granted) (sym (list_all-append test fast granted) ∙ all)).1
+
 module _ (slots id place : ℕ) (me : Mine) (some_number : 0 < me.0.number) (first : 0 < place) (last : place < slots) where
   module _ (s : Table) (r : Rule s) (size : length s.homes ≡ slots) (seat : get_elem? s.views id ≡ some me.0) where
     within : place < length s.homes
@@ -80,6 +87,7 @@ module _ (slots id place : ℕ) (me : Mine) (some_number : 0 < me.0.number) (fir
       exact = (ok.free free).1;
       unnoted = refl;
       lawful = lawful_granted (lock_kind ok.book) (all_fast (cell s place).parts) ok.book.granted ok.book_ok.lawful.compatible;
+      modes = modes_granted (lock_kind ok.book) (all_fast (cell s place).parts) ok.book.granted ok.book_ok.lawful.modes;
       own = λ number unwaited.
           let mine = ok.book_ok.each id (part_at (waits s) place me.0) (at_map (part_at (waits s) place) s.views id me.0 seat) in
           mine.slow_held.same number

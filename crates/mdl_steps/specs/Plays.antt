@@ -4,8 +4,9 @@ use Rattle.std.specs.Prelude.{◌≡◌, ◌≢◌, ℕ, ◌+◌, ◌-◌, ◌<�
 use lib.ListN.{get_elem?}
 use mathlib.Core.Option.{some}
 use Rattle.atomic_table.specs.Table.{Me, Step, rest}
+use Rattle.std.specs.List.{list_all}
 use Rattle.std.specs.Option.{option_map}
-use Rattle.mdl_key.specs.Words.{KeyName}
+use Rattle.mdl_key.specs.Words.{KeyName, is_mode_of}
 use Rattle.mdl_word.specs.Words.{flags_alone, all_but_flags}
 use Rattle.mdl_defs.specs.declared.standing.Standing.{Standing}
 use Rattle.mdl_book.specs.declared.book_view.BookView.{BookView}
@@ -36,13 +37,14 @@ logged word found held v = record v { log = v.log ++ record { word = word; found
 
 -- ---- the record of a latch
 
--- as the latch is taken: the word's flags tell the lists exactly then, granted tickets are compatible, the book has of the
--- session just the tickets that it has (but for one that it waits for), and it is the book of each key that is known to be here
+-- as the latch is taken: the word's flags tell the lists exactly then, granted tickets are compatible and in modes of the kind, the book has
+-- of the session just the tickets that it has (but for one that it waits for), and it is the book of each key that is known to be here
 pub record IsFresh (place : ℕ) (h : Held) (m : Mine) : Type 0 where
   pub here : h.place ≡ place
   pub exact : TellsLists h.book h.slow h.obtrusive
   pub unnoted : h.noted ≡ None
   pub lawful : is_lawful (lock_kind h.book) h.book.granted ≡ true
+  pub modes : list_all (λ t. is_mode_of (lock_kind h.book) t.mode) h.book.granted ≡ true
   pub own : (number : ℕ) → NotWaited m.0 number →
       ticket_of m.0.number number h.book.granted ≡ ticket_of m.0.number number (map (ticket_by m.0.number) (own_at place m.0.slow))
   pub named : (i : ℕ) (k : Known) → get_elem? m.0.known i ≡ some k → k.place ≡ place → h.book.key ≡ k.key

@@ -1,0 +1,37 @@
+-- The book that is met under the latch has the session's ticket, which covers the mode.
+use Rattle.std.proofs.Common.{ℕ, sym, ap, ◌∙◌, subst}
+use Rattle.std.specs.Prelude.{is_some}
+use Rattle.mdl_steps.specs.Plays.{Mine}
+use Rattle.mdl_steps.specs.Seats.{Holds}
+use Rattle.mdl_shared.proofs.Covered.{covered_by, fits_lock, own_there}
+use Rattle.mdl_shared.proofs.Leaving.{step_later}
+use Rattle.mdl_shared.proofs.Meeting.{StepUnder, met_there}
+use Rattle.mdl_shared.proofs.covering.double.Goals as goal
+
+pub gain-requires-clause-covered : goal.gain-requires-clause-covered
+gain-requires-clause-covered g c =
+    let worker = c.args.worker.now in
+    let held = c.args.held in
+    let mode = c.args.mode in
+    let taken = c.await_latch-latch.ensures.taken in
+    let h = taken.0 in
+    let who = c.await_latch-latch.new.worker.number in
+    let mine = worker.numbered.0 ∙ sym c.await_latch-latch.ensures.seat.1 in
+    let there = own_there who held.number held h worker.seat.me mine taken.1 c.requires.unwaited c.requires.held in (
+      h,
+      subst (λ (q : ℕ). Holds q h h.book c.await_latch-latch.new.worker.seat.me) (sym c.await_latch-latch.ensures.place) taken.2,
+      covered_by held.place who held.number held mode h worker.seat.me taken.1 there c.requires.covers (fits_lock held.place mode h worker.seat.me taken.1 c.requires.fits),
+    )
+
+pub returns-clause-step : goal.returns-clause-step
+returns-clause-step g c =
+    let worker = c.args.worker.now in
+    let held = c.args.held in
+    let taken = c.await_latch-latch.ensures.taken in
+    let h = taken.0 in
+    let came : Mine = c.await_latch-latch.new.worker.seat.me in
+    let went : Mine = c.gain.new.worker.seat.me in
+    let there = own_there worker.number held.number held h worker.seat.me worker.numbered.0 taken.1 c.requires.unwaited c.requires.held in
+    let step = subst (λ (q : ℕ). StepUnder q came went) c.await_latch-latch.ensures.place c.gain.ensures.step in
+    let met = met_there held.place h came went taken.2.recorded step worker.number held.number (ap is_some there) in
+    (met.0, step_later held.place worker.seat.me came went c.await_latch-latch.ensures.inside met.0 met.1, met.2)

@@ -1,0 +1,41 @@
+-- The mode is one of the kind of a key that the session knows, and the ticket that it gets is the last of its own.
+use Rattle.std.proofs.Common.{◌≡◌, ◌+◌, ◌<◌, List, [], ◌∷◌, ◌++◌, None, true, sym, ap, ◌∙◌, subst}
+use Rattle.mdl_steps.specs.declared.view.Known.{Known}
+use Rattle.mdl_steps.specs.declared.view.Own.{Own}
+use Rattle.mdl_steps.specs.Plays.{Mine}
+use Rattle.mdl_shared.specs.Idle.{IsIdle, HasSlowAlone}
+use Rattle.mdl_shared.specs.Members.{are_placed}
+use Rattle.mdl_shared.specs.Modes.{is_fit}
+use Rattle.mdl_shared.proofs.Fitting.{fit_place, fit_there}
+use Rattle.mdl_shared.proofs.Membership.{known_within, one_placed}
+use Rattle.mdl_shared.proofs.member.Member.double.Goals as goal
+
+pub double-requires-clause-place : goal.double-requires-clause-place
+double-requires-clause-place g c =
+    let self = c.args.self.now in
+    let place = c.args.held.place in
+    let known = fit_place place c.args.mode self.known.items c.requires.fits in
+    subst (λ table. (0 < place) × (place < table.shared.table_id.slots)) (sym c.deref.ensures) (known_within _ place self.known.items self.within known)
+
+pub double-requires-clause-fits : goal.double-requires-clause-fits
+double-requires-clause-fits g c =
+    let self = c.args.self.now in
+    fit_there c.args.held.place c.args.mode self.worker.seat.me.0.known (subst (λ (ks : List Known). is_fit c.args.held.place c.args.mode ks ≡ true) self.known_is c.requires.fits)
+
+pub invariant_of-self-in-Ok : goal.invariant_of-self-in-Ok
+invariant_of-self-in-Ok g c =
+    let self = c.args.self.now in
+    let t : Own = record { number = self.next; place = c.args.held.place; mode = c.args.mode; noted = None } in
+    let now = c.in-Ok.ensures.doubled.now in
+    let pushed = c.push_reserved.ensures.items ∙ ap (λ (ts : List Own). ts ++ t ∷ []) c.reserve.ensures.items in record {
+      seated = c.double.ensures.seat.0 ∙ self.seated;
+      sized = self.sized;
+      narrow = self.narrow;
+      idle = subst IsIdle (sym now) self.idle;
+      slow = subst HasSlowAlone (sym now) self.slow;
+      listed = pushed ∙ ap (λ (ts : List Own). ts ++ t ∷ []) self.listed ∙ sym (ap (λ (m : Mine). m.0.slow) now);
+      known_is = self.known_is ∙ sym (ap (λ (m : Mine). m.0.known) now);
+      next_is = ap (λ n. n + 1) self.next_is ∙ sym (ap (λ (m : Mine). m.0.next) now);
+      placed = ap (are_placed self.known.items) pushed ∙ one_placed self.known.items self.tickets.items t self.placed (fit_place c.args.held.place c.args.mode self.known.items c.requires.fits);
+      within = self.within;
+    }

@@ -1,0 +1,47 @@
+-- The tickets are of a place whose key the session knows.
+use Rattle.std.proofs.Common.{◌<◌, sym, ap, ◌∙◌, subst}
+use Rattle.std.specs.Option.{option_map}
+use Rattle.mdl_steps.specs.declared.view.Own.{Own}
+use Rattle.mdl_steps.specs.Plays.{Mine}
+use Rattle.mdl_shared.specs.Idle.{IsIdle, HasSlowAlone}
+use Rattle.mdl_shared.specs.Members.{are_placed, is_known_place, without_at}
+use Rattle.mdl_shared.specs.Modes.{in_mode_at}
+use Rattle.mdl_shared.proofs.Fitting.{altered_placed}
+use Rattle.mdl_shared.proofs.Membership.{has_numbered, some_key, known_within, placed_at, still_placed}
+use Rattle.mdl_shared.proofs.member.Member.fold.Goals as goal
+
+pub fold-requires-clause-place : goal.fold-requires-clause-place
+fold-requires-clause-place g c =
+    let self = c.args.self.now in
+    let kept = c.args.kept in
+    let has = has_numbered kept.place kept.number self.tickets.items (ap (option_map (λ (t : Own). t.place)) c.requires.kept) in
+    let known = placed_at self.known.items self.tickets.items kept.place kept.number self.placed has in
+    subst (λ table. (0 < kept.place) × (kept.place < table.shared.table_id.slots)) (sym c.deref.ensures) (known_within _ kept.place self.known.items self.within known)
+
+pub fold-requires-clause-known : goal.fold-requires-clause-known
+fold-requires-clause-known g c =
+    let self = c.args.self.now in
+    let kept = c.args.kept in
+    let has = has_numbered kept.place kept.number self.tickets.items (ap (option_map (λ (t : Own). t.place)) c.requires.kept) in
+    let known = placed_at self.known.items self.tickets.items kept.place kept.number self.placed has in
+    some_key kept.place self.worker.seat.me.0.known (ap (λ ks. is_known_place ks kept.place) (sym self.known_is) ∙ known)
+
+pub invariant_of-self : goal.invariant_of-self
+invariant_of-self g c =
+    let self = c.args.self.now in
+    let kept = c.args.kept in
+    let gone = c.args.gone in
+    let now = c.fold.ensures.folded.now in
+    let tickets = c.strike.ensures ∙ ap (without_at kept.place gone.number) c.set_mode.ensures in record {
+      seated = c.fold.ensures.seat.0 ∙ self.seated;
+      sized = self.sized;
+      narrow = self.narrow;
+      idle = subst IsIdle (sym now) self.idle;
+      slow = subst HasSlowAlone (sym now) self.slow;
+      listed = tickets ∙ ap (λ ts. without_at kept.place gone.number (in_mode_at kept.place kept.number gone.mode ts)) self.listed ∙ sym (ap (λ (m : Mine). m.0.slow) now);
+      known_is = self.known_is ∙ sym (ap (λ (m : Mine). m.0.known) now);
+      next_is = self.next_is ∙ sym (ap (λ (m : Mine). m.0.next) now);
+      placed = ap (are_placed self.known.items) tickets
+          ∙ still_placed self.known.items (in_mode_at kept.place kept.number gone.mode self.tickets.items) kept.place gone.number (altered_placed self.known.items kept.place kept.number gone.mode self.tickets.items self.placed);
+      within = self.within;
+    }

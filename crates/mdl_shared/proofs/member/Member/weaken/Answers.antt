@@ -1,0 +1,44 @@
+-- The ticket is of a place whose key the session knows, and the mode is one of its kind.
+use Rattle.std.proofs.Common.{◌≡◌, ◌<◌, List, Some, true, sym, ap, ◌∙◌, subst}
+use Rattle.mdl_steps.specs.declared.view.Known.{Known}
+use Rattle.mdl_steps.specs.declared.view.Own.{Own}
+use Rattle.mdl_steps.specs.Plays.{Mine}
+use Rattle.mdl_shared.specs.Idle.{IsIdle, HasSlowAlone}
+use Rattle.mdl_shared.specs.Members.{are_placed, numbered}
+use Rattle.mdl_shared.specs.Modes.{in_mode_at, is_fit}
+use Rattle.mdl_shared.proofs.Membership.{known_within}
+use Rattle.mdl_shared.proofs.Fitting.{altered_placed, fit_place, fit_there}
+use Rattle.mdl_shared.proofs.member.Member.weaken.Goals as goal
+
+pub weaken-requires-clause-place : goal.weaken-requires-clause-place
+weaken-requires-clause-place g c =
+    let self = c.args.self.now in
+    let place = c.args.held.place in
+    let known = fit_place place c.args.mode self.known.items c.requires.fits in
+    subst (λ table. (0 < place) × (place < table.shared.table_id.slots)) (sym c.deref.ensures) (known_within _ place self.known.items self.within known)
+
+pub weaken-requires-clause-held : goal.weaken-requires-clause-held
+weaken-requires-clause-held g c =
+    subst (λ (ts : List Own). numbered c.args.held.number ts ≡ Some c.args.held) c.args.self.now.listed c.requires.held
+
+pub weaken-requires-clause-fits : goal.weaken-requires-clause-fits
+weaken-requires-clause-fits g c =
+    let self = c.args.self.now in
+    fit_there c.args.held.place c.args.mode self.worker.seat.me.0.known (subst (λ (ks : List Known). is_fit c.args.held.place c.args.mode ks ≡ true) self.known_is c.requires.fits)
+
+pub invariant_of-self : goal.invariant_of-self
+invariant_of-self g c =
+    let self = c.args.self.now in
+    let held = c.args.held in
+    let now = c.weaken.ensures.weakened.now in record {
+      seated = c.weaken.ensures.seat.0 ∙ self.seated;
+      sized = self.sized;
+      narrow = self.narrow;
+      idle = subst IsIdle (sym now) self.idle;
+      slow = subst HasSlowAlone (sym now) self.slow;
+      listed = c.set_mode.ensures ∙ ap (in_mode_at held.place held.number c.args.mode) self.listed ∙ sym (ap (λ (m : Mine). m.0.slow) now);
+      known_is = self.known_is ∙ sym (ap (λ (m : Mine). m.0.known) now);
+      next_is = self.next_is ∙ sym (ap (λ (m : Mine). m.0.next) now);
+      placed = ap (are_placed self.known.items) c.set_mode.ensures ∙ altered_placed self.known.items held.place held.number c.args.mode self.tickets.items self.placed;
+      within = self.within;
+    }

@@ -1,0 +1,46 @@
+-- Tickets that get another mode, that are cloned and merged: why that is refused, and the session's list of tickets then.
+use Rattle.std.specs.Prelude.{ℕ, ◌==◌, Bool, false, not, ◌&&◌, nat_le, List, map, Option, Some, None, if◌then◌else◌}
+use Rattle.std.specs.Option.{option_map_or}
+use Rattle.mdl_key.specs.declared.mode.Mode.{Mode}
+use Rattle.mdl_key.specs.Words.{is_mode_of}
+use Rattle.mdl_calls.specs.declared.space_error.SpaceError.{SpaceError}
+use Rattle.mdl_calls.specs.declared.space_error.SpaceError.TheVariants.{NotHeld, NotUpgradable, BadMode, CounterFull}
+use Rattle.mdl_steps.specs.declared.view.Known.{Known}
+use Rattle.mdl_steps.specs.declared.view.Own.{Own}
+use Rattle.mdl_steps.specs.Deeds.{is_own}
+use Rattle.mdl_shared.specs.Members.{kind_known, most_numbers}
+use Rattle.mdl_system.specs.Strength.{covers, may_downgrade}
+
+-- whether the session has looked up the key of a place, and the mode is one of its kind
+abbrev pub is_fit : ℕ → Mode → List Known → Bool
+is_fit place mode known = option_map_or (λ kind. is_mode_of kind mode) (kind_known place known) false
+
+-- a ticket in another mode, where it is that of a number at a place
+abbrev pub in_mode_if : ℕ → ℕ → Mode → Own → Own
+in_mode_if place number mode t = if is_own place number t then record t { mode = mode } else t
+
+-- the tickets with that of a number at a place in another mode
+abbrev pub in_mode_at : ℕ → ℕ → Mode → List Own → List Own
+in_mode_at place number mode tickets = map (λ t. if is_own place number t then record t { mode = mode } else t) tickets
+
+-- why a ticket isn't downgraded: there is none, or its mode can't become the other one, or this is none of its lock's kind
+abbrev pub downgrade_fault : Option Own → Mode → List Known → Option SpaceError
+downgrade_fault None mode known = Some NotHeld
+downgrade_fault (Some t) mode known = if may_downgrade t.mode mode && is_fit t.place mode known then None else Some NotUpgradable
+
+-- why a ticket isn't cloned: there is none, or its mode isn't as strong as the other one, or this is none of its lock's kind, or the session's
+-- next ticket has too great a number
+abbrev pub clone_fault : Option Own → Mode → List Known → ℕ → Option SpaceError
+clone_fault None mode known next = Some NotHeld
+clone_fault (Some t) mode known next =
+    if not (covers t.mode mode && is_fit t.place mode known) then Some BadMode else (if nat_le most_numbers next then Some CounterFull else None)
+
+-- whether a ticket may take the mode of another: there are two, of one place, and the other is at least as strong
+abbrev pub may_merge : Own → Own → Bool
+may_merge kept gone = not (kept.number == gone.number) && (kept.place == gone.place && covers gone.mode kept.mode)
+
+-- why two tickets aren't merged
+abbrev pub merge_fault : Option Own → Option Own → Option SpaceError
+merge_fault None _ = Some NotHeld
+merge_fault (Some kept) None = Some NotHeld
+merge_fault (Some kept) (Some gone) = if may_merge kept gone then None else Some BadMode

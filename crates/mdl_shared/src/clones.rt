@@ -1,0 +1,85 @@
+//! A second ticket is made of one.
+ghost use Rattle.std.specs.Prelude.{◌≡◌, ◌⊎◌, ◌+◌, ◌<◌, ◌++◌, ◌∷◌, [], Some, None, Err, IfOk, IfErr, IfSome, OnErr, true};
+ghost use Rattle.mdl_calls.specs.declared.space_error.SpaceError.TheVariants as cause;
+ghost use Rattle.mdl_steps.specs.declared.view.Met.{Met};
+ghost use Rattle.mdl_steps.specs.declared.view.Own.{Own};
+ghost use Rattle.mdl_shared.specs.Leavings.{MeetsOwn};
+ghost use Rattle.mdl_shared.specs.Members.{most_numbers, numbered};
+ghost use Rattle.mdl_shared.specs.Modes.{clone_fault, is_fit};
+ghost use Rattle.mdl_shared.specs.Visits.{IsStepOf, MeetsFull};
+ghost use Rattle.mdl_system.specs.Strength.{covers};
+
+use crate::Session;
+use crate::covering::double;
+use crate::member::Member;
+use crate::wishes::MOST_NUMBERS;
+use mdl_book::BookError;
+use mdl_calls::{SpaceError, TicketId};
+use mdl_key::Mode;
+use mdl_steps::Own;
+use mdl_system::covers;
+use std::sync::Wait;
+
+impl Member {
+    // Makes a second ticket of one, in a mode of its lock's kind that its own covers. Answers the number of the second.
+    fn double<R: Wait>(&mut self, rt: &R, held: Own, mode: Mode) -> Result<TicketId, SpaceError>
+        requires held { numbered held.number self.old.tickets.items ≡ Some held }
+        requires fits { is_fit held.place mode self.old.known.items ≡ true }
+        requires covers { covers held.mode mode ≡ true }
+        requires room { self.old.next < most_numbers }
+        ensures same { (self.new.table ≡ self.old.table) × (self.new.worker.number ≡ self.old.worker.number) × (self.new.known.items ≡ self.old.known.items) }
+        ensures doubled { IfOk result (λ id. (id ≡ self.old.next) × (self.new.next ≡ id + 1)
+            × (self.new.tickets.items ≡ self.old.tickets.items ++ record { number = id; place = held.place; mode = mode; noted = None } ∷ [])
+            × ((e : Met) × IsStepOf self.old.worker.seat.me self.new.worker.seat.me e × MeetsOwn held.place self.old.worker.number held.number e)) }
+        ensures unchanged { OnErr result ((self.new.tickets.items ≡ self.old.tickets.items) × (self.new.next ≡ self.old.next)) }
+        ensures refused { IfErr result (λ why. (why ≡ cause.OutOfMemory)
+            ⊎ ((why ≡ cause.Full) × ((e : Met) × IsStepOf self.old.worker.seat.me self.new.worker.seat.me e × MeetsFull held.place e))) }
+    {
+        if self.tickets.reserve(1).is_err() {
+            return Err(SpaceError::OutOfMemory);
+        }
+        let number = self.next;
+        match double(rt, &mut self.worker, &self.table.shared, held, number, mode) {
+            Ok(()) => {
+                self.tickets.push_reserved(Own {
+                    number,
+                    place: held.place,
+                    mode,
+                    noted: None,
+                });
+                self.next += 1;
+                Ok(number)
+            }
+            Err(BookError::Full) => Err(SpaceError::Full),
+            Err(_) => Err(SpaceError::OutOfMemory),
+        }
+    }
+}
+
+impl<R: Wait> Session<R> {
+    /// A second ticket of a held one's place, in a mode that this one is at least as strong as. It overtakes waiters. Answers its number.
+    pub fn clone_ticket(&mut self, id: TicketId, mode: Mode) -> Result<TicketId, SpaceError>
+        ensures session { (self.new.member.table ≡ self.old.member.table) × (self.new.member.worker.number ≡ self.old.member.worker.number)
+            × (self.new.member.known.items ≡ self.old.member.known.items) }
+        ensures cloned { IfOk result (λ new. (new ≡ self.old.member.next) × (self.new.member.next ≡ new + 1)
+            × ((t : Own) × (numbered id self.old.member.tickets.items ≡ Some t)
+            × (self.new.member.tickets.items ≡ self.old.member.tickets.items ++ record { number = new; place = t.place; mode = mode; noted = None } ∷ [])
+            × ((e : Met) × IsStepOf self.old.member.worker.seat.me self.new.member.worker.seat.me e × MeetsOwn t.place self.old.member.worker.number id e))) }
+        ensures unchanged { OnErr result ((self.new.member.tickets.items ≡ self.old.member.tickets.items) × (self.new.member.next ≡ self.old.member.next)) }
+        ensures unfit { IfSome (clone_fault (numbered id self.old.member.tickets.items) mode self.old.member.known.items self.old.member.next) (λ why. result ≡ Err why) }
+        ensures refused { IfErr result (λ why. (clone_fault (numbered id self.old.member.tickets.items) mode self.old.member.known.items self.old.member.next ≡ Some why)
+            ⊎ ((why ≡ cause.OutOfMemory) ⊎ ((why ≡ cause.Full) × ((t : Own) × (numbered id self.old.member.tickets.items ≡ Some t)
+            × ((e : Met) × IsStepOf self.old.member.worker.seat.me self.new.member.worker.seat.me e × MeetsFull t.place e))))) }
+    {
+        let Some(held) = self.member.ticket(id) else {
+            return Err(SpaceError::NotHeld);
+        };
+        if !covers(held.mode, mode) || !self.member.is_fit(held.place, mode) {
+            return Err(SpaceError::BadMode);
+        }
+        if self.member.next > MOST_NUMBERS {
+            return Err(SpaceError::CounterFull);
+        }
+        self.member.double(&self.rt, held, mode)
+    }
+}

@@ -1,0 +1,60 @@
+//! A session's own list of its tickets.
+ghost use Rattle.std.specs.Prelude.{◌≡◌, IfSome};
+ghost use Rattle.mdl_shared.specs.Members.{numbered};
+ghost use Rattle.mdl_shared.specs.Modes.{in_mode_at, in_mode_if, is_fit};
+
+use crate::member::Member;
+use crate::tickets::is_at;
+use mdl_calls::TicketId;
+use mdl_key::Mode;
+use mdl_steps::Own;
+
+impl Member {
+    /// The ticket of a number.
+    pub(crate) fn ticket(&self, id: TicketId) -> Option<Own>
+        ensures found { result ≡ numbered id self.now.tickets.items }
+        ensures number { IfSome result (λ held. held.number ≡ id) }
+    {
+        self.tickets
+            .iter()
+            .copied()
+            .find(|ticket| ticket.number == id)
+    }
+
+    /// Whether the session has looked up the key of a place, and the mode is one of its kind.
+    pub(crate) fn is_fit(&self, place: usize, mode: Mode) -> bool
+        ensures { result ≡ is_fit place mode self.now.known.items }
+    {
+        match self.kind_at(place) {
+            Some(kind) => kind.has_mode(mode),
+            None => false,
+        }
+    }
+}
+
+/// Writes another mode of the ticket of a number at a place into a list.
+pub(crate) fn set_mode(tickets: &mut Vec<Own>, place: usize, id: TicketId, mode: Mode)
+    ensures { tickets.new.items ≡ in_mode_at place id mode tickets.old.items }
+{
+    change(tickets, place, id, mode);
+}
+
+// The same in a slice.
+fn change(tickets: &mut [Own], place: usize, id: TicketId, mode: Mode)
+    ensures { tickets.new ≡ in_mode_at place id mode tickets.old }
+{
+    for ticket in tickets.iter_mut() {
+        *ticket = changed(*ticket, place, id, mode);
+    }
+}
+
+// A ticket in another mode, where it is that of a number at a place.
+fn changed(ticket: Own, place: usize, id: TicketId, mode: Mode) -> Own
+    ensures { result ≡ in_mode_if place id mode ticket }
+{
+    if is_at(&ticket, place, id) {
+        Own { mode, ..ticket }
+    } else {
+        ticket
+    }
+}

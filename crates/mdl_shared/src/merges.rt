@@ -1,0 +1,71 @@
+//! Two tickets become one.
+ghost use Rattle.std.specs.Prelude.{◌≡◌, ◌≢◌, Some, OnOk, OnErr};
+ghost use Rattle.mdl_key.specs.Refusals.{RefusesJust};
+ghost use Rattle.mdl_steps.specs.declared.view.Met.{Met};
+ghost use Rattle.mdl_steps.specs.declared.view.Own.{Own};
+ghost use Rattle.mdl_shared.specs.Leavings.{MeetsOwn};
+ghost use Rattle.mdl_shared.specs.Members.{numbered, without_at};
+ghost use Rattle.mdl_shared.specs.Modes.{in_mode_at, may_merge, merge_fault};
+ghost use Rattle.mdl_shared.specs.Visits.{IsStepOf};
+
+use crate::Session;
+use crate::covering::fold;
+use crate::holdings::set_mode;
+use crate::member::Member;
+use crate::tickets::strike;
+use mdl_calls::{SpaceError, TicketId};
+use mdl_steps::Own;
+use mdl_system::covers;
+use std::sync::Wait;
+
+impl Member {
+    // Lets a ticket have the mode of another one of its place, which goes.
+    fn fold<R: Wait>(&mut self, rt: &R, kept: Own, gone: Own)
+        requires kept { numbered kept.number self.old.tickets.items ≡ Some kept }
+        requires gone { numbered gone.number self.old.tickets.items ≡ Some gone }
+        requires two { kept.number ≢ gone.number }
+        requires here { kept.place ≡ gone.place }
+        ensures same { (self.new.table ≡ self.old.table) × (self.new.worker.number ≡ self.old.worker.number) × (self.new.next ≡ self.old.next) × (self.new.known.items ≡ self.old.known.items) }
+        ensures folded { self.new.tickets.items ≡ without_at kept.place gone.number (in_mode_at kept.place kept.number gone.mode self.old.tickets.items) }
+        ensures step { (e : Met) × IsStepOf self.old.worker.seat.me self.new.worker.seat.me e
+            × MeetsOwn kept.place self.old.worker.number kept.number e × MeetsOwn kept.place self.old.worker.number gone.number e }
+    {
+        fold(rt, &mut self.worker, &self.table.shared, kept, gone);
+        set_mode(&mut self.tickets, kept.place, kept.number, gone.mode);
+        strike(&mut self.tickets, kept.place, gone.number);
+    }
+}
+
+// Whether a ticket may take the mode of another.
+fn may_merge(kept: Own, gone: Own) -> bool
+    ensures { result ≡ may_merge kept gone }
+{
+    kept.number != gone.number && kept.place == gone.place && covers(gone.mode, kept.mode)
+}
+
+impl<R: Wait> Session<R> {
+    /// Lets a held ticket have the mode of another one of its place, which is at least as strong, and gives that one up. The first ticket keeps
+    /// its number. It takes no memory.
+    pub fn merge(&mut self, old: TicketId, new: TicketId) -> Result<(), SpaceError>
+        ensures session { (self.new.member.table ≡ self.old.member.table) × (self.new.member.worker.number ≡ self.old.member.worker.number)
+            × (self.new.member.next ≡ self.old.member.next) × (self.new.member.known.items ≡ self.old.member.known.items) }
+        ensures merged { OnOk result ((kept : Own) × (gone : Own) × (numbered old self.old.member.tickets.items ≡ Some kept) × (numbered new self.old.member.tickets.items ≡ Some gone)
+            × (self.new.member.tickets.items ≡ without_at kept.place new (in_mode_at kept.place old gone.mode self.old.member.tickets.items))
+            × ((e : Met) × IsStepOf self.old.member.worker.seat.me self.new.member.worker.seat.me e
+            × MeetsOwn kept.place self.old.member.worker.number old e × MeetsOwn kept.place self.old.member.worker.number new e)) }
+        ensures unchanged { OnErr result (self.new.member.tickets.items ≡ self.old.member.tickets.items) }
+        ensures refused { RefusesJust (merge_fault (numbered old self.old.member.tickets.items) (numbered new self.old.member.tickets.items)) result }
+    {
+        let Some(kept) = self.member.ticket(old) else {
+            return Err(SpaceError::NotHeld);
+        };
+        let Some(gone) = self.member.ticket(new) else {
+            return Err(SpaceError::NotHeld);
+        };
+        if !may_merge(kept, gone) {
+            return Err(SpaceError::BadMode);
+        }
+        self.member.fold(&self.rt, kept, gone);
+        Ok(())
+    }
+}
