@@ -4,9 +4,10 @@ ghost use Rattle.mdl_shared.specs.Passes.{table_of, pass_table};
 
 use crate::sessions::closed;
 use mdl_calls::{Attempt, Place};
-use mdl_defs::{Change, Columns, Definition};
+use mdl_defs::{Change, Column, Columns, Definition};
 use mdl_key::{Key, Mode};
 use mdl_shared::{Manager, Pass, Session};
+use std::alloc::Global;
 use std::process::Abort;
 use std::sync::Wait;
 use std::test::Fail;
@@ -27,13 +28,7 @@ fn changes<R: Wait>(session: &mut Session<R>, place: Place, change: &Change) -> 
 }
 
 // How often the session of a pass did so.
-fn count<R: Wait + Abort>(
-    rt: &R,
-    manager: &Manager,
-    pass: Pass,
-    key: &Key,
-    change: &Change,
-) -> u64
+fn count<R: Wait + Abort>(rt: &R, manager: &Manager, pass: Pass, key: &Key, change: &Change) -> u64
     requires { pass_table pass ≡ table_of manager.now }
 {
     let mut session = Session::open(rt, manager, pass);
@@ -68,13 +63,20 @@ fn count_two<R: Threads + Wait + Abort + Sync>(
     early.saturating_add(late)
 }
 
+/// A table with one column is put, whatever stands.
+pub(crate) fn putting(alloc: Global) -> Result<Change, Fail> {
+    let mut columns = Columns::new(alloc);
+    columns.push(Column::new(alloc, "number")?)?;
+    Ok(Change::Put(Definition::Table(columns)))
+}
+
 // The version counts the changes, and no ticket is left.
 #[test]
 fn versions_count_the_changes_of_four_threads(rt: HostRuntime) -> Result<(), Fail> {
     let alloc = rt.alloc();
     let (manager, mut passes) = Manager::new(alloc, 1, 5)?;
     let key = Key::table(alloc, "shop", "sales")?;
-    let change = Change::Put(Definition::Table(Columns::new(alloc)));
+    let change = putting(alloc)?;
     let five = passes.remove(4);
     let four = passes.remove(3);
     let three = passes.remove(2);
@@ -93,6 +95,8 @@ fn versions_count_the_changes_of_four_threads(rt: HostRuntime) -> Result<(), Fai
     let versions: u64 = books.iter().map(|book| book.book.standing.version).sum();
     assert_eq!(rt; versions, early.saturating_add(late));
     assert!(rt; versions >= 1);
-    assert!(rt; books.iter().all(|book| book.book.granted.is_empty() && book.book.waiting.is_empty()));
+    assert!(rt;
+        books.iter().all(|book| book.book.granted.is_empty() && book.book.waiting.is_empty())
+    );
     Ok(())
 }

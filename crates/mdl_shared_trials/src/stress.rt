@@ -4,9 +4,10 @@ ghost use Rattle.std.specs.Prelude.{◌≡◌};
 ghost use Rattle.mdl_shared.specs.Passes.{table_of, pass_table};
 
 use crate::chance::Chance;
+use crate::counting::putting;
 use crate::sessions::closed;
 use mdl_calls::{Held, Place, SpaceError};
-use mdl_defs::{Change, Columns, Definition};
+use mdl_defs::Change;
 use mdl_key::{Key, Kind, conflicts_granted};
 use mdl_shared::{Audited, HoldsTickets, Manager, Pass, Session};
 use std::alloc::Global;
@@ -38,14 +39,15 @@ impl From<SpaceError> for Wrong {
 }
 
 // A session's row of chances, the change that it makes, and of each table how often it changed that, and the last version that it saw.
-struct Player {
+#[derive(Drop)]
+struct Player<'a> {
     chance: Chance,
-    change: Change,
+    change: &'a Change,
     changes: [u64; 8],
     seen: [u64; 8],
 }
 
-impl Player {
+impl Player<'_> {
     // Notes a version that was read of a place's table. Versions don't fall.
     fn see(&mut self, place: Place, version: u64) -> Result<(), Wrong> {
         match self.seen.get_mut(usize::from(place) - 1) {
@@ -67,7 +69,7 @@ impl Player {
 }
 
 // Whether a call was made, or refused for what it asked.
-fn was_answered<T>(outcome: Result<T, SpaceError>) -> Result<(), Wrong> {
+fn was_answered<T: Drop>(outcome: Result<T, SpaceError>) -> Result<(), Wrong> {
     match outcome {
         Ok(_)
         | Err(SpaceError::NotUpgradable)
@@ -78,7 +80,7 @@ fn was_answered<T>(outcome: Result<T, SpaceError>) -> Result<(), Wrong> {
 }
 
 // One call of any kind.
-fn make_call<R: Wait>(session: &mut Session<R>, player: &mut Player) -> Result<(), Wrong> {
+fn make_call<R: Wait>(session: &mut Session<R>, player: &mut Player<'_>) -> Result<(), Wrong> {
     let held = session.held()?;
     match player.chance.ticket(&held) {
         Some(ticket) if held.len() >= MOST_HELD || player.chance.below(3) > 0 => {
@@ -89,7 +91,7 @@ fn make_call<R: Wait>(session: &mut Session<R>, player: &mut Player) -> Result<(
 }
 
 // A lock is asked for, or what is known of a table or of all.
-fn ask<R: Wait>(session: &mut Session<R>, player: &mut Player) -> Result<(), Wrong> {
+fn ask<R: Wait>(session: &mut Session<R>, player: &mut Player<'_>) -> Result<(), Wrong> {
     let place = player.chance.below(TABLES.len()) as u16 + 1;
     match player.chance.below(40) {
         0 => was_answered(session.key_of(place)),
@@ -101,7 +103,7 @@ fn ask<R: Wait>(session: &mut Session<R>, player: &mut Player) -> Result<(), Wro
 // Something is done with a ticket.
 fn use_ticket<R: Wait>(
     session: &mut Session<R>,
-    player: &mut Player,
+    player: &mut Player<'_>,
     ticket: Held,
     held: &[Held],
 ) -> Result<(), Wrong> {
@@ -119,7 +121,7 @@ fn use_ticket<R: Wait>(
             let standing = session.read_definition(id)?;
             player.see(place, standing.version)
         }
-        5 => match session.change_definition(id, &player.change) {
+        5 => match session.change_definition(id, player.change) {
             Ok(version) => player.count(place, version),
             outcome => was_answered(outcome),
         },
@@ -135,14 +137,13 @@ fn are_lawful(books: &[Audited]) -> bool {
 fn is_lawful(book: &Audited) -> bool {
     book.book.granted.iter().all(|asked| {
         book.book.granted.iter().all(|held| {
-            asked.session == held.session
-                || !conflicts_granted(Kind::Object, asked.mode, held.mode)
+            asked.session == held.session || !conflicts_granted(Kind::Object, asked.mode, held.mode)
         })
     })
 }
 
 // All calls of a session, which knows the tables. In the end it gives all its tickets up.
-fn make_calls<R: Wait>(session: &mut Session<R>, player: &mut Player) -> Result<(), Wrong> {
+fn make_calls<R: Wait>(session: &mut Session<R>, player: &mut Player<'_>) -> Result<(), Wrong> {
     for call in 0..CALLS {
         make_call(session, player)?;
         if call % UNWATCHED == 0 && !are_lawful(&session.audit()?) {
@@ -166,18 +167,19 @@ fn look_up<R: Wait>(alloc: Global, session: &mut Session<R>) -> Result<(), Wrong
     Ok(())
 }
 
-// A table without columns is put, whatever stands.
-fn change(alloc: Global) -> Change {
-    Change::Put(Definition::Table(Columns::new(alloc)))
-}
-
 // What became of a session's part: how often it changed each table.
-fn play<R: Wait + Abort>(rt: &R, alloc: Global, manager: &Manager, pass: Pass) -> Result<[u64; 8], Wrong>
+fn play<R: Wait + Abort>(
+    rt: &R,
+    alloc: Global,
+    manager: &Manager,
+    pass: Pass,
+    change: &Change,
+) -> Result<[u64; 8], Wrong>
     requires { pass_table pass ≡ table_of manager.now }
 {
     let mut player = Player {
         chance: Chance::new(pass.number()),
-        change: change(alloc),
+        change,
         changes: [0; 8],
         seen: [0; 8],
     };
@@ -199,13 +201,14 @@ fn play_two<R: Threads + Wait + Abort + Sync>(
     manager: &Manager,
     one: Pass,
     two: Pass,
+    change: &Change,
 ) -> Result<[u64; 8], Wrong>
     requires { (pass_table one ≡ table_of manager.now) × (pass_table two ≡ table_of manager.now) }
 {
     let (early, late) = thread::join(
         rt,
-        move || play(rt, alloc, manager, one),
-        move || play(rt, alloc, manager, two),
+        move || play(rt, alloc, manager, one, change),
+        move || play(rt, alloc, manager, two, change),
     );
     Ok(sums(early?, late?))
 }
@@ -222,7 +225,9 @@ fn sums(mut early: [u64; 8], late: [u64; 8]) -> [u64; 8] {
 fn is_left(books: &[Audited], changes: [u64; 8]) -> bool {
     books.len() == changes.len()
         && books.iter().zip(changes).all(|(book, changes)| {
-            book.book.granted.is_empty() && book.book.waiting.is_empty() && book.book.standing.version == changes
+            book.book.granted.is_empty()
+                && book.book.waiting.is_empty()
+                && book.book.standing.version == changes
         })
 }
 
@@ -235,11 +240,12 @@ fn four_threads_make_all_calls(rt: HostRuntime) -> Result<(), Fail> {
     let three = passes.remove(2);
     let two = passes.remove(1);
     let one = passes.remove(0);
-    let (runtime, manager) = (&rt, &manager);
+    let change = putting(alloc)?;
+    let (runtime, manager, change) = (&rt, &manager, &change);
     let (early, late) = thread::join(
         runtime,
-        move || play_two(runtime, alloc, manager, one, two),
-        move || play_two(runtime, alloc, manager, three, four),
+        move || play_two(runtime, alloc, manager, one, two, change),
+        move || play_two(runtime, alloc, manager, three, four, change),
     );
     let mut watcher = Session::open(&rt, manager, five);
     let books = watcher.audit();
