@@ -1,7 +1,7 @@
--- A ticket in another mode: in the book, and in the session's own list.
+-- A ticket in another mode in the book.
 use Rattle.std.proofs.Common.{◌≡◌, ℕ, ◌+◌, ◌<◌, Bool, true, ◌||◌, List, [], ◌∷◌, length, Option, None, Result, Ok, Err, refl, sym, ap, ◌∙◌, arith}
 use Rattle.std.specs.Prelude.{is_some, OnOk}
-use Rattle.std.proofs.lemmas.Bool.{and_parts, and_from, lt-ltb}
+use Rattle.std.proofs.lemmas.Bool.{lt-ltb}
 use Rattle.mdl_key.specs.Refusals.{RefusesJust}
 use Rattle.mdl_key.specs.declared.mode.Mode.{Mode}
 use Rattle.mdl_key.specs.declared.namespace.Kind.{Kind}
@@ -12,16 +12,9 @@ use Rattle.mdl_book.specs.declared.ticket.Ticket.{Ticket}
 use Rattle.mdl_book.specs.Books.{any_obtrusive, change_fault, changing, lock_kind}
 use Rattle.mdl_book.specs.FastTickets.{may_stand}
 use Rattle.mdl_book.specs.Tickets.{is_ticket, ticket_of, with_mode}
-use Rattle.mdl_steps.specs.declared.view.Known.{Known}
-use Rattle.mdl_steps.specs.declared.view.Own.{Own}
-use Rattle.mdl_steps.specs.Deeds.{is_own}
 use Rattle.mdl_steps.specs.Rule.{TellsLists}
 use Rattle.mdl_steps.proofs.Tickets.{with_mode-hit, with_mode-miss}
 use Rattle.mdl_steps.proofs.Views.{by_bool}
-use Rattle.mdl_shared.specs.Members.{are_placed, is_known_place}
-use Rattle.mdl_shared.specs.Upgrades.{with_mode_at}
-
--- ---- in the book
 
 module _ (session number : ℕ) (mode : Mode) where
   -- the ticket is one of the list still
@@ -62,14 +55,3 @@ module _ (session number : ℕ) (mode : Mode) where
 pub just_done : {T : Type 0} {P : Type 0} (fault : Option BookError) (result : Result T BookError) → fault ≡ None → RefusesJust fault result → OnOk result P → P
 just_done fault (Ok x) none told done = done
 just_done {T} fault (Err e) none told done = let is = rw none at told in absurd (cc)
-
--- ---- in the session's list
-
--- each ticket stays at its place
-pub altered_placed : (known : List Known) (tickets : List Own) (place number : ℕ) (mode : Mode) → are_placed known tickets ≡ true → are_placed known (with_mode_at place number mode tickets) ≡ true
-altered_placed known [] place number mode all = refl
-altered_placed known (t ∷ ts) place number mode all =
-    let parts = and_parts (is_known_place known t.place) (are_placed known ts) all in
-    by_bool (is_own place number t)
-    (λ here. rw here (and_from _ _ parts.0 (altered_placed known ts place number mode parts.1)))
-    (λ elsewhere. rw elsewhere (and_from _ _ parts.0 (altered_placed known ts place number mode parts.1)))

@@ -1,5 +1,5 @@
--- Upgrades of tickets: which are tried, and what the session has then.
-use Rattle.std.specs.Prelude.{ℕ, Bool, false, ◌&&◌, ◌||◌, List, map, Option, Some, None, if◌then◌else◌}
+-- Upgrades of tickets: which are tried.
+use Rattle.std.specs.Prelude.{Bool, false, ◌&&◌, ◌||◌, List, Option, Some, None, if◌then◌else◌}
 use Rattle.mdl_key.specs.declared.mode.Mode.{Mode}
 use Rattle.mdl_key.specs.declared.namespace.Kind.{Kind}
 use Rattle.mdl_key.specs.Words.{is_mode_of}
@@ -8,7 +8,6 @@ use Rattle.mdl_calls.specs.declared.space_error.SpaceError.{SpaceError}
 use Rattle.mdl_calls.specs.declared.space_error.SpaceError.TheVariants.{NotHeld, NotUpgradable}
 use Rattle.mdl_steps.specs.declared.view.Known.{Known}
 use Rattle.mdl_steps.specs.declared.view.Own.{Own}
-use Rattle.mdl_steps.specs.Deeds.{is_own}
 use Rattle.mdl_shared.specs.Members.{kind_known}
 
 -- whether a ticket can have a mode, at a place whose key is of this kind, or isn't known: its own mode covers that or may be upgraded to it, and the
@@ -21,11 +20,3 @@ can_have mode t (Some kind) = (covers t.mode mode || may_upgrade t.mode mode) &&
 abbrev pub upgrade_fault : Mode → List Known → Option Own → Option SpaceError
 upgrade_fault mode known None = Some NotHeld
 upgrade_fault mode known (Some t) = if can_have mode t (kind_known t.place known) then None else Some NotUpgradable
-
--- a ticket in another mode, where it is that of a number at a place
-abbrev pub altered_at : ℕ → ℕ → Mode → Own → Own
-altered_at place number mode t = if is_own place number t then record t { mode = mode } else t
-
--- the tickets with that of a number at a place in another mode
-abbrev pub with_mode_at : ℕ → ℕ → Mode → List Own → List Own
-with_mode_at place number mode tickets = map (altered_at place number mode) tickets

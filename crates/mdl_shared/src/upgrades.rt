@@ -8,16 +8,17 @@ ghost use Rattle.mdl_calls.specs.declared.answers.Upgrade.TheVariants.{Upgraded,
 ghost use Rattle.mdl_steps.specs.declared.view.Met.{Met};
 ghost use Rattle.mdl_steps.specs.declared.view.Own.{Own};
 ghost use Rattle.mdl_shared.specs.Members.{kind_known, numbered};
-ghost use Rattle.mdl_shared.specs.Upgrades.{altered_at, upgrade_fault, with_mode_at};
+ghost use Rattle.mdl_shared.specs.Modes.{in_mode_at};
+ghost use Rattle.mdl_shared.specs.Upgrades.{upgrade_fault};
 ghost use Rattle.mdl_shared.specs.Visits.{IsStepOf, MeetsBlocked, MeetsGrantable};
 
 use crate::Session;
+use crate::holdings::set_mode;
 use crate::member::Member;
 use crate::strengthening::try_strengthen;
 use crate::tries::Tried;
 use mdl_calls::{SpaceError, TicketId, Upgrade};
 use mdl_key::{Kind, Mode};
-use mdl_steps::Own;
 use mdl_system::{covers, may_upgrade};
 use std::sync::Wait;
 
@@ -35,45 +36,18 @@ impl Member {
         requires known { kind_known place self.old.known.items ≡ Some _kind }
         requires mode { (is_mode_of _kind mode ≡ true) × (is_obtrusive _kind mode ≡ true) }
         ensures same { (self.new.table ≡ self.old.table) × (self.new.worker.number ≡ self.old.worker.number) × (self.new.next ≡ self.old.next) × (self.new.known.items ≡ self.old.known.items) }
-        ensures upgraded { result ≡ Upgraded → (self.new.tickets.items ≡ with_mode_at place id mode self.old.tickets.items)
+        ensures upgraded { result ≡ Upgraded → (self.new.tickets.items ≡ in_mode_at place id mode self.old.tickets.items)
             × ((e : Met) × IsStepOf self.old.worker.seat.me self.new.worker.seat.me e × MeetsGrantable place self.old.worker.number mode e) }
         ensures would_wait { result ≡ WouldWait → (self.new.tickets.items ≡ self.old.tickets.items)
             × ((e : Met) × IsStepOf self.old.worker.seat.me self.new.worker.seat.me e × MeetsBlocked place self.old.worker.number mode e) }
     {
         match try_strengthen(rt, &mut self.worker, &self.table.shared, place, id, mode) {
             Tried::Granted => {
-                alter_all(&mut self.tickets, place, id, mode);
+                set_mode(&mut self.tickets, place, id, mode);
                 Upgrade::Upgraded
             }
             Tried::Blocked => Upgrade::WouldWait,
         }
-    }
-}
-
-// Lets the ticket of a number at a place have another mode.
-fn alter_all(tickets: &mut Vec<Own>, place: usize, id: TicketId, mode: Mode)
-    ensures { tickets.new.items ≡ with_mode_at place id mode tickets.old.items }
-{
-    alter(tickets, place, id, mode);
-}
-
-// The same in a slice.
-fn alter(tickets: &mut [Own], place: usize, id: TicketId, mode: Mode)
-    ensures { tickets.new ≡ with_mode_at place id mode tickets.old }
-{
-    for ticket in tickets.iter_mut() {
-        *ticket = altered(*ticket, place, id, mode);
-    }
-}
-
-// A ticket in another mode, where it is that of a number at a place.
-fn altered(ticket: Own, place: usize, id: TicketId, mode: Mode) -> Own
-    ensures { result ≡ altered_at place id mode ticket }
-{
-    if ticket.place == place && ticket.number == id {
-        Own { mode, ..ticket }
-    } else {
-        ticket
     }
 }
 
@@ -86,7 +60,7 @@ impl<R: Wait> Session<R> {
         ensures covered { (t : Own) → numbered id self.old.member.tickets.items ≡ Some t → covers t.mode mode ≡ true
             → self.new.member.tickets.items ≡ self.old.member.tickets.items }
         ensures upgraded { (t : Own) → numbered id self.old.member.tickets.items ≡ Some t → covers t.mode mode ≡ false → result ≡ Ok Upgraded
-            → (self.new.member.tickets.items ≡ with_mode_at t.place id mode self.old.member.tickets.items)
+            → (self.new.member.tickets.items ≡ in_mode_at t.place id mode self.old.member.tickets.items)
             × ((e : Met) × IsStepOf self.old.member.worker.seat.me self.new.member.worker.seat.me e × MeetsGrantable t.place self.old.member.worker.number mode e) }
         ensures would_wait { result ≡ Ok WouldWait → (self.new.member.tickets.items ≡ self.old.member.tickets.items)
             × ((t : Own) × (numbered id self.old.member.tickets.items ≡ Some t) × (covers t.mode mode ≡ false)

@@ -5,8 +5,8 @@ use Rattle.mdl_steps.specs.Plays.{Mine}
 use Rattle.mdl_shared.specs.Idle.{IsIdle, HasSlowAlone}
 use Rattle.mdl_shared.specs.Leavings.{HasTicket}
 use Rattle.mdl_shared.specs.Members.{are_placed, kind_known}
-use Rattle.mdl_shared.specs.Upgrades.{with_mode_at}
-use Rattle.mdl_shared.proofs.Altering.{altered_placed}
+use Rattle.mdl_shared.specs.Modes.{in_mode_at}
+use Rattle.mdl_shared.proofs.Fitting.{altered_placed}
 use Rattle.mdl_shared.proofs.Membership.{has_numbered, kind_place, kind_there, known_within}
 use Rattle.mdl_shared.proofs.member.Member.strengthen.Goals as goal
 
@@ -36,9 +36,9 @@ invariant_of-self g c =
       narrow = self.narrow;
       idle = subst IsIdle (sym now) self.idle;
       slow = subst HasSlowAlone (sym now) self.slow;
-      listed = c.alter_all.ensures ∙ ap (with_mode_at c.args.place c.args.id c.args.mode) self.listed ∙ sym (ap (λ (m : Mine). m.0.slow) now);
+      listed = c.set_mode.ensures ∙ ap (in_mode_at c.args.place c.args.id c.args.mode) self.listed ∙ sym (ap (λ (m : Mine). m.0.slow) now);
       known_is = self.known_is ∙ sym (ap (λ (m : Mine). m.0.known) now);
       next_is = self.next_is ∙ sym (ap (λ (m : Mine). m.0.next) now);
-      placed = ap (are_placed self.known.items) c.alter_all.ensures ∙ altered_placed self.known.items self.tickets.items c.args.place c.args.id c.args.mode self.placed;
+      placed = ap (are_placed self.known.items) c.set_mode.ensures ∙ altered_placed self.known.items c.args.place c.args.id c.args.mode self.tickets.items self.placed;
       within = self.within;
     }
