@@ -7,4 +7,5 @@ pub mod Reading
 pub mod Lookups
 pub mod Naming
 pub mod Asking
+pub mod Sorting
 pub mod Listing
