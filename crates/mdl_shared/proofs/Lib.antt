@@ -15,5 +15,6 @@ pub mod Lookups
 pub mod Naming
 pub mod Asking
 pub mod Gathering
+pub mod Sorting
 pub mod Listing
 pub mod Telling

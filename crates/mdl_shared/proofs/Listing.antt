@@ -1,35 +1,24 @@
 -- What a session has after it asked the directory for the tables of a schema.
 use Rattle.std.proofs.Common.{◌≡◌, ℕ, ◌-◌, ◌<◌, List, [], ◌∷◌, ◌++◌, length, None, Some, ap, ◌∙◌, arith, append_assoc, append-nil}
 use Rattle.std.specs.Prelude.{Option}
-use Rattle.std.specs.Cmp.{IsTotalOrder}
-use Rattle.std.specs.Cmp.Rules.{comparing}
-use Rattle.std.proofs.Common.{rules}
 use Rattle.std.proofs.lemmas.List.Elements.{All-weaker}
-use Rattle.std.proofs.lemmas.List.Sorted.{All-permutation}
-use Rattle.mdl_key.specs.Keys.{key_cmp}
 use Rattle.mdl_steps.specs.declared.view.Keys.{Keys}
 use Rattle.mdl_steps.specs.declared.view.Known.{Known}
 use Rattle.mdl_steps.specs.declared.view.Met.{Met}
 use Rattle.mdl_steps.specs.Layout.{latch_word}
 use Rattle.mdl_steps.specs.Plays.{Mine, IsDirectory, consulted, informed}
 use Rattle.mdl_steps.specs.Rule.{key_at}
-use Rattle.mdl_steps.specs.Schemas.{StandThere, tables_from, unknown}
-use Rattle.mdl_steps.proofs.SchemaLemmas.{tables_stand}
+use Rattle.mdl_steps.specs.Schemas.{StandThere, unknown}
 use Rattle.mdl_shared.specs.Idle.{IsIdle}
 use Rattle.mdl_shared.specs.Lookups.{TookDirectory}
 use Rattle.mdl_shared.specs.Tables.{AreTables, AreWithin, knowing_all}
 use Rattle.mdl_shared.specs.Visits.{GoesOn, MakesSteps, and_made}
 use Rattle.mdl_shared.proofs.Lookups.{no_record, some_there}
 
--- keys are in a total order
-pub key-total : IsTotalOrder key_cmp
-key-total = search (comparing, rules) depth 9
-
 -- ---- the tables stand where the directory says
 
 pub all_stand : (schema : List ℕ) (k : Keys) (tables : List Known) → AreTables schema k tables → StandThere k tables
-all_stand schema k tables are =
-    All-permutation (λ (x : Known). (0 < x.place) × (key_at k.keys x.place ≡ Some x.key)) (tables_from schema 1 k.keys) tables are.all (tables_stand schema k)
+all_stand schema k tables are = λ i d short. ((are.each i d short).0, (are.each i d short).1)
 
 pub all_within : (slots : ℕ) (k : Keys) (tables : List Known) → length k.keys < slots → StandThere k tables → AreWithin slots tables
 all_within slots k tables fit stand =

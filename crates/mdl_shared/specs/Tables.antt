@@ -1,7 +1,8 @@
 -- How a session finds the tables of a schema that have a definition: the directory tells the tables, and the session asks at the place of each.
-use Rattle.std.specs.Prelude.{◌≡◌, ℕ, ◌<◌, Bool, List, ◌++◌, map, filter, All, is_some, Some}
+use Rattle.std.specs.Prelude.{◌≡◌, ℕ, ◌<◌, Bool, true, List, ◌++◌, map, filter, All, AllPairs, Contains, is_some, Some}
 use Rattle.std.specs.List.Sorted.{IsPermutation, IsSortedBy}
 use Rattle.std.specs.Ordering.{is_lt}
+use Rattle.std.specs.declared.cmp.Ordering.TheVariants.{Less}
 use Rattle.mdl_key.specs.Keys.{key_cmp}
 use Rattle.mdl_steps.specs.declared.view.Held.{Held}
 use Rattle.mdl_steps.specs.declared.view.Keys.{Keys}
@@ -10,19 +11,30 @@ use Rattle.mdl_steps.specs.declared.view.Met.{Met}
 use Rattle.mdl_steps.specs.Cells.{held_at}
 use Rattle.mdl_steps.specs.Layout.{latch_word}
 use Rattle.mdl_steps.specs.Plays.{Mine}
-use Rattle.mdl_steps.specs.Schemas.{tables_from, unknown}
+use Rattle.mdl_steps.specs.Rule.{key_at}
+use Rattle.mdl_steps.specs.Schemas.{is_table_of, tables_from, unknown}
 use Rattle.mdl_shared.specs.Visits.{IsStepOf}
 
 -- ---- which tables there are
 
--- no key is less than the one before it
-abbrev pub AreInOrder : List Known → Type 0
-AreInOrder tables = IsSortedBy (λ (one other : Known). is_lt (key_cmp one.key other.key)) tables
+-- a table of the schema stands at its place by the directory's record
+abbrev pub IsTable : List ℕ → Keys → Known → Type 0
+IsTable schema k t = (0 < t.place) × (key_at k.keys t.place ≡ Some t.key) × (is_table_of schema t.key ≡ true)
 
--- all tables of the schema by the directory's record, each once, in the order of their keys
+-- all tables of the schema by the directory's record, and nothing else, each once in the order of their keys
 pub record AreTables (schema : List ℕ) (k : Keys) (tables : List Known) : Type 0 where
+  pub each : All (IsTable schema k) tables
+  pub every : (t : Known) → IsTable schema k t → Contains tables t
+  pub in_order : AllPairs (λ (one other : Known). key_cmp one.key other.key ≡ Less) tables
+
+-- no key is less than the one before it
+abbrev pub AreSorted : List Known → Type 0
+AreSorted tables = IsSortedBy (λ (one other : Known). is_lt (key_cmp one.key other.key)) tables
+
+-- the tables among the directory's keys, sorted
+pub record AreListed (schema : List ℕ) (k : Keys) (tables : List Known) : Type 0 where
   pub all : IsPermutation (tables_from schema 1 k.keys) tables
-  pub in_order : AreInOrder tables
+  pub sorted : AreSorted tables
 
 -- the seat whose session knows these keys, too
 abbrev pub knowing_all : List Known → Mine → Mine

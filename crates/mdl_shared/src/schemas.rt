@@ -6,7 +6,7 @@ ghost use Rattle.mdl_steps.specs.declared.view.Keys.{Keys};
 ghost use Rattle.mdl_steps.specs.Seats.{IsSized, HasDirectory};
 ghost use Rattle.mdl_shared.specs.Idle.{IsIdle};
 ghost use Rattle.mdl_shared.specs.Lookups.{TookDirectory};
-ghost use Rattle.mdl_shared.specs.Tables.{AreInOrder, AreTables, AreWithin, knowing_all};
+ghost use Rattle.mdl_shared.specs.Tables.{AreListed, AreSorted, AreTables, AreWithin, knowing_all};
 ghost use Rattle.mdl_shared.specs.Visits.{MakesSteps};
 
 use crate::directories::await_directory;
@@ -62,21 +62,21 @@ fn list_tables(
     requires held { (k : Keys) × HasDirectory k worker.old.seat.me }
     ensures seat { (worker.new.seat.table_id ≡ worker.old.seat.table_id) × (worker.new.number ≡ worker.old.number) }
     ensures same { (worker.new.seat.me ≡ worker.old.seat.me) × (known.new.items ≡ known.old.items) }
-    ensures listed { (k : Keys) → HasDirectory k worker.old.seat.me → IfOk result (λ found. AreTables schema.now k found.0.items) }
+    ensures listed { (k : Keys) → HasDirectory k worker.old.seat.me → IfOk result (λ found. AreListed schema.now k found.0.items) }
     ensures room { IfOk result (λ found. (vec_len known.new + length found.0.items ≤ vec_capacity known.new)
         × (found.1.items ≡ []) × (vec_len found.1 + length found.0.items ≤ vec_capacity found.1)) }
 {
     let mut tables = worker.tables_of(top, directory, alloc, schema)?;
-    put_in_order(&mut tables);
+    sort(&mut tables);
     known.reserve(tables.len())?;
     let places = Vec::with_capacity(alloc, tables.len())?;
     Ok((tables, places))
 }
 
-// Puts tables in the order of their keys.
-fn put_in_order(tables: &mut Vec<Known>)
+// Sorts tables by their keys.
+fn sort(tables: &mut Vec<Known>)
     ensures same { IsPermutation tables.old.items tables.new.items }
-    ensures in_order { AreInOrder tables.new.items }
+    ensures sorted { AreSorted tables.new.items }
 {
     tables.sort_unstable_by(|one, other| one.key.cmp(&other.key));
 }

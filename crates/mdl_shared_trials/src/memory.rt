@@ -13,7 +13,7 @@ use std::sync::Wait;
 use std::test::Fail;
 
 // A space of three sessions, at the second try where memory was refused to the first.
-fn space(alloc: Global) -> Result<(Manager, Vec<Pass>), NewError>
+pub(crate) fn space(alloc: Global) -> Result<(Manager, Vec<Pass>), NewError>
     ensures { IfOk result (λ made. (length made.1.items ≡ 3) × ArePasses (table_of made.0) made.1.items) }
 {
     match Manager::new(alloc, 2, 3) {
@@ -23,7 +23,7 @@ fn space(alloc: Global) -> Result<(Manager, Vec<Pass>), NewError>
 }
 
 // The key of a table, in the same way.
-fn table_key(alloc: Global) -> Result<Key, KeyError> {
+pub(crate) fn table_key(alloc: Global) -> Result<Key, KeyError> {
     match Key::table(alloc, "shop", "sales") {
         Err(KeyError::OutOfMemory) => Key::table(alloc, "shop", "sales"),
         outcome => outcome,
@@ -31,7 +31,7 @@ fn table_key(alloc: Global) -> Result<Key, KeyError> {
 }
 
 // The place of a key, in the same way.
-fn resolve<R: Wait>(session: &mut Session<R>, key: &Key) -> Result<Place, SpaceError> {
+pub(crate) fn resolve<R: Wait>(session: &mut Session<R>, key: &Key) -> Result<Place, SpaceError> {
     match session.resolve(key) {
         Err(SpaceError::OutOfMemory) => session.resolve(key),
         outcome => outcome,
@@ -39,7 +39,7 @@ fn resolve<R: Wait>(session: &mut Session<R>, key: &Key) -> Result<Place, SpaceE
 }
 
 // What comes of trying for a lock, in the same way.
-fn try_now<R: Wait>(
+pub(crate) fn try_now<R: Wait>(
     session: &mut Session<R>,
     place: Place,
     mode: Mode,

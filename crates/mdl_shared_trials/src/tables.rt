@@ -1,4 +1,5 @@
 //! Sessions ask which tables of a schema have a definition.
+use crate::memory::{resolve, space, table_key, try_now};
 use crate::sessions::closed;
 use mdl_calls::{Attempt, SpaceError};
 use mdl_key::{Key, Mode};
@@ -53,14 +54,13 @@ fn who_asks_for_tables_knows_them(rt: HostRuntime) -> Result<(), Fail> {
 // A call that has no memory leaves the session as it was, and the next one tells the same.
 #[test]
 fn tables_are_told_at_last(rt: HostRuntime) -> Result<(), Fail> {
-    let alloc = rt.alloc();
-    let (manager, mut passes) = Manager::new(alloc, 1, 2)?;
-    let sales = Key::table(alloc, "shop", "sales")?;
+    let (manager, mut passes) = space(rt.alloc())?;
+    let sales = table_key(rt.alloc())?;
     let mut two = Session::open(&rt, &manager, passes.remove(1));
     let mut one = Session::open(&rt, &manager, passes.remove(0));
-    assert_eq!(rt; one.resolve(&sales), Ok(1));
+    assert_eq!(rt; resolve(&mut one, &sales), Ok(1));
     assert_eq!(rt; told_at_last(&mut two, "shop"), Ok(0));
-    assert_eq!(rt; two.try_now(1, Mode::S), Ok(Attempt::Granted(1)));
+    assert_eq!(rt; try_now(&mut two, 1, Mode::S), Ok(Attempt::Granted(1)));
     assert_eq!(rt; two.release(1), Ok(()));
     closed(&rt, one);
     closed(&rt, two);

@@ -7,15 +7,18 @@ use Rattle.mdl_steps.specs.Seats.{HasDirectory}
 use Rattle.mdl_shared.specs.Visits.{and_made}
 use Rattle.mdl_shared.proofs.Listing.{all_stand, all_within, knows_tables, told_after, took_directory}
 use Rattle.mdl_shared.proofs.Lookups.{has_taken}
+use Rattle.mdl_shared.proofs.Sorting.{are_tables}
 use Rattle.mdl_shared.proofs.schemas.find_tables.Goals as goal
 
 pub put_directory_telling-requires-clause-put : goal.put_directory_telling-requires-clause-put
 put_directory_telling-requires-clause-put g c =
     let taken = c.await_directory-directory.ensures.taken in
-    let has = subst (λ (m : Mine). HasDirectory taken.1 m) (sym taken.3) (has_taken taken.1 (and_made taken.0 c.args.worker.now.seat.me)) in (
+    let has = subst (λ (m : Mine). HasDirectory taken.1 m) (sym taken.3) (has_taken taken.1 (and_made taken.0 c.args.worker.now.seat.me)) in
+    let schema : List ℕ = c.args.schema.now in
+    let tables : List Known = c.in-Ok.found.0.items in (
       taken.1,
       subst (λ (m : Mine). HasDirectory taken.1 m) (sym c.list_tables.ensures.same.0) has,
-      subst (StandThere taken.1) (sym c.deref.ensures.value) (all_stand c.args.schema.now taken.1 c.in-Ok.found.0.items (c.in-Ok.ensures.listed taken.1 has)),
+      subst (StandThere taken.1) (sym c.deref.ensures.value) (all_stand schema taken.1 tables (are_tables schema taken.1 tables taken.2.distinct (c.in-Ok.ensures.listed taken.1 has))),
     )
 
 pub returns-in-Ok-clause-found : goal.returns-in-Ok-clause-found
@@ -34,7 +37,7 @@ returns-in-Ok-clause-found g c =
     let more : List Known = unknown old.0.known tables in (
       taken.1,
       took_directory slots taken.1 taken.0 old c.requires.idle taken.2 more new e,
-      c.in-Ok.ensures.listed taken.1 has,
+      are_tables c.args.schema.now taken.1 tables taken.2.distinct (c.in-Ok.ensures.listed taken.1 has),
       knows_tables slots taken.1 taken.0 old c.requires.idle taken.2 more new e tables refl,
     )
 
@@ -42,5 +45,6 @@ pub returns-in-Ok-clause-within : goal.returns-in-Ok-clause-within
 returns-in-Ok-clause-within g c =
     let taken = c.await_directory-directory.ensures.taken in
     let has = subst (λ (m : Mine). HasDirectory taken.1 m) (sym taken.3) (has_taken taken.1 (and_made taken.0 c.args.worker.now.seat.me)) in
+    let schema : List ℕ = c.args.schema.now in
     let tables : List Known = c.in-Ok.found.0.items in
-    all_within c.args.top.now.table_id.slots taken.1 tables taken.2.fit (all_stand c.args.schema.now taken.1 tables (c.in-Ok.ensures.listed taken.1 has))
+    all_within c.args.top.now.table_id.slots taken.1 tables taken.2.fit (all_stand schema taken.1 tables (are_tables schema taken.1 tables taken.2.distinct (c.in-Ok.ensures.listed taken.1 has)))
