@@ -5,9 +5,9 @@ ghost use Rattle.std.specs.Prelude.{◌≡◌, ◌+◌, length, IfOk};
 ghost use Rattle.mdl_shared.specs.Passes.{ArePasses, table_of};
 
 use crate::sessions::closed;
-use mdl_calls::{Attempt, Place, SpaceError};
+use mdl_calls::{Attempt, Held, Place, SpaceError};
 use mdl_key::{Key, KeyError, Mode};
-use mdl_shared::{Manager, NewError, Pass, Session};
+use mdl_shared::{Audited, Manager, NewError, Pass, Session};
 use std::alloc::Global;
 use std::sync::Wait;
 use std::test::Fail;
@@ -50,6 +50,30 @@ pub(crate) fn try_now<R: Wait>(
     }
 }
 
+// The tickets of a session, in the same way.
+fn held<R>(session: &Session<R>) -> Result<Vec<Held>, SpaceError> {
+    match session.held() {
+        Err(SpaceError::OutOfMemory) => session.held(),
+        outcome => outcome,
+    }
+}
+
+// The key of a place, in the same way.
+fn key_of<R>(session: &mut Session<R>, place: Place) -> Result<Key, SpaceError> {
+    match session.key_of(place) {
+        Err(SpaceError::OutOfMemory) => session.key_of(place),
+        outcome => outcome,
+    }
+}
+
+// All books, in the same way.
+fn audit<R: Wait>(session: &mut Session<R>) -> Result<Vec<Audited>, SpaceError> {
+    match session.audit() {
+        Err(SpaceError::OutOfMemory) => session.audit(),
+        outcome => outcome,
+    }
+}
+
 #[test]
 fn outlives_want_of_memory(rt: HostRuntime) -> Result<(), Fail> {
     let (manager, mut passes) = space(rt.alloc())?;
@@ -65,5 +89,20 @@ fn outlives_want_of_memory(rt: HostRuntime) -> Result<(), Fail> {
     assert_eq!(rt; two.release(1), Ok(()));
     closed(&rt, one);
     closed(&rt, two);
+    Ok(())
+}
+
+#[test]
+fn tells_at_the_second_try(rt: HostRuntime) -> Result<(), Fail> {
+    let (manager, mut passes) = space(rt.alloc())?;
+    let sales = table_key(rt.alloc())?;
+    let mut session = Session::open(&rt, &manager, passes.remove(0));
+    assert_eq!(rt; resolve(&mut session, &sales), Ok(1));
+    assert_eq!(rt; try_now(&mut session, 1, Mode::S), Ok(Attempt::Granted(1)));
+    assert!(rt; held(&session).is_ok());
+    assert!(rt; key_of(&mut session, 1).is_ok());
+    assert!(rt; audit(&mut session).is_ok());
+    assert_eq!(rt; session.release(1), Ok(()));
+    closed(&rt, session);
     Ok(())
 }
