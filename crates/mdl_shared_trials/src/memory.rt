@@ -5,7 +5,14 @@ ghost use Rattle.std.specs.Prelude.{◌≡◌, ◌+◌, length, IfOk};
 ghost use Rattle.mdl_shared.specs.Passes.{ArePasses, table_of};
 
 use crate::sessions::closed;
+<<<<<<< HEAD
 use mdl_calls::{Attempt, Held, Place, SpaceError};
+||||||| 164211c
+use mdl_calls::{Attempt, Place, SpaceError};
+=======
+use mdl_calls::{Attempt, Place, SpaceError, TicketId, Upgrade};
+use mdl_defs::{Change, Column, Columns, Definition};
+>>>>>>> a
 use mdl_key::{Key, KeyError, Mode};
 use mdl_shared::{Audited, Manager, NewError, Pass, Session};
 use std::alloc::Global;
@@ -91,6 +98,7 @@ fn outlives_want_of_memory(rt: HostRuntime) -> Result<(), Fail> {
     closed(&rt, two);
     Ok(())
 }
+<<<<<<< HEAD
 
 #[test]
 fn tells_at_the_second_try(rt: HostRuntime) -> Result<(), Fail> {
@@ -106,3 +114,53 @@ fn tells_at_the_second_try(rt: HostRuntime) -> Result<(), Fail> {
     closed(&rt, session);
     Ok(())
 }
+||||||| 164211c
+=======
+
+// A table of one column.
+fn table(alloc: Global) -> Option<Definition> {
+    let column = Column::new(alloc, "id").ok()?;
+    let mut columns = Columns::new(alloc);
+    columns.push(column).ok()?;
+    Some(Definition::Table(columns))
+}
+
+// Its creation, at the second try where memory was refused to the first.
+fn creation(alloc: Global) -> Option<Change> {
+    match table(alloc) {
+        Some(table) => Some(Change::Create(table)),
+        None => Some(Change::Create(table(alloc)?)),
+    }
+}
+
+// What comes of a change, in the same way.
+fn change_definition<R: Wait>(
+    session: &mut Session<R>,
+    id: TicketId,
+    change: &Change,
+) -> Result<u64, SpaceError> {
+    match session.change_definition(id, change) {
+        Err(SpaceError::OutOfMemory) => session.change_definition(id, change),
+        outcome => outcome,
+    }
+}
+
+// An upgrade takes no memory, nor does it to drop what stands.
+#[test]
+fn changes_outlive_want_of_memory(rt: HostRuntime) -> Result<(), Fail> {
+    let (manager, mut passes) = space(rt.alloc())?;
+    let sales = table_key(rt.alloc())?;
+    let Some(create) = creation(rt.alloc()) else {
+        panic!(rt; "memory is refused once");
+    };
+    let mut session = Session::open(&rt, &manager, passes.remove(0));
+    assert_eq!(rt; resolve(&mut session, &sales), Ok(1));
+    assert_eq!(rt; try_now(&mut session, 1, Mode::SU), Ok(Attempt::Granted(1)));
+    assert_eq!(rt; session.upgrade_now(1, Mode::X), Ok(Upgrade::Upgraded));
+    assert_eq!(rt; change_definition(&mut session, 1, &create), Ok(1));
+    assert_eq!(rt; session.change_definition(1, &Change::Drop), Ok(2));
+    assert_eq!(rt; session.release(1), Ok(()));
+    closed(&rt, session);
+    Ok(())
+}
+>>>>>>> a
