@@ -1,7 +1,6 @@
 //! A session gains a mode at a place where it has a ticket that is at least as strong. Whatever clashes with the mode clashes with that
 //! ticket and isn't there, so neither the lists nor the lock's word are asked; and the flags tell of it already.
-ghost use Rattle.std.specs.Prelude.{◌≡◌, ◌≢◌, ◌⊎◌, ℕ, ◌≤◌, ◌∷◌, [], Some, OnOk, OnErr, IfErr, is_some, true};
-ghost use Rattle.mdl_book.specs.Books.{ticket_count};
+ghost use Rattle.std.specs.Prelude.{◌≡◌, ◌≢◌, ◌⊎◌, ◌∷◌, [], Some, OnOk, OnErr, IfErr, is_some, true};
 ghost use Rattle.mdl_book.specs.Tickets.{ticket_of};
 ghost use Rattle.mdl_book.specs.declared.book_error.BookError.TheVariants as fault;
 ghost use Rattle.mdl_steps.specs.declared.deed.Deed.TheVariants.{Gain, Alter, Lose};
