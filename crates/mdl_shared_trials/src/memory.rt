@@ -5,14 +5,8 @@ ghost use Rattle.std.specs.Prelude.{◌≡◌, ◌+◌, length, IfOk};
 ghost use Rattle.mdl_shared.specs.Passes.{ArePasses, table_of};
 
 use crate::sessions::closed;
-<<<<<<< HEAD
-use mdl_calls::{Attempt, Held, Place, SpaceError};
-||||||| 164211c
-use mdl_calls::{Attempt, Place, SpaceError};
-=======
-use mdl_calls::{Attempt, Place, SpaceError, TicketId, Upgrade};
+use mdl_calls::{Attempt, Held, Place, SpaceError, TicketId, Upgrade};
 use mdl_defs::{Change, Column, Columns, Definition};
->>>>>>> a
 use mdl_key::{Key, KeyError, Mode};
 use mdl_shared::{Audited, Manager, NewError, Pass, Session};
 use std::alloc::Global;
@@ -98,7 +92,6 @@ fn outlives_want_of_memory(rt: HostRuntime) -> Result<(), Fail> {
     closed(&rt, two);
     Ok(())
 }
-<<<<<<< HEAD
 
 #[test]
 fn tells_at_the_second_try(rt: HostRuntime) -> Result<(), Fail> {
@@ -114,8 +107,6 @@ fn tells_at_the_second_try(rt: HostRuntime) -> Result<(), Fail> {
     closed(&rt, session);
     Ok(())
 }
-||||||| 164211c
-=======
 
 // A table of one column.
 fn table(alloc: Global) -> Option<Definition> {
@@ -163,4 +154,3 @@ fn changes_outlive_want_of_memory(rt: HostRuntime) -> Result<(), Fail> {
     closed(&rt, session);
     Ok(())
 }
->>>>>>> a
