@@ -1,0 +1,3 @@
+pub mod DeedLaws
+pub mod Locks
+pub mod TableLaws

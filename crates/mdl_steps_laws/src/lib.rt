@@ -1,0 +1,14 @@
+//! The running table is tied to the system of locks that a reader believes: which locks, and which system, a state of the table tells
+//! (`specs/Locks`), that this system is lawful, and that what a session does under a latch is an event of it (`specs/DeedLaws`).
+//!
+//! There is no code here: each law is the contract of a function that does nothing.
+#![tactic(auto)]
+
+mod deeds;
+mod tables;
+
+pub use deeds::{
+    altering_downgrades, altering_upgrades, gaining_clones, gaining_grants, losing_releases,
+    moving_merges, redefining_changes,
+};
+pub use tables::{holders_may_join, running_tables_are_lawful, running_tables_tell_locks};

@@ -1,0 +1,17 @@
+//! What the rule of the running table comes to in the system of locks. Each law is proved as the contract of a function that does nothing.
+ghost use Rattle.mdl_steps_laws.specs.TableLaws.{RunningTablesTellLocks, RunningTablesAreLawful, HoldersMayJoin};
+
+/// Between any two steps of all sessions the table tells the lock of each key: its fast tickets, and its book.
+pub fn running_tables_tell_locks()
+    ensures { RunningTablesTellLocks }
+{}
+
+/// The system that the table tells is lawful, whatever the interleaving: no two sessions hold clashing tickets of one key.
+pub fn running_tables_are_lawful()
+    ensures { RunningTablesAreLawful }
+{}
+
+/// What the laws of deeds ask of a lock is so for the session that holds its latch.
+pub fn holders_may_join()
+    ensures { HoldersMayJoin }
+{}
