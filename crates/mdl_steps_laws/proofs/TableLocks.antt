@@ -1,11 +1,13 @@
 -- The locks that the running table tells, and what the rule says of them.
-use Rattle.std.proofs.Common.{◌≡◌, ◌≢◌, ◌⊎◌, ℕ, zero, suc, ◌<◌, Bool, true, inl, inr, List, [], ◌∷◌, ◌++◌, ◌-◌, length, Some, refl, sym, ap, ◌∙◌, subst, arith}
-use Rattle.std.specs.Prelude.{slice_get}
+use Rattle.std.proofs.Common.{◌≡◌, ◌≢◌, ◌⊎◌, ℕ, zero, suc, ◌<◌, Bool, true, inl, inr, List, [], ◌∷◌, ◌++◌, ◌-◌, length, map, Some, refl, sym, ap, ◌∙◌, subst, arith}
+use Rattle.std.specs.Prelude.{◌↔◌, Contains, slice_get, slice_index, slice_index_or}
+use Rattle.std.specs.List.{flat_map}
 use mathlib.Core.Option.{some, some-injective, some-ne-none}
 use lib.ListN.{get_elem?}
 use Rattle.atomic_table.specs.Table.{State}
 use Rattle.atomic_table.proofs.Lists.{at_map}
 use Rattle.mdl_key.specs.Words.{KeyName, kind_of}
+use Rattle.mdl_defs.specs.declared.definition.Definition.{Definition}
 use Rattle.mdl_book.specs.declared.book_view.BookView.{BookView}
 use Rattle.mdl_book.specs.declared.ticket.Ticket.{Ticket}
 use Rattle.mdl_book.specs.Books as books
@@ -21,13 +23,14 @@ use Rattle.mdl_steps.specs.Lists.{Each, Distinct}
 use Rattle.mdl_steps.specs.Rule.{Rule, PlaceOk, key_at}
 use Rattle.mdl_steps.specs.RuleLaws.{fast_at}
 use Rattle.mdl_steps.proofs.Views.{at_inside, at_unmap, each_at}
-use Rattle.mdl_system.specs.Systems.{lock_kind}
+use Rattle.mdl_system.specs.BookLaws.{in_book, of_lock}
+use Rattle.mdl_system.specs.Systems.{Holding, System, Unsettled, Waiter, lock_kind}
 use Rattle.mdl_system.proofs.BookLemmas.{lawful-by_lists}
 use Rattle.mdl_system.proofs.Deciding.{key_told, nat_told}
-use Rattle.std.specs.Prelude.{slice_index}
+use Rattle.mdl_system.proofs.MemberLemmas.{Contains-none, Contains-map, Contains-map_from, Contains-flat_map, Contains-flat_map_from}
 use Rattle.mdl_steps_laws.specs.DeedLaws.{MayBeJoined}
-use Rattle.mdl_steps_laws.specs.Locks.{Lock, IsBookAt, AreKeysOf, AreLocksOf, granted_of, empty_lock}
-use Rattle.mdl_steps_laws.specs.TableLaws.{RunningTablesTellLocks, RunningTablesAreLawful, HoldersMayJoin}
+use Rattle.mdl_steps_laws.specs.Locks.{Lock, IsBookAt, AreKeysOf, AreLocksOf, granted_of, empty_lock, versioned}
+use Rattle.mdl_steps_laws.specs.TableLaws.{RunningTablesTellASystem, RunningTablesAreLawful, HoldersMayJoin}
 
 -- ---- keys in a list
 
@@ -59,6 +62,48 @@ one_place (k ∷ ks) distinct (suc i) (suc j) key e f = ap suc (one_place ks dis
 
 one_directory : (a b : Keys) → some (some (slot.Directory a)) ≡ some (some (slot.Directory b)) → a ≡ b
 one_directory a b e = cc
+
+-- ---- a system of given lists
+
+-- its granted tickets are those of the lists of these keys
+abbrev all_of : (KeyName → List Ticket) → KeyName → List Holding
+all_of lists key = map (of_lock key) (lists key)
+
+index_from_at : (keys : List KeyName) (i : ℕ) (key d : KeyName) → get_elem? keys i ≡ some key → slice_index_or keys i d ≡ key
+index_from_at [] i key d e = absurd (some-ne-none key (sym e))
+index_from_at (k ∷ ks) zero key d e = some-injective k key e
+index_from_at (k ∷ ks) (suc i) key d e = index_from_at ks i key d e
+
+granted_by : (keys : List KeyName) (lists : KeyName → List Ticket) → ((key : KeyName) → ((i : ℕ) → get_elem? keys i ≢ some key) → (t : Ticket) → Contains (lists key) t → ⊥)
+    → (held : Holding) → Contains (flat_map (all_of lists) keys) held ↔ Contains (lists held.key) (in_book held)
+granted_by keys lists outside held = (
+  (λ among.
+  let from = Contains-flat_map_from (all_of lists) keys held.key held among in
+  let key : KeyName = slice_index_or keys from.0 held.key in
+  let of = Contains-map_from (of_lock key) (lists key) held from.2 in
+  subst (λ (h : Holding). Contains (lists h.key) (in_book h)) (sym of.2) of.1),
+  λ among. elim (find_key keys held.key) [
+    | inl at ↦ Contains-flat_map (all_of lists) keys at.0 held.key held (at_inside keys at.0 held.key at.1)
+        (subst (λ (key : KeyName). Contains (all_of lists key) held) (sym (index_from_at keys at.0 held.key held.key at.1))
+        (Contains-map (of_lock held.key) (lists held.key) (in_book held) among))
+    | inr none ↦ absurd (outside held.key none (in_book held) among)
+  ],
+)
+
+abbrev unsettled : Ticket → Waiter
+unsettled t = record { ticket = t; wait = 0; state = Unsettled }
+
+told_tickets : (ts : List Ticket) → map (λ (waiter : Waiter). waiter.ticket) (map unsettled ts) ≡ ts
+told_tickets [] = refl
+told_tickets (t ∷ ts) = ap (λ xs. t ∷ xs) (told_tickets ts)
+
+abbrev system_by : List KeyName → (KeyName → Lock) → System Definition
+system_by keys locks = record {
+  granted = flat_map (all_of (λ key. granted_of (locks key))) keys;
+  waiting = λ key. map unsettled (locks key).book.waiting;
+  unended = [];
+  definitions = λ key. versioned (locks key).book.standing;
+}
 
 -- ---- what the rule says of the places
 
@@ -156,18 +201,23 @@ module _ (s : State Slot View) (r : Rule s) where
 
 -- ---- the laws
 
-pub running_tables_tell_locks : RunningTablesTellLocks
-running_tables_tell_locks s r = (
-  (λ key. lock_for s r key (find_key r.keys key)),
-  record {
-    keys = r.keys;
-    keys_are = ruled_keys s r;
-    fast_are = λ i key. lock_fast s r key (find_key r.keys key) i;
-    book_is = λ i key. lock_book s r key (find_key r.keys key) i;
-    without_place = λ key. lock_empty s r key (find_key r.keys key);
-  },
-  λ key. lock_keyed s r key (find_key r.keys key),
-)
+pub running_tables_tell_a_system : RunningTablesTellASystem
+running_tables_tell_a_system s r =
+    let locks : KeyName → Lock = λ key. lock_for s r key (find_key r.keys key) in
+    let are : AreLocksOf s locks = record {
+      keys = r.keys;
+      keys_are = ruled_keys s r;
+      fast_are = λ i key. lock_fast s r key (find_key r.keys key) i;
+      book_is = λ i key. lock_book s r key (find_key r.keys key) i;
+      without_place = λ key. lock_empty s r key (find_key r.keys key);
+    } in
+    (locks, are, system_by r.keys locks, record {
+      keyed = λ key. lock_keyed s r key (find_key r.keys key);
+      granted = granted_by r.keys (λ key. granted_of (locks key)) (λ key none t among.
+          Contains-none t (subst (λ (l : Lock). Contains (granted_of l) t) (are.without_place key none) among));
+      waiting = λ key. told_tickets (locks key).book.waiting;
+      definitions = λ key. refl;
+    })
 
 pub running_tables_are_lawful : RunningTablesAreLawful
 running_tables_are_lawful s r locks are system tells =

@@ -15,11 +15,13 @@ use Rattle.mdl_system.specs.Systems.{System, IsLawful}
 use Rattle.mdl_steps_laws.specs.DeedLaws.{MayBeJoined}
 use Rattle.mdl_steps_laws.specs.Locks.{Lock, AreLocksOf, AreKeysOf, Tells}
 
--- at any time the table tells the lock of each key, and the book of each is that of its key
-abbrev pub RunningTablesTellLocks : Type 0
-RunningTablesTellLocks = (s : State Slot View) → Rule s → (locks : KeyName → Lock) × AreLocksOf s locks × ((key : KeyName) → (locks key).book.key ≡ key)
+-- at any time the table tells the lock of each key, and these tell a system
+abbrev pub RunningTablesTellASystem : Type 0
+RunningTablesTellASystem =
+    (s : State Slot View) → Rule s →
+    (locks : KeyName → Lock) × AreLocksOf s locks × (system : System Definition) × Tells locks system
 
--- and the system that these locks tell is lawful: no two sessions hold clashing tickets of one key, fast and slow ones together
+-- each system that they tell is lawful: no two sessions hold clashing tickets of one key, fast and slow ones together
 abbrev pub RunningTablesAreLawful : Type 0
 RunningTablesAreLawful =
     (s : State Slot View) → Rule s → (locks : KeyName → Lock) → AreLocksOf s locks →

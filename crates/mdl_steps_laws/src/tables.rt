@@ -1,9 +1,9 @@
 //! What the rule of the running table comes to in the system of locks. Each law is proved as the contract of a function that does nothing.
-ghost use Rattle.mdl_steps_laws.specs.TableLaws.{RunningTablesTellLocks, RunningTablesAreLawful, HoldersMayJoin};
+ghost use Rattle.mdl_steps_laws.specs.TableLaws.{RunningTablesTellASystem, RunningTablesAreLawful, HoldersMayJoin};
 
-/// Between any two steps of all sessions the table tells the lock of each key: its fast tickets, and its book.
-pub fn running_tables_tell_locks()
-    ensures { RunningTablesTellLocks }
+/// Between any two steps of all sessions the table tells the lock of each key, its fast tickets and its book, and with them a system.
+pub fn running_tables_tell_a_system()
+    ensures { RunningTablesTellASystem }
 {}
 
 /// The system that the table tells is lawful, whatever the interleaving: no two sessions hold clashing tickets of one key.
