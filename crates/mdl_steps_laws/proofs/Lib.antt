@@ -1,5 +1,7 @@
 pub mod DeedEvents
 pub mod Merging
+pub mod OneLock
+pub mod OwnTickets
 pub mod Redefining
 pub mod TableLocks
 pub mod TicketMembers

@@ -35,10 +35,10 @@ use Rattle.mdl_steps_laws.specs.TableLaws.{RunningTablesTellASystem, RunningTabl
 -- ---- keys in a list
 
 -- where a key stands, or that it doesn't
-abbrev Where : List KeyName → KeyName → Type 0
+abbrev pub Where : List KeyName → KeyName → Type 0
 Where keys key = ((i : ℕ) × (get_elem? keys i ≡ some key)) ⊎ ((i : ℕ) → get_elem? keys i ≢ some key)
 
-find_key : (keys : List KeyName) (key : KeyName) → Where keys key
+pub find_key : (keys : List KeyName) (key : KeyName) → Where keys key
 find_key [] key = inr (λ i e. some-ne-none key (sym e))
 find_key (k ∷ ks) key = elim (key_told k key) [
   | inl here ↦ inl (zero, ap (λ (x : KeyName). some x) here)
@@ -53,7 +53,7 @@ slice_from_at [] i key e = absurd (some-ne-none key (sym e))
 slice_from_at (k ∷ ks) zero key e = ap (λ (x : KeyName). Some x) (some-injective k key e)
 slice_from_at (k ∷ ks) (suc i) key e = slice_from_at ks i key e
 
-one_place : (keys : List KeyName) → Distinct keys → (i j : ℕ) (key : KeyName) → get_elem? keys i ≡ some key → get_elem? keys j ≡ some key → i ≡ j
+pub one_place : (keys : List KeyName) → Distinct keys → (i j : ℕ) (key : KeyName) → get_elem? keys i ≡ some key → get_elem? keys j ≡ some key → i ≡ j
 one_place [] distinct i j key e f = absurd (some-ne-none key (sym e))
 one_place (k ∷ ks) distinct zero zero key e f = refl
 one_place (k ∷ ks) distinct zero (suc j) key e f = absurd (each_at (λ y. (k ≡ y) → ⊥) ks distinct.0 j key f (some-injective k key e))
@@ -136,7 +136,7 @@ module _ (s : State Slot View) (r : Rule s) where
     taken = λ i v seat k has. (r.directory_agrees.held i (desk_of v) (at_map desk_of s.views i v seat) k has).2;
   }
 
-  same_keys : (keys : List KeyName) → AreKeysOf s keys → keys ≡ r.keys
+  pub same_keys : (keys : List KeyName) → AreKeysOf s keys → keys ≡ r.keys
   same_keys keys are = elim (nat_told (slice_index s.words (latch_word 0)) 0) [
     | inl none ↦ ap (λ (k : Keys). k.keys) (one_directory (record { keys = keys }) (record { keys = r.keys }) (sym (are.free none) ∙ r.directory_agrees.free none))
     | inr some_one ↦
@@ -147,19 +147,19 @@ module _ (s : State Slot View) (r : Rule s) where
   ]
 
   module _ (i : ℕ) (key : KeyName) (at : get_elem? r.keys i ≡ some key) where
-    first_place : 0 < suc i
+    pub first_place : 0 < suc i
     first_place = omega arith
 
-    last_place : suc i < length s.homes
+    pub last_place : suc i < length s.homes
     last_place = let inside = at_inside r.keys i key at in let fit = r.fit in omega arith
 
-    abbrev placed : PlaceOk (key_at r.keys (suc i)) (cell s (suc i))
+    abbrev pub placed : PlaceOk (key_at r.keys (suc i)) (cell s (suc i))
     placed = r.places (suc i) first_place last_place
 
     placed_key : placed.book.key ≡ key
     placed_key = placed.book_ok.named.key_is key ((let back : suc i - 1 ≡ i = omega arith in ap (slice_get r.keys) back) ∙ slice_from_at r.keys i key at)
 
-    abbrev placed_lock : Lock
+    abbrev pub placed_lock : Lock
     placed_lock = record { fast = fast_at s (suc i); book = placed.book }
 
   -- ---- locks for all keys
@@ -189,11 +189,11 @@ module _ (s : State Slot View) (r : Rule s) where
   -- ---- the locks of a key with a place
 
   module _ (locks : KeyName → Lock) (are : AreLocksOf s locks) where
-    into_rule : (i : ℕ) (key : KeyName) → get_elem? are.keys i ≡ some key → get_elem? r.keys i ≡ some key
+    pub into_rule : (i : ℕ) (key : KeyName) → get_elem? are.keys i ≡ some key → get_elem? r.keys i ≡ some key
     into_rule i key at = subst (λ (keys : List KeyName). get_elem? keys i ≡ some key) (same_keys are.keys are.keys_are) at
 
     module _ (i : ℕ) (key : KeyName) (at : get_elem? are.keys i ≡ some key) where
-      is_placed : placed_lock i key (into_rule i key at) ≡ locks key
+      pub is_placed : placed_lock i key (into_rule i key at) ≡ locks key
       is_placed =
           let fast = sym (are.fast_are i key at) in
           let book = sym (same_book (suc i) (first_place i key (into_rule i key at)) (last_place i key (into_rule i key at)) (locks key).book (are.book_is i key at)) in

@@ -3,7 +3,7 @@
 -- A lock is what a key has: the fast tickets of all sessions, which stand in no list, and the book. The table keeps both under the key's
 -- place: the fast tickets are in the sessions' views, and the book is in the place's slot, or with the session that holds its latch. A
 -- reader of the system needs to know of no place, latch or view.
-use Rattle.std.specs.Prelude.{◌≡◌, ◌≢◌, ℕ, suc, List, [], ◌++◌, map, slice_index, Some}
+use Rattle.std.specs.Prelude.{◌≡◌, ◌≢◌, ℕ, suc, List, [], ◌++◌, map, slice_index, Some, Contains}
 use mathlib.Core.Option.{some}
 use lib.ListN.{get_elem?}
 use Rattle.atomic_table.specs.Table.{State}
@@ -22,7 +22,7 @@ use Rattle.mdl_steps.specs.Cells.{held_at}
 use Rattle.mdl_steps.specs.Layout.{latch_word}
 use Rattle.mdl_steps.specs.RuleLaws.{fast_at}
 use Rattle.mdl_system.specs.BookLaws.{IsGrantedByLists}
-use Rattle.mdl_system.specs.Systems.{System, Versioned, Waiter}
+use Rattle.mdl_system.specs.Systems.{GrantedWait, System, Versioned, Waiter}
 
 pub record Lock : Type 0 where
   pub fast : List Ticket
@@ -70,3 +70,7 @@ pub record Tells (locks : KeyName → Lock) (system : System Definition) : Type 
   pub granted : IsGrantedByLists system (λ key. granted_of (locks key))
   pub waiting : (key : KeyName) → map (λ (waiter : Waiter). waiter.ticket) (system.waiting key) ≡ (locks key).book.waiting
   pub definitions : (key : KeyName) → system.definitions key ≡ versioned (locks key).book.standing
+
+-- no wait of a session that is granted and not ended is for the ticket of this number
+abbrev pub IsOfNoWait : {D : Type 0} → System D → ℕ → ℕ → Type 0
+IsOfNoWait system session number = (wait : GrantedWait) → Contains system.unended wait → wait.session ≡ session → wait.ticket ≢ number
