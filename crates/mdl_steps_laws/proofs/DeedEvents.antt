@@ -1,15 +1,9 @@
 -- What a session does under a latch is an event of the system of locks.
-use Rattle.std.proofs.Common.{◌≡◌, ◌≢◌, ◌⊎◌, ◌↔◌, ℕ, Bool, true, false, inl, inr, List, [], ◌∷◌, ◌++◌, map, Some, None, refl, sym, ap, ◌∙◌, subst, append_assoc, ◌+◌}
-use Rattle.std.specs.Prelude.{Contains, Option, ◌&&◌}
+use Rattle.std.proofs.Common.{◌≡◌, ℕ, true, inl, inr, List, [], ◌∷◌, ◌++◌, refl, sym, ap, ◌∙◌, subst, append_assoc}
 use Rattle.std.proofs.lemmas.Bool.{and_from}
-use Rattle.mdl_key.specs.declared.namespace.Kind.{Kind}
 use Rattle.mdl_key.specs.declared.mode.Mode.{Mode}
-use Rattle.mdl_key.specs.declared.mode.Mode.TheVariants.{X}
-use Rattle.mdl_key.specs.Words.{KeyName, IsAtLeast, kind_of}
-use Rattle.mdl_defs.specs.declared.change.Change.{Change}
+use Rattle.mdl_key.specs.Words.{KeyName}
 use Rattle.mdl_defs.specs.declared.definition.Definition.{Definition}
-use Rattle.mdl_defs.specs.declared.standing.Standing.{Standing}
-use Rattle.mdl_defs.specs.Standings.{applied, standing_fault, standing_after}
 use Rattle.mdl_book.specs.declared.book_view.BookView.{BookView}
 use Rattle.mdl_book.specs.declared.ticket.Ticket.{Ticket}
 use Rattle.mdl_book.specs.Books as books
@@ -20,14 +14,14 @@ use Rattle.mdl_steps.specs.declared.deed.Deed.{Deed}
 use Rattle.mdl_steps.specs.declared.deed.Deed.TheVariants.{Gain, Alter, Lose}
 use Rattle.mdl_steps.specs.Deeds.{all_booked, booked}
 use Rattle.mdl_steps.proofs.Deeds.{may_join}
-use Rattle.mdl_system.specs.BookLaws.{of_lock, in_book}
-use Rattle.mdl_system.specs.Events.{SameElsewhere, SameAt, ElseSame, Gains, Loses, Replaces, IsNewNumber, Releases, GrantsNew, ClonesTicket, Downgrades, Upgrades}
-use Rattle.mdl_system.specs.Systems.{Holding, System, Waiter, Versioned, Held, HasNoWait, IsGrantable, lock_kind}
+use Rattle.mdl_system.specs.BookLaws.{of_lock}
+use Rattle.mdl_system.specs.Events.{SameElsewhere, ElseSame, Gains, Loses, Replaces}
+use Rattle.mdl_system.specs.Systems.{Holding, System, Held, HasNoWait, IsGrantable, lock_kind}
 use Rattle.mdl_system.proofs.BookLemmas.{changes-by_lists, grantable-by_lists}
 use Rattle.mdl_system.proofs.Deciding.{key_told}
 use Rattle.mdl_system.proofs.MemberLemmas.{push-gains}
 use Rattle.mdl_steps_laws.specs.Locks.{Lock, Tells, granted_of, versioned}
-use Rattle.mdl_steps_laws.specs.DeedLaws.{Turns, Does, IsOnly, MayTake, lock_after, LosingReleases, GainingGrants, GainingClones, AlteringDowngrades, AlteringUpgrades}
+use Rattle.mdl_steps_laws.specs.DeedLaws.{Does, IsOnly, MayTake, LosingReleases, GainingGrants, GainingClones, AlteringDowngrades, AlteringUpgrades}
 use Rattle.mdl_steps_laws.proofs.TicketMembers.{loses-behind, replaces-behind, found-passes, found-apart, without-loses, with_mode-replaces}
 
 -- deeds leave what stands
@@ -86,7 +80,7 @@ pub losing_releases : LosingReleases
 losing_releases session number key old new a b does t only held =
     let is = found-passes session number (old key).book.granted t only.found in
     let here = loses-behind (old key).fast (old key).book.granted (without session number (old key).book.granted) t
-        (found-apart session number t is (old key).fast only.not_fast) (without-loses session number (old key).book.granted only.once t only.found) in
+    (found-apart session number t is (old key).fast only.not_fast) (without-loses session number (old key).book.granted only.once t only.found) in
     record {
       held = held_by_own a session (of_lock key t) held;
       granted = loses session (Lose number ∷ []) key old new a b does t
@@ -134,7 +128,7 @@ module _ (session number : ℕ) (mode : Mode) (key : KeyName) (old new : KeyName
   altered =
       let is = found-passes session number (old key).book.granted t only.found in
       let here = replaces-behind (old key).fast (old key).book.granted (with_mode session number mode (old key).book.granted) t (tickets.in_mode mode t)
-          (found-apart session number t is (old key).fast only.not_fast) (with_mode-replaces session number mode (old key).book.granted only.once t only.found) in
+      (found-apart session number t is (old key).fast only.not_fast) (with_mode-replaces session number mode (old key).book.granted only.once t only.found) in
       replaces session (Alter number mode ∷ []) key old new a b does t (tickets.in_mode mode t)
       (subst (Replaces t (tickets.in_mode mode t) (granted_of (old key))) (sym (granted_after session (Alter number mode ∷ []) key old new a b does)) here)
 

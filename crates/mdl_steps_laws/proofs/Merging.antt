@@ -1,14 +1,12 @@
 -- One ticket takes the mode of another, and that one goes: the two are merged.
-use Rattle.std.proofs.Common.{◌≡◌, ◌≢◌, ◌⊎◌, ◌↔◌, ℕ, Bool, true, false, inl, inr, List, [], ◌∷◌, ◌++◌, Some, None, refl, sym, ap, ◌∙◌, subst}
+use Rattle.std.proofs.Common.{◌≡◌, ◌≢◌, ◌⊎◌, ◌↔◌, ℕ, true, false, inl, inr, List, [], ◌∷◌, ◌++◌, refl, sym, ap, ◌∙◌, subst}
 use Rattle.std.specs.Prelude.{Contains}
-use Rattle.mdl_key.specs.declared.mode.Mode.{Mode}
 use Rattle.mdl_key.specs.Words.{KeyName}
 use Rattle.mdl_defs.specs.declared.definition.Definition.{Definition}
 use Rattle.mdl_book.specs.declared.ticket.Ticket.{Ticket}
-use Rattle.mdl_book.specs.Tickets.{is_ticket, ticket_of, without, with_mode, in_mode}
+use Rattle.mdl_book.specs.Tickets.{is_ticket, without, with_mode, in_mode}
 use Rattle.mdl_steps.specs.declared.deed.Deed.{Deed}
 use Rattle.mdl_steps.specs.declared.deed.Deed.TheVariants.{Alter, Lose}
-use Rattle.mdl_steps.specs.Lists.{Once}
 use Rattle.mdl_steps.proofs.Tickets.{is_passed, of_other_number, of-mode_other, once-mode}
 use Rattle.mdl_system.specs.BookLaws.{in_book, of_lock}
 use Rattle.mdl_system.specs.Events.{Loses, Replaces}
@@ -83,8 +81,11 @@ module _ (session : ℕ) (deeds : List Deed) (key : KeyName) (old new : KeyName 
         )
     | inr n ↦
         let lists : granted_of (new held.key) ≡ granted_of (old held.key) = ap granted_of (does.elsewhere held.key n) in (
-          (λ among. inl ((does.before.granted held).1 (subst (λ ts. Contains ts (in_book held)) lists ((does.after.granted held).0 among)),
-          λ e. n (ap (λ (h : Holding). h.key) e), λ e. n (ap (λ (h : Holding). h.key) e))),
+          (λ among. inl (
+            (does.before.granted held).1 (subst (λ ts. Contains ts (in_book held)) lists ((does.after.granted held).0 among)),
+            λ e. n (ap (λ (h : Holding). h.key) e),
+            λ e. n (ap (λ (h : Holding). h.key) e),
+          )),
           λ either. elim either [
             | inl p ↦ (does.after.granted held).1 (subst (λ ts. Contains ts (in_book held)) (sym lists) ((does.before.granted held).0 p.0))
             | inr e ↦ absurd (n (ap (λ (h : Holding). h.key) e))

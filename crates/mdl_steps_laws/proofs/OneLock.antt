@@ -1,6 +1,5 @@
 -- What changes at one place changes the lock of its key alone.
-use Rattle.std.proofs.Common.{◌≡◌, ◌≢◌, ℕ, suc, ◌<◌, inl, inr, List, map, Some, refl, sym, ap, ◌∙◌, subst, arith}
-use Rattle.std.specs.Prelude.{Option, slice_index}
+use Rattle.std.proofs.Common.{◌≡◌, ◌≢◌, ℕ, suc, inl, inr, sym, ap, ◌∙◌, subst, arith}
 use mathlib.Core.Option.{some, some-injective}
 use lib.ListN.{get_elem?}
 use Rattle.atomic_table.specs.Table.{State}
@@ -14,7 +13,7 @@ use Rattle.mdl_steps.specs.Lists.{Distinct}
 use Rattle.mdl_steps.specs.RuleLaws.{fast_at}
 use Rattle.mdl_steps.proofs.Views.{at_unmap}
 use Rattle.mdl_system.proofs.Deciding.{nat_told}
-use Rattle.mdl_steps_laws.specs.Locks.{Lock, IsBookAt, AreLocksOf}
+use Rattle.mdl_steps_laws.specs.Locks.{Lock, IsBookAt}
 use Rattle.mdl_steps_laws.specs.TableLaws.{OnePlaceIsOneLock}
 use Rattle.mdl_steps_laws.proofs.TableLocks.{one_place, same_keys}
 
@@ -35,9 +34,9 @@ pub one_place_is_one_lock : OnePlaceIsOneLock
 one_place_is_one_lock s s′ r old new are keys i key at cells fast book elsewhere =
     let distinct : Distinct are.keys = subst Distinct (sym (same_keys s r are.keys are.keys_are)) r.distinct in
     let key_of : (j : ℕ) (k : KeyName) → get_elem? are.keys j ≡ some k → j ≡ i → k ≡ key =
-        λ j k there e. some-injective k key (sym there ∙ ap (get_elem? are.keys) e ∙ at) in
+    λ j k there e. some-injective k key (sym there ∙ ap (get_elem? are.keys) e ∙ at) in
     let away : (j : ℕ) (k : KeyName) → get_elem? are.keys j ≡ some k → j ≢ i → k ≢ key =
-        λ j k there differs e. differs (one_place are.keys distinct j i k there (at ∙ ap (λ (x : KeyName). some x) (sym e))) in
+    λ j k there differs e. differs (one_place are.keys distinct j i k there (at ∙ ap (λ (x : KeyName). some x) (sym e))) in
     let cell_of : (j : ℕ) → j ≢ i → cell s′ (suc j) ≡ cell s (suc j) = λ j differs. cells (suc j) (omega arith) (λ e. differs (let same = e in omega arith)) in
     record {
       keys = are.keys;

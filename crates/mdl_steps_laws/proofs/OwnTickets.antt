@@ -1,5 +1,5 @@
 -- What a session has by its view: the slow tickets that it holds, and that its next number is new.
-use Rattle.std.proofs.Common.{◌≡◌, ◌≢◌, ℕ, zero, suc, ◌<◌, ◌==◌, Bool, true, cond, inl, inr, List, [], ◌∷◌, ◌++◌, map, Some, None, refl, sym, ap, ◌∙◌, subst, arith}
+use Rattle.std.proofs.Common.{◌≡◌, ◌≢◌, ℕ, zero, suc, ◌<◌, ◌==◌, Bool, true, cond, inl, inr, List, [], ◌∷◌, map, Some, None, refl, sym, ap, ◌∙◌, subst, arith}
 use Rattle.std.specs.Prelude.{Contains}
 use Rattle.std.proofs.lemmas.List.Elements.{Contains-append_right, Contains-append_cases}
 use mathlib.Core.Option.{some, some-injective}
@@ -14,15 +14,16 @@ use Rattle.mdl_steps.specs.declared.slot.Slot.{Slot}
 use Rattle.mdl_steps.specs.declared.view.Own.{Own}
 use Rattle.mdl_steps.specs.declared.view.View.{View}
 use Rattle.mdl_steps.specs.Cells.{Part, all_fast, cell, due, own_at, part_at, ticket_by, waits}
-use Rattle.mdl_steps.specs.Lists.{Each}
+use Rattle.mdl_steps.specs.Lists.{Each, Once}
 use Rattle.mdl_steps.specs.Rule.{Rule}
 use Rattle.mdl_steps.specs.RuleLaws.{fast_at}
 use Rattle.mdl_steps.proofs.Latch.{due_asked, of-unwaited}
 use Rattle.mdl_steps.proofs.Tickets.{is_itself, is_passed, of_other_number}
 use Rattle.mdl_steps.proofs.Views.{at_unmap, by_bool}
 use Rattle.mdl_system.specs.BookLaws.{in_book, of_lock}
-use Rattle.mdl_system.proofs.MemberLemmas.{Contains-none, Contains-map_from}
+use Rattle.mdl_system.proofs.MemberLemmas.{Contains-none, Contains-map, Contains-map_from}
 use Rattle.mdl_system.proofs.OrderLemmas.{Contains-cons_cases, Contains-here, Contains-later}
+use Rattle.mdl_steps_laws.specs.DeedLaws.{IsOnly}
 use Rattle.mdl_steps_laws.specs.Locks.{Lock, granted_of}
 use Rattle.mdl_steps_laws.specs.TableLaws.{NextNumbersAreNew, OwnTicketsAreHeld}
 use Rattle.mdl_steps_laws.proofs.TableLocks.{find_key, into_rule, is_placed, placed}
@@ -60,6 +61,13 @@ fresh session next (t ∷ ts) all =
     rw (of_other_number session next (ticket_by session t) (let below = all t (Contains-here t ts) in λ e. omega arith))
     (fresh session next ts (λ o among. all o (Contains-later t ts o among)))
 
+-- where no ticket passes none is found
+none_found : (session number : ℕ) (ts : List Ticket) → ((t : Ticket) → Contains ts t → is_ticket session number t ≡ true → ⊥) → ticket_of session number ts ≡ None
+none_found session number [] none = refl
+none_found session number (t ∷ ts) none = by_bool (is_ticket session number t)
+    (λ hit. absurd (none t (Contains-here t ts) hit))
+    (λ past. rw past (none_found session number ts (λ u among. none u (Contains-later t ts u among))))
+
 -- ---- a session's own
 
 module _ (s : State Slot View) (r : Rule s) (j : ℕ) (v : View) (seat : get_elem? s.views j ≡ some v) where
@@ -79,6 +87,17 @@ module _ (s : State Slot View) (r : Rule s) (j : ℕ) (v : View) (seat : get_ele
         let below = each_in (λ (t : Own). t.number < v.next) v.fast (r.views j v seat).0.fast o (own_among place v.fast o has) in
         omega arith)
 
+    -- a fast ticket of the session is one of its view
+    fast_none : (place number : ℕ) → ticket_of v.number number (map (ticket_by v.number) (own_at place v.fast)) ≡ None → ticket_of v.number number (fast_at s place) ≡ None
+    fast_none place number none = none_found v.number number (fast_at s place)
+        (each_fast (λ t. is_ticket v.number number t ≡ true → ⊥) (cell s place).parts (λ m x there o among is.
+        let u = at_unmap (part_at (waits s) place) s.views m x there in
+        let mine : u.0 ≡ v = its_own m u.0 u.1 (ap (λ (p : Part). p.number) u.2 ∙ (is_passed v.number number (ticket_by x.number o) is).0) in
+        let has : Contains (own_at place v.fast) o = subst (λ (w : View). Contains (own_at place w.fast) o) mine (subst (λ (p : Part). Contains p.fast o) (sym u.2) among) in
+        none-passes v.number number (map (ticket_by v.number) (own_at place v.fast)) none (ticket_by v.number o)
+        (Contains-map (ticket_by v.number) (own_at place v.fast) o has)
+        (subst (λ (n : ℕ). is_ticket v.number number (ticket_by n o) ≡ true) (is_passed v.number number (ticket_by x.number o) is).0 is)))
+
   module _ (i : ℕ) (key : KeyName) (at : get_elem? r.keys i ≡ some key) where
     -- the book has of the session what its view has, but for what it waits for
     of_view : (number : ℕ) → ((t : Ticket) → due (part_at (waits s) (suc i) v).asks ≡ Some t → t.number ≢ number)
@@ -91,8 +110,8 @@ module _ (s : State Slot View) (r : Rule s) (j : ℕ) (v : View) (seat : get_ele
     slow_numbers t among session number =
         let numbered = (r.views j v seat).0 in
         let none = of_view v.next (λ u is same.
-            let a = due_asked (suc i) v.number (waits s v.number) v.asks u is in let below = numbered.asks a.0 a.1 in let e = a.2 in omega arith)
-            ∙ fresh v.number v.next (own_at (suc i) v.slow) (λ o has. each_in (λ (x : Own). x.number < v.next) v.slow numbered.slow o (own_among (suc i) v.slow o has)) in
+        let a = due_asked (suc i) v.number (waits s v.number) v.asks u is in let below = numbered.asks a.0 a.1 in let e = a.2 in omega arith)
+        ∙ fresh v.number v.next (own_at (suc i) v.slow) (λ o has. each_in (λ (x : Own). x.number < v.next) v.slow numbered.slow o (own_among (suc i) v.slow o has)) in
         none-passes v.number v.next (placed s r i key at).book.granted none t among
         (subst (λ (n : ℕ). is_ticket n v.next t ≡ true) session (subst (λ (n : ℕ). is_ticket t.session n t ≡ true) number (is_itself t)))
 
@@ -112,13 +131,23 @@ next_numbers_are_new s r locks are system tells j v seat some_number held among 
     ]
 
 pub own_tickets_are_held : OwnTicketsAreHeld
-own_tickets_are_held s r locks are system tells i key at j v seat number t found unwaited of_no_wait =
+own_tickets_are_held s r locks are system tells i key at j v seat some_number number t found not_fast unwaited of_no_wait =
     let here = into_rule s r locks are i key at in
     let by_rule = of_view s r j v seat i key here number (λ u is same.
-        let a = due_asked (suc i) v.number (waits s v.number) v.asks u is in unwaited a.0 a.1 (sym a.2 ∙ same)) ∙ found in
+    let a = due_asked (suc i) v.number (waits s v.number) v.asks u is in unwaited a.0 a.1 (sym a.2 ∙ same)) ∙ found in
     let in_lock : ticket_of v.number number (locks key).book.granted ≡ Some t =
-        subst (λ (l : Lock). ticket_of v.number number l.book.granted ≡ Some t) (is_placed s r locks are i key at) by_rule in
+    subst (λ (l : Lock). ticket_of v.number number l.book.granted ≡ Some t) (is_placed s r locks are i key at) by_rule in
     let is = is_passed v.number number t (found-passes v.number number (locks key).book.granted t in_lock) in
     let among = find-contains (is_ticket v.number number) (locks key).book.granted t in_lock in
-    (in_lock, ((tells.granted (of_lock key t)).1 (Contains-append_right (locks key).fast (locks key).book.granted t among), is.0,
-    λ wait stands session e. of_no_wait wait stands session (e ∙ is.1)))
+    let only : IsOnly v.number number (locks key) t = record {
+      found = in_lock;
+      once = subst (λ (l : Lock). Once l.book.granted) (is_placed s r locks are i key at) (placed s r i key here).book_ok.once;
+      not_fast = subst (λ (l : Lock). ticket_of v.number number l.fast ≡ None) (is_placed s r locks are i key at) (fast_none s r j v seat some_number (suc i) number not_fast);
+    } in (
+      only,
+      (
+        (tells.granted (of_lock key t)).1 (Contains-append_right (locks key).fast (locks key).book.granted t among),
+        is.0,
+        λ wait stands session e. of_no_wait wait stands session (e ∙ is.1),
+      ),
+    )

@@ -1,16 +1,14 @@
 -- A change of what is defined under a key is one of the system.
-use Rattle.std.proofs.Common.{◌≡◌, ℕ, ◌+◌, inl, inr, List, Some, refl, sym, ap, ◌∙◌, subst}
+use Rattle.std.proofs.Common.{◌≡◌, ◌+◌, inl, inr, Some, refl, sym, ap, ◌∙◌, subst}
 use Rattle.mdl_key.specs.Words.{KeyName}
 use Rattle.mdl_defs.specs.declared.definition.Definition.{Definition}
-use Rattle.mdl_defs.specs.declared.standing.Standing.{Standing}
 use Rattle.mdl_defs.specs.Standings.{applied}
 use Rattle.mdl_defs.proofs.StandingLemmas.{applied-changed}
-use Rattle.mdl_book.specs.declared.ticket.Ticket.{Ticket}
 use Rattle.mdl_system.specs.BookLaws.{in_book, of_lock}
 use Rattle.mdl_system.specs.Events.{SameMembers}
-use Rattle.mdl_system.specs.Systems.{Holding, System, Versioned}
+use Rattle.mdl_system.specs.Systems.{System, Versioned}
 use Rattle.mdl_system.proofs.Deciding.{key_told}
-use Rattle.std.specs.Prelude.{Contains, Option}
+use Rattle.std.specs.Prelude.{Contains}
 use Rattle.mdl_steps_laws.specs.Locks.{Lock, granted_of, versioned}
 use Rattle.mdl_steps_laws.specs.DeedLaws.{Turns, RedefiningChanges}
 use Rattle.mdl_steps_laws.proofs.DeedEvents.{held_by_own}

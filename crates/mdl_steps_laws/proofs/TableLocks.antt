@@ -1,12 +1,12 @@
 -- The locks that the running table tells, and what the rule says of them.
-use Rattle.std.proofs.Common.{◌≡◌, ◌≢◌, ◌⊎◌, ℕ, zero, suc, ◌<◌, Bool, true, inl, inr, List, [], ◌∷◌, ◌++◌, ◌-◌, length, map, Some, refl, sym, ap, ◌∙◌, subst, arith}
+use Rattle.std.proofs.Common.{◌≡◌, ◌≢◌, ◌⊎◌, ℕ, zero, suc, ◌<◌, true, inl, inr, List, [], ◌∷◌, ◌-◌, length, map, Some, refl, sym, ap, ◌∙◌, subst, arith}
 use Rattle.std.specs.Prelude.{◌↔◌, Contains, slice_get, slice_index, slice_index_or}
 use Rattle.std.specs.List.{flat_map}
 use mathlib.Core.Option.{some, some-injective, some-ne-none}
 use lib.ListN.{get_elem?}
 use Rattle.atomic_table.specs.Table.{State}
 use Rattle.atomic_table.proofs.Lists.{at_map}
-use Rattle.mdl_key.specs.Words.{KeyName, kind_of}
+use Rattle.mdl_key.specs.Words.{KeyName}
 use Rattle.mdl_defs.specs.declared.definition.Definition.{Definition}
 use Rattle.mdl_book.specs.declared.book_view.BookView.{BookView}
 use Rattle.mdl_book.specs.declared.ticket.Ticket.{Ticket}
@@ -14,12 +14,11 @@ use Rattle.mdl_book.specs.Books as books
 use Rattle.mdl_book.specs.Granting as book
 use Rattle.mdl_steps.specs.declared.slot.Slot.{Slot}
 use Rattle.mdl_steps.specs.declared.slot.Slot.TheVariants as slot
-use Rattle.mdl_steps.specs.declared.view.Held.{Held}
 use Rattle.mdl_steps.specs.declared.view.Keys.{Keys}
 use Rattle.mdl_steps.specs.declared.view.View.{View}
 use Rattle.mdl_steps.specs.Cells.{Holder, Desk, cell, desk_of, held_at, holder_at}
 use Rattle.mdl_steps.specs.Layout.{latch_word}
-use Rattle.mdl_steps.specs.Lists.{Each, Distinct}
+use Rattle.mdl_steps.specs.Lists.{Distinct}
 use Rattle.mdl_steps.specs.Rule.{Rule, PlaceOk, key_at}
 use Rattle.mdl_steps.specs.RuleLaws.{fast_at}
 use Rattle.mdl_steps.proofs.Views.{at_inside, at_unmap, each_at}
@@ -78,10 +77,10 @@ granted_by : (keys : List KeyName) (lists : KeyName → List Ticket) → ((key :
     → (held : Holding) → Contains (flat_map (all_of lists) keys) held ↔ Contains (lists held.key) (in_book held)
 granted_by keys lists outside held = (
   (λ among.
-  let from = Contains-flat_map_from (all_of lists) keys held.key held among in
-  let key : KeyName = slice_index_or keys from.0 held.key in
-  let of = Contains-map_from (of_lock key) (lists key) held from.2 in
-  subst (λ (h : Holding). Contains (lists h.key) (in_book h)) (sym of.2) of.1),
+      let from = Contains-flat_map_from (all_of lists) keys held.key held among in
+      let key : KeyName = slice_index_or keys from.0 held.key in
+      let of = Contains-map_from (of_lock key) (lists key) held from.2 in
+      subst (λ (h : Holding). Contains (lists h.key) (in_book h)) (sym of.2) of.1),
   λ among. elim (find_key keys held.key) [
     | inl at ↦ Contains-flat_map (all_of lists) keys at.0 held.key held (at_inside keys at.0 held.key at.1)
         (subst (λ (key : KeyName). Contains (all_of lists key) held) (sym (index_from_at keys at.0 held.key held.key at.1))
@@ -210,14 +209,18 @@ running_tables_tell_a_system s r =
       fast_are = λ i key. lock_fast s r key (find_key r.keys key) i;
       book_is = λ i key. lock_book s r key (find_key r.keys key) i;
       without_place = λ key. lock_empty s r key (find_key r.keys key);
-    } in
-    (locks, are, system_by r.keys locks, record {
-      keyed = λ key. lock_keyed s r key (find_key r.keys key);
-      granted = granted_by r.keys (λ key. granted_of (locks key)) (λ key none t among.
-          Contains-none t (subst (λ (l : Lock). Contains (granted_of l) t) (are.without_place key none) among));
-      waiting = λ key. told_tickets (locks key).book.waiting;
-      definitions = λ key. refl;
-    })
+    } in (
+      locks,
+      are,
+      system_by r.keys locks,
+      record {
+        keyed = λ key. lock_keyed s r key (find_key r.keys key);
+        granted = granted_by r.keys (λ key. granted_of (locks key)) (λ key none t among.
+            Contains-none t (subst (λ (l : Lock). Contains (granted_of l) t) (are.without_place key none) among));
+        waiting = λ key. told_tickets (locks key).book.waiting;
+        definitions = λ key. refl;
+      },
+    )
 
 pub running_tables_are_lawful : RunningTablesAreLawful
 running_tables_are_lawful s r locks are system tells =

@@ -1,11 +1,11 @@
 -- Members of a granted list that loses a ticket, or has one in another mode.
-use Rattle.std.proofs.Common.{◌≡◌, ◌≢◌, ℕ, Bool, true, false, inl, inr, List, [], ◌∷◌, ◌++◌, Some, None, refl, sym, ap, ◌∙◌, subst}
+use Rattle.std.proofs.Common.{◌≡◌, ◌≢◌, ℕ, true, inl, inr, List, [], ◌∷◌, ◌++◌, Some, None, sym, ap, ◌∙◌, subst}
 use Rattle.std.specs.Prelude.{Contains}
 use Rattle.mdl_key.specs.declared.mode.Mode.{Mode}
 use Rattle.mdl_book.specs.declared.ticket.Ticket.{Ticket}
 use Rattle.mdl_book.specs.Tickets.{is_ticket, ticket_of, without, with_mode, in_mode}
 use Rattle.mdl_steps.specs.Lists.{Once}
-use Rattle.mdl_steps.proofs.Tickets.{is_itself, is_passed, without-hit, without-miss, with_mode-hit, with_mode-miss}
+use Rattle.mdl_steps.proofs.Tickets.{is_passed, without-hit, without-miss, with_mode-hit, with_mode-miss}
 use Rattle.mdl_steps.proofs.Views.{by_bool}
 use Rattle.mdl_system.specs.Events.{Loses, Replaces}
 use Rattle.mdl_system.proofs.MemberLemmas.{Contains-none}

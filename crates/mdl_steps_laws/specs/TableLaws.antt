@@ -1,5 +1,5 @@
 -- What the rule of the running table comes to in the system of locks.
-use Rattle.std.specs.Prelude.{◌≡◌, ◌≢◌, ℕ, suc, ◌<◌, map, Some}
+use Rattle.std.specs.Prelude.{◌≡◌, ◌≢◌, ℕ, suc, ◌<◌, map, Some, None}
 use mathlib.Core.Option.{some}
 use lib.ListN.{get_elem?}
 use Rattle.atomic_table.specs.Table.{State}
@@ -17,7 +17,7 @@ use Rattle.mdl_steps.specs.RuleLaws.{fast_at}
 use Rattle.mdl_system.specs.BookLaws.{of_lock}
 use Rattle.mdl_system.specs.Events.{IsNewNumber, SameElsewhere}
 use Rattle.mdl_system.specs.Systems.{System, Held as IsHeld, IsLawful}
-use Rattle.mdl_steps_laws.specs.DeedLaws.{MayBeJoined}
+use Rattle.mdl_steps_laws.specs.DeedLaws.{IsOnly, MayBeJoined}
 use Rattle.mdl_steps_laws.specs.Locks.{Lock, AreKeysOf, AreLocksOf, IsBookAt, IsOfNoWait, Tells}
 
 -- at any time the table tells the lock of each key, and these tell a system
@@ -46,15 +46,17 @@ NextNumbersAreNew =
     (s : State Slot View) → Rule s → (locks : KeyName → Lock) → AreLocksOf s locks → (system : System Definition) → Tells locks system →
     (j : ℕ) (v : View) → get_elem? s.views j ≡ some v → 0 < v.number → IsNewNumber system v.number v.next
 
--- the slow ticket that a session has by its view is the one in the book, and the session holds it, but where it is that of a wait
+-- the slow ticket that a session has by its view, where no fast one of it there has the same number, is its only one in the lock of that
+-- number; and the session holds it, but where it is that of a wait
 abbrev pub OwnTicketsAreHeld : Type 0
 OwnTicketsAreHeld =
     (s : State Slot View) → Rule s → (locks : KeyName → Lock) → (are : AreLocksOf s locks) → (system : System Definition) → Tells locks system →
     (i : ℕ) (key : KeyName) → get_elem? are.keys i ≡ some key →
-    (j : ℕ) (v : View) → get_elem? s.views j ≡ some v →
+    (j : ℕ) (v : View) → get_elem? s.views j ≡ some v → 0 < v.number →
     (number : ℕ) (t : Ticket) → ticket_of v.number number (map (ticket_by v.number) (own_at (suc i) v.slow)) ≡ Some t →
+    ticket_of v.number number (map (ticket_by v.number) (own_at (suc i) v.fast)) ≡ None →
     NotWaited v number → IsOfNoWait system v.number number →
-    (ticket_of v.number number (locks key).book.granted ≡ Some t) × IsHeld system v.number (of_lock key t)
+    IsOnly v.number number (locks key) t × IsHeld system v.number (of_lock key t)
 
 -- what changes at one place changes the lock of its key alone
 abbrev pub OnePlaceIsOneLock : Type 0
