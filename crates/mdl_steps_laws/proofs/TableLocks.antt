@@ -109,7 +109,7 @@ system_by keys locks = record {
 module _ (s : State Slot View) (r : Rule s) where
   module _ (place : ℕ) (first : 0 < place) (last : place < length s.homes) where
     -- the book of the rule is the place's
-    ruled_book : IsBookAt s place (r.places place first last).book
+    pub ruled_book : IsBookAt s place (r.places place first last).book
     ruled_book = record {
       free = λ none. ((r.places place first last).free none).0;
       taken = λ i v seat h has. ((r.places place first last).held i (holder_at place v) (at_map (holder_at place) s.views i v seat) h has).book_is;
