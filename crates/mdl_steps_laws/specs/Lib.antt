@@ -1,0 +1,4 @@
+pub mod DeedLaws
+pub mod Locks
+pub mod StepLaws
+pub mod TableLaws

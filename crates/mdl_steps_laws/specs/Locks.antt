@@ -1,0 +1,76 @@
+-- The locks that the running table tells, and the system of locks that these tell.
+--
+-- A lock is what a key has: the fast tickets of all sessions, which stand in no list, and the book. The table keeps both under the key's
+-- place: the fast tickets are in the sessions' views, and the book is in the place's slot, or with the session that holds its latch. A
+-- reader of the system needs to know of no place, latch or view.
+use Rattle.std.specs.Prelude.{◌≡◌, ◌≢◌, ℕ, suc, List, [], ◌++◌, map, slice_index, Some, Contains}
+use mathlib.Core.Option.{some}
+use lib.ListN.{get_elem?}
+use Rattle.atomic_table.specs.Table.{State}
+use Rattle.mdl_key.specs.Words.{KeyName}
+use Rattle.mdl_defs.specs.declared.definition.Definition.{Definition}
+use Rattle.mdl_defs.specs.declared.standing.Standing.{Standing}
+use Rattle.mdl_book.specs.declared.book_view.BookView.{BookView}
+use Rattle.mdl_book.specs.declared.ticket.Ticket.{Ticket}
+use Rattle.mdl_book.specs.Books.{empty_book}
+use Rattle.mdl_steps.specs.declared.slot.Slot.{Slot}
+use Rattle.mdl_steps.specs.declared.slot.Slot.TheVariants as slot
+use Rattle.mdl_steps.specs.declared.view.Held.{Held}
+use Rattle.mdl_steps.specs.declared.view.Keys.{Keys}
+use Rattle.mdl_steps.specs.declared.view.View.{View}
+use Rattle.mdl_steps.specs.Cells.{held_at}
+use Rattle.mdl_steps.specs.Layout.{latch_word}
+use Rattle.mdl_steps.specs.RuleLaws.{fast_at}
+use Rattle.mdl_system.specs.BookLaws.{IsGrantedByLists}
+use Rattle.mdl_system.specs.Systems.{GrantedWait, System, Versioned, Waiter}
+
+pub record Lock : Type 0 where
+  pub fast : List Ticket
+  pub book : BookView
+
+-- all its granted tickets
+abbrev pub granted_of : Lock → List Ticket
+granted_of lock = lock.fast ++ lock.book.granted
+
+-- that of a key which nobody ever had
+abbrev pub empty_lock : KeyName → Lock
+empty_lock key = record { fast = []; book = empty_book key }
+
+-- ---- the locks of the running table
+
+-- the book of a place: in its slot while the latch is free, and otherwise as the session that holds the latch has recorded it
+pub record IsBookAt (s : State Slot View) (place : ℕ) (book : BookView) : Type 0 where
+  pub free : slice_index s.words (latch_word place) ≡ 0 → get_elem? s.homes place ≡ some (some (slot.Place book))
+  pub taken : (i : ℕ) (v : View) → get_elem? s.views i ≡ some v → (h : Held) → held_at place v.latches ≡ Some h → h.book ≡ book
+
+-- the keys that have places, in order of these from 1 on: so the directory tells, which stands in the slot 0 or with the session that holds
+-- that latch
+pub record AreKeysOf (s : State Slot View) (keys : List KeyName) : Type 0 where
+  pub free : slice_index s.words (latch_word 0) ≡ 0 → get_elem? s.homes 0 ≡ some (some (slot.Directory (record { keys = keys })))
+  pub taken : (i : ℕ) (v : View) → get_elem? s.views i ≡ some v → (k : Keys) → v.directory ≡ Some k → k.keys ≡ keys
+
+-- the lock of a key is what its place has; a key that has no place has an empty one
+pub record AreLocksOf (s : State Slot View) (locks : KeyName → Lock) : Type 0 where
+  pub keys : List KeyName
+  pub keys_are : AreKeysOf s keys
+  pub fast_are : (i : ℕ) (key : KeyName) → get_elem? keys i ≡ some key → (locks key).fast ≡ fast_at s (suc i)
+  pub book_is : (i : ℕ) (key : KeyName) → get_elem? keys i ≡ some key → IsBookAt s (suc i) (locks key).book
+  pub without_place : (key : KeyName) → ((i : ℕ) → get_elem? keys i ≢ some key) → locks key ≡ empty_lock key
+
+-- ---- the system that locks tell
+
+-- what stands in a book, as the system has it
+abbrev pub versioned : Standing → Versioned Definition
+versioned standing = record { version = standing.version; definition = standing.definition }
+
+-- a ticket is granted in the system where it is among the granted tickets of its key's lock; the tickets of those who wait are the waiting
+-- ones of the book, in their order; and what is defined is what stands in the book. How waits stand, the books don't tell
+pub record Tells (locks : KeyName → Lock) (system : System Definition) : Type 0 where
+  pub keyed : (key : KeyName) → (locks key).book.key ≡ key
+  pub granted : IsGrantedByLists system (λ key. granted_of (locks key))
+  pub waiting : (key : KeyName) → map (λ (waiter : Waiter). waiter.ticket) (system.waiting key) ≡ (locks key).book.waiting
+  pub definitions : (key : KeyName) → system.definitions key ≡ versioned (locks key).book.standing
+
+-- no wait of a session that is granted and not ended is for the ticket of this number
+abbrev pub IsOfNoWait : {D : Type 0} → System D → ℕ → ℕ → Type 0
+IsOfNoWait system session number = (wait : GrantedWait) → Contains system.unended wait → wait.session ≡ session → wait.ticket ≢ number

@@ -1,0 +1,61 @@
+-- The steps by which deeds come to be of the table do them in the locks that it tells.
+use Rattle.std.specs.Prelude.{◌≡◌, ℕ, suc, Bool, List, Some, slice_set}
+use mathlib.Core.Option.{some}
+use lib.ListN.{get_elem?}
+use Rattle.atomic_table.specs.Table.{State}
+use Rattle.mdl_key.specs.Words.{KeyName}
+use Rattle.mdl_book.specs.declared.book_view.BookView.{BookView}
+use Rattle.mdl_steps.specs.declared.deed.Deed.{Deed}
+use Rattle.mdl_steps.specs.declared.slot.Slot.{Slot}
+use Rattle.mdl_steps.specs.declared.slot.Slot.TheVariants as slot
+use Rattle.mdl_steps.specs.declared.view.Held.{Held}
+use Rattle.mdl_steps.specs.declared.view.View.{View}
+use Rattle.mdl_steps.specs.Cells.{held_at}
+use Rattle.mdl_steps.specs.Deeds.{all_booked}
+use Rattle.mdl_steps.specs.Layout.{latch_word, lock_word}
+use Rattle.mdl_steps.specs.Plays.{Mine, settled, unlatched}
+use Rattle.mdl_steps.specs.Rule.{Rule}
+use Rattle.mdl_system.specs.Events.{SameElsewhere}
+use Rattle.mdl_steps_laws.specs.DeedLaws.{lock_after}
+use Rattle.mdl_steps_laws.specs.Locks.{Lock, AreLocksOf}
+
+-- the table after a seat has put the latch of a place, with a book, after deeds (the play `unlatched`)
+abbrev pub after_put : State Slot View → ℕ → List Deed → BookView → ℕ → Mine → State Slot View
+after_put s place ds book id me = record {
+  words = slice_set s.words (latch_word place) 0;
+  homes = slice_set s.homes place (some (slot.Place book));
+  views = slice_set s.views id (unlatched place ds me).0;
+}
+
+-- the table after a seat has lowered flags of a place, whose word was `found` and is `left` then, after deeds (the play `settled`)
+abbrev pub after_lowering : State Slot View → ℕ → List Deed → ℕ → ℕ → BookView → Bool → Bool → ℕ → Mine → State Slot View
+after_lowering s place ds found left book slow obtrusive id me = record {
+  words = slice_set s.words (lock_word place) left;
+  homes = s.homes;
+  views = slice_set s.views id (settled place ds found book slow obtrusive me).0;
+}
+
+-- the locks after deeds of a session under one key
+abbrev pub AreAfter : ℕ → List Deed → KeyName → (KeyName → Lock) → (KeyName → Lock) → Type 0
+AreAfter session deeds key old new = (new key ≡ lock_after session deeds (old key)) × SameElsewhere key old new
+
+-- the latch of a key's place is put after deeds: they are done to its lock, and nothing to others
+abbrev pub PuttingDoes : Type 0
+PuttingDoes =
+    (s : State Slot View) → Rule s → (old new : KeyName → Lock) → (are : AreLocksOf s old) →
+    (i : ℕ) (key : KeyName) → get_elem? are.keys i ≡ some key →
+    (id : ℕ) (me : Mine) → get_elem? s.views id ≡ some me.0 → (h : Held) → held_at (suc i) me.0.latches ≡ Some h →
+    (ds : List Deed) → Rule (after_put s (suc i) ds (all_booked me.0.number ds h.book) id me) →
+    AreAfter me.0.number ds key old new →
+    AreLocksOf (after_put s (suc i) ds (all_booked me.0.number ds h.book) id me) new
+
+-- and so where flags are lowered after deeds, while the latch is held
+abbrev pub LoweringDoes : Type 0
+LoweringDoes =
+    (s : State Slot View) → Rule s → (old new : KeyName → Lock) → (are : AreLocksOf s old) →
+    (i : ℕ) (key : KeyName) → get_elem? are.keys i ≡ some key →
+    (id : ℕ) (me : Mine) → get_elem? s.views id ≡ some me.0 → (h : Held) → held_at (suc i) me.0.latches ≡ Some h →
+    (ds : List Deed) (found left : ℕ) (slow obtrusive : Bool) →
+    Rule (after_lowering s (suc i) ds found left (all_booked me.0.number ds h.book) slow obtrusive id me) →
+    AreAfter me.0.number ds key old new →
+    AreLocksOf (after_lowering s (suc i) ds found left (all_booked me.0.number ds h.book) slow obtrusive id me) new

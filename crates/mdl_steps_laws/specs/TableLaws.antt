@@ -1,0 +1,68 @@
+-- What the rule of the running table comes to in the system of locks.
+use Rattle.std.specs.Prelude.{◌≡◌, ◌≢◌, ℕ, suc, ◌<◌, map, Some, None}
+use mathlib.Core.Option.{some}
+use lib.ListN.{get_elem?}
+use Rattle.atomic_table.specs.Table.{State}
+use Rattle.mdl_key.specs.Words.{KeyName}
+use Rattle.mdl_defs.specs.declared.definition.Definition.{Definition}
+use Rattle.mdl_book.specs.declared.ticket.Ticket.{Ticket}
+use Rattle.mdl_book.specs.Tickets.{ticket_of}
+use Rattle.mdl_steps.specs.declared.slot.Slot.{Slot}
+use Rattle.mdl_steps.specs.declared.view.Held.{Held}
+use Rattle.mdl_steps.specs.declared.view.View.{View}
+use Rattle.mdl_steps.specs.Cells.{cell, held_at, own_at, ticket_by}
+use Rattle.mdl_steps.specs.Deeds.{NotWaited}
+use Rattle.mdl_steps.specs.Rule.{Rule}
+use Rattle.mdl_steps.specs.RuleLaws.{fast_at}
+use Rattle.mdl_system.specs.BookLaws.{of_lock}
+use Rattle.mdl_system.specs.Events.{IsNewNumber, SameElsewhere}
+use Rattle.mdl_system.specs.Systems.{System, Held as IsHeld, IsLawful}
+use Rattle.mdl_steps_laws.specs.DeedLaws.{IsOnly, MayBeJoined}
+use Rattle.mdl_steps_laws.specs.Locks.{Lock, AreKeysOf, AreLocksOf, IsBookAt, IsOfNoWait, Tells}
+
+-- at any time the table tells the lock of each key, and these tell a system
+abbrev pub RunningTablesTellASystem : Type 0
+RunningTablesTellASystem =
+    (s : State Slot View) → Rule s →
+    (locks : KeyName → Lock) × AreLocksOf s locks × (system : System Definition) × Tells locks system
+
+-- each system that they tell is lawful: no two sessions hold clashing tickets of one key, fast and slow ones together
+abbrev pub RunningTablesAreLawful : Type 0
+RunningTablesAreLawful =
+    (s : State Slot View) → Rule s → (locks : KeyName → Lock) → AreLocksOf s locks →
+    (system : System Definition) → Tells locks system → IsLawful system
+
+-- a session that holds the latch of a key's place, and has noted a word or none, has there what deeds ask for
+abbrev pub HoldersMayJoin : Type 0
+HoldersMayJoin =
+    (s : State Slot View) → Rule s → (locks : KeyName → Lock) → (are : AreLocksOf s locks) →
+    (i : ℕ) (key : KeyName) → get_elem? are.keys i ≡ some key →
+    (j : ℕ) (v : View) → get_elem? s.views j ≡ some v → (h : Held) → held_at (suc i) v.latches ≡ Some h →
+    MayBeJoined h.noted (locks key)
+
+-- the number of a session's next ticket is new
+abbrev pub NextNumbersAreNew : Type 0
+NextNumbersAreNew =
+    (s : State Slot View) → Rule s → (locks : KeyName → Lock) → AreLocksOf s locks → (system : System Definition) → Tells locks system →
+    (j : ℕ) (v : View) → get_elem? s.views j ≡ some v → 0 < v.number → IsNewNumber system v.number v.next
+
+-- the slow ticket that a session has by its view, where no fast one of it there has the same number, is its only one in the lock of that
+-- number; and the session holds it, but where it is that of a wait
+abbrev pub OwnTicketsAreHeld : Type 0
+OwnTicketsAreHeld =
+    (s : State Slot View) → Rule s → (locks : KeyName → Lock) → (are : AreLocksOf s locks) → (system : System Definition) → Tells locks system →
+    (i : ℕ) (key : KeyName) → get_elem? are.keys i ≡ some key →
+    (j : ℕ) (v : View) → get_elem? s.views j ≡ some v → 0 < v.number →
+    (number : ℕ) (t : Ticket) → ticket_of v.number number (map (ticket_by v.number) (own_at (suc i) v.slow)) ≡ Some t →
+    ticket_of v.number number (map (ticket_by v.number) (own_at (suc i) v.fast)) ≡ None →
+    NotWaited v number → IsOfNoWait system v.number number →
+    IsOnly v.number number (locks key) t × IsHeld system v.number (of_lock key t)
+
+-- what changes at one place changes the lock of its key alone
+abbrev pub OnePlaceIsOneLock : Type 0
+OnePlaceIsOneLock =
+    (s s′ : State Slot View) → Rule s → (old new : KeyName → Lock) → (are : AreLocksOf s old) → AreKeysOf s′ are.keys →
+    (i : ℕ) (key : KeyName) → get_elem? are.keys i ≡ some key →
+    ((place : ℕ) → 0 < place → place ≢ suc i → cell s′ place ≡ cell s place) →
+    (new key).fast ≡ fast_at s′ (suc i) → IsBookAt s′ (suc i) (new key).book → SameElsewhere key old new →
+    AreLocksOf s′ new

@@ -1,0 +1,32 @@
+//! What the rule of the running table comes to in the system of locks. Each law is proved as the contract of a function that does nothing.
+ghost use Rattle.mdl_steps_laws.specs.TableLaws.{RunningTablesTellASystem, RunningTablesAreLawful, HoldersMayJoin, NextNumbersAreNew, OwnTicketsAreHeld, OnePlaceIsOneLock};
+
+/// Between any two steps of all sessions the table tells the lock of each key, its fast tickets and its book, and with them a system.
+pub fn running_tables_tell_a_system()
+    ensures { RunningTablesTellASystem }
+{}
+
+/// The system that the table tells is lawful, whatever the interleaving: no two sessions hold clashing tickets of one key.
+pub fn running_tables_are_lawful()
+    ensures { RunningTablesAreLawful }
+{}
+
+/// What the laws of deeds ask of a lock is so for the session that holds its latch.
+pub fn holders_may_join()
+    ensures { HoldersMayJoin }
+{}
+
+/// A session's next ticket has a number that none of its tickets has, whatever the key.
+pub fn next_numbers_are_new()
+    ensures { NextNumbersAreNew }
+{}
+
+/// A slow ticket that a session has by its view stands in the book, and the session holds it, but where it is that of a wait.
+pub fn own_tickets_are_held()
+    ensures { OwnTicketsAreHeld }
+{}
+
+/// A step that changes one place changes the lock of its key, and that of no other.
+pub fn one_place_is_one_lock()
+    ensures { OnePlaceIsOneLock }
+{}
