@@ -9,6 +9,8 @@ mod locks;
 #[cfg(test)]
 mod memory;
 #[cfg(test)]
+mod modes;
+#[cfg(test)]
 mod passes;
 #[cfg(test)]
 mod places;

@@ -5,7 +5,7 @@ ghost use Rattle.std.specs.Prelude.{◌≡◌, ◌+◌, length, IfOk};
 ghost use Rattle.mdl_shared.specs.Passes.{ArePasses, table_of};
 
 use crate::sessions::closed;
-use mdl_calls::{Attempt, Place, SpaceError};
+use mdl_calls::{Attempt, Place, SpaceError, TicketId};
 use mdl_key::{Key, KeyError, Mode};
 use mdl_shared::{Manager, NewError, Pass, Session};
 use std::alloc::Global;
@@ -50,6 +50,18 @@ fn try_now<R: Wait>(
     }
 }
 
+// What comes of cloning a ticket, in the same way.
+fn clone_ticket<R: Wait>(
+    session: &mut Session<R>,
+    id: TicketId,
+    mode: Mode,
+) -> Result<TicketId, SpaceError> {
+    match session.clone_ticket(id, mode) {
+        Err(SpaceError::OutOfMemory) => session.clone_ticket(id, mode),
+        outcome => outcome,
+    }
+}
+
 #[test]
 fn outlives_want_of_memory(rt: HostRuntime) -> Result<(), Fail> {
     let (manager, mut passes) = space(rt.alloc())?;
@@ -61,7 +73,10 @@ fn outlives_want_of_memory(rt: HostRuntime) -> Result<(), Fail> {
     assert_eq!(rt; try_now(&mut one, 1, Mode::SNW), Ok(Attempt::Granted(1)));
     assert_eq!(rt; try_now(&mut two, 1, Mode::X), Ok(Attempt::WouldWait));
     assert_eq!(rt; try_now(&mut two, 1, Mode::S), Ok(Attempt::Granted(1)));
-    assert_eq!(rt; one.release(1), Ok(()));
+    assert_eq!(rt; clone_ticket(&mut one, 1, Mode::SU), Ok(2));
+    assert_eq!(rt; one.merge(2, 1), Ok(()));
+    assert_eq!(rt; one.downgrade(2, Mode::SU), Ok(()));
+    assert_eq!(rt; one.release(2), Ok(()));
     assert_eq!(rt; two.release(1), Ok(()));
     closed(&rt, one);
     closed(&rt, two);
