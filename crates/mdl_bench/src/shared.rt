@@ -1,11 +1,9 @@
 //! Sessions of the lock space that threads share, each of which takes a lock for itself and gives it up.
 use crate::failure::Failure;
 use crate::figure::Work;
-use mdl_key::{Key, Mode};
-use mdl_shared::{Manager, Pass, Session};
-use mdl_space::{Attempt, Place};
-use std::alloc::Global;
-use std::sync::Wait;
+use mdl_key::Key;
+use mdl_shared::Manager;
+use mdl_shared_trials::{takings, takings_of_two};
 use std::sync::atomic::{AtomicU64, Ordering};
 use std::thread;
 use std::thread::Threads;

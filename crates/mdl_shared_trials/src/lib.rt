@@ -1,8 +1,8 @@
 //! Tests of the lock space that threads share.
 //!
-//! Everything here is for tests: spaces are made, and sessions open, look keys up, try for locks, upgrade them, change what stands under
-//! keys, give locks up and close, on one thread and on several. The tests stand over what `mdl_shared` shows to all, so that it has none
-//! itself and is proved once.
+//! Everything here is for tests: spaces are made, and sessions open, look keys up, try for locks, change, clone and merge tickets, change what
+//! stands under keys, give locks up and close, on one thread and on several. The tests stand over what `mdl_shared` shows to all, so that it
+//! has none itself and is proved once.
 #![tactic(auto)]
 
 #[cfg(test)]
@@ -17,6 +17,8 @@ mod counting;
 mod locks;
 #[cfg(test)]
 mod memory;
+#[cfg(test)]
+mod modes;
 #[cfg(test)]
 mod own_lists;
 #[cfg(test)]

@@ -75,6 +75,18 @@ fn audit<R: Wait>(session: &mut Session<R>) -> Result<Vec<Audited>, SpaceError> 
     }
 }
 
+// What comes of cloning a ticket, in the same way.
+fn clone_ticket<R: Wait>(
+    session: &mut Session<R>,
+    id: TicketId,
+    mode: Mode,
+) -> Result<TicketId, SpaceError> {
+    match session.clone_ticket(id, mode) {
+        Err(SpaceError::OutOfMemory) => session.clone_ticket(id, mode),
+        outcome => outcome,
+    }
+}
+
 #[test]
 fn outlives_want_of_memory(rt: HostRuntime) -> Result<(), Fail> {
     let (manager, mut passes) = space(rt.alloc())?;
@@ -86,7 +98,10 @@ fn outlives_want_of_memory(rt: HostRuntime) -> Result<(), Fail> {
     assert_eq!(rt; try_now(&mut one, 1, Mode::SNW), Ok(Attempt::Granted(1)));
     assert_eq!(rt; try_now(&mut two, 1, Mode::X), Ok(Attempt::WouldWait));
     assert_eq!(rt; try_now(&mut two, 1, Mode::S), Ok(Attempt::Granted(1)));
-    assert_eq!(rt; one.release(1), Ok(()));
+    assert_eq!(rt; clone_ticket(&mut one, 1, Mode::SU), Ok(2));
+    assert_eq!(rt; one.merge(2, 1), Ok(()));
+    assert_eq!(rt; one.downgrade(2, Mode::SU), Ok(()));
+    assert_eq!(rt; one.release(2), Ok(()));
     assert_eq!(rt; two.release(1), Ok(()));
     closed(&rt, one);
     closed(&rt, two);
