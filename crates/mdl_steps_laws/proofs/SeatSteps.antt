@@ -1,26 +1,32 @@
--- The steps by which deeds come to be of the table do them in the locks that it tells.
-use Rattle.std.proofs.Common.{◌≡◌, ◌≢◌, ℕ, suc, ◌+◌, ◌*◌, ◌<◌, ◌≤◌, Bool, inl, inr, List, [], ◌∷◌, ◌++◌, length, map, set, get_or, Some, refl, sym, ap, ◌∙◌, subst, arith, length-set, get_or-set_other, get_or-set_same}
+-- The steps by which deeds and changes of definitions come to be of the table do them in the locks that it tells.
+use Rattle.std.proofs.Common.{◌≡◌, ◌≢◌, ℕ, zero, suc, ◌==◌, ◌+◌, ◌*◌, ◌<◌, ◌≤◌, Bool, inl, inr, List, [], ◌∷◌, ◌++◌, length, map, set, get_or, Some, refl, sym, ap, ◌∙◌, subst, arith, length-set, get_or-set_other, get_or-set_same}
 use Rattle.std.proofs.lemmas.List.{map-set}
-use mathlib.Core.Option.{Option as Maybe, some}
+use mathlib.Core.Option.{Option as Maybe, some, some-injective}
 use lib.ListN.{get_elem?}
 use Rattle.atomic_table.specs.Table.{State}
 use Rattle.atomic_table.proofs.Lists.{at_map, at_set, set_here, set_else}
 use Rattle.mdl_key.specs.Words.{KeyName}
+use Rattle.mdl_defs.specs.declared.standing.Standing.{Standing}
+use Rattle.mdl_defs.specs.Standings.{standing_after}
 use Rattle.mdl_book.specs.declared.book_view.BookView.{BookView}
+use Rattle.mdl_book.specs.Books as books
 use Rattle.mdl_steps.specs.declared.deed.Deed.{Deed}
 use Rattle.mdl_steps.specs.declared.slot.Slot.{Slot}
 use Rattle.mdl_steps.specs.declared.slot.Slot.TheVariants as slot
+use Rattle.mdl_steps.specs.declared.view.Held.{Held}
+use Rattle.mdl_steps.specs.declared.view.Own.{Own}
 use Rattle.mdl_steps.specs.declared.view.View.{View}
-use Rattle.mdl_steps.specs.Cells.{all_fast, held_at, holder_at, own_at, part_at, ticket_by, waits}
+use Rattle.mdl_steps.specs.Cells.{Part, all_fast, held_at, holder_at, own_at, part_at, ticket_by, waits}
 use Rattle.mdl_steps.specs.Deeds.{all_booked}
-use Rattle.mdl_steps.specs.Layout.{latch_word, lock_word}
-use Rattle.mdl_steps.specs.Plays.{Mine, lowered, settled, unlatched}
+use Rattle.mdl_steps.specs.Layout.{latch_word, lock_word, version_word}
+use Rattle.mdl_steps.specs.Plays.{Mine, lowered, noting_version, redefined, restood, settled, unlatched}
+use Rattle.mdl_steps.specs.Rule.{Rule}
 use Rattle.mdl_steps.specs.RuleLaws.{fast_at}
 use Rattle.mdl_steps.proofs.Books.{all_done_fast}
-use Rattle.mdl_steps.proofs.Deeds.{all_fast-set}
-use Rattle.mdl_steps.proofs.Views.{at_inside, held_at-changed, held_at-unchanged, held_at-undropped}
-use Rattle.mdl_steps_laws.specs.Locks.{Lock, AreKeysOf, IsBookAt}
-use Rattle.mdl_steps_laws.specs.StepLaws.{LoweringDoes, PuttingDoes, after_lowering, after_put}
+use Rattle.mdl_steps.proofs.Views.{at_inside, by_bool, held_at-changed, held_at-unchanged, held_at-undropped}
+use Rattle.mdl_system.specs.Events.{SameElsewhere}
+use Rattle.mdl_steps_laws.specs.Locks.{Lock, AreKeysOf, AreLocksOf, IsBookAt}
+use Rattle.mdl_steps_laws.specs.StepLaws.{LoweringDoes, PuttingDoes, WritingRedefines, after_put}
 use Rattle.mdl_steps_laws.proofs.OneLock.{one_lock}
 use Rattle.mdl_steps_laws.proofs.TableLocks.{first_place, into_rule, last_place, ruled_book}
 
@@ -29,10 +35,17 @@ any_waits : (f g : ℕ → ℕ) (q : ℕ) (views : List View) → all_fast (map 
 any_waits f g q [] = refl
 any_waits f g q (v ∷ vs) = ap (λ ts. map (ticket_by v.number) (own_at q v.fast) ++ ts) (any_waits f g q vs)
 
+-- a part with the same fast tickets, whatever is noted under them
+all_fast-alike : (parts : List Part) (id : ℕ) (x y : Part) → get_elem? parts id ≡ some x → map (ticket_by y.number) y.fast ≡ map (ticket_by x.number) x.fast → all_fast (set parts id y) ≡ all_fast parts
+all_fast-alike [] id x y at same = refl
+all_fast-alike (z ∷ zs) zero x y at same =
+    ap (λ ts. ts ++ all_fast zs) (same ∙ ap (λ (p : Part). map (ticket_by p.number) p.fast) (sym (some-injective z x at)))
+all_fast-alike (z ∷ zs) (suc id) x y at same = ap (λ ts. map (ticket_by z.number) z.fast ++ ts) (all_fast-alike zs id x y at same)
+
 -- what a step of a seat at one place leaves: its number, its fast tickets, the directory's record and those of other latches
 record Leaves (place : ℕ) (v w : View) : Type 0 where
   number : w.number ≡ v.number
-  fast : w.fast ≡ v.fast
+  fast : (number q : ℕ) → map (ticket_by number) (own_at q w.fast) ≡ map (ticket_by number) (own_at q v.fast)
   directory : w.directory ≡ v.directory
   held_else : (q : ℕ) → q ≢ place → held_at q w.latches ≡ held_at q v.latches
 
@@ -48,8 +61,8 @@ module _ (s : State Slot View) (place n m id : ℕ) (homes : List (Maybe Slot)) 
   fast_same q =
       any_waits (waits after) (waits s) q (set s.views id w)
       ∙ ap all_fast (map-set (part_at (waits s) q) s.views id w)
-      ∙ all_fast-set (map (part_at (waits s) q) s.views) id (part_at (waits s) q v) (part_at (waits s) q w)
-      (at_map (part_at (waits s) q) s.views id v seat) leaves.number (ap (own_at q) leaves.fast)
+      ∙ all_fast-alike (map (part_at (waits s) q) s.views) id (part_at (waits s) q v) (part_at (waits s) q w)
+      (at_map (part_at (waits s) q) s.views id v seat) (leaves.fast w.number q ∙ ap (λ (n : ℕ). map (ticket_by n) (own_at q v.fast)) leaves.number)
 
   keys_same : (keys : List KeyName) → AreKeysOf s keys → AreKeysOf after keys
   keys_same keys are = record {
@@ -73,7 +86,7 @@ module _ (s : State Slot View) (place n m id : ℕ) (homes : List (Maybe Slot)) 
 put_leaves : (place : ℕ) (ds : List Deed) (me : Mine) → Leaves place me.0 (unlatched place ds me).0
 put_leaves place ds me = record {
   number = refl;
-  fast = all_done_fast place ds me.0;
+  fast = λ number q. ap (λ (ts : List Own). map (ticket_by number) (own_at q ts)) (all_done_fast place ds me.0);
   directory = refl;
   held_else = λ q else. held_at-undropped place q me.0.latches else;
 }
@@ -81,7 +94,7 @@ put_leaves place ds me = record {
 lowering_leaves : (place : ℕ) (ds : List Deed) (found : ℕ) (book : BookView) (slow obtrusive : Bool) (me : Mine) → Leaves place me.0 (settled place ds found book slow obtrusive me).0
 lowering_leaves place ds found book slow obtrusive me = record {
   number = refl;
-  fast = all_done_fast place ds me.0;
+  fast = λ number q. ap (λ (ts : List Own). map (ticket_by number) (own_at q ts)) (all_done_fast place ds me.0);
   directory = refl;
   held_else = λ q else. held_at-unchanged place (lowered book slow obtrusive) (λ x. refl) q me.0.latches else;
 }
@@ -114,26 +127,58 @@ putting_does s r old new are i key at id me seat h holds ds r′ done =
     (ap (λ (l : Lock). l.fast) done.0 ∙ are.fast_are i key at ∙ sym (fast_same s place (latch_word place) 0 id homes me.0 w seat leaves first near home_else place))
     (subst (IsBookAt (after_put s place ds book id me) place) booked is) done.1
 
+-- a step of the holder of a latch, after which its record has the new book
+module _ (s : State Slot View) (r : Rule s) (old new : KeyName → Lock) (are : AreLocksOf s old) (i : ℕ) (key : KeyName) (at : get_elem? are.keys i ≡ some key)
+    (id : ℕ) (v w : View) (seat : get_elem? s.views id ≡ some v) (leaves : Leaves (suc i) v w) (n m : ℕ) (near : (8 * suc i ≤ n) × (n < 8 * suc i + 8)) where
+  recorded : Rule (record { words = set s.words n m; homes = s.homes; views = set s.views id w }) → (h : Held) → held_at (suc i) w.latches ≡ Some h
+      → h.book ≡ (new key).book → (new key).fast ≡ (old key).fast → SameElsewhere key old new
+      → AreLocksOf (record { words = set s.words n m; homes = s.homes; views = set s.views id w }) new
+  recorded r′ h has book fast elsewhere =
+      let place : ℕ = suc i in
+      let s′ : State Slot View = record { words = set s.words n m; homes = s.homes; views = set s.views id w } in
+      let here = into_rule s r old are i key at in
+      let first = first_place s r i key here in
+      let last = last_place s r i key here in
+      let home_else : (q : ℕ) → q ≢ place → get_elem? s.homes q ≡ get_elem? s.homes q = λ q else. refl in
+      let ruled = ruled_book s′ r′ place first last in
+      let is : h.book ≡ (r′.places place first last).book = ruled.taken id w (set_here s.views id w (at_inside s.views id v seat)) h has in
+      one_lock s s′ r old new are (keys_same s place n m id s.homes v w seat leaves first near home_else are.keys are.keys_are) i key at
+      (λ q _ else. fast_same s place n m id s.homes v w seat leaves first near home_else q)
+      (λ q _ else. book_else s place n m id s.homes v w seat leaves first near home_else q else)
+      (fast ∙ are.fast_are i key at ∙ sym (fast_same s place n m id s.homes v w seat leaves first near home_else place))
+      (subst (IsBookAt s′ place) (sym is ∙ book) ruled) elsewhere
+
 pub lowering_does : LoweringDoes
 lowering_does s r old new are i key at id me seat h holds ds found left slow obtrusive r′ done =
     let place : ℕ = suc i in
     let book : BookView = all_booked me.0.number ds h.book in
-    let here = into_rule s r old are i key at in
-    let first = first_place s r i key here in
-    let last = last_place s r i key here in
-    let w : View = (settled place ds found book slow obtrusive me).0 in
-    let s′ : State Slot View = after_lowering s place ds found left book slow obtrusive id me in
-    let leaves = lowering_leaves place ds found book slow obtrusive me in
-    let near : (8 * place ≤ lock_word place) × (lock_word place < 8 * place + 8) = (omega arith, omega arith) in
-    let home_else : (q : ℕ) → q ≢ place → get_elem? s.homes q ≡ get_elem? s.homes q = λ q else. refl in
-    let inside : id < length s.views = at_inside s.views id me.0 seat in
-    let has : held_at place w.latches ≡ Some (lowered book slow obtrusive h) = held_at-changed place (lowered book slow obtrusive) (λ x. refl) me.0.latches h holds in
-    let ruled = ruled_book s′ r′ place first last in
-    let is : book ≡ (r′.places place first last).book = ruled.taken id w (set_here s.views id w inside) (lowered book slow obtrusive h) has in
-    let booked : book ≡ (new key).book = ap (all_booked me.0.number ds) ((are.book_is i key at).taken id me.0 seat h holds) ∙ sym (ap (λ (l : Lock). l.book) done.0) in
-    one_lock s s′ r old new are
-    (keys_same s place (lock_word place) left id s.homes me.0 w seat leaves first near home_else are.keys are.keys_are) i key at
-    (λ q _ else. fast_same s place (lock_word place) left id s.homes me.0 w seat leaves first near home_else q)
-    (λ q _ else. book_else s place (lock_word place) left id s.homes me.0 w seat leaves first near home_else q else)
-    (ap (λ (l : Lock). l.fast) done.0 ∙ are.fast_are i key at ∙ sym (fast_same s place (lock_word place) left id s.homes me.0 w seat leaves first near home_else place))
-    (subst (IsBookAt s′ place) (sym is ∙ booked) ruled) done.1
+    recorded s r old new are i key at id me.0 (settled place ds found book slow obtrusive me).0 seat (lowering_leaves place ds found book slow obtrusive me)
+    (lock_word place) left (omega arith, omega arith) r′ (lowered book slow obtrusive h)
+    (held_at-changed place (lowered book slow obtrusive) (λ x. refl) me.0.latches h holds)
+    (ap (all_booked me.0.number ds) ((are.book_is i key at).taken id me.0 seat h holds) ∙ sym (ap (λ (l : Lock). l.book) done.0))
+    (ap (λ (l : Lock). l.fast) done.0) done.1
+
+-- what is noted under tickets changes none of them
+noted_alike : (place version number q : ℕ) (ts : List Own) → map (ticket_by number) (own_at q (noting_version place version ts)) ≡ map (ticket_by number) (own_at q ts)
+noted_alike place version number q [] = refl
+noted_alike place version number q (t ∷ ts) = by_bool (t.place == place)
+    (λ here. by_bool (t.place == q)
+    (λ at. rw (here, at) (ap (λ us. ticket_by number t ∷ us) (noted_alike place version number q ts)))
+    (λ away. rw (here, away) (noted_alike place version number q ts)))
+    (λ elsewhere. by_bool (t.place == q)
+    (λ at. rw (elsewhere, at) (ap (λ us. ticket_by number t ∷ us) (noted_alike place version number q ts)))
+    (λ away. rw (elsewhere, away) (noted_alike place version number q ts)))
+
+pub writing_redefines : WritingRedefines
+writing_redefines s r old new are i key at id me seat h holds change r′ done elsewhere =
+    let place : ℕ = suc i in
+    let standing : Standing = standing_after change h.book.standing in
+    recorded s r old new are i key at id me.0 (redefined place standing me).0 seat (record {
+      number = refl;
+      fast = λ number q. noted_alike place standing.version number q me.0.fast;
+      directory = refl;
+      held_else = λ q else. held_at-unchanged place (restood standing) (λ x. refl) q me.0.latches else;
+    }) (version_word place) standing.version (omega arith, omega arith) r′ (restood standing h)
+    (held_at-changed place (restood standing) (λ x. refl) me.0.latches h holds)
+    (ap (books.redefining change) ((are.book_is i key at).taken id me.0 seat h holds) ∙ sym (ap (λ (l : Lock). l.book) done))
+    (ap (λ (l : Lock). l.fast) done) elsewhere

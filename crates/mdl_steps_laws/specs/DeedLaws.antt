@@ -39,9 +39,13 @@ lock_after session deeds lock = record { fast = lock.fast; book = all_booked ses
 abbrev pub Does : ℕ → List Deed → KeyName → (KeyName → Lock) → (KeyName → Lock) → System Definition → System Definition → Type 0
 Does session deeds key old new a b = Turns key (lock_after session deeds (old key)) old new a b
 
+-- and after a change of what stands
+abbrev pub lock_redefined : Change → Lock → Lock
+lock_redefined change lock = record { fast = lock.fast; book = books.redefining change lock.book }
+
 -- a change is made of what is defined under a key
 abbrev pub Redefines : Change → KeyName → (KeyName → Lock) → (KeyName → Lock) → System Definition → System Definition → Type 0
-Redefines change key old new a b = Turns key (record { fast = (old key).fast; book = books.redefining change (old key).book }) old new a b
+Redefines change key old new a b = Turns key (lock_redefined change (old key)) old new a b
 
 -- ---- what is known
 

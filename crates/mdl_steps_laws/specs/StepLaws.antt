@@ -1,9 +1,12 @@
--- The steps by which deeds come to be of the table do them in the locks that it tells.
+-- The steps by which deeds and changes of definitions come to be of the table do them in the locks that it tells.
 use Rattle.std.specs.Prelude.{◌≡◌, ℕ, suc, Bool, List, Some, slice_set}
 use mathlib.Core.Option.{some}
 use lib.ListN.{get_elem?}
 use Rattle.atomic_table.specs.Table.{State}
 use Rattle.mdl_key.specs.Words.{KeyName}
+use Rattle.mdl_defs.specs.declared.change.Change.{Change}
+use Rattle.mdl_defs.specs.declared.standing.Standing.{Standing}
+use Rattle.mdl_defs.specs.Standings.{standing_after}
 use Rattle.mdl_book.specs.declared.book_view.BookView.{BookView}
 use Rattle.mdl_steps.specs.declared.deed.Deed.{Deed}
 use Rattle.mdl_steps.specs.declared.slot.Slot.{Slot}
@@ -12,11 +15,11 @@ use Rattle.mdl_steps.specs.declared.view.Held.{Held}
 use Rattle.mdl_steps.specs.declared.view.View.{View}
 use Rattle.mdl_steps.specs.Cells.{held_at}
 use Rattle.mdl_steps.specs.Deeds.{all_booked}
-use Rattle.mdl_steps.specs.Layout.{latch_word, lock_word}
-use Rattle.mdl_steps.specs.Plays.{Mine, settled, unlatched}
+use Rattle.mdl_steps.specs.Layout.{latch_word, lock_word, version_word}
+use Rattle.mdl_steps.specs.Plays.{Mine, redefined, settled, unlatched}
 use Rattle.mdl_steps.specs.Rule.{Rule}
 use Rattle.mdl_system.specs.Events.{SameElsewhere}
-use Rattle.mdl_steps_laws.specs.DeedLaws.{lock_after}
+use Rattle.mdl_steps_laws.specs.DeedLaws.{lock_after, lock_redefined}
 use Rattle.mdl_steps_laws.specs.Locks.{Lock, AreLocksOf}
 
 -- the table after a seat has put the latch of a place, with a book, after deeds (the play `unlatched`)
@@ -59,3 +62,21 @@ LoweringDoes =
     Rule (after_lowering s (suc i) ds found left (all_booked me.0.number ds h.book) slow obtrusive id me) →
     AreAfter me.0.number ds key old new →
     AreLocksOf (after_lowering s (suc i) ds found left (all_booked me.0.number ds h.book) slow obtrusive id me) new
+
+-- the table after a seat has written the version of a place, with what stands there from then on (the play `redefined`)
+abbrev pub after_writing : State Slot View → ℕ → Standing → ℕ → Mine → State Slot View
+after_writing s place standing id me = record {
+  words = slice_set s.words (version_word place) standing.version;
+  homes = s.homes;
+  views = slice_set s.views id (redefined place standing me).0;
+}
+
+-- and so the definition in the lock of a key is changed as its version is written
+abbrev pub WritingRedefines : Type 0
+WritingRedefines =
+    (s : State Slot View) → Rule s → (old new : KeyName → Lock) → (are : AreLocksOf s old) →
+    (i : ℕ) (key : KeyName) → get_elem? are.keys i ≡ some key →
+    (id : ℕ) (me : Mine) → get_elem? s.views id ≡ some me.0 → (h : Held) → held_at (suc i) me.0.latches ≡ Some h →
+    (change : Change) → Rule (after_writing s (suc i) (standing_after change h.book.standing) id me) →
+    new key ≡ lock_redefined change (old key) → SameElsewhere key old new →
+    AreLocksOf (after_writing s (suc i) (standing_after change h.book.standing) id me) new
