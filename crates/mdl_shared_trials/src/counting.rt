@@ -92,7 +92,9 @@ fn versions_count_the_changes_of_four_threads(rt: HostRuntime) -> Result<(), Fai
     let books = watcher.audit();
     closed(&rt, watcher);
     let books = books?;
-    let versions: u64 = books.iter().map(|book| book.book.standing.version).sum();
+    let versions = books.iter().fold(0u64, |sum, book| {
+        sum.saturating_add(book.book.standing.version)
+    });
     assert_eq!(rt; versions, early.saturating_add(late));
     assert!(rt; versions >= 1);
     assert!(rt;

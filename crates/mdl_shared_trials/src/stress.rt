@@ -50,7 +50,7 @@ struct Player<'a> {
 impl Player<'_> {
     // Notes a version that was read of a place's table. Versions don't fall.
     fn see(&mut self, place: Place, version: u64) -> Result<(), Wrong> {
-        match self.seen.get_mut(usize::from(place) - 1) {
+        match self.seen.get_mut(usize::from(place).wrapping_sub(1)) {
             Some(seen) if *seen <= version => {
                 *seen = version;
                 Ok(())
@@ -61,7 +61,7 @@ impl Player<'_> {
 
     // Notes a change, which has brought a place's table to a version.
     fn count(&mut self, place: Place, version: u64) -> Result<(), Wrong> {
-        if let Some(changes) = self.changes.get_mut(usize::from(place) - 1) {
+        if let Some(changes) = self.changes.get_mut(usize::from(place).wrapping_sub(1)) {
             *changes = changes.saturating_add(1);
         }
         self.see(place, version)
@@ -92,7 +92,8 @@ fn make_call<R: Wait>(session: &mut Session<R>, player: &mut Player<'_>) -> Resu
 
 // A lock is asked for, or what is known of a table or of all.
 fn ask<R: Wait>(session: &mut Session<R>, player: &mut Player<'_>) -> Result<(), Wrong> {
-    let place = player.chance.below(TABLES.len()) as u16 + 1;
+    let drawn = player.chance.below(TABLES.len());
+    let place = u16::try_from(drawn).unwrap_or(0).saturating_add(1);
     match player.chance.below(40) {
         0 => was_answered(session.key_of(place)),
         1 => was_answered(session.tables_of("shop")),
