@@ -1,5 +1,4 @@
-//! `mdl_bench` times the calls of one lock's book, of a lock space, of a session's context and of sessions on threads, and the search for
-//! deadlocks.
+//! `mdl_bench` times the calls of one lock's book, of a lock space, and of a session's context, and the search for deadlocks.
 //!
 //! It prints three lines for each figure: one for a reader, with what the loop around the calls costs alone, and these two for
 //! a program. Each call's answers are added up and held to what they must come to. With the argument `quick` it makes one turn
@@ -12,7 +11,6 @@ mod failure;
 mod field;
 mod figure;
 mod session;
-mod shared;
 mod table;
 mod tangle;
 
@@ -22,7 +20,6 @@ use failure::Failure;
 use field::Field;
 use figure::{Figure, time};
 use session::Session;
-use shared::{Alone, Four};
 use std::process::ExitCode;
 use tangle::{Shape, Tangle};
 
@@ -52,9 +49,6 @@ const KEPT: [(u16, u32); 4] = [
 
 // How often a context locks a hundred tables and goes back.
 const GONE_BACK: u32 = 2_000;
-
-// How often a session of the space that threads share takes a lock and gives it up.
-const SHARED: u32 = 1_000_000;
 
 // The sessions that wait for one another, and how often a deadlock is looked for.
 const TANGLED: [(u16, u32); 3] = [(2, 200_000), (8, 50_000), (64, 5_000)];
@@ -94,7 +88,6 @@ fn time_all(rt: &HostRuntime, quick: bool) -> Result<(), Failure> {
         time_keeping(rt, unless(quick, turns), tickets)?;
     }
     time_going_back(rt, unless(quick, GONE_BACK))?;
-    time_sharing(rt, unless(quick, SHARED))?;
     time_searches(rt, quick)
 }
 
@@ -195,20 +188,6 @@ fn time_going_back(rt: &HostRuntime, turns: Option<u32>) -> Result<(), Failure> 
         Ok(mut session) => time(rt, turns, figure, &mut session),
         Err(error) => Err(error),
     }
-}
-
-fn time_sharing(rt: &HostRuntime, turns: Option<u32>) -> Result<(), Failure> {
-    time(
-        rt,
-        turns,
-        once("shared", "take_in_x_and_release", 1),
-        &mut Alone { rt },
-    )?;
-    let four = Figure {
-        answers: 4,
-        ..once("shared", "take_in_x_and_release", 4)
-    };
-    time(rt, turns, four, &mut Four { rt })
 }
 
 fn time_searches(rt: &HostRuntime, quick: bool) -> Result<(), Failure> {
