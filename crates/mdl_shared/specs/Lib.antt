@@ -8,6 +8,7 @@ pub mod Members
 pub mod Modes
 pub mod OwnLists
 pub mod Passes
+pub mod Readings
 pub mod Redefinitions
 pub mod Tables
 pub mod Upgrades

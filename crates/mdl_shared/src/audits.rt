@@ -5,6 +5,7 @@ ghost use Rattle.mdl_calls.specs.declared.space_error.SpaceError.TheVariants as 
 ghost use Rattle.mdl_steps.specs.declared.view.Keys.{Keys};
 ghost use Rattle.mdl_shared.specs.Audits.{Audits};
 ghost use Rattle.mdl_shared.specs.Lookups.{TookDirectory};
+ghost use Rattle.mdl_shared.specs.Readings.{ReadsNothing};
 
 use crate::member::Member;
 use crate::rounds::go_round;
@@ -18,6 +19,7 @@ impl Member {
     fn audit<R: Wait>(&mut self, rt: &R) -> Result<Vec<Audited>, AllocError>
         ensures same { (self.new.table ≡ self.old.table) × (self.new.worker.number ≡ self.old.worker.number) × (self.new.next ≡ self.old.next)
             × (self.new.known.items ≡ self.old.known.items) × (self.new.tickets.items ≡ self.old.tickets.items) }
+        ensures reads { ReadsNothing self.old.worker.seat.me self.new.worker.seat.me }
         ensures told { IfOk result (λ audited. (k : Keys) × TookDirectory (arc_value self.old.table).shared.table_id.slots k self.old.worker.seat.me self.new.worker.seat.me
             × Audits (length k.keys) audited.items self.old.worker.seat.me self.new.worker.seat.me) }
     {
@@ -35,6 +37,7 @@ impl<R: Wait> Session<R> {
         ensures session { (self.new.member.table ≡ self.old.member.table) × (self.new.member.worker.number ≡ self.old.member.worker.number)
             × (self.new.member.next ≡ self.old.member.next) × (self.new.member.known.items ≡ self.old.member.known.items)
             × (self.new.member.tickets.items ≡ self.old.member.tickets.items) }
+        ensures reads { ReadsNothing self.old.member.worker.seat.me self.new.member.worker.seat.me }
         ensures told { IfOk result (λ audited. (k : Keys) × TookDirectory (arc_value self.old.member.table).shared.table_id.slots k self.old.member.worker.seat.me self.new.member.worker.seat.me
             × Audits (length k.keys) audited.items self.old.member.worker.seat.me self.new.member.worker.seat.me) }
         ensures refused { IfErr result (λ why. why ≡ cause.OutOfMemory) }

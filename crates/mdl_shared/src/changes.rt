@@ -5,6 +5,7 @@ ghost use Rattle.mdl_key.specs.declared.mode.Mode.TheVariants.{X};
 ghost use Rattle.mdl_steps.specs.declared.view.Own.{Own};
 ghost use Rattle.mdl_steps.specs.Plays.{noting_version};
 ghost use Rattle.mdl_shared.specs.Members.{numbered};
+ghost use Rattle.mdl_shared.specs.Readings.{ReadsNothing};
 ghost use Rattle.mdl_shared.specs.Redefinitions.{HasExclusiveAt, IsRefusedAs, IsRefusedFor, Redefines, exclusive_fault};
 
 use crate::Session;
@@ -33,7 +34,7 @@ impl Member {
         ensures same { (self.new.table ≡ self.old.table) × (self.new.worker.number ≡ self.old.worker.number) × (self.new.next ≡ self.old.next) × (self.new.known.items ≡ self.old.known.items) }
         ensures changed { IfOk result (λ version. (self.new.tickets.items ≡ noting_version place version self.old.tickets.items)
             × Redefines place change.now version self.old.worker.seat.me self.new.worker.seat.me) }
-        ensures unchanged { OnErr result (self.new.tickets.items ≡ self.old.tickets.items) }
+        ensures unchanged { OnErr result ((self.new.tickets.items ≡ self.old.tickets.items) × ReadsNothing self.old.worker.seat.me self.new.worker.seat.me) }
         ensures refused { IfErr result (λ why. IsRefusedFor place self.old.worker.number change.now why self.old.worker.seat.me self.new.worker.seat.me) }
     {
         let version = redefine_at(rt, &mut self.worker, &self.table.shared, place, change)?;
@@ -51,7 +52,7 @@ impl<R: Wait> Session<R> {
         ensures changed { IfOk result (λ version. (t : Own) × (numbered id self.old.member.tickets.items ≡ Some t) × (t.mode ≡ X)
             × (self.new.member.tickets.items ≡ noting_version t.place version self.old.member.tickets.items)
             × Redefines t.place change.now version self.old.member.worker.seat.me self.new.member.worker.seat.me) }
-        ensures unchanged { OnErr result (self.new.member.tickets.items ≡ self.old.member.tickets.items) }
+        ensures unchanged { OnErr result ((self.new.member.tickets.items ≡ self.old.member.tickets.items) × ReadsNothing self.old.member.worker.seat.me self.new.member.worker.seat.me) }
         ensures unfit { IfSome (exclusive_fault (numbered id self.old.member.tickets.items)) (λ why. result ≡ Err why) }
         ensures refused { IfErr result (λ why. (exclusive_fault (numbered id self.old.member.tickets.items) ≡ Some why)
             ⊎ ((t : Own) × (numbered id self.old.member.tickets.items ≡ Some t)

@@ -6,6 +6,7 @@ ghost use Rattle.mdl_steps.specs.declared.view.Own.{Own};
 ghost use Rattle.mdl_shared.specs.Leavings.{MeetsOwn};
 ghost use Rattle.mdl_shared.specs.Members.{most_numbers, numbered};
 ghost use Rattle.mdl_shared.specs.Modes.{clone_fault, is_fit};
+ghost use Rattle.mdl_shared.specs.Readings.{ReadsNothing};
 ghost use Rattle.mdl_shared.specs.Visits.{IsStepOf, MeetsFull};
 ghost use Rattle.mdl_system.specs.Strength.{covers};
 
@@ -28,6 +29,7 @@ impl Member {
         requires covers { covers held.mode mode ≡ true }
         requires room { self.old.next < most_numbers }
         ensures same { (self.new.table ≡ self.old.table) × (self.new.worker.number ≡ self.old.worker.number) × (self.new.known.items ≡ self.old.known.items) }
+        ensures reads { ReadsNothing self.old.worker.seat.me self.new.worker.seat.me }
         ensures doubled { IfOk result (λ id. (id ≡ self.old.next) × (self.new.next ≡ id + 1)
             × (self.new.tickets.items ≡ self.old.tickets.items ++ record { number = id; place = held.place; mode = mode; noted = None } ∷ [])
             × ((e : Met) × IsStepOf self.old.worker.seat.me self.new.worker.seat.me e × MeetsOwn held.place self.old.worker.number held.number e)) }
@@ -61,6 +63,7 @@ impl<R: Wait> Session<R> {
     pub fn clone_ticket(&mut self, id: TicketId, mode: Mode) -> Result<TicketId, SpaceError>
         ensures session { (self.new.member.table ≡ self.old.member.table) × (self.new.member.worker.number ≡ self.old.member.worker.number)
             × (self.new.member.known.items ≡ self.old.member.known.items) }
+        ensures reads { ReadsNothing self.old.member.worker.seat.me self.new.member.worker.seat.me }
         ensures cloned { IfOk result (λ new. (new ≡ self.old.member.next) × (self.new.member.next ≡ new + 1)
             × ((t : Own) × (numbered id self.old.member.tickets.items ≡ Some t)
             × (self.new.member.tickets.items ≡ self.old.member.tickets.items ++ record { number = new; place = t.place; mode = mode; noted = None } ∷ [])

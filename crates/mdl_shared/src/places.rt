@@ -1,10 +1,12 @@
 //! The places of keys, as a session looks them up.
-ghost use Rattle.std.specs.Prelude.{◌≡◌, ◌⊎◌, ℕ, ◌<◌, ◌++◌, ◌∷◌, [], Ok, None, IfOk, IfErr, OnErr};
+ghost use Rattle.std.specs.Prelude.{◌≡◌, ◌⊎◌, ℕ, ◌<◌, ◌++◌, ◌∷◌, [], Ok, Err, None, IfOk, IfErr, OnErr};
 ghost use Rattle.std.specs.Arc.{arc_value};
 ghost use Rattle.mdl_calls.specs.declared.space_error.SpaceError.TheVariants as cause;
 ghost use Rattle.mdl_steps.specs.declared.view.Keys.{Keys};
+ghost use Rattle.mdl_shared.specs.declared.resolve_error.ResolveError.TheVariants.{NoPlace};
 ghost use Rattle.mdl_shared.specs.Lookups.{TookDirectory, IsAnswer};
 ghost use Rattle.mdl_shared.specs.Members.{LearnsPlace, place_known};
+ghost use Rattle.mdl_shared.specs.Readings.{ReadsNothing};
 
 use crate::Session;
 use crate::directories::resolve;
@@ -29,11 +31,14 @@ impl Member {
     // Looks a key up in the directory. All that takes memory of its own is done before.
     fn look_up<R: Wait>(&mut self, rt: &R, key: &Key) -> Result<usize, ResolveError>
         ensures same { (self.new.table ≡ self.old.table) × (self.new.worker.number ≡ self.old.worker.number) × (self.new.next ≡ self.old.next) × (self.new.tickets.items ≡ self.old.tickets.items) }
+        ensures reads { ReadsNothing self.old.worker.seat.me self.new.worker.seat.me }
         ensures known { IfOk result (λ place. (0 < place) × (place < (arc_value self.old.table).shared.table_id.slots)
             × (self.new.known.items ≡ self.old.known.items ++ record { key = key.now; place = place } ∷ [])) }
         ensures unchanged { OnErr result (self.new.known.items ≡ self.old.known.items) }
         ensures answer { IfOk result (λ place. (k : Keys) × TookDirectory (arc_value self.old.table).shared.table_id.slots k self.old.worker.seat.me self.new.worker.seat.me
             × IsAnswer (arc_value self.old.table).shared.table_id.slots key.now k (Ok place)) }
+        ensures full { result ≡ Err NoPlace → (k : Keys) × TookDirectory (arc_value self.old.table).shared.table_id.slots k self.old.worker.seat.me self.new.worker.seat.me
+            × IsAnswer (arc_value self.old.table).shared.table_id.slots key.now k (Err NoPlace) }
     {
         let alloc = *self.known.allocator();
         if self.known.reserve(1).is_err() {
@@ -57,10 +62,16 @@ impl<R: Wait> Session<R> {
     pub fn resolve(&mut self, key: &Key) -> Result<Place, SpaceError>
         ensures session { (self.new.member.table ≡ self.old.member.table) × (self.new.member.worker.number ≡ self.old.member.worker.number)
             × (self.new.member.next ≡ self.old.member.next) × (self.new.member.tickets.items ≡ self.old.member.tickets.items) }
+        ensures reads { ReadsNothing self.old.member.worker.seat.me self.new.member.worker.seat.me }
         ensures known { IfOk result (λ place. (0 < place) × (place < (arc_value self.old.member.table).shared.table_id.slots)
             × LearnsPlace key.now place (place_known key.now self.old.member.known.items) self.old.member.known.items self.new.member.known.items) }
         ensures unchanged { OnErr result (self.new.member.known.items ≡ self.old.member.known.items) }
+        ensures answer { place_known key.now self.old.member.known.items ≡ None → IfOk result (λ place. (k : Keys)
+            × TookDirectory (arc_value self.old.member.table).shared.table_id.slots k self.old.member.worker.seat.me self.new.member.worker.seat.me
+            × IsAnswer (arc_value self.old.member.table).shared.table_id.slots key.now k (Ok place)) }
         ensures refused { IfErr result (λ why. (place_known key.now self.old.member.known.items ≡ None) × ((why ≡ cause.NoPlace) ⊎ (why ≡ cause.OutOfMemory))) }
+        ensures full { result ≡ Err cause.NoPlace → (k : Keys) × TookDirectory (arc_value self.old.member.table).shared.table_id.slots k self.old.member.worker.seat.me self.new.member.worker.seat.me
+            × IsAnswer (arc_value self.old.member.table).shared.table_id.slots key.now k (Err NoPlace) }
     {
         if let Some(place) = self.member.known_place(key) {
             return Ok(place as u16);

@@ -9,6 +9,7 @@ ghost use Rattle.mdl_steps.specs.declared.view.Own.{Own};
 ghost use Rattle.mdl_steps.specs.Plays.{noting_version};
 ghost use Rattle.mdl_shared.specs.Leavings.{MeetsStanding};
 ghost use Rattle.mdl_shared.specs.Members.{noting_at, numbered, holding_fault};
+ghost use Rattle.mdl_shared.specs.Readings.{ReadsNothing, ReadsThere};
 ghost use Rattle.mdl_shared.specs.Visits.{IsStepOf};
 
 use crate::Session;
@@ -26,8 +27,9 @@ impl Member {
         requires held { option_map (λ (t : Own). t.place) (numbered _id self.old.tickets.items) ≡ Some place }
         ensures same { (self.new.table ≡ self.old.table) × (self.new.worker.number ≡ self.old.worker.number) × (self.new.next ≡ self.old.next) × (self.new.known.items ≡ self.old.known.items) }
         ensures read { IfOk result (λ standing. (self.new.tickets.items ≡ noting_version place standing.version self.old.tickets.items)
+            × ReadsThere place standing self.old.worker.seat.me self.new.worker.seat.me
             × ((e : Met) × IsStepOf self.old.worker.seat.me self.new.worker.seat.me e × MeetsStanding place self.old.worker.number standing e)) }
-        ensures unchanged { OnErr result (self.new.tickets.items ≡ self.old.tickets.items) }
+        ensures unchanged { OnErr result ((self.new.tickets.items ≡ self.old.tickets.items) × ReadsNothing self.old.worker.seat.me self.new.worker.seat.me) }
     {
         let standing = read_at(rt, &mut self.worker, &self.table.shared, place)?;
         note_all(&mut self.tickets, place, standing.version);
@@ -72,8 +74,9 @@ impl<R: Wait> Session<R> {
             × (self.new.member.next ≡ self.old.member.next) × (self.new.member.known.items ≡ self.old.member.known.items) }
         ensures read { IfOk result (λ standing. (t : Own) × (numbered id self.old.member.tickets.items ≡ Some t)
             × (self.new.member.tickets.items ≡ noting_version t.place standing.version self.old.member.tickets.items)
+            × ReadsThere t.place standing self.old.member.worker.seat.me self.new.member.worker.seat.me
             × ((e : Met) × IsStepOf self.old.member.worker.seat.me self.new.member.worker.seat.me e × MeetsStanding t.place self.old.member.worker.number standing e)) }
-        ensures unchanged { OnErr result (self.new.member.tickets.items ≡ self.old.member.tickets.items) }
+        ensures unchanged { OnErr result ((self.new.member.tickets.items ≡ self.old.member.tickets.items) × ReadsNothing self.old.member.worker.seat.me self.new.member.worker.seat.me) }
         ensures refused { Refuses (holding_fault id self.old.member.tickets.items) cause.OutOfMemory result }
     {
         let Some(place) = self.member.place_held(id) else {

@@ -9,6 +9,7 @@ ghost use Rattle.mdl_steps.specs.declared.view.Met.{Met};
 ghost use Rattle.mdl_steps.specs.declared.view.Own.{Own};
 ghost use Rattle.mdl_shared.specs.Members.{kind_known, numbered};
 ghost use Rattle.mdl_shared.specs.Modes.{in_mode_at};
+ghost use Rattle.mdl_shared.specs.Readings.{ReadsNothing};
 ghost use Rattle.mdl_shared.specs.Upgrades.{upgrade_fault};
 ghost use Rattle.mdl_shared.specs.Visits.{IsStepOf, MeetsBlocked, MeetsGrantable};
 
@@ -36,6 +37,7 @@ impl Member {
         requires known { kind_known place self.old.known.items ≡ Some _kind }
         requires mode { (is_mode_of _kind mode ≡ true) × (is_obtrusive _kind mode ≡ true) }
         ensures same { (self.new.table ≡ self.old.table) × (self.new.worker.number ≡ self.old.worker.number) × (self.new.next ≡ self.old.next) × (self.new.known.items ≡ self.old.known.items) }
+        ensures reads { ReadsNothing self.old.worker.seat.me self.new.worker.seat.me }
         ensures upgraded { result ≡ Upgraded → (self.new.tickets.items ≡ in_mode_at place id mode self.old.tickets.items)
             × ((e : Met) × IsStepOf self.old.worker.seat.me self.new.worker.seat.me e × MeetsGrantable place self.old.worker.number mode e) }
         ensures would_wait { result ≡ WouldWait → (self.new.tickets.items ≡ self.old.tickets.items)
@@ -57,6 +59,7 @@ impl<R: Wait> Session<R> {
     pub fn upgrade_now(&mut self, id: TicketId, mode: Mode) -> Result<Upgrade, SpaceError>
         ensures session { (self.new.member.table ≡ self.old.member.table) × (self.new.member.worker.number ≡ self.old.member.worker.number)
             × (self.new.member.next ≡ self.old.member.next) × (self.new.member.known.items ≡ self.old.member.known.items) }
+        ensures reads { ReadsNothing self.old.member.worker.seat.me self.new.member.worker.seat.me }
         ensures covered { (t : Own) → numbered id self.old.member.tickets.items ≡ Some t → covers t.mode mode ≡ true
             → self.new.member.tickets.items ≡ self.old.member.tickets.items }
         ensures upgraded { (t : Own) → numbered id self.old.member.tickets.items ≡ Some t → covers t.mode mode ≡ false → result ≡ Ok Upgraded

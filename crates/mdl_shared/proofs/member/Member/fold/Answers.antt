@@ -45,3 +45,6 @@ invariant_of-self g c =
           ∙ still_placed self.known.items (in_mode_at kept.place kept.number gone.mode self.tickets.items) kept.place gone.number (altered_placed self.known.items kept.place kept.number gone.mode self.tickets.items self.placed);
       within = self.within;
     }
+
+pub returns-clause-reads : goal.returns-clause-reads
+returns-clause-reads g c = ap (λ (m : Mine). m.0.reads) c.fold.ensures.folded.now

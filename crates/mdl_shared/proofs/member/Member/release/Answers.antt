@@ -42,3 +42,6 @@ invariant_of-self g c =
       placed = ap (are_placed self.known.items) c.strike.ensures ∙ still_placed self.known.items self.tickets.items c.args.place c.args.id self.placed;
       within = self.within;
     }
+
+pub returns-clause-reads : goal.returns-clause-reads
+returns-clause-reads g c = ap (λ (m : Mine). m.0.reads) c.release.ensures.released.now

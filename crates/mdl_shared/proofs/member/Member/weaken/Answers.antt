@@ -42,3 +42,6 @@ invariant_of-self g c =
       placed = ap (are_placed self.known.items) c.set_mode.ensures ∙ altered_placed self.known.items held.place held.number c.args.mode self.tickets.items self.placed;
       within = self.within;
     }
+
+pub returns-clause-reads : goal.returns-clause-reads
+returns-clause-reads g c = ap (λ (m : Mine). m.0.reads) c.weaken.ensures.weakened.now
