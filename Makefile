@@ -53,8 +53,8 @@ docs: kit
 	@sh make/check_docs.sh
 	@sh make/check_examples.sh
 
-# Lines a second and peak memory of scripts of three sizes, of one lock and of statements; what calls cost on books of four sizes, and chains
-# of grants.
+# Lines a second and peak memory of scripts of three sizes, of one lock and of statements; what calls cost on books of four sizes, chains
+# of grants, and sessions on one thread and on four.
 bench: build
 	@sh bench/lock.sh $(PROGRAM)
 	@sh bench/replay.sh $(PROGRAM)

@@ -111,7 +111,14 @@ fn print_row(rt: &HostRuntime, figure: Figure, of: &str, tenths: u64) -> Result<
 
 // The tenths of a nanosecond of one call.
 fn tenths_each(spent: Duration, turns: u32, figure: Figure) -> u64 {
-    let calls = u64::from(turns).saturating_mul(u64::from(figure.calls));
+    tenths(
+        spent,
+        u64::from(turns).saturating_mul(u64::from(figure.calls)),
+    )
+}
+
+/// The tenths of a nanosecond of each of so many calls.
+pub fn tenths(spent: Duration, calls: u64) -> u64 {
     let tenths = spent.as_nanos().saturating_mul(10);
     match tenths.checked_div(u128::from(calls)) {
         Some(each) => u64::try_from(each).unwrap_or(u64::MAX),

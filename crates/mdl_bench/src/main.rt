@@ -1,16 +1,19 @@
-//! `mdl_bench` times the calls of one lock's book, of a lock space, and of a session's context, and the search for deadlocks.
+//! `mdl_bench` times the calls of one lock's book, of a lock space, of a session's context and of sessions on threads, and the search for
+//! deadlocks.
 //!
 //! It prints three lines for each figure: one for a reader, with what the loop around the calls costs alone, and these two for
 //! a program. Each call's answers are added up and held to what they must come to. With the argument `quick` it makes one turn
 //! of each, which shows that all of them work, and prints nothing.
 #![tactic(auto)]
 
+mod atomics;
 mod chain;
 mod crowd;
 mod failure;
 mod field;
 mod figure;
 mod session;
+mod shared;
 mod table;
 mod tangle;
 
@@ -20,6 +23,7 @@ use failure::Failure;
 use field::Field;
 use figure::{Figure, time};
 use session::Session;
+use shared::time_sharing;
 use std::process::ExitCode;
 use tangle::{Shape, Tangle};
 
@@ -50,12 +54,17 @@ const KEPT: [(u16, u32); 4] = [
 // How often a context locks a hundred tables and goes back.
 const GONE_BACK: u32 = 2_000;
 
+// How often in each round a session of the space that threads share takes a lock and gives it up.
+const SHARED: u32 = 100_000;
+
 // The sessions that wait for one another, and how often a deadlock is looked for.
 const TANGLED: [(u16, u32); 3] = [(2, 200_000), (8, 50_000), (64, 5_000)];
 
 fn main(rt: HostRuntime) -> ExitCode {
     let outcome = match is_quick(&rt) {
-        Ok(quick) => time_all(&rt, quick),
+        Ok(quick) => {
+            time_all(&rt, quick).and_then(|()| time_sharing(&rt, rt.alloc(), unless(quick, SHARED)))
+        }
         Err(failure) => Err(failure),
     };
     match outcome {

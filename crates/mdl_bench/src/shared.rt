@@ -1,0 +1,189 @@
+//! Sessions of the lock space that threads share: each takes a lock for itself and gives it up, on one thread and on four.
+//!
+//! Beside them the atomic steps by which that is done are made alone, on words of their own.
+ghost use Rattle.std.specs.Prelude.{◌≡◌};
+ghost use Rattle.std.specs.Thread.{IsSync};
+ghost use Rattle.mdl_shared.specs.Passes.{table_of, pass_table};
+
+use crate::atomics::{Words, steps, steps_of_four};
+use crate::failure::Failure;
+use crate::figure::tenths;
+use mdl_key::Key;
+use mdl_shared::{Manager, Pass};
+use mdl_shared_trials::{takings, takings_of_two};
+use std::alloc::Global;
+use std::sync::Wait;
+use std::thread;
+use std::thread::Threads;
+use std::time::{Clock, Duration, Instant};
+
+const PLACES: u16 = 256;
+
+const SESSIONS: u16 = 64;
+
+// The figures are the least of so many rounds, since other work on the machine can only add to them.
+const ROUNDS: u32 = 20;
+
+// What one turn took on each thread, in tenths of a nanosecond: by the calls of a session, and by the atomic steps alone.
+#[derive(Clone, Copy)]
+struct Spent {
+    calls: u64,
+    steps: u64,
+}
+
+impl Spent {
+    // More than anything takes.
+    fn most() -> Spent {
+        Spent {
+            calls: u64::MAX,
+            steps: u64::MAX,
+        }
+    }
+
+    // The less of each.
+    fn or_less(self, other: Spent) -> Spent {
+        Spent {
+            calls: self.calls.min(other.calls),
+            steps: self.steps.min(other.steps),
+        }
+    }
+}
+
+/// Times so many turns in each round, and prints the least. With none it makes one turn, which shows that it works, and prints nothing.
+pub fn time_sharing<R: Threads + Wait + Sync + Clock + Print>(
+    rt: &R,
+    alloc: Global,
+    turns: Option<u32>,
+) -> Result<(), Failure> {
+    let Some(turns) = turns else {
+        round_alone(rt, alloc, 1)?;
+        round_of_four(rt, alloc, 1)?;
+        return Ok(());
+    };
+    let mut alone = Spent::most();
+    let mut four = Spent::most();
+    for _round in 0..ROUNDS {
+        alone = alone.or_less(round_alone(rt, alloc, turns)?);
+        four = four.or_less(round_of_four(rt, alloc, turns)?);
+    }
+    print(rt, 1, alone)?;
+    print(rt, 4, four)
+}
+
+// One session on one thread.
+fn round_alone<R: Wait + Clock>(rt: &R, alloc: Global, turns: u32) -> Result<Spent, Failure> {
+    let (manager, mut passes) = Manager::new(alloc, PLACES, SESSIONS)?;
+    let key = Key::table(alloc, "shop", "sales")?;
+    let pass = passes.remove(0);
+    let began = Instant::now(rt)?;
+    let taken = takings(rt, &manager, pass, &key, turns);
+    let calls = began.elapsed(rt)?;
+    let words = Words::new(alloc)?;
+    let began = Instant::now(rt)?;
+    let made = steps(&words, 1, turns);
+    let steps = began.elapsed(rt)?;
+    if taken == turns && made == turns {
+        Ok(per_turn(calls, steps, turns))
+    } else {
+        Err(Failure::Unexpected)
+    }
+}
+
+// Four sessions on four threads, each with a lock of its own.
+fn round_of_four<R: Threads + Wait + Sync + Clock>(
+    rt: &R,
+    alloc: Global,
+    turns: u32,
+) -> Result<Spent, Failure> {
+    let (manager, mut passes) = Manager::new(alloc, PLACES, SESSIONS)?;
+    let four = passes.remove(3);
+    let three = passes.remove(2);
+    let two = passes.remove(1);
+    let one = passes.remove(0);
+    let keys = Keys::new(alloc)?;
+    let began = Instant::now(rt)?;
+    let taken = takings_of_four(rt, &manager, (one, two), (three, four), &keys, turns);
+    let calls = began.elapsed(rt)?;
+    let words = Words::new(alloc)?;
+    let began = Instant::now(rt)?;
+    let made = steps_of_four(rt, &words, turns);
+    let steps = began.elapsed(rt)?;
+    if taken && made {
+        Ok(per_turn(calls, steps, turns))
+    } else {
+        Err(Failure::Unexpected)
+    }
+}
+
+// The keys of the four.
+#[derive(Drop)]
+struct Keys {
+    first: Key,
+    second: Key,
+    third: Key,
+    fourth: Key,
+}
+
+impl Keys {
+    fn new(alloc: Global) -> Result<Keys, Failure> {
+        Ok(Keys {
+            first: Key::table(alloc, "shop", "sales")?,
+            second: Key::table(alloc, "shop", "goods")?,
+            third: Key::table(alloc, "shop", "staff")?,
+            fourth: Key::table(alloc, "shop", "rooms")?,
+        })
+    }
+}
+
+// Whether each of the four got its lock at each turn.
+fn takings_of_four<R: Threads + Wait + Sync>(
+    rt: &R,
+    manager: &Manager,
+    one: (Pass, Pass),
+    two: (Pass, Pass),
+    keys: &Keys,
+    turns: u32,
+) -> bool
+    requires one { (pass_table one.0 ≡ table_of manager.now) × (pass_table one.1 ≡ table_of manager.now) }
+    requires two { (pass_table two.0 ≡ table_of manager.now) × (pass_table two.1 ≡ table_of manager.now) }
+{
+    let ((a, b), (c, d)) = (one, two);
+    let (first, second, third, fourth) = (&keys.first, &keys.second, &keys.third, &keys.fourth);
+    let (early, late) = thread::join(
+        rt,
+        move || -> (u32, u32)
+            requires { IsSync R.row × ((pass_table a ≡ table_of manager.now) × (pass_table b ≡ table_of manager.now)) }
+        { takings_of_two(rt, manager, (a, first), (b, second), turns) },
+        move || -> (u32, u32)
+            requires { IsSync R.row × ((pass_table c ≡ table_of manager.now) × (pass_table d ≡ table_of manager.now)) }
+        { takings_of_two(rt, manager, (c, third), (d, fourth), turns) },
+    );
+    early == (turns, turns) && late == (turns, turns)
+}
+
+// What one of so many turns took.
+fn per_turn(calls: Duration, steps: Duration, turns: u32) -> Spent {
+    let turns = u64::from(turns);
+    Spent {
+        calls: tenths(calls, turns),
+        steps: tenths(steps, turns),
+    }
+}
+
+// A line for a reader, and two for a program.
+fn print<R: Print>(rt: &R, threads: u16, spent: Spent) -> Result<(), Failure> {
+    let Spent { calls, steps } = spent;
+    let name = "try_now_and_release";
+    println!(rt;
+        "{name:<24} {threads:>6} {:>9} ns, {:>9} ns for its atomic steps alone, on each of so many threads",
+        calls / 10,
+        steps / 10
+    )?;
+    println!(rt; "ROW shared {threads} {name} {}.{}", calls / 10, calls % 10)?;
+    println!(rt;
+        "ROW shared {threads} {name}_steps {}.{}",
+        steps / 10,
+        steps % 10
+    )?;
+    Ok(())
+}
