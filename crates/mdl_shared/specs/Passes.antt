@@ -2,6 +2,9 @@
 use Rattle.std.specs.Prelude.{◌≡◌, ℕ, ◌+◌, ◌<◌, List, [], length, slice_index_or}
 use Rattle.std.specs.Arc.{arc_value}
 use Rattle.atomic_table.specs.Seated.{TableId}
+use Rattle.mdl_steps.specs.Cells.{blank, no_numbers}
+use Rattle.mdl_steps.specs.Layout.{enrol_word}
+use Rattle.mdl_steps.specs.Plays.{logged}
 use Rattle.mdl_shared.specs.declared.manager.Manager.{Manager}
 use Rattle.mdl_shared.specs.declared.pass.Pass.{Pass}
 
@@ -17,11 +20,12 @@ pass_table pass = (arc_value pass.member.table).shared.table_id
 abbrev pub pass_number : Pass → ℕ
 pass_number pass = pass.member.worker.number
 
--- a pass of a session of this number at this table, which knows no key
+-- a pass of a session of this number at this table, which knows no key, and has made no step but that by which its number was drawn
 pub record IsPass (table : TableId) (number : ℕ) (pass : Pass) : Type 0 where
   pub theirs : pass_table pass ≡ table
   pub numbered : pass_number pass ≡ number
   pub nothing_known : pass.member.known.items ≡ []
+  pub fresh : pass.member.worker.seat.me ≡ (logged (enrol_word table.slots) number [] (blank number no_numbers), [])
 
 -- the passes of the sessions from 1 on, in order
 abbrev pub ArePasses : TableId → List Pass → Type 0

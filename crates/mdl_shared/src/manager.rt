@@ -3,7 +3,7 @@ ghost use Rattle.std.specs.Prelude.{◌≡◌, ℕ, ◌+◌, ◌<◌, ◌≤◌,
 ghost use Rattle.std.specs.Arc.{arc_value};
 ghost use Rattle.mdl_key.specs.Refusals.{Refuses};
 ghost use Rattle.mdl_shared.specs.Limits.{new_fault};
-ghost use Rattle.mdl_steps.specs.Layout.{enrol_word};
+ghost use Rattle.mdl_steps.specs.Layout.{enrol_word, word_count};
 ghost use Rattle.mdl_steps.specs.Seats.{IsSized};
 
 use crate::member::Member;
@@ -28,7 +28,7 @@ impl Manager {
     /// A space of so many places and sessions, where nobody has asked for anything, and the passes of the sessions, which have the
     /// numbers from 1 on, in order.
     pub fn new(alloc: Global, places: u16, sessions: u16) -> Result<(Manager, Vec<Pass>), NewError>
-        ensures made { IfOk result (λ made. ((table_of made.0).slots ≡ places + 1) × (length made.1.items ≡ sessions)
+        ensures made { IfOk result (λ made. ((table_of made.0).slots ≡ places + 1) × ((table_of made.0).words ≡ word_count (places + 1) sessions) × (length made.1.items ≡ sessions)
             × ArePasses (table_of made.0) made.1.items) }
         ensures refused { Refuses (new_fault places sessions) NewError.OutOfMemory result }
     {
@@ -48,7 +48,7 @@ impl Manager {
     fn of(alloc: Global, places: usize, sessions: usize) -> Result<(Manager, Vec<Pass>), AllocError>
         requires places { places ≤ 256 }
         requires sessions { sessions ≤ 64 }
-        ensures { IfOk result (λ made. ((table_of made.0).slots ≡ places + 1) × (length made.1.items ≡ sessions)
+        ensures { IfOk result (λ made. ((table_of made.0).slots ≡ places + 1) × ((table_of made.0).words ≡ word_count (places + 1) sessions) × (length made.1.items ≡ sessions)
             × ArePasses (table_of made.0) made.1.items) }
     {
         let (table, maker) = Maker::of_places(alloc, places, sessions)?;
