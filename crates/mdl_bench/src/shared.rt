@@ -15,7 +15,7 @@ use std::alloc::Global;
 use std::sync::Wait;
 use std::thread;
 use std::thread::Threads;
-use std::time::{Clock, Duration, Instant};
+use std::time::{Clock, CpuClock, Duration, Instant};
 
 const PLACES: u16 = 256;
 
@@ -24,33 +24,80 @@ const SESSIONS: u16 = 64;
 // The figures are the least of so many rounds, since other work on the machine can only add to them.
 const ROUNDS: u32 = 20;
 
-// What one turn took on each thread, in tenths of a nanosecond: by the calls of a session, and by the atomic steps alone.
+// What one turn took, in tenths of a nanosecond: by the clock, and of the processor that the thread ran on.
 #[derive(Clone, Copy)]
-struct Spent {
-    calls: u64,
-    steps: u64,
+struct Cost {
+    clock: u64,
+    processor: u64,
 }
 
-impl Spent {
+impl Cost {
     // More than anything takes.
-    fn most() -> Spent {
-        Spent {
-            calls: u64::MAX,
-            steps: u64::MAX,
-        }
-    }
+    const MOST: Cost = Cost {
+        clock: u64::MAX,
+        processor: u64::MAX,
+    };
 
     // The less of each.
-    fn or_less(self, other: Spent) -> Spent {
-        Spent {
-            calls: self.calls.min(other.calls),
-            steps: self.steps.min(other.steps),
+    fn or_less(self, other: Cost) -> Cost {
+        Cost {
+            clock: self.clock.min(other.clock),
+            processor: self.processor.min(other.processor),
+        }
+    }
+}
+
+// A time from which costs count.
+#[derive(Clone, Copy)]
+struct Start {
+    at: Instant,
+    used: Duration,
+}
+
+impl Start {
+    fn now<R: Clock + CpuClock>(rt: &R) -> Result<Start, Failure> {
+        let used = rt.process_cpu_time()?;
+        let at = Instant::now(rt)?;
+        Ok(Start { at, used })
+    }
+
+    // What each of so many turns took since, on each of so many threads.
+    fn cost<R: Clock + CpuClock>(self, rt: &R, threads: u32, turns: u32) -> Result<Cost, Failure> {
+        let spent = self.at.elapsed(rt)?;
+        let used = rt.process_cpu_time()?.saturating_sub(self.used);
+        let turns = u64::from(turns);
+        Ok(Cost {
+            clock: tenths(spent, turns),
+            processor: tenths(used, turns.saturating_mul(u64::from(threads))),
+        })
+    }
+}
+
+// What a turn costs by the calls of a session, and by the atomic steps alone.
+#[derive(Clone, Copy)]
+struct Costs {
+    calls: Cost,
+    steps: Cost,
+}
+
+impl Costs {
+    // More than anything takes.
+    const MOST: Costs = Costs {
+        calls: Cost::MOST,
+        steps: Cost::MOST,
+    };
+
+    // The less of each.
+    fn or_less(self, other: Costs) -> Costs {
+        Costs {
+            calls: self.calls.or_less(other.calls),
+            steps: self.steps.or_less(other.steps),
         }
     }
 }
 
 /// Times so many turns in each round, and prints the least. With none it makes one turn, which shows that it works, and prints nothing.
-pub fn time_sharing<R: Threads + Wait + Sync + Clock + Print>(
+pub fn time_sharing<R: Threads + Wait + Sync + Clock + CpuClock + Print>(
     rt: &R,
     alloc: Global,
     turns: Option<u32>,
@@ -60,8 +107,8 @@ pub fn time_sharing<R: Threads + Wait + Sync + Clock + Print>(
         round_of_four(rt, alloc, 1)?;
         return Ok(());
     };
-    let mut alone = Spent::most();
-    let mut four = Spent::most();
+    let mut alone = Costs::MOST;
+    let mut four = Costs::MOST;
     for _round in 0..ROUNDS {
         alone = alone.or_less(round_alone(rt, alloc, turns)?);
         four = four.or_less(round_of_four(rt, alloc, turns)?);
@@ -71,45 +118,49 @@ pub fn time_sharing<R: Threads + Wait + Sync + Clock + Print>(
 }
 
 // One session on one thread.
-fn round_alone<R: Wait + Clock>(rt: &R, alloc: Global, turns: u32) -> Result<Spent, Failure> {
+fn round_alone<R: Wait + Clock + CpuClock>(
+    rt: &R,
+    alloc: Global,
+    turns: u32,
+) -> Result<Costs, Failure> {
     let (manager, mut passes) = Manager::new(alloc, PLACES, SESSIONS)?;
     let key = Key::table(alloc, "shop", "sales")?;
     let pass = passes.remove(0);
-    let began = Instant::now(rt)?;
+    let start = Start::now(rt)?;
     let taken = takings(rt, &manager, pass, &key, turns);
-    let calls = began.elapsed(rt)?;
+    let calls = start.cost(rt, 1, turns)?;
     let words = Words::new(alloc)?;
-    let began = Instant::now(rt)?;
+    let start = Start::now(rt)?;
     let made = steps(&words, 1, turns);
-    let steps = began.elapsed(rt)?;
+    let steps = start.cost(rt, 1, turns)?;
     if taken == turns && made == turns {
-        Ok(per_turn(calls, steps, turns))
+        Ok(Costs { calls, steps })
     } else {
         Err(Failure::Unexpected)
     }
 }
 
 // Four sessions on four threads, each with a lock of its own.
-fn round_of_four<R: Threads + Wait + Sync + Clock>(
+fn round_of_four<R: Threads + Wait + Sync + Clock + CpuClock>(
     rt: &R,
     alloc: Global,
     turns: u32,
-) -> Result<Spent, Failure> {
+) -> Result<Costs, Failure> {
     let (manager, mut passes) = Manager::new(alloc, PLACES, SESSIONS)?;
     let four = passes.remove(3);
     let three = passes.remove(2);
     let two = passes.remove(1);
     let one = passes.remove(0);
     let keys = Keys::new(alloc)?;
-    let began = Instant::now(rt)?;
+    let start = Start::now(rt)?;
     let taken = takings_of_four(rt, &manager, (one, two), (three, four), &keys, turns);
-    let calls = began.elapsed(rt)?;
+    let calls = start.cost(rt, 4, turns)?;
     let words = Words::new(alloc)?;
-    let began = Instant::now(rt)?;
+    let start = Start::now(rt)?;
     let made = steps_of_four(rt, &words, turns);
-    let steps = began.elapsed(rt)?;
+    let steps = start.cost(rt, 4, turns)?;
     if taken && made {
-        Ok(per_turn(calls, steps, turns))
+        Ok(Costs { calls, steps })
     } else {
         Err(Failure::Unexpected)
     }
@@ -161,21 +212,29 @@ fn takings_of_four<R: Threads + Wait + Sync>(
     early == (turns, turns) && late == (turns, turns)
 }
 
-// What one of so many turns took.
-fn per_turn(calls: Duration, steps: Duration, turns: u32) -> Spent {
-    let turns = u64::from(turns);
-    Spent {
-        calls: tenths(calls, turns),
-        steps: tenths(steps, turns),
-    }
+// For a clock and for the processor a line for a reader, and two for a program.
+fn print<R: Print>(rt: &R, threads: u16, costs: Costs) -> Result<(), Failure> {
+    let Costs { calls, steps } = costs;
+    print_lines(rt, threads, "try_now_and_release", calls.clock, steps.clock)?;
+    print_lines(
+        rt,
+        threads,
+        "try_now_and_release_cpu",
+        calls.processor,
+        steps.processor,
+    )
 }
 
-// A line for a reader, and two for a program.
-fn print<R: Print>(rt: &R, threads: u16, spent: Spent) -> Result<(), Failure> {
-    let Spent { calls, steps } = spent;
-    let name = "try_now_and_release";
+// These three lines.
+fn print_lines<R: Print>(
+    rt: &R,
+    threads: u16,
+    name: &str,
+    calls: u64,
+    steps: u64,
+) -> Result<(), Failure> {
     println!(rt;
-        "{name:<24} {threads:>6} {:>9} ns, {:>9} ns for its atomic steps alone, on each of so many threads",
+        "{name:<24} {threads:>6} {:>9} ns, {:>9} ns by the atomic steps alone, on so many threads",
         calls / 10,
         steps / 10
     )?;
