@@ -2,6 +2,7 @@
 use Rattle.std.proofs.Common.{ℕ, sym, ap, ◌∙◌, subst, [], ◌∷◌}
 use Rattle.std.specs.Prelude.{is_some}
 use Rattle.mdl_steps.specs.declared.deed.Deed.TheVariants.{Alter}
+use Rattle.mdl_steps.specs.Deeds.{NotWaited}
 use Rattle.mdl_steps.specs.Plays.{Mine}
 use Rattle.mdl_steps.specs.Seats.{Holds, IsPlace}
 use Rattle.mdl_shared.specs.Leavings.{Leaves, MeetsOwn}
@@ -47,3 +48,6 @@ returns-clause-step g c =
       step_later c.args.held.place worker.seat.me came went latch.ensures.inside step.0 step.1,
       subst (λ (q : ℕ). MeetsOwn q worker.number c.args.held.number step.0) latch.ensures.place own,
     )
+
+pub rewrite-requires-clause-unwaited : goal.rewrite-requires-clause-unwaited
+rewrite-requires-clause-unwaited g c = subst (λ (x : Mine). NotWaited x.0 c.args.held.number) (sym c.await_latch-latch.ensures.inside.now) c.requires.unwaited

@@ -3,6 +3,7 @@ use Rattle.std.proofs.Common.{◌≡◌, ℕ, true, sym, ap, ◌∙◌, subst, [
 use Rattle.std.specs.Prelude.{is_some}
 use Rattle.mdl_book.specs.Tickets.{ticket_of}
 use Rattle.mdl_steps.specs.declared.deed.Deed.TheVariants.{Lose}
+use Rattle.mdl_steps.specs.Deeds.{KnowsPlace, NotWaited}
 use Rattle.mdl_steps.specs.Plays.{Mine}
 use Rattle.mdl_steps.specs.Seats.{Holds, IsPlace}
 use Rattle.mdl_shared.specs.Leavings.{Leaves, MeetsOwn}
@@ -46,3 +47,11 @@ returns-clause-step g c =
       step_later c.args.place worker.seat.me came went latch.ensures.inside step.0 step.1,
       subst (λ (q : ℕ). MeetsOwn q worker.number c.args.number step.0) latch.ensures.place own,
     )
+
+pub give_up-requires-clause-unwaited : goal.give_up-requires-clause-unwaited
+give_up-requires-clause-unwaited g c = subst (λ (x : Mine). NotWaited x.0 c.args.number) (sym c.await_latch-latch.ensures.inside.now) c.requires.unwaited
+
+pub give_up-requires-clause-known : goal.give_up-requires-clause-known
+give_up-requires-clause-known g c =
+    let known = subst (λ (x : Mine). KnowsPlace x.0 c.args.place) (sym c.await_latch-latch.ensures.inside.now) c.requires.known in
+    subst (KnowsPlace c.await_latch-latch.new.worker.seat.me.0) (sym c.await_latch-latch.ensures.place) known
