@@ -2,7 +2,7 @@
 use Rattle.std.proofs.Common.{ℕ, sym, ap, ◌∙◌, subst, [], ◌∷◌}
 use Rattle.std.specs.Prelude.{is_some}
 use Rattle.mdl_steps.specs.declared.deed.Deed.TheVariants.{Alter}
-use Rattle.mdl_steps.specs.Deeds.{NotWaited}
+use Rattle.mdl_steps.specs.Deeds.{KnowsPlace, NotWaited}
 use Rattle.mdl_steps.specs.Plays.{Mine}
 use Rattle.mdl_steps.specs.Seats.{Holds, IsPlace}
 use Rattle.mdl_shared.specs.Leavings.{Leaves, MeetsOwn}
@@ -51,3 +51,9 @@ returns-clause-step g c =
 
 pub rewrite-requires-clause-unwaited : goal.rewrite-requires-clause-unwaited
 rewrite-requires-clause-unwaited g c = subst (λ (x : Mine). NotWaited x.0 c.args.held.number) (sym c.await_latch-latch.ensures.inside.now) c.requires.unwaited
+
+pub rewrite-requires-clause-known : goal.rewrite-requires-clause-known
+rewrite-requires-clause-known g c =
+    let fits = c.requires.fits in
+    let known = subst (λ (x : Mine). KnowsPlace x.0 c.args.held.place) (sym c.await_latch-latch.ensures.inside.now) (fits.0, fits.1, fits.2, fits.3) in
+    subst (KnowsPlace c.await_latch-latch.new.worker.seat.me.0) (sym c.await_latch-latch.ensures.place) known
