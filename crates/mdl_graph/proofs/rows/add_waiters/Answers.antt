@@ -81,3 +81,63 @@ loop-ticket-preserved c =
             ∙ ap (λ (b : Bool). are_joined c.args.waits.now.items c.args.stands.now.items waiter other || (is_unsettled settled waiter && b)) (sym (pushed waiter other)));
       }
     ]
+
+pub returns-in_err-row-clause-wishes_kept : goal.returns-in_err-row-clause-wishes_kept
+returns-in_err-row-clause-wishes_kept c = grind (arith, common_steps)
+
+pub returns-in_err-row-clause-ranks_kept : goal.returns-in_err-row-clause-ranks_kept
+returns-in_err-row-clause-ranks_kept c = grind (arith, common_steps)
+
+pub returns-in_err-row-clause-waits_kept : goal.returns-in_err-row-clause-waits_kept
+returns-in_err-row-clause-waits_kept c = grind (arith, common_steps)
+
+pub returns-in_err-row-clause-stands_kept : goal.returns-in_err-row-clause-stands_kept
+returns-in_err-row-clause-stands_kept c = grind (arith, common_steps)
+
+pub returns-in_err-push-clause-wishes_kept : goal.returns-in_err-push-clause-wishes_kept
+returns-in_err-push-clause-wishes_kept c = grind (arith, common_steps)
+
+pub returns-in_err-push-clause-ranks_kept : goal.returns-in_err-push-clause-ranks_kept
+returns-in_err-push-clause-ranks_kept c = grind (arith, common_steps)
+
+pub returns-in_err-push-clause-waits_kept : goal.returns-in_err-push-clause-waits_kept
+returns-in_err-push-clause-waits_kept c = grind (arith, common_steps)
+
+pub returns-in_err-push-clause-stands_kept : goal.returns-in_err-push-clause-stands_kept
+returns-in_err-push-clause-stands_kept c = grind (arith, common_steps)
+
+pub returns-in_err-push-2-clause-wishes_kept : goal.returns-in_err-push-2-clause-wishes_kept
+returns-in_err-push-2-clause-wishes_kept c = grind (arith, common_steps)
+
+pub returns-in_err-push-2-clause-ranks_kept : goal.returns-in_err-push-2-clause-ranks_kept
+returns-in_err-push-2-clause-ranks_kept c = grind (arith, common_steps)
+
+pub returns-in_err-push-2-clause-waits_kept : goal.returns-in_err-push-2-clause-waits_kept
+returns-in_err-push-2-clause-waits_kept c = grind (arith, common_steps)
+
+pub returns-in_err-push-2-clause-stands_kept : goal.returns-in_err-push-2-clause-stands_kept
+returns-in_err-push-2-clause-stands_kept c = grind (arith, common_steps)
+
+pub returns-clause-wishes_kept : goal.returns-clause-wishes_kept
+returns-clause-wishes_kept c = c.loop-ticket.invariant.wishes_kept
+
+pub returns-clause-ranks_kept : goal.returns-clause-ranks_kept
+returns-clause-ranks_kept c = c.loop-ticket.invariant.ranks_kept
+
+pub returns-clause-waits_kept : goal.returns-clause-waits_kept
+returns-clause-waits_kept c = c.loop-ticket.invariant.waits_kept
+
+pub returns-clause-stands_kept : goal.returns-clause-stands_kept
+returns-clause-stands_kept c = c.loop-ticket.invariant.stands_kept
+
+pub returns-clause-fresh : goal.returns-clause-fresh
+returns-clause-fresh c = c.loop-ticket.invariant.fresh
+
+pub returns-clause-known : goal.returns-clause-known
+returns-clause-known c = c.loop-ticket.invariant.known
+
+pub row_of-requires-clause-fresh : goal.row_of-requires-clause-fresh
+row_of-requires-clause-fresh c = c.loop-ticket.invariant.fresh
+
+pub row_of-requires-clause-modes : goal.row_of-requires-clause-modes
+row_of-requires-clause-modes c = c.loop-ticket.invariant.modes

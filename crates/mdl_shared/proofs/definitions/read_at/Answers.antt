@@ -1,7 +1,10 @@
 -- What was read stood in the book that was met under the latch.
-use Rattle.std.proofs.Common.{◌≡◌, ℕ, sym, ap, ◌∙◌, subst}
+use Rattle.std.proofs.Common.{◌≡◌, ℕ, sym, ap, ◌∙◌, subst, []}
+use Rattle.std.proofs.lemmas.Result.{on_err_weaker}
 use Rattle.mdl_steps.specs.Plays.{Mine, read_and_put}
 use Rattle.mdl_steps.specs.Seats.{Holds}
+use Rattle.mdl_shared.specs.Leavings.{Leaves}
+use Rattle.mdl_shared.proofs.Leaving.{visits_left}
 use Rattle.mdl_shared.proofs.Reading.{learns, meets_standing, ok_told}
 use Rattle.mdl_shared.proofs.definitions.read_at.Goals as goal
 
@@ -20,3 +23,10 @@ returns-clause-learnt g c =
       learns place standing worker.seat.me came went latch.ensures.inside read,
       meets_standing place standing worker.seat.me came went latch.ensures.inside read h worker.number worker.numbered.0 taken.2.recorded e.0,
     )) (c.read.ensures.told h has)
+
+pub returns-clause-unchanged : goal.returns-clause-unchanged
+returns-clause-unchanged g c =
+    let latch = c.await_latch-latch in
+    let came : Mine = latch.new.worker.seat.me in
+    let went : Mine = c.read.new.worker.seat.me in
+    on_err_weaker c.read.result (λ left. visits_left c.args.place c.args.worker.now.seat.me came went latch.ensures.inside [] (subst (λ (q : ℕ). Leaves q [] came went) latch.ensures.place left)) c.read.ensures.unchanged
