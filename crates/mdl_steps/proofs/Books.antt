@@ -13,9 +13,10 @@ use Rattle.mdl_book.specs.Books.{lock_kind}
 use Rattle.mdl_book.specs.Tickets.{without, with_mode}
 use Rattle.mdl_steps.specs.declared.deed.Deed.{Deed}
 use Rattle.mdl_steps.specs.declared.deed.Deed.TheVariants.{Gain, Alter, Lose}
+use Rattle.mdl_steps.specs.declared.view.Ask.{Ask}
 use Rattle.mdl_steps.specs.declared.view.Own.{Own}
 use Rattle.mdl_steps.specs.declared.view.View.{View}
-use Rattle.mdl_steps.specs.Cells.{Part, part_at, own_at, due, all_fast}
+use Rattle.mdl_steps.specs.Cells.{Part, part_at, own_at, due, pending, all_fast}
 use Rattle.mdl_steps.specs.Deeds.{May, MayAll, NotWaited, booked, all_booked, done, all_done, owned, next_after}
 use Rattle.mdl_steps.specs.Lists.{Each}
 use Rattle.mdl_steps.specs.Rule.{BookOk, PartOk, NotedCounts, Numbered, NoteAgrees}
@@ -23,6 +24,7 @@ use Rattle.mdl_steps.proofs.Deeds.{Deeded, gains, loses, alters, all_fast-set, s
 use Rattle.mdl_steps.proofs.Latch.{due_asked}
 use Rattle.mdl_steps.proofs.Owns.{each-owned, each-from_at, each-to_at}
 use Rattle.mdl_steps.proofs.Views.{at_inside}
+use Rattle.mdl_steps.proofs.Waiting.{waiting_kept}
 
 -- the tickets of its next number are still below the next one
 each_below : (next more : ℕ) (ts : List Own) → next < more + 1 → Each (λ (t : Own). t.number < next) ts → Each (λ (t : Own). t.number < more) ts
@@ -39,10 +41,14 @@ numbered_done place v book noted d numbered may = record {
   fast = each_below v.next (next_after d v.next) v.fast (below_next d v.next) numbered.fast;
   slow = each-owned (λ (t : Own). t.number < next_after d v.next) place d v.slow (λ t mode below. below) (gained d may) (each_below v.next (next_after d v.next) v.slow (below_next d v.next) numbered.slow);
   asks = λ a e. (let below = numbered.asks a e in let less = below_next d v.next in omega arith);
+  apart = λ a e. each-owned (λ (t : Own). t.number ≢ a.number) place d v.slow (λ t mode differs. differs) (apart_gained d may a e) (numbered.apart a e);
 }
   where
     gained : (e : Deed) → May v book noted e → (number : ℕ) (mode : Mode) → e ≡ Gain number mode → number < next_after e v.next
     gained (Gain m x) may number mode is = let next = may.0 in let same : m ≡ number = cc in omega arith
+
+    apart_gained : (e : Deed) → May v book noted e → (a : Ask) → v.asks ≡ Some a → (number : ℕ) (mode : Mode) → e ≡ Gain number mode → number ≢ a.number
+    apart_gained (Gain m x) may a asked number mode is = let next = may.0 in let below = numbered.asks a asked in let same : m ≡ number = cc in λ d. omega arith
     gained (Alter m x) may number mode is = absurd (cc)
     gained (Lose m) may number mode is = absurd (cc)
 
@@ -78,6 +84,7 @@ module _ (key : Option KeyName) (version : ℕ) (parts : List Part) (book : Book
                 | inr else ↦ (was.0, was.1, set_else parts id was.0 new else ∙ was.2, was.3)
               ]
         ];
+        waiting = waiting_kept parts id (part_at f place v) new at number_is (lock_kind book) book.waiting (ap (λ (x : Part). pending x.asks) part) ok.waiting;
         version_is = ok.version_is;
         named = record { key_is = ok.named.key_is; vacant = λ none. let k = some_key.1 in absurd (cc) };
         each = λ j x there. elim (at_set parts id j new x there) [

@@ -15,11 +15,11 @@ use Rattle.mdl_steps.specs.declared.slot.Slot.TheVariants as slot
 use Rattle.mdl_steps.specs.declared.view.Keys.{Keys}
 use Rattle.mdl_steps.specs.declared.view.Known.{Known}
 use Rattle.mdl_steps.specs.declared.view.View.{View}
-use Rattle.mdl_steps.specs.Cells.{Desk, part_at, holder_at, desk_of, waits, cell}
+use Rattle.mdl_steps.specs.Cells.{Desk, Waiter, part_at, holder_at, desk_of, waiter_of, waits, cell}
 use Rattle.mdl_steps.specs.Layout.{latch_word, lock_word, version_word, enrol_word}
 use Rattle.mdl_steps.specs.Lists.{Each}
 use Rattle.mdl_steps.specs.Plays.{Mine, consulted, informed, logged, takes_directory, puts_directory}
-use Rattle.mdl_steps.specs.Rule.{Rule, PlaceOk, DirectoryOk, Numbered, KnowsKeys, key_at}
+use Rattle.mdl_steps.specs.Rule.{Rule, PlaceOk, DirectoryOk, Numbered, KnowsKeys, WaitsAgree, key_at}
 use Rattle.mdl_steps.specs.Seats.{HasDirectory, learnt}
 use Rattle.mdl_steps.proofs.Lift.{Table, Homes, after}
 use Rattle.mdl_steps.proofs.Views.{by_bool, map_kept, at_inside, at_unmap}
@@ -29,6 +29,7 @@ pub record Consults (s : Table) (id : ℕ) (v w : View) (homes : Homes) : Type 0
   pub seat : get_elem? s.views id ≡ some v
   pub number : w.number ≡ v.number
   pub spare : w.spare ≡ v.spare
+  pub waiter : waiter_of w ≡ waiter_of v
   pub numbered : Numbered w
   pub slots : length homes ≡ length s.homes
   pub home_else : (q : ℕ) → q ≢ 0 → get_elem? homes q ≡ get_elem? s.homes q
@@ -77,6 +78,10 @@ module _ (s : Table) (r : Rule s) (id : ℕ) (v w : View) (homes : Homes) (moved
         let wide = r.wide in
         let within : 0 < length s.words = omega arith in
         rw (get_or-set_same s.words 0 n 0 within, map-set desk_of s.views id w) ok;
+    waits_agree =
+        subst (λ (k : ℕ). WaitsAgree k r.most (waits new) (map waiter_of new.views)) (sym moved.slots)
+        (subst (λ (f : ℕ → ℕ). WaitsAgree (length s.homes) r.most f (map waiter_of new.views)) (sym waits_same)
+        (subst (λ (xs : List Waiter). WaitsAgree (length s.homes) r.most (waits s) xs) (sym (map_kept waiter_of s.views id v w moved.seat moved.waiter)) r.waits_agree));
     views = λ j u at. elim (at_set s.views id j w u at) [
       | inl e ↦ subst (λ (x : View). Numbered x × KnowsKeys r.keys x) e.1 (moved.numbered, knows)
       | inr e ↦ r.views j u e.1
@@ -111,7 +116,7 @@ alone_desk s r id v seat some_number j d there same =
 module _ (slots id : ℕ) (me : Mine) (some_number : 0 < me.0.number) where
   module _ (s : Table) (r : Rule s) (size : length s.homes ≡ slots) (seat : get_elem? s.views id ≡ some me.0) where
     numbered : (w : View) → w.next ≡ me.0.next → w.fast ≡ me.0.fast → w.slow ≡ me.0.slow → w.asks ≡ me.0.asks → Numbered w
-    numbered w next fast slow asks = let row = (r.views id me.0 seat).0 in record { fast = rw (fast, next) row.fast; slow = rw (slow, next) row.slow; asks = rw (asks, next) row.asks }
+    numbered w next fast slow asks = let row = (r.views id me.0 seat).0 in record { fast = rw (fast, next) row.fast; slow = rw (slow, next) row.slow; asks = rw (asks, next) row.asks; apart = rw (asks, slow) row.apart }
 
     desk_there : get_elem? (map desk_of s.views) id ≡ some (desk_of me.0)
     desk_there = at_map desk_of s.views id me.0 seat
@@ -128,6 +133,7 @@ module _ (slots id : ℕ) (me : Mine) (some_number : 0 < me.0.number) where
           seat = seat;
           number = refl;
           spare = refl;
+          waiter = refl;
           numbered = numbered w refl refl refl refl;
           slots = length-set s.homes 0 none;
           home_else = λ q else. set_else s.homes 0 q none else;
@@ -157,6 +163,7 @@ module _ (slots id : ℕ) (me : Mine) (some_number : 0 < me.0.number) where
           seat = seat;
           number = refl;
           spare = refl;
+          waiter = refl;
           numbered = numbered missed refl refl refl refl;
           slots = refl;
           home_else = λ q else. refl;
@@ -179,6 +186,7 @@ module _ (slots id : ℕ) (me : Mine) (some_number : 0 < me.0.number) where
           seat = seat;
           number = refl;
           spare = refl;
+          waiter = refl;
           numbered = numbered w refl refl refl refl;
           slots = length-set s.homes 0 (some (slot.Directory k));
           home_else = λ q else. set_else s.homes 0 q (some (slot.Directory k)) else;

@@ -1,19 +1,21 @@
 -- Numbers are drawn by the first seat, and seats that have them are split off from it.
 use Rattle.std.proofs.Common.{◌≡◌, ◌≢◌, ℕ, zero, suc, ◌+◌, ◌*◌, ◌%◌, ◌^◌, ◌<◌, List, [], ◌∷◌, ◌++◌, map, set, length, get_or, false, Some, None, refl, sym, ap, ◌∙◌, subst, inl, inr, ◌⊎◌, arith, length-set, get_or-set_other, get_or-set_same, length-append}
 use Rattle.std.specs.Prelude.{Option}
+use Rattle.std.specs.Option.{option_to_list}
 use mathlib.Core.Option.{some, some-ne-none, some-injective, none}
 use lib.ListN.{get_elem?}
 use Rattle.atomic_table.specs.Table.{Splits, Allows, step, keeps}
 use Rattle.atomic_table.proofs.Lists.{at_map, at_set, at_snoc, at_longer, set_here}
 use Rattle.mdl_key.specs.Words.{KeyName}
+use Rattle.mdl_book.specs.declared.ticket.Ticket.{Ticket}
 use Rattle.mdl_book.specs.Tickets.{ticket_of}
 use Rattle.mdl_steps.specs.declared.view.Met.{Met}
 use Rattle.mdl_steps.specs.declared.view.Spare.{Spare}
 use Rattle.mdl_steps.specs.declared.view.View.{View}
-use Rattle.mdl_steps.specs.Cells.{Part, Holder, Cell, Desk, blank, numbers_for, no_numbers, cell, part_at, holder_at, desk_of, waits, all_fast}
+use Rattle.mdl_steps.specs.Cells.{Part, Holder, Cell, Desk, Waiter, blank, numbers_for, no_numbers, cell, part_at, holder_at, desk_of, waiter_of, waits, pending, all_fast}
 use Rattle.mdl_steps.specs.Layout.{enrol_word, latch_word, lock_word, version_word}
 use Rattle.mdl_steps.specs.Plays.{Mine, enrols, logged}
-use Rattle.mdl_steps.specs.Rule.{Rule, PlaceOk, PartOk, Numbered, KnowsKeys, key_at}
+use Rattle.mdl_steps.specs.Rule.{Rule, PlaceOk, PartOk, Owned, WaitOk, WaitsAgree, Numbered, KnowsKeys, key_at}
 use Rattle.mdl_steps.proofs.Lift.{Table}
 use Rattle.mdl_steps.proofs.Views.{map_kept, at_unmap, at_inside}
 
@@ -64,27 +66,47 @@ joined key c n ok fresh =
         lawful = rw fast ok.book_ok.lawful;
         once = ok.book_ok.once;
         owned = λ session number t found. (let o = ok.book_ok.owned session number t found in (o.0, o.1, at_longer c.parts (nothing n ∷ []) o.0 o.1 o.2, o.3));
+        waiting = record {
+          once = ok.book_ok.waiting.once;
+          modes = ok.book_ok.waiting.modes;
+          owned = λ session number t found. (let o = ok.book_ok.waiting.owned session number t found in (o.0, o.1, at_longer c.parts (nothing n ∷ []) o.0 o.1 o.2, o.3));
+          same = λ j x there m. elim (at_snoc c.parts (nothing n) x j there) [
+            | inl old ↦ ok.book_ok.waiting.same j x old m
+            | inr new ↦ subst (λ (y : Part). ticket_of y.number m ok.book.waiting ≡ ticket_of y.number m (option_to_list (pending y.asks))) new
+                (none_there m ok.book.waiting ok.book_ok.waiting.owned)
+          ];
+        };
         version_is = ok.book_ok.version_is;
         named = record { key_is = ok.book_ok.named.key_is; vacant = λ none. (let v = ok.book_ok.named.vacant none in (v.0, fast ∙ v.1)) };
         each = λ j x there. elim (at_snoc c.parts (nothing n) x j there) [
           | inl old ↦ ok.book_ok.each j x old
           | inr new ↦ subst (PartOk ok.book) new (record {
             few = omega arith;
-            slow_held = record { same = λ m. none_granted m; apart = λ t none. absurd (cc) };
+            slow_held = record { same = λ m. none_there m ok.book.granted ok.book_ok.owned; apart = λ t none. absurd (cc) };
             versions_agree = record { reads = tt; fast = tt; slow = tt };
           })
         ];
       };
     }
   where
-    none_granted : (m : ℕ) → ticket_of n m ok.book.granted ≡ None
-    none_granted m = elim (ticket_of n m ok.book.granted) as (λ o. ticket_of n m ok.book.granted ≡ o → o ≡ None) [
+    none_there : (m : ℕ) (tickets : List Ticket) → Owned c.parts tickets → ticket_of n m tickets ≡ None
+    none_there m tickets owned = elim (ticket_of n m tickets) as (λ o. ticket_of n m tickets ≡ o → o ≡ None) [
       | None ↦ λ e. refl
-      | Some t ↦ λ e. (let o = ok.book_ok.owned n m t e in absurd (fresh o.0 o.1 o.2 o.3))
+      | Some t ↦ λ e. (let o = owned n m t e in absurd (fresh o.0 o.1 o.2 o.3))
     ] refl
 
 numbered_blank : (number : ℕ) (spare : Spare) (log : List Met) → Numbered (record (blank number spare) { log = log })
-numbered_blank number spare log = record { fast = tt; slow = tt; asks = λ a e. absurd (cc) }
+numbered_blank number spare log = record { fast = tt; slow = tt; asks = λ a e. absurd (cc); apart = λ a e. absurd (cc) }
+
+-- its wait word is idle
+pub blank_wait : (slots word number : ℕ) → word ≡ 0 → WaitOk slots word (record { number = number; waits = 0; asks = None; told = None })
+blank_wait slots word number zero = rw zero (record {
+  number = refl;
+  state = omega arith;
+  idle = λ _. refl;
+  asks = λ a none. absurd (cc);
+  told = λ state none. absurd (cc);
+})
 
 -- ---- a seat is split off, with the number that was drawn for it
 
@@ -119,6 +141,19 @@ module _ (most given : ℕ) (log : List Met) where
         let below = r.enrolled.below j u.0.number (at_map (λ (v : View). v.number) s.views j u.0 u.1) in
         let was = given_was in omega arith
 
+    -- and nobody ever waited under it
+    unwaited : waits s (given + 1) ≡ 0
+    unwaited =
+        let e = r.enrolled in
+        let drawn : e.first.drawn ≡ given + 1 = ap (λ (x : Spare). x.drawn) first_had in
+        let was = given_was in
+        let last = e.last in
+        r.waits_agree.unused (given + 1) (omega arith) (λ j x there same.
+        (let u = at_unmap waiter_of s.views j x there in
+        let number_is : u.0.number ≡ x.number = ap (λ (y : Waiter). y.number) u.2 in
+        let below = e.below j u.0.number (at_map (λ (v : View). v.number) s.views j u.0 u.1) in
+        omega arith))
+
     split_place : (p : ℕ) → 0 < p → p < length s.homes → PlaceOk (key_at r.keys p) (cell (record { words = s.words; homes = s.homes; views = split_views s.views }) p)
     unfolding idle nothing
     split_place p first last =
@@ -139,6 +174,7 @@ module _ (most given : ℕ) (log : List Met) where
       let numbers : List ℕ = map (λ (v : View). v.number) s.views in
       let numbers_are = mapped (λ (v : View). v.number) s.views seat refl in
       let desks_are = mapped desk_of s.views seat refl in
+      let waiters_are = mapped waiter_of s.views seat refl in
       let had = first_had s r seat in
       let most_was : e.first.most ≡ most = ap (λ (x : Spare). x.most) had in
       let drawn_was : e.first.drawn ≡ given + 1 = ap (λ (x : Spare). x.drawn) had in
@@ -176,6 +212,14 @@ module _ (most given : ℕ) (log : List Met) where
             | inl old ↦ r.directory_agrees.held j d old k is
             | inr new ↦ (let none : d.directory ≡ None = ap (λ (x : Desk). x.directory) (sym new) in absurd (cc))
           ];
+        };
+        waits_agree = record {
+          each = λ j x at. elim (at_snoc (map waiter_of s.views) (waiter_of right) x j (rw waiters_are at at)) [
+            | inl old ↦ r.waits_agree.each j x old
+            | inr new ↦ subst (λ (y : Waiter). WaitOk (length s.homes) (waits s y.number) y) new
+                (blank_wait (length s.homes) (waits s (given + 1)) (given + 1) (unwaited s r seat))
+          ];
+          unused = λ n fits none. r.waits_agree.unused n fits (λ j x at. none j x (rw waiters_are (at_longer (map waiter_of s.views) (waiter_of right ∷ []) j x at)));
         };
         views = λ j v at. elim (at_snoc (set s.views 0 left) right v j at) [
           | inl old ↦ elim (at_set s.views 0 j left v old) [
@@ -215,10 +259,11 @@ module _ (slots most given : ℕ) (some_left : given < most) where
     kept : {B : Type 0} → (f : View → B) → f drawn_view ≡ f before → map f new.views ≡ map f s.views
     kept f same = map_kept f s.views 0 before drawn_view seat same
 
+    waits_same : waits new ≡ waits s
+    waits_same = λ x m. word_else (8 * length s.homes + 8 + 8 * m) (λ e. omega arith) x
+
     parts_are : (p : ℕ) → map (part_at (waits new) p) new.views ≡ map (part_at (waits s) p) s.views
-    parts_are p =
-        let same : waits new ≡ waits s = λ x m. word_else (8 * length s.homes + 8 + 8 * m) (λ e. omega arith) x in
-        ap (λ (f : ℕ → ℕ). map (part_at f p) new.views) same ∙ kept (part_at (waits s) p) refl
+    parts_are p = ap (λ (f : ℕ → ℕ). map (part_at f p) new.views) waits_same ∙ kept (part_at (waits s) p) refl
 
     cell_same : (p : ℕ) → p < length s.homes → cell new p ≡ cell s p
     cell_same p last = λ i. record {
@@ -259,6 +304,9 @@ module _ (slots most given : ℕ) (some_left : given < most) where
             word_else (latch_word 0) (let some = r.fit in λ d. omega arith),
             kept desk_of refl,
           ) r.directory_agrees;
+          waits_agree =
+              subst (λ (f : ℕ → ℕ). WaitsAgree (length s.homes) r.most f (map waiter_of new.views)) (sym waits_same)
+              (subst (λ (xs : List Waiter). WaitsAgree (length s.homes) r.most (waits s) xs) (sym (kept waiter_of refl)) r.waits_agree);
           views = λ j v at. elim (at_set s.views 0 j drawn_view v at) [
             | inl mine ↦ subst (λ (x : View). Numbered x × KnowsKeys r.keys x) mine.1 (numbered_blank 0 (numbers_for most (given + 1) given) drawn_view.log, tt)
             | inr other ↦ r.views j v other.1

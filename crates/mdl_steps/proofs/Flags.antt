@@ -115,7 +115,8 @@ module _ (slots id place : ℕ) (me : Mine) (some_number : 0 < me.0.number) (fir
           seat = seat;
           number = refl;
           spare = refl;
-          numbered = record { fast = row.fast; slow = row.slow; asks = row.asks };
+          waiter = refl;
+          numbered = record { fast = row.fast; slow = row.slow; asks = row.asks; apart = row.apart };
           slots = refl;
           home_else = λ q else. refl;
           part_else = λ q else. refl;

@@ -102,7 +102,7 @@ module _ (slots id place : ℕ) (me : Mine) (some_number : 0 < me.0.number) (fir
     }
 
     numbered : (w : View) → w.next ≡ me.0.next → w.fast ≡ me.0.fast → w.slow ≡ me.0.slow → w.asks ≡ me.0.asks → Numbered w
-    numbered w next fast slow asks = let row = (r.views id me.0 seat).0 in record { fast = rw (fast, next) row.fast; slow = rw (slow, next) row.slow; asks = rw (asks, next) row.asks }
+    numbered w next fast slow asks = let row = (r.views id me.0 seat).0 in record { fast = rw (fast, next) row.fast; slow = rw (slow, next) row.slow; asks = rw (asks, next) row.asks; apart = rw (asks, slow) row.apart }
 
     moved_taken : Moved s place id me.0 (latched place fresh me).0 (set s.homes place none)
     unfolding fresh
@@ -111,6 +111,7 @@ module _ (slots id place : ℕ) (me : Mine) (some_number : 0 < me.0.number) (fir
       seat = seat;
       number = refl;
       spare = refl;
+      waiter = refl;
       numbered = numbered (latched place fresh me).0 refl refl refl refl;
       slots = length-set s.homes place none;
       home_else = λ q else. set_else s.homes place q none else;
@@ -137,6 +138,7 @@ module _ (slots id place : ℕ) (me : Mine) (some_number : 0 < me.0.number) (fir
       seat = seat;
       number = refl;
       spare = refl;
+      waiter = refl;
       numbered = numbered missed refl refl refl refl;
       slots = refl;
       home_else = λ q else. refl;

@@ -1,4 +1,5 @@
 pub mod Views
+pub mod Waiting
 pub mod Lift
 pub mod Holder
 pub mod Latch

@@ -7,11 +7,11 @@ use Rattle.atomic_table.specs.Table.{State}
 use Rattle.atomic_table.proofs.Lists.{at_map, at_set, set_again}
 use Rattle.mdl_steps.specs.declared.slot.Slot.{Slot}
 use Rattle.mdl_steps.specs.declared.view.View.{View}
-use Rattle.mdl_steps.specs.Cells.{Part, Holder, Desk, Cell, part_at, holder_at, desk_of, waits, cell}
+use Rattle.mdl_steps.specs.Cells.{Part, Holder, Desk, Cell, Waiter, part_at, holder_at, desk_of, waiter_of, waits, cell}
 use Rattle.mdl_steps.specs.Layout.{latch_word, lock_word, version_word, enrol_word}
 use Rattle.mdl_key.specs.Words.{KeyName}
 use Rattle.mdl_steps.specs.Lists.{Distinct}
-use Rattle.mdl_steps.specs.Rule.{Rule, PlaceOk, DirectoryOk, Numbered, KnowsKeys, key_at}
+use Rattle.mdl_steps.specs.Rule.{Rule, PlaceOk, DirectoryOk, Numbered, KnowsKeys, WaitsAgree, key_at}
 use Rattle.mdl_steps.proofs.Views.{map_kept, at_unmap, at_inside}
 
 abbrev pub Table : Type 0
@@ -26,6 +26,7 @@ pub record Moved (s : Table) (place id : ℕ) (v w : View) (homes : Homes) : Typ
   pub seat : get_elem? s.views id ≡ some v
   pub number : w.number ≡ v.number
   pub spare : w.spare ≡ v.spare
+  pub waiter : waiter_of w ≡ waiter_of v
   pub numbered : Numbered w
   pub slots : length homes ≡ length s.homes
   pub home_else : (q : ℕ) → q ≢ place → get_elem? homes q ≡ get_elem? s.homes q
@@ -121,6 +122,10 @@ module _ (s : Table) (r : Rule s) (place id : ℕ) (v w : View) (homes : Homes) 
       moved.home_else 0 (let some = moved.inside.0 in λ e. omega arith),
       map-set desk_of s.views id w,
     ) keyed.directory_agrees;
+    waits_agree =
+        subst (λ (k : ℕ). WaitsAgree k r.most (waits new) (map waiter_of new.views)) (sym moved.slots)
+        (subst (λ (f : ℕ → ℕ). WaitsAgree (length s.homes) r.most f (map waiter_of new.views)) (sym waits_same)
+        (subst (λ (xs : List Waiter). WaitsAgree (length s.homes) r.most (waits s) xs) (sym (map_kept waiter_of s.views id v w moved.seat moved.waiter)) r.waits_agree));
     views = λ j u at. elim (at_set s.views id j w u at) [
       | inl e ↦ subst (λ (x : View). Numbered x × KnowsKeys keys x) e.1 (moved.numbered, keyed.mine)
       | inr e ↦ ((r.views j u e.1).0, keyed.others j u e.1)

@@ -80,6 +80,12 @@ exchanged_book version parts book key unused no_fast ok = record {
   lawful = rw no_fast (record { compatible = refl; modes = refl; unobtrusive = refl });
   once = tt;
   owned = λ session number t found. absurd (cc);
+  waiting = record {
+    once = tt;
+    modes = refl;
+    owned = λ session number t found. absurd (cc);
+    same = λ j x there m. ap (ticket_of x.number m) (sym unused.1) ∙ ok.waiting.same j x there m;
+  };
   version_is = ok.version_is ∙ ap (λ (standing : Standing). standing.version) unused.2;
   named = record { key_is = λ k is. cc; vacant = λ none. absurd (cc) };
   each = λ j x there. exchanged_part book key x unused (ok.each j x there);
@@ -152,7 +158,8 @@ module _ (slots id place : ℕ) (me : Mine) (some_number : 0 < me.0.number) (fir
           seat = seat;
           number = refl;
           spare = refl;
-          numbered = record { fast = row.fast; slow = row.slow; asks = row.asks };
+          waiter = refl;
+          numbered = record { fast = row.fast; slow = row.slow; asks = row.asks; apart = row.apart };
           slots = length-set s.homes place (some (slot.Place (empty_book key)));
           home_else = λ q else. set_else s.homes place q (some (slot.Place (empty_book key))) else;
           part_else = λ q else. refl;

@@ -38,6 +38,12 @@ module _ (place version : ℕ) where
       (λ here. rw here (all.0, numbered_notes next ts all.1))
       (λ away. rw away (all.0, numbered_notes next ts all.1))
 
+  pub apart_notes : (number : ℕ) (ts : List Own) → Each (λ (t : Own). t.number ≢ number) ts → Each (λ (t : Own). t.number ≢ number) (noting_version place version ts)
+  apart_notes number [] all = tt
+  apart_notes number (t ∷ ts) all = by_bool (t.place == place)
+      (λ here. rw here (all.0, apart_notes number ts all.1))
+      (λ away. rw away (all.0, apart_notes number ts all.1))
+
 module _ (version : ℕ) where
   -- the tickets are the same
   pub notes_shown : (session : ℕ) (ts : List Own) → map (ticket_by session) (map (with_note version) ts) ≡ map (ticket_by session) ts

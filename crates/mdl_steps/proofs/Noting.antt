@@ -16,6 +16,7 @@ use Rattle.mdl_steps.specs.Cells.{Part, part_at, all_fast, due, ticket_by}
 use Rattle.mdl_steps.specs.Lists.{Each}
 use Rattle.mdl_steps.specs.Plays.{noting_version}
 use Rattle.mdl_steps.specs.Rule.{BookOk, PartOk, ReadAgrees}
+use Rattle.mdl_steps.proofs.Waiting.{waiting_kept}
 use Rattle.mdl_steps.proofs.Views.{at_inside}
 use Rattle.mdl_steps.proofs.Notes.{with_note, notes_else, notes_here, notes_shown, notes_length, notes_agree, each-push, reads_else, reads_here}
 
@@ -102,6 +103,7 @@ module _ (key : Option KeyName) (version : ℕ) (parts : List Part) (book : Book
               (id, new, set_here parts id new (at_inside parts id mine at), sym (ap (λ (x : Part). x.number) (some-injective was.1 mine there)) ∙ was.3)
           | inr else ↦ (was.0, was.1, set_else parts id was.0 new else ∙ was.2, was.3)
         ];
+    waiting = waiting_kept parts id mine new at refl (lock_kind book) book.waiting refl ok.waiting;
     version_is = refl;
     named = record { key_is = ok.named.key_is; vacant = λ none. let was = ok.named.vacant none in ((was.0.0, was.0.1, unchanged none), fast_same ∙ was.1) };
     each = λ j x here. elim (at_set parts id j new x here) [

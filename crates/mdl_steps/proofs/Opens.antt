@@ -6,14 +6,17 @@ use Rattle.std.proofs.lemmas.List.{length-map}
 use Rattle.atomic_table.specs.Table.{opening}
 use Rattle.atomic_table.proofs.Lists.{at_map}
 use Rattle.mdl_key.specs.Words.{KeyName}
+use Rattle.std.specs.Option.{option_to_list}
 use Rattle.mdl_book.specs.Books.{empty_book}
+use Rattle.mdl_book.specs.Tickets.{ticket_of}
 use Rattle.mdl_steps.specs.declared.slot.Slot.{Slot}
 use Rattle.mdl_steps.specs.declared.slot.Slot.TheVariants as slot
 use Rattle.mdl_steps.specs.declared.view.View.{View}
-use Rattle.mdl_steps.specs.Cells.{Holder, Desk, blank, numbers_for, cell, part_at, holder_at, desk_of, waits}
+use Rattle.mdl_steps.specs.Cells.{Holder, Desk, Waiter, blank, numbers_for, cell, part_at, holder_at, desk_of, waiter_of, waits, pending}
 use Rattle.mdl_steps.specs.Layout.{latch_word, lock_word, version_word}
 use Rattle.mdl_steps.specs.Openings.{IsOpening}
-use Rattle.mdl_steps.specs.Rule.{Rule, PlaceOk, PartOk}
+use Rattle.mdl_steps.specs.Rule.{Rule, PlaceOk, PartOk, WaitOk}
+use Rattle.mdl_steps.proofs.Enrol.{blank_wait}
 
 -- a list of one has only its first
 only : {A : Type 0} → (a b : A) (j : ℕ) → get_elem? (a ∷ []) j ≡ some b → (j ≡ 0) × (a ≡ b)
@@ -41,6 +44,13 @@ module _ (sessions : ℕ) (words : List ℕ) (slots : List Slot) (open_ : IsOpen
       lawful = record { compatible = refl; modes = refl; unobtrusive = refl };
       once = tt;
       owned = λ session number t found. absurd (cc);
+      waiting = record {
+        once = tt;
+        modes = refl;
+        owned = λ session number t found. absurd (cc);
+        same = λ j x at m. (let it = only (part_at (waits (opening words slots start)) p start) x j at in
+            subst (λ (y : Rattle.mdl_steps.specs.Cells.Part). ticket_of y.number m [] ≡ ticket_of y.number m (option_to_list (pending y.asks))) it.1 refl);
+      };
       version_is = open_.zeros (version_word p) (λ e. omega arith);
       named = record { key_is = λ k none. absurd (cc); vacant = λ _. ((refl, refl, refl), refl) };
       each = λ j x at.
@@ -77,10 +87,18 @@ module _ (sessions : ℕ) (words : List ℕ) (slots : List Slot) (open_ : IsOpen
       taken = λ taken. absurd (taken (open_.zeros (latch_word 0) (let first = some_slot slots open_.directory in λ e. omega arith)));
       held = λ j d at k is. (let it = only (desk_of start) d j at in let none : d.directory ≡ None = ap (λ (x : Desk). x.directory) (sym it.1) in absurd (cc));
     };
-    views = λ j v at. (let it = only start v j at in subst (λ (x : View). Rattle.mdl_steps.specs.Rule.Numbered x × Rattle.mdl_steps.specs.Rule.KnowsKeys [] x) it.1 (record { fast = tt; slow = tt; asks = λ a none. absurd (cc) }, tt));
+    waits_agree = record {
+      each = λ j x at. (let it = only (waiter_of start) x j at in
+          subst (λ (y : Waiter). WaitOk (length (map some slots)) (waits (opening words slots start) y.number) y) it.1 (blank_wait (length (map some slots)) (waits (opening words slots start) 0) 0 (unwaited 0)));
+      unused = λ n fits none. unwaited n;
+    };
+    views = λ j v at. (let it = only start v j at in subst (λ (x : View). Rattle.mdl_steps.specs.Rule.Numbered x × Rattle.mdl_steps.specs.Rule.KnowsKeys [] x) it.1 (record { fast = tt; slow = tt; asks = λ a none. absurd (cc); apart = λ a none. absurd (cc) }, tt));
     places = λ p first last. (let within : p < length slots = rw homes_count at last in let there = open_.places p first within in no_key p (empty_place there.0 p first within there.1));
   }
     where
+      unwaited : (n : ℕ) → waits (opening words slots start) n ≡ 0
+      unwaited n = let count = homes_count in open_.zeros (8 * length (map some slots) + 8 + 8 * n) (λ e. omega arith)
+
       some_slot : (xs : List Slot) → {a : Slot} → get_elem? xs 0 ≡ some a → 0 < length xs
       some_slot [] {a} e = absurd (some-ne-none a (sym e))
       some_slot (x ∷ xs) e = omega arith

@@ -16,7 +16,7 @@ use Rattle.mdl_steps.proofs.Views.{held_at-dropped, held_at-undropped}
 use Rattle.mdl_steps.proofs.Lift.{Table, Homes, after, on_latch, alone, seat_there}
 use Rattle.mdl_steps.proofs.Holder.{under, put_cell}
 use Rattle.mdl_steps.proofs.Put.{one_hand}
-use Rattle.mdl_steps.proofs.Notes.{numbered_notes}
+use Rattle.mdl_steps.proofs.Notes.{numbered_notes, apart_notes}
 use Rattle.mdl_steps.proofs.Noting.{noted_part, noted_here, noted_away, noted_ok, fast_same}
 
 module _ (slots id place : ℕ) (me : Mine) (some_number : 0 < me.0.number) (first : 0 < place) (last : place < slots)
@@ -44,10 +44,12 @@ module _ (slots id place : ℕ) (me : Mine) (some_number : 0 < me.0.number) (fir
           seat = seat;
           number = refl;
           spare = refl;
+          waiter = refl;
           numbered = record {
             fast = numbered_notes place h.book.standing.version me.0.next me.0.fast row.fast;
             slow = numbered_notes place h.book.standing.version me.0.next me.0.slow row.slow;
             asks = row.asks;
+            apart = λ a e. apart_notes place h.book.standing.version a.number me.0.slow (row.apart a e);
           };
           slots = length-set s.homes place (some (slot.Place h.book));
           home_else = λ q else. set_else s.homes place q (some (slot.Place h.book)) else;

@@ -22,7 +22,7 @@ use Rattle.mdl_steps.proofs.Views.{held_at-changed, held_at-unchanged}
 use Rattle.mdl_steps.proofs.Lift.{Table, after, on_version, alone, alone_parts, seat_there}
 use Rattle.mdl_steps.proofs.Holder.{under, holder_cell}
 use Rattle.mdl_steps.proofs.Put.{one_hand}
-use Rattle.mdl_steps.proofs.Notes.{numbered_notes, reads_older}
+use Rattle.mdl_steps.proofs.Notes.{numbered_notes, apart_notes, reads_older}
 use Rattle.mdl_steps.proofs.Noting.{noted_part, noted_here, noted_away, noted_ok, fast_same}
 use Rattle.mdl_steps.proofs.Exclusive.{others_fast, others_slow}
 
@@ -76,10 +76,12 @@ module _ (slots id place : ℕ) (me : Mine) (some_number : 0 < me.0.number) (fir
           seat = seat;
           number = refl;
           spare = refl;
+          waiter = refl;
           numbered = record {
             fast = numbered_notes place standing.version me.0.next me.0.fast row.fast;
             slow = numbered_notes place standing.version me.0.next me.0.slow row.slow;
             asks = row.asks;
+            apart = λ a e. apart_notes place standing.version a.number me.0.slow (row.apart a e);
           };
           slots = refl;
           home_else = λ q else. refl;

@@ -84,6 +84,16 @@ holder_at place v = record { number = v.number; held = held_at place v.latches }
 abbrev pub desk_of : View → Desk
 desk_of v = record { number = v.number; directory = v.directory }
 
+-- what a session knows of its own wait's word
+pub record Waiter : Type 0 where
+  pub number : ℕ
+  pub waits : ℕ
+  pub asks : Option Ask
+  pub told : Option ℕ
+
+abbrev pub waiter_of : View → Waiter
+waiter_of v = record { number = v.number; waits = v.waits; asks = v.asks; told = v.told }
+
 -- ---- what all of them have there
 
 pub record Cell : Type 0 where
@@ -122,6 +132,11 @@ abbrev pub due : Option Asking → Option Ticket
 due None = None
 due (Some a) = if a.state == 2 then Some a.ticket else None
 
+-- the ticket of a wait that wasn't granted, or wasn't yet: it stands in the waiting list
+abbrev pub pending : Option Asking → Option Ticket
+pending None = None
+pending (Some a) = if a.state == 2 then None else Some a.ticket
+
 -- a session's tickets that stand in the granted list
 abbrev pub slow_tickets : Part → List Ticket
 slow_tickets x = option_to_list (due x.asks) ++ map (ticket_by x.number) x.slow
@@ -144,6 +159,7 @@ blank number spare = record {
   next = 1;
   waits = 0;
   asks = None;
+  told = None;
   fast = [];
   slow = [];
   latches = [];

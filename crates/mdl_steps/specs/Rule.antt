@@ -4,10 +4,13 @@
 -- just the fast tickets (`counted`); its flags tell whether the lists hold any ticket, and any obtrusive one, exactly while
 -- the latch is free, and at least so while it is taken (`free`, `flagged`); each session's slow tickets are those of it in the
 -- granted list (`slow_held`); the version's word, the book, and what sessions read and noted agree (`versions_agree`); a noted
--- word counts at least the fast tickets (`noted_counts`). Of the table: different keys have different places, and the book of a
--- place is that of its key (`directory_agrees`).
-use Rattle.std.specs.Prelude.{◌≡◌, ◌≢◌, ℕ, ◌+◌, ◌-◌, ◌<◌, ◌≤◌, Bool, true, not, List, [], ◌++◌, map, length, slice_index, slice_get, Option, Some, None}
+-- word counts at least the fast tickets (`noted_counts`); just the tickets of waits that weren't granted stand in the waiting list
+-- (`waiting`). Of the table: different keys have different places, and the book of a place is that of its key
+-- (`directory_agrees`); a session's wait word is eight times the number of its last wait and a state, which is 0 exactly where it
+-- waits for nothing (`waits_agree`).
+use Rattle.std.specs.Prelude.{◌≡◌, ◌≢◌, ℕ, ◌+◌, ◌-◌, ◌/◌, ◌%◌, ◌<◌, ◌≤◌, Bool, true, not, List, [], ◌++◌, map, length, slice_index, slice_get, Option, Some, None}
 use Rattle.std.specs.List.{list_all}
+use Rattle.std.specs.Option.{option_to_list}
 use mathlib.Core.Option.{Option as Maybe, some}
 use lib.ListN.{get_elem?}
 use Rattle.atomic_table.specs.Table.{State}
@@ -31,7 +34,7 @@ use Rattle.mdl_steps.specs.declared.view.Own.{Own}
 use Rattle.mdl_steps.specs.declared.view.Read.{Read}
 use Rattle.mdl_steps.specs.declared.view.Spare.{Spare}
 use Rattle.mdl_steps.specs.declared.view.View.{View}
-use Rattle.mdl_steps.specs.Cells.{Part, Holder, Desk, Cell, ticket_by, desk_of, cell, all_fast, counted, due, slow_tickets}
+use Rattle.mdl_steps.specs.Cells.{Part, Holder, Desk, Cell, Waiter, ticket_by, desk_of, waiter_of, waits, cell, all_fast, counted, due, pending, slow_tickets}
 use Rattle.mdl_steps.specs.Layout.{latch_word, enrol_word, word_count}
 use Rattle.mdl_steps.specs.Lists.{Each, Distinct, Once}
 
@@ -61,11 +64,19 @@ pub record SlowHeld (granted : List Ticket) (x : Part) : Type 0 where
   pub same : (number : ℕ) → ticket_of x.number number granted ≡ ticket_of x.number number (slow_tickets x)
   pub apart : (t : Ticket) → due x.asks ≡ Some t → ticket_of x.number t.number (map (ticket_by x.number) x.slow) ≡ None
 
--- a granted ticket is of a session that has a view
+-- a ticket of the list is of a session that has a view
 abbrev pub Owned : List Part → List Ticket → Type 0
-Owned parts granted =
-    (session number : ℕ) (t : Ticket) → ticket_of session number granted ≡ Some t →
+Owned parts tickets =
+    (session number : ℕ) (t : Ticket) → ticket_of session number tickets ≡ Some t →
     (j : ℕ) × (x : Part) × (get_elem? parts j ≡ some x) × (x.number ≡ session)
+
+-- just the tickets of waits that weren't granted stand in the waiting list, each once and in a mode of the kind
+pub record WaitingOk (kind : Kind) (parts : List Part) (waiting : List Ticket) : Type 0 where
+  pub once : Once waiting
+  pub modes : list_all (λ t. is_mode_of kind t.mode) waiting ≡ true
+  pub owned : Owned parts waiting
+  pub same : (j : ℕ) (x : Part) → get_elem? parts j ≡ some x → (number : ℕ) →
+      ticket_of x.number number waiting ≡ ticket_of x.number number (option_to_list (pending x.asks))
 
 -- what was read is no newer than what stands, and where it is as new it is that
 abbrev pub ReadAgrees : BookView → Read → Type 0
@@ -102,6 +113,7 @@ pub record BookOk (key : Option KeyName) (version : ℕ) (parts : List Part) (bo
   pub lawful : Lawful (lock_kind book) (all_fast parts) book.granted
   pub once : Once book.granted
   pub owned : Owned parts book.granted
+  pub waiting : WaitingOk (lock_kind book) parts book.waiting
   pub version_is : version ≡ book.standing.version
   pub named : Named key book parts
   pub each : (j : ℕ) (x : Part) → get_elem? parts j ≡ some x → PartOk book x
@@ -149,11 +161,26 @@ pub record Enrolled (most drawn : ℕ) (numbers : List ℕ) (spares : List Spare
   pub apart : (i j n : ℕ) → get_elem? numbers i ≡ some n → get_elem? numbers j ≡ some n → 0 < n → i ≡ j
   pub room : length numbers ≡ first.given + 1
 
--- a session's tickets have numbers below its next one
+-- a session's wait word is eight times the number of its last wait and a state: idle (0) exactly where it waits for nothing,
+-- unsettled (1), granted (2), or lost, as a victim (3), by its timeout (4) or killed (5). Where the session met it settled, it is so
+pub record WaitOk (slots word : ℕ) (x : Waiter) : Type 0 where
+  pub number : word / 8 ≡ x.waits
+  pub state : word % 8 ≤ 5
+  pub idle : x.asks ≡ None → word % 8 ≡ 0
+  pub asks : (a : Ask) → x.asks ≡ Some a → (word % 8 ≢ 0) × (0 < a.place) × (a.place < slots)
+  pub told : (state : ℕ) → x.told ≡ Some state → (1 < state) × (word % 8 ≡ state)
+
+-- it is so of each session, and the wait word of a number that no session has yet is 0
+pub record WaitsAgree (slots most : ℕ) (waits : ℕ → ℕ) (waiters : List Waiter) : Type 0 where
+  pub each : (j : ℕ) (x : Waiter) → get_elem? waiters j ≡ some x → WaitOk slots (waits x.number) x
+  pub unused : (n : ℕ) → n ≤ most → ((j : ℕ) (x : Waiter) → get_elem? waiters j ≡ some x → x.number ≢ n) → waits n ≡ 0
+
+-- a session's tickets have numbers below its next one, and the one that it waits for has none of theirs
 pub record Numbered (v : View) : Type 0 where
   pub fast : Each (λ (t : Own). t.number < v.next) v.fast
   pub slow : Each (λ (t : Own). t.number < v.next) v.slow
   pub asks : (a : Ask) → v.asks ≡ Some a → a.number < v.next
+  pub apart : (a : Ask) → v.asks ≡ Some a → Each (λ (t : Own). t.number ≢ a.number) v.slow
 
 -- the key of a place
 abbrev pub key_at : List KeyName → ℕ → Option KeyName
@@ -178,5 +205,6 @@ pub record Rule (s : State Slot View) : Type 0 where
   pub fit : length keys < length s.homes
   pub distinct : Distinct keys
   pub directory_agrees : DirectoryOk (slice_index s.words (latch_word 0)) (get_elem? s.homes 0) (map desk_of s.views) keys
+  pub waits_agree : WaitsAgree (length s.homes) most (waits s) (map waiter_of s.views)
   pub views : (j : ℕ) (v : View) → get_elem? s.views j ≡ some v → Numbered v × KnowsKeys keys v
   pub places : (p : ℕ) → 0 < p → p < length s.homes → PlaceOk (key_at keys p) (cell s p)

@@ -103,6 +103,8 @@ pub struct View {
     pub waits: u64,
     /// The ticket that it waits for, where it waits.
     pub asks: Option<Ask>,
+    /// The state in which it met its wait's word settled, where it did: the word stays so until the session ends the wait.
+    pub told: Option<u64>,
     /// Its tickets that are only counted.
     pub fast: [Own; 0],
     /// Its tickets that stand in books.
