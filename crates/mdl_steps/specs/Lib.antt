@@ -8,3 +8,4 @@ pub mod Rule
 pub mod RuleLaws
 pub mod Schemas
 pub mod Seats
+pub mod WaitPlays

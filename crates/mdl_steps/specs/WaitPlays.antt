@@ -1,0 +1,128 @@
+-- What each kind of step on a wait's word tells the session that makes it. The word of a session is eight times the number of its last
+-- wait and a state: idle, unsettled, granted, or lost, as a victim, by its timeout or killed.
+use Rattle.std.specs.Prelude.{◌≡◌, ◌≢◌, ℕ, ◌+◌, ◌*◌, ◌%◌, ◌≤◌, ◌==◌, ◌&&◌, nat_lt, if◌then◌else◌, ◌++◌, ◌∷◌, [], Option, Some, None}
+use Rattle.std.specs.Option.{option_map, option_to_list}
+use Rattle.atomic_table.specs.Table.{Step, rest}
+use Rattle.mdl_key.specs.declared.mode.Mode.{Mode}
+use Rattle.mdl_book.specs.declared.ticket.Ticket.{Ticket}
+use Rattle.mdl_book.specs.Books.{enqueueing, admitting, cancelling}
+use Rattle.mdl_steps.specs.declared.slot.Slot.{Slot}
+use Rattle.mdl_steps.specs.declared.view.Ask.{Ask}
+use Rattle.mdl_steps.specs.declared.view.Held.{Held}
+use Rattle.mdl_steps.specs.declared.view.Own.{Own}
+use Rattle.mdl_steps.specs.declared.view.View.{View}
+use Rattle.mdl_steps.specs.Cells.{waiter_of}
+use Rattle.mdl_steps.specs.Layout.{wait_word}
+use Rattle.mdl_steps.specs.Plays.{Mine, logged, changed}
+use Rattle.mdl_steps.specs.Rule.{WaitOk}
+
+-- the word of a wait in a state
+abbrev pub wait_in : ℕ → ℕ → ℕ
+wait_in number state = 8 * number + state
+
+-- the session met a wait's word: where it is its own and settled, it knows that from then on
+abbrev pub meeting : ℕ → ℕ → View → View
+meeting session word v = if session == v.number && nat_lt 1 (word % 8) then record v { told = Some (word % 8) } else v
+
+-- the wait's word of a session was read
+abbrev pub met_wait : ℕ → ℕ → ℕ → Mine → Mine
+met_wait slots session found m = (logged (wait_word slots session) found m.0.latches (meeting session found m.0), m.1)
+
+-- its own wait's word, as the rule has it: with the number of its last wait, idle exactly where it doesn't wait, and as it met it, settled
+abbrev pub TellsOwn : ℕ → ℕ → ℕ → View → Type 0
+TellsOwn slots session found v = session ≡ v.number → WaitOk slots found (waiter_of v)
+
+-- ---- the record of the latch
+
+abbrev pub with_waiting : Ticket → Held → Held
+with_waiting t h = record h { book = enqueueing t h.book }
+
+abbrev pub with_admitted : ℕ → ℕ → Held → Held
+with_admitted session number h = record h { book = admitting session number h.book }
+
+abbrev pub with_cancelled : ℕ → ℕ → Held → Held
+with_cancelled session number h = record h { book = cancelling session number h.book }
+
+-- ---- the view
+
+-- what the session asks for next, at a place
+abbrev pub asking : ℕ → Mode → View → Ask
+asking place mode v = record { number = v.next; place = place; mode = mode }
+
+abbrev pub asked_ticket : Mode → View → Ticket
+asked_ticket mode v = record { session = v.number; number = v.next; mode = mode }
+
+-- a wait was opened at a place: its ticket stands last in the record's waiting list. The word was idle before
+abbrev pub opened : ℕ → ℕ → Mode → Mine → Mine
+opened slots place mode m =
+    let v = changed place (with_waiting (asked_ticket mode m.0)) m.0 in
+    let waits = record v { asks = Some (asking place mode m.0); next = m.0.next + 1; waits = m.0.waits + 1; told = None; searches = true } in
+    (logged (wait_word slots m.0.number) (8 * m.0.waits) v.latches waits, m.1)
+
+-- a wait of a session was settled as lost
+abbrev pub settled_lost : ℕ → ℕ → ℕ → ℕ → Mine → Mine
+settled_lost slots session number state m =
+    (logged (wait_word slots session) (wait_in number 1) m.0.latches (meeting session (wait_in number state) m.0), m.1)
+
+-- a wait of a session was granted: its ticket stands last in the record's granted list
+abbrev pub settled_granted : ℕ → ℕ → ℕ → ℕ → ℕ → Mine → Mine
+settled_granted slots place session ticket number m =
+    let v = changed place (with_admitted session ticket) m.0 in
+    (logged (wait_word slots session) (wait_in number 1) v.latches (meeting session (wait_in number 2) v), m.1)
+
+-- the ticket that was waited for, as the session has it from then on
+abbrev pub taken_over : Option Ask → List Own
+taken_over asks = option_to_list (option_map (λ a. record { number = a.number; place = a.place; mode = a.mode; noted = None }) asks)
+
+-- a granted wait was ended: the session has its ticket
+abbrev pub ended_granted : ℕ → Mine → Mine
+ended_granted slots m =
+    let v = record m.0 { asks = None; told = None; slow = m.0.slow ++ taken_over m.0.asks } in
+    (logged (wait_word slots m.0.number) (wait_in m.0.waits 2) m.0.latches v, m.1)
+
+-- a lost wait was ended: its ticket is gone from the record's waiting list
+abbrev pub ended_lost : ℕ → ℕ → ℕ → ℕ → Mine → Mine
+ended_lost slots place ticket state m =
+    let v = record (changed place (with_cancelled m.0.number ticket) m.0) { asks = None; told = None } in
+    (logged (wait_word slots m.0.number) (wait_in m.0.waits state) m.0.latches v, m.1)
+
+-- ---- the kinds of step: the session keeps its number
+
+-- the wait's word of a session is read
+abbrev pub reads_wait : Step Slot → Mine → ℕ → Mine → Type 0
+reads_wait st m found m′ =
+    (m′.0.number ≡ m.0.number)
+    × ((session : ℕ) → st.word ≡ wait_word st.slots session → TellsOwn st.slots session found m.0 × (m′ ≡ met_wait st.slots session found m))
+
+-- a wait of a session is settled as lost, where it was unsettled; otherwise its word is only met
+abbrev pub settles_lost : Step Slot → Mine → ℕ → Mine → Type 0
+settles_lost st m found m′ =
+    (m′.0.number ≡ m.0.number)
+    × ((session number state : ℕ) → st.word ≡ wait_word st.slots session → st.first ≡ wait_in number 1 → st.second ≡ wait_in number state →
+    TellsOwn st.slots session found m.0
+    × (found ≡ wait_in number 1 → m′ ≡ settled_lost st.slots session number state m)
+    × (found ≢ wait_in number 1 → m′ ≡ met_wait st.slots session found m))
+
+-- a wait of a session is granted under the latch of its place, where it was unsettled; otherwise its word is only met
+abbrev pub settles_granted : ℕ → ℕ → Step Slot → Mine → ℕ → Mine → Type 0
+settles_granted place ticket st m found m′ =
+    (m′.0.number ≡ m.0.number)
+    × ((session number : ℕ) → st.word ≡ wait_word st.slots session → st.first ≡ wait_in number 1 →
+    TellsOwn st.slots session found m.0
+    × (found ≡ wait_in number 1 → m′ ≡ settled_granted st.slots place session ticket number m)
+    × (found ≢ wait_in number 1 → m′ ≡ met_wait st.slots session found m))
+
+-- a wait is opened under the latch of its place
+abbrev pub opens_wait : ℕ → Mode → Step Slot → Mine → ℕ → Mine → Type 0
+opens_wait place mode st m found m′ =
+    (m′.0.number ≡ m.0.number) × (st.word ≡ wait_word st.slots m.0.number → m′ ≡ opened st.slots place mode m)
+
+-- a granted wait is ended
+abbrev pub ends_granted : Step Slot → Mine → ℕ → Mine → Type 0
+ends_granted st m found m′ =
+    (m′.0.number ≡ m.0.number) × (st.word ≡ wait_word st.slots m.0.number → m′ ≡ ended_granted st.slots m)
+
+-- a lost wait is ended under the latch of its place
+abbrev pub ends_lost : ℕ → ℕ → ℕ → Step Slot → Mine → ℕ → Mine → Type 0
+ends_lost place ticket state st m found m′ =
+    (m′.0.number ≡ m.0.number) × (st.word ≡ wait_word st.slots m.0.number → m′ ≡ ended_lost st.slots place ticket state m)
