@@ -46,11 +46,13 @@ numbered_done place v book noted d numbered may = record {
   where
     gained : (e : Deed) → May v book noted e → (number : ℕ) (mode : Mode) → e ≡ Gain number mode → number < next_after e v.next
     gained (Gain m x) may number mode is = let next = may.0 in let same : m ≡ number = cc in omega arith
+    gained (Alter m x) may number mode is = absurd (cc)
+    gained (Lose m) may number mode is = absurd (cc)
 
     apart_gained : (e : Deed) → May v book noted e → (a : Ask) → v.asks ≡ Some a → (number : ℕ) (mode : Mode) → e ≡ Gain number mode → number ≢ a.number
     apart_gained (Gain m x) may a asked number mode is = let next = may.0 in let below = numbered.asks a asked in let same : m ≡ number = cc in λ d. omega arith
-    gained (Alter m x) may number mode is = absurd (cc)
-    gained (Lose m) may number mode is = absurd (cc)
+    apart_gained (Alter m x) may a asked number mode is = absurd (cc)
+    apart_gained (Lose m) may a asked number mode is = absurd (cc)
 
 module _ (key : Option KeyName) (version : ℕ) (parts : List Part) (book : BookView) (f : ℕ → ℕ) (place id : ℕ) (v : View)
     (at : get_elem? parts id ≡ some (part_at f place v))

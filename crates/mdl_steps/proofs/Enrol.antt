@@ -100,7 +100,7 @@ numbered_blank number spare log = record { fast = tt; slow = tt; asks = λ a e. 
 
 -- its wait word is idle
 pub blank_wait : (slots word number : ℕ) → word ≡ 0 → WaitOk slots word (record { number = number; waits = 0; asks = None; told = None })
-blank_wait slots word number zero = rw zero (record {
+blank_wait slots word number idle = rw idle (record {
   number = refl;
   state = omega arith;
   idle = λ _. refl;

@@ -8,6 +8,9 @@ pub mod Tickets
 pub mod Owns
 pub mod Deeds
 pub mod Books
+pub mod WaitWords
+pub mod WaitFrame
+pub mod WaitSteps
 pub mod Put
 pub mod Notes
 pub mod Exclusive

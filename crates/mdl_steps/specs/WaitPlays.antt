@@ -22,7 +22,7 @@ wait_in number state = 8 * number + state
 
 -- the session met a wait's word: where it is its own and settled, it knows that from then on
 abbrev pub meeting : ℕ → ℕ → View → View
-meeting session word v = if session == v.number && nat_lt 1 (word % 8) then record v { told = Some (word % 8) } else v
+meeting session word v = record v { told = if session == v.number && nat_lt 1 (word % 8) then Some (word % 8) else v.told }
 
 -- the wait's word of a session was read
 abbrev pub met_wait : ℕ → ℕ → ℕ → Mine → Mine
