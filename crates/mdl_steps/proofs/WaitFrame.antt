@@ -149,11 +149,12 @@ module _ (s : Table) (r : Rule s) (session n : ℕ) (id : ℕ) (v w : View) wher
     pub own_waits : WaitOk (length s.homes) (waits new session) (waiter_of w) → WaitsAgree (length s.homes) r.most (waits new) (set (map waiter_of s.views) id (waiter_of w))
     own_waits ok = record {
       each = λ j x at. elim (at_set (map waiter_of s.views) id j (waiter_of w) x at) [
-        | inl here ↦ subst (λ (y : Waiter). WaitOk (length s.homes) (waits new y.number) y) here.1 (rw (number, mine) ok)
+        | inl here ↦ subst (λ (y : Waiter). WaitOk (length s.homes) (waits new y.number) y) here.1
+            (subst (λ (m : ℕ). WaitOk (length s.homes) (waits new m) (waiter_of w)) (sym (number ∙ mine)) ok)
         | inr else ↦
             let u = at_unmap waiter_of s.views j x else.1 in
             let differs : x.number ≢ session = λ e. else.0 (alone_view j u.0 u.1 (ap (λ (y : Waiter). y.number) u.2 ∙ e)) in
-            rw (waits_else x.number differs) (r.waits_agree.each j x else.1)
+            subst (λ (m : ℕ). WaitOk (length s.homes) m x) (sym (waits_else x.number differs)) (r.waits_agree.each j x else.1)
       ];
       unused = λ m fits none.
           let differs : m ≢ session = λ e. none id (waiter_of w) (Rattle.atomic_table.proofs.Lists.set_here (map waiter_of s.views) id (waiter_of w) (Rattle.mdl_steps.proofs.Views.at_inside (map waiter_of s.views) id (waiter_of v) (at_map waiter_of s.views id v seat))) (number ∙ mine ∙ sym e) in

@@ -193,3 +193,191 @@ wished session a = record { session = session; number = a.number; mode = a.mode 
 
 pub asked_here : (session word state : ℕ) (asks : Option Ask) (a : Ask) → asks ≡ Some a → word % 8 ≡ state → asking_at a.place session word asks ≡ Some (record { ticket = wished session a; state = state })
 asked_here session word state asks a e is = ap (asking_at a.place session word) e ∙ rw (eq-eqb a.place a.place refl, is) refl
+
+-- the numbers stay, and the word of one session's wait is another
+pub their_waits : (s : Table) (r : Rule s) (session n id : ℕ) (v w : View) → get_elem? s.views id ≡ some v → w.number ≡ v.number → waiter_of w ≡ waiter_of (meeting session n v)
+    → session ≤ r.most → waits s session ≢ 0 → ((z : Waiter) → WaitOk (length s.homes) (waits s session) z → WaitOk (length s.homes) n z)
+    → WaitsAgree (length s.homes) r.most (waits (after s (wait_word (length s.homes) session) n id w s.homes)) (set (map waiter_of s.views) id (waiter_of w))
+their_waits s r session n id v w seat number known fits some_word settles = record {
+  each = λ j x at. elim (at_set (map waiter_of s.views) id j (waiter_of w) x at) [
+    | inl here ↦ subst (λ (y : Waiter). WaitOk slots′ (f y.number) y) here.1 (subst (λ (y : Waiter). WaitOk slots′ (f y.number) y) (sym known) mine)
+    | inr else ↦ by_number x (r.waits_agree.each j x else.1)
+  ];
+  unused = λ m inside none.
+      let before = none_before (map waiter_of s.views) id (waiter_of v) (waiter_of w) (at_map waiter_of s.views id v seat) number m none in
+      elim (cases_eq m session) [
+        | inl e ↦ absurd (some_word (ap (waits s) (sym e) ∙ r.waits_agree.unused m inside before))
+        | inr e ↦ waits_else s r session n id v w m e ∙ r.waits_agree.unused m inside before
+      ];
+}
+  where
+    slots′ : ℕ
+    slots′ = length s.homes
+
+    f : ℕ → ℕ
+    f = waits (after s (wait_word (length s.homes) session) n id w s.homes)
+
+    by_number : (x : Waiter) → WaitOk slots′ (waits s x.number) x → WaitOk slots′ (f x.number) x
+    unfolding slots′ f
+    by_number x ok = elim (cases_eq x.number session) [
+      | inl e ↦ subst (λ (k : ℕ). WaitOk (length s.homes) (waits (after s (wait_word (length s.homes) session) n id w s.homes) k) x) (sym e)
+          (subst (λ (k : ℕ). WaitOk (length s.homes) k x) (sym (waits_here s r session n id v w fits)) (settles x (subst (λ (k : ℕ). WaitOk (length s.homes) (waits s k) x) e ok)))
+      | inr e ↦ subst (λ (k : ℕ). WaitOk (length s.homes) k x) (sym (waits_else s r session n id v w x.number e)) ok
+    ]
+
+    mine : WaitOk slots′ (f v.number) (waiter_of (meeting session n v))
+    unfolding slots′ f
+    mine =
+        let now = by_number (waiter_of v) (r.waits_agree.each id (waiter_of v) (at_map waiter_of s.views id v seat)) in
+        elim (cases_eq session v.number) [
+          | inl e ↦
+              let word : waits (after s (wait_word (length s.homes) session) n id w s.homes) v.number ≡ n = ap (waits (after s (wait_word (length s.homes) session) n id w s.homes)) (sym e) ∙ waits_here s r session n id v w fits in
+              subst (λ (k : ℕ). WaitOk (length s.homes) k (waiter_of (meeting session n v))) (sym word)
+              (met_ok (length s.homes) session n v (subst (λ (k : ℕ). WaitOk (length s.homes) k (waiter_of v)) word now))
+          | inr e ↦ subst (λ (u : View). WaitOk (length s.homes) (waits (after s (wait_word (length s.homes) session) n id w s.homes) v.number) (waiter_of u)) (sym (met_else session n v e)) now
+        ]
+
+module _ (s : Table) (r : Rule s) (id session : ℕ) (me : Mine) (seat : get_elem? s.views id ≡ some me.0) (some_number : 0 < session)
+    (number state : ℕ) (lost : 2 < state) (most : state ≤ 5) (found : waits s session ≡ wait_in number 1) where
+  abbrev w : View
+  w = (settled_lost (length s.homes) session number state me).0
+
+  abbrev now : Table
+  now = after s (wait_word (length s.homes) session) (wait_in number state) id w s.homes
+
+  waiting : Waiting s session number × (session ≤ r.most)
+  waiting = waiting_session s r session number found
+
+  module _ (t : Waiting s session number) (fits : session ≤ r.most) where
+    abbrev place : ℕ
+    place = t.ask.place
+
+    abbrev was : Part
+    was = part_at (waits s) place t.view
+
+    abbrev ticket : Ticket
+    ticket = wished t.view.number t.ask
+
+    abbrev then_ : Part
+    then_ = record was { asks = Some (record { ticket = ticket; state = state }) }
+
+    there : get_elem? (cell s place).parts t.at ≡ some was
+    there = at_map (part_at (waits s) place) s.views t.at t.view t.there
+
+    was_open : was.asks ≡ Some (record { ticket = ticket; state = 1 })
+    was_open = asked_here t.view.number (waits s t.view.number) 1 t.view.asks t.ask t.asks
+        (let same : waits s t.view.number ≡ wait_in number 1 = ap (waits s) t.number_is ∙ found in omega arith)
+
+    then_is : part_at (waits now) place t.view ≡ then_
+    then_is =
+        let same : waits now t.view.number ≡ wait_in number state = ap (waits now) t.number_is ∙ waits_here s r session (wait_in number state) id me.0 w fits in
+        let asks = asked_here t.view.number (waits now t.view.number) state t.view.asks t.ask t.asks (omega arith) in
+        λ i. record was { asks = asks i }
+
+    by_itself : (j : ℕ) (z : Part) → get_elem? (cell s place).parts j ≡ some z → z.number ≡ was.number → j ≡ t.at
+    by_itself = let number_is = t.number_is in alone_parts s r place t.at t.view t.there (omega arith)
+
+    ok : PlaceOk (key_at r.keys place) (cell s place)
+    ok = r.places place t.inside.0 t.inside.1
+
+    place_ok : PlaceOk (key_at r.keys place) (record (cell s place) { holders = set (cell s place).holders id (holder_at place w); parts = set (cell s place).parts t.at then_ })
+    unfolding ok
+    place_ok =
+        let key = key_at r.keys place in
+        let c = cell s place in
+        rw (holders_again s place id me.0 w seat refl)
+        (part_cell key c ok (set c.parts t.at then_)
+        (fast_kept key c.version c.parts ok.book t.at was there by_itself ok.book_ok then_ refl refl)
+        (lost_ok key c.version c.parts ok.book t.at was there by_itself ok.book_ok ticket state was_open (λ two. omega arith)))
+
+    lost_there : Rule now
+    lost_there = on_wait s r session (wait_in number state) id me.0 w place (record {
+      inside = t.inside;
+      seat = seat;
+      number = refl;
+      spare = refl;
+      directory = refl;
+      known = refl;
+      numbered = (let row = (r.views id me.0 seat).0 in record { fast = row.fast; slow = row.slow; asks = row.asks; apart = row.apart });
+      holder_else = λ q else. refl;
+    }) (set (cell s place).parts t.at then_)
+    (λ q else. their_parts_else s r session (wait_in number state) id me.0 w seat (λ f p. refl) some_number t.at t.view t.there t.number_is q
+        (part_away (waits s) (waits now) q t.view (λ a e here. else (sym here ∙ ap (λ (b : Ask). b.place) (let same : Some a ≡ Some t.ask = sym e ∙ t.asks in cc)))))
+    (their_parts s r session (wait_in number state) id me.0 w seat (λ f p. refl) some_number t.at t.view t.there t.number_is place ∙ ap (λ (x : Part). set (cell s place).parts t.at x) then_is)
+    (their_waits s r session (wait_in number state) id me.0 w seat refl refl fits (λ zero. omega arith)
+        (λ z known. settled_ok (length s.homes) number state z (omega arith) most (subst (λ (k : ℕ). WaitOk (length s.homes) k z) found known)))
+    place_ok
+
+  pub lost_rule : Rule now
+  lost_rule = lost_there waiting.0 waiting.1
+
+-- ---- the steps
+
+module _ (id session : ℕ) (me : Mine) where
+  -- what is shown of a table of so many slots, whose word becomes this number
+  abbrev Steps : Table → (ℕ → ℕ) → (ℕ → ℕ → Mine → Type 0) → ℕ → Type 0
+  Steps s f then slots =
+      (w : View) × (a : Act Slot) × Rattle.atomic_table.specs.Table.Valid s.homes me.1 a
+      × Rule (moved_by s (wait_word slots session) (f (get_or s.words (wait_word slots session) 0)) id me.1 w a)
+      × then slots (get_or s.words (wait_word slots session) 0) (w, Rattle.atomic_table.specs.Table.carried_after me.1 a)
+
+  pub reads_wait_allowed : (slots : ℕ) → Allows Rule slots id me (wait_word slots session) (λ n. n) (reads_wait (step slots (wait_word slots session) 0 0 none) me)
+  reads_wait_allowed slots s r size seat fits =
+      subst (Steps s (λ n. n) (λ k found m. reads_wait (step k (wait_word k session) 0 0 none) me found m)) size (
+        (met_wait (length s.homes) session (waits s session) me).0,
+        keeps,
+        tt,
+        met_rule s r id session me seat,
+        (
+          refl,
+          λ q here.
+              let same : session ≡ q = omega arith in
+              (
+                subst (λ (k : ℕ). TellsOwn (length s.homes) k (waits s session) me.0) same (tells_own s r id session me seat),
+                λ i. met_wait (length s.homes) (same i) (waits s session) me,
+              ),
+        ),
+      )
+
+  pub settles_lost_allowed : (slots number state : ℕ) → 0 < session → 2 < state → state ≤ 5
+      → Allows Rule slots id me (wait_word slots session) (λ n. either (n == wait_in number 1) (wait_in number state) n) (settles_lost (step slots (wait_word slots session) (wait_in number 1) (wait_in number state) none) me)
+  settles_lost_allowed slots number state some_number lost most s r size seat fits =
+      subst (Steps s (λ n. either (n == wait_in number 1) (wait_in number state) n) (λ k found m. settles_lost (step k (wait_word k session) (wait_in number 1) (wait_in number state) none) me found m)) size
+      (exchanged (waits s session) (wait_in number 1) (wait_in number state)
+      (λ n. (w : View) × (a : Act Slot) × Rattle.atomic_table.specs.Table.Valid s.homes me.1 a
+          × Rule (moved_by s (wait_word (length s.homes) session) n id me.1 w a)
+          × settles_lost (step (length s.homes) (wait_word (length s.homes) session) (wait_in number 1) (wait_in number state) none) me (waits s session) (w, Rattle.atomic_table.specs.Table.carried_after me.1 a))
+      (λ found. (
+        (settled_lost (length s.homes) session number state me).0,
+        keeps,
+        tt,
+        lost_rule s r id session me seat some_number number state lost most found,
+        (
+          refl,
+          λ q m st here first second.
+              let same : session ≡ q = omega arith in
+              let number_is : number ≡ m = omega arith in
+              let state_is : state ≡ st = omega arith in
+              (
+                subst (λ (k : ℕ). TellsOwn (length s.homes) k (waits s session) me.0) same (tells_own s r id session me seat),
+                (λ _. λ i. settled_lost (length s.homes) (same i) (number_is i) (state_is i) me),
+                λ missed. absurd (missed (found ∙ first)),
+              ),
+        ),
+      ))
+      (λ missed. (
+        (met_wait (length s.homes) session (waits s session) me).0,
+        keeps,
+        tt,
+        met_rule s r id session me seat,
+        (
+          refl,
+          λ q m st here first second.
+              let same : session ≡ q = omega arith in
+              (
+                subst (λ (k : ℕ). TellsOwn (length s.homes) k (waits s session) me.0) same (tells_own s r id session me seat),
+                (λ found. absurd (missed (found ∙ sym first))),
+                λ _. λ i. met_wait (length s.homes) (same i) (waits s session) me,
+              ),
+        ),
+      )))
