@@ -10,7 +10,7 @@ pub mod Deeds
 pub mod Books
 pub mod WaitWords
 pub mod WaitFrame
-pub mod WaitSteps
+pub mod WaitFlags
 pub mod Put
 pub mod Notes
 pub mod Exclusive

@@ -9,3 +9,4 @@ pub mod RuleLaws
 pub mod Schemas
 pub mod Seats
 pub mod WaitPlays
+pub mod WaitSeats

@@ -1,6 +1,6 @@
 -- What each kind of step on a wait's word tells the session that makes it. The word of a session is eight times the number of its last
 -- wait and a state: idle, unsettled, granted, or lost, as a victim, by its timeout or killed.
-use Rattle.std.specs.Prelude.{◌≡◌, ◌≢◌, ℕ, ◌+◌, ◌*◌, ◌%◌, ◌==◌, ◌&&◌, true, nat_lt, if◌then◌else◌, ◌++◌, ◌∷◌, [], Option, Some, None}
+use Rattle.std.specs.Prelude.{◌≡◌, ◌≢◌, ℕ, ◌+◌, ◌*◌, ◌%◌, ◌==◌, ◌&&◌, true, nat_lt, if◌then◌else◌, List, ◌++◌, ◌∷◌, [], Option, Some, None}
 use Rattle.std.specs.Option.{option_map, option_to_list}
 use Rattle.atomic_table.specs.Table.{Step, rest}
 use Rattle.mdl_key.specs.declared.mode.Mode.{Mode}

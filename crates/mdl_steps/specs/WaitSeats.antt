@@ -1,0 +1,45 @@
+-- What a caller has to know to make a step on a wait's word.
+use Rattle.std.specs.Prelude.{◌≡◌, ℕ, ◌<◌, true, Some, None}
+use Rattle.atomic_table.specs.Seated.{TableId}
+use Rattle.mdl_key.specs.declared.mode.Mode.{Mode}
+use Rattle.mdl_key.specs.Words.{is_mode_of}
+use Rattle.mdl_book.specs.declared.ticket.Ticket.{Ticket}
+use Rattle.mdl_book.specs.Books.{enqueueing, lock_kind}
+use Rattle.mdl_book.specs.Tickets.{ticket_of}
+use Rattle.mdl_steps.specs.declared.view.Ask.{Ask}
+use Rattle.mdl_steps.specs.declared.view.Held.{Held}
+use Rattle.mdl_steps.specs.Cells.{held_at}
+use Rattle.mdl_steps.specs.Deeds.{KnowsPlace, MayJoin}
+use Rattle.mdl_steps.specs.Layout.{wait_word}
+use Rattle.mdl_steps.specs.Plays.{Mine}
+use Rattle.mdl_steps.specs.Rule.{Flagged}
+use Rattle.mdl_steps.specs.WaitPlays.{asked_ticket}
+
+-- the wait word of a session stands among the words
+abbrev pub IsSession : TableId → ℕ → Type 0
+IsSession id session = (0 < session) × (wait_word id.slots session < id.words)
+
+-- the seat holds the latch of the place and may open a wait there: it has none yet, and the flags tell of its ticket too
+pub record MayOpen (place : ℕ) (mode : Mode) (h : Held) (m : Mine) : Type 0 where
+  pub recorded : held_at place m.0.latches ≡ Some h
+  pub idle : m.0.asks ≡ None
+  pub known : KnowsPlace m.0 place
+  pub mode_is : is_mode_of (lock_kind h.book) mode ≡ true
+  pub flagged : Flagged (enqueueing (asked_ticket mode m.0) h.book) h.slow h.obtrusive
+
+-- the seat holds the latch of the place, and the waiting ticket of a session there may stand beside all that is granted
+pub record MayGrant (place session ticket : ℕ) (h : Held) (m : Mine) : Type 0 where
+  pub recorded : held_at place m.0.latches ≡ Some h
+  pub wish : Ticket
+  pub waits : ticket_of session ticket h.book.waiting ≡ Some wish
+  pub may : MayJoin session h.book h.noted wish.mode
+
+-- the seat met its own wait lost, and holds the latch of the place where its ticket waits
+pub record MayCancel (place ticket state : ℕ) (h : Held) (m : Mine) : Type 0 where
+  pub recorded : held_at place m.0.latches ≡ Some h
+  pub told : m.0.told ≡ Some state
+  pub lost : 2 < state
+  pub ask : Ask
+  pub asks : m.0.asks ≡ Some ask
+  pub here : ask.place ≡ place
+  pub number : ask.number ≡ ticket
