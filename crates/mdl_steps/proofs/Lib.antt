@@ -9,8 +9,10 @@ pub mod Owns
 pub mod Deeds
 pub mod Books
 pub mod WaitWords
+pub mod WaitBooks
 pub mod WaitFrame
 pub mod WaitFlags
+pub mod WaitSteps
 pub mod Put
 pub mod Notes
 pub mod Exclusive
