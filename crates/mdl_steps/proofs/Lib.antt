@@ -13,6 +13,7 @@ pub mod WaitBooks
 pub mod WaitFrame
 pub mod WaitFlags
 pub mod WaitSteps
+pub mod WaitGrants
 pub mod Put
 pub mod Notes
 pub mod Exclusive

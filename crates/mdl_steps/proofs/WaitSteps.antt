@@ -34,9 +34,9 @@ set_found (x ∷ xs) (suc i) = ap (λ ys. x ∷ ys) (set_found xs i)
 
 -- what isn't 0 stands inside the list
 pub inside_found : (xs : List ℕ) (i : ℕ) → get_or xs i 0 ≢ 0 → i < length xs
-inside_found [] i some = absurd (some refl)
-inside_found (x ∷ xs) zero some = omega arith
-inside_found (x ∷ xs) (suc i) some = let rest = inside_found xs i some in omega arith
+inside_found [] i some_number = absurd (some_number refl)
+inside_found (x ∷ xs) zero some_number = omega arith
+inside_found (x ∷ xs) (suc i) some_number = let rest = inside_found xs i some_number in omega arith
 
 -- a session has the number, or none has
 seat_of : (xs : List Waiter) (n : ℕ) → ((j : ℕ) × (x : Waiter) × (get_elem? xs j ≡ some x) × (x.number ≡ n)) ⊎ ((j : ℕ) (x : Waiter) → get_elem? xs j ≡ some x → x.number ≢ n)
@@ -56,11 +56,11 @@ seat_of (y ∷ ys) n = elim (cases_eq y.number n) [
 -- where one waiter is another of the same number, the numbers are the same
 none_before : (xs : List Waiter) (id : ℕ) (x y : Waiter) → get_elem? xs id ≡ some x → y.number ≡ x.number → (n : ℕ)
     → ((j : ℕ) (z : Waiter) → get_elem? (set xs id y) j ≡ some z → z.number ≢ n) → (j : ℕ) (z : Waiter) → get_elem? xs j ≡ some z → z.number ≢ n
-none_before xs id x y at number n none j z there same = elim (cases_eq j id) [
+none_before xs id x y at number n nobody j z there same = elim (cases_eq j id) [
   | inl e ↦
       let is : x ≡ z = some-injective x z (sym at ∙ subst (λ (k : ℕ). get_elem? xs k ≡ some z) e there) in
-      none id y (set_here xs id y (at_inside xs id x at)) (number ∙ ap (λ (w : Waiter). w.number) is ∙ same)
-  | inr e ↦ none j z (set_else xs id j y e ∙ there) same
+      nobody id y (set_here xs id y (at_inside xs id x at)) (number ∙ ap (λ (w : Waiter). w.number) is ∙ same)
+  | inr e ↦ nobody j z (set_else xs id j y e ∙ there) same
 ]
 
 -- ---- a place at which only a part is another
@@ -113,7 +113,7 @@ module _ (s : Table) (r : Rule s) (id session : ℕ) (me : Mine) (seat : get_ele
     | inr e ↦ subst (λ (v : View). WaitOk slots (waits s me.0.number) (waiter_of v)) (sym (met_else session (waits s session) me.0 e)) own_ok
   ]
 
-  met_rule : Rule (after s (wait_word slots session) (waits s session) id met s.homes)
+  pub met_rule : Rule (after s (wait_word slots session) (waits s session) id met s.homes)
   met_rule = subst (λ (ws : List ℕ). Rule (record { words = ws; homes = s.homes; views = set s.views id met })) (sym (set_found s.words (wait_word slots session)))
       (let row = (r.views id me.0 seat).0 in record {
         most = r.most;
@@ -177,7 +177,7 @@ waiting_session s r session number found = elim (seat_of (map waiter_of s.views)
       number_is = is;
       ask = a;
       asks = e;
-      inside = (ok.asks a e).1;
+      inside = ((ok.asks a e).1, (ok.asks a e).2);
       fits = (let limit = r.enrolled.limit in let most = fits in omega arith);
     }
 
@@ -188,54 +188,50 @@ waiting_session s r session number found = elim (seat_of (map waiter_of s.views)
         by_ask j u.0 u.1 number_is own u.0.asks refl
 
 -- the ticket of a wait, as it stands in the book
-pub wished : ℕ → Ask → Ticket
+abbrev pub wished : ℕ → Ask → Ticket
 wished session a = record { session = session; number = a.number; mode = a.mode }
 
-pub asked_here : (session word state : ℕ) (asks : Option Ask) (a : Ask) → asks ≡ Some a → word % 8 ≡ state → asking_at a.place session word asks ≡ Some (record { ticket = wished session a; state = state })
-asked_here session word state asks a e is = ap (asking_at a.place session word) e ∙ rw (eq-eqb a.place a.place refl, is) refl
+pub asked_here : (place session word state : ℕ) (asks : Option Ask) (a : Ask) → asks ≡ Some a → a.place ≡ place → word % 8 ≡ state
+    → asking_at place session word asks ≡ Some (record { ticket = wished session a; state = state })
+asked_here place session word state asks a e here is = ap (asking_at place session word) e ∙ rw (eq-eqb a.place place here, is) refl
 
 -- the numbers stay, and the word of one session's wait is another
-pub their_waits : (s : Table) (r : Rule s) (session n id : ℕ) (v w : View) → get_elem? s.views id ≡ some v → w.number ≡ v.number → waiter_of w ≡ waiter_of (meeting session n v)
-    → session ≤ r.most → waits s session ≢ 0 → ((z : Waiter) → WaitOk (length s.homes) (waits s session) z → WaitOk (length s.homes) n z)
-    → WaitsAgree (length s.homes) r.most (waits (after s (wait_word (length s.homes) session) n id w s.homes)) (set (map waiter_of s.views) id (waiter_of w))
-their_waits s r session n id v w seat number known fits some_word settles = record {
-  each = λ j x at. elim (at_set (map waiter_of s.views) id j (waiter_of w) x at) [
-    | inl here ↦ subst (λ (y : Waiter). WaitOk slots′ (f y.number) y) here.1 (subst (λ (y : Waiter). WaitOk slots′ (f y.number) y) (sym known) mine)
-    | inr else ↦ by_number x (r.waits_agree.each j x else.1)
-  ];
-  unused = λ m inside none.
-      let before = none_before (map waiter_of s.views) id (waiter_of v) (waiter_of w) (at_map waiter_of s.views id v seat) number m none in
-      elim (cases_eq m session) [
-        | inl e ↦ absurd (some_word (ap (waits s) (sym e) ∙ r.waits_agree.unused m inside before))
-        | inr e ↦ waits_else s r session n id v w m e ∙ r.waits_agree.unused m inside before
-      ];
-}
-  where
-    slots′ : ℕ
-    slots′ = length s.homes
+module _ (s : Table) (r : Rule s) (session n id : ℕ) (v w : View) (seat : get_elem? s.views id ≡ some v) (number : w.number ≡ v.number) (known : waiter_of w ≡ waiter_of (meeting session n v))
+    (fits : session ≤ r.most) (some_word : waits s session ≢ 0) (settles : (z : Waiter) → WaitOk (length s.homes) (waits s session) z → WaitOk (length s.homes) n z) where
+  abbrev f : ℕ → ℕ
+  f = waits (after s (wait_word (length s.homes) session) n id w s.homes)
 
-    f : ℕ → ℕ
-    f = waits (after s (wait_word (length s.homes) session) n id w s.homes)
+  by_number : (x : Waiter) → WaitOk (length s.homes) (waits s x.number) x → WaitOk (length s.homes) (f x.number) x
+  by_number x ok = elim (cases_eq x.number session) [
+    | inl e ↦ subst (λ (k : ℕ). WaitOk (length s.homes) (f k) x) (sym e)
+        (subst (λ (k : ℕ). WaitOk (length s.homes) k x) (sym (waits_here s r session n id v w fits)) (settles x (subst (λ (k : ℕ). WaitOk (length s.homes) (waits s k) x) e ok)))
+    | inr e ↦ subst (λ (k : ℕ). WaitOk (length s.homes) k x) (sym (waits_else s r session n id v w x.number e)) ok
+  ]
 
-    by_number : (x : Waiter) → WaitOk slots′ (waits s x.number) x → WaitOk slots′ (f x.number) x
-    unfolding slots′ f
-    by_number x ok = elim (cases_eq x.number session) [
-      | inl e ↦ subst (λ (k : ℕ). WaitOk (length s.homes) (waits (after s (wait_word (length s.homes) session) n id w s.homes) k) x) (sym e)
-          (subst (λ (k : ℕ). WaitOk (length s.homes) k x) (sym (waits_here s r session n id v w fits)) (settles x (subst (λ (k : ℕ). WaitOk (length s.homes) (waits s k) x) e ok)))
-      | inr e ↦ subst (λ (k : ℕ). WaitOk (length s.homes) k x) (sym (waits_else s r session n id v w x.number e)) ok
-    ]
+  mine : WaitOk (length s.homes) (f v.number) (waiter_of (meeting session n v))
+  mine =
+      let now = by_number (waiter_of v) (r.waits_agree.each id (waiter_of v) (at_map waiter_of s.views id v seat)) in
+      elim (cases_eq session v.number) [
+        | inl e ↦
+            let word : f v.number ≡ n = ap f (sym e) ∙ waits_here s r session n id v w fits in
+            subst (λ (k : ℕ). WaitOk (length s.homes) k (waiter_of (meeting session n v))) (sym word)
+            (met_ok (length s.homes) session n v (subst (λ (k : ℕ). WaitOk (length s.homes) k (waiter_of v)) word now))
+        | inr e ↦ subst (λ (u : View). WaitOk (length s.homes) (f v.number) (waiter_of u)) (sym (met_else session n v e)) now
+      ]
 
-    mine : WaitOk slots′ (f v.number) (waiter_of (meeting session n v))
-    unfolding slots′ f
-    mine =
-        let now = by_number (waiter_of v) (r.waits_agree.each id (waiter_of v) (at_map waiter_of s.views id v seat)) in
-        elim (cases_eq session v.number) [
-          | inl e ↦
-              let word : waits (after s (wait_word (length s.homes) session) n id w s.homes) v.number ≡ n = ap (waits (after s (wait_word (length s.homes) session) n id w s.homes)) (sym e) ∙ waits_here s r session n id v w fits in
-              subst (λ (k : ℕ). WaitOk (length s.homes) k (waiter_of (meeting session n v))) (sym word)
-              (met_ok (length s.homes) session n v (subst (λ (k : ℕ). WaitOk (length s.homes) k (waiter_of v)) word now))
-          | inr e ↦ subst (λ (u : View). WaitOk (length s.homes) (waits (after s (wait_word (length s.homes) session) n id w s.homes) v.number) (waiter_of u)) (sym (met_else session n v e)) now
-        ]
+  pub their_waits : WaitsAgree (length s.homes) r.most f (set (map waiter_of s.views) id (waiter_of w))
+  their_waits = record {
+    each = λ j x at. elim (at_set (map waiter_of s.views) id j (waiter_of w) x at) [
+      | inl here ↦ subst (λ (y : Waiter). WaitOk (length s.homes) (f y.number) y) (sym known ∙ here.1) mine
+      | inr else ↦ by_number x (r.waits_agree.each j x else.1)
+    ];
+    unused = λ m inside none.
+        let before = none_before (map waiter_of s.views) id (waiter_of v) (waiter_of w) (at_map waiter_of s.views id v seat) number m none in
+        elim (cases_eq m session) [
+          | inl e ↦ absurd (some_word (ap (waits s) (sym e) ∙ r.waits_agree.unused m inside before))
+          | inr e ↦ waits_else s r session n id v w m e ∙ r.waits_agree.unused m inside before
+        ];
+  }
 
 module _ (s : Table) (r : Rule s) (id session : ℕ) (me : Mine) (seat : get_elem? s.views id ≡ some me.0) (some_number : 0 < session)
     (number state : ℕ) (lost : 2 < state) (most : state ≤ 5) (found : waits s session ≡ wait_in number 1) where
@@ -265,13 +261,13 @@ module _ (s : Table) (r : Rule s) (id session : ℕ) (me : Mine) (seat : get_ele
     there = at_map (part_at (waits s) place) s.views t.at t.view t.there
 
     was_open : was.asks ≡ Some (record { ticket = ticket; state = 1 })
-    was_open = asked_here t.view.number (waits s t.view.number) 1 t.view.asks t.ask t.asks
+    was_open = asked_here place t.view.number (waits s t.view.number) 1 t.view.asks t.ask t.asks refl
         (let same : waits s t.view.number ≡ wait_in number 1 = ap (waits s) t.number_is ∙ found in omega arith)
 
     then_is : part_at (waits now) place t.view ≡ then_
     then_is =
         let same : waits now t.view.number ≡ wait_in number state = ap (waits now) t.number_is ∙ waits_here s r session (wait_in number state) id me.0 w fits in
-        let asks = asked_here t.view.number (waits now t.view.number) state t.view.asks t.ask t.asks (omega arith) in
+        let asks = asked_here place t.view.number (waits now t.view.number) state t.view.asks t.ask t.asks refl (omega arith) in
         λ i. record was { asks = asks i }
 
     by_itself : (j : ℕ) (z : Part) → get_elem? (cell s place).parts j ≡ some z → z.number ≡ was.number → j ≡ t.at
@@ -291,22 +287,23 @@ module _ (s : Table) (r : Rule s) (id session : ℕ) (me : Mine) (seat : get_ele
         (lost_ok key c.version c.parts ok.book t.at was there by_itself ok.book_ok ticket state was_open (λ two. omega arith)))
 
     lost_there : Rule now
-    lost_there = on_wait s r session (wait_in number state) id me.0 w place (record {
-      inside = t.inside;
-      seat = seat;
-      number = refl;
-      spare = refl;
-      directory = refl;
-      known = refl;
-      numbered = (let row = (r.views id me.0 seat).0 in record { fast = row.fast; slow = row.slow; asks = row.asks; apart = row.apart });
-      holder_else = λ q else. refl;
-    }) (set (cell s place).parts t.at then_)
-    (λ q else. their_parts_else s r session (wait_in number state) id me.0 w seat (λ f p. refl) some_number t.at t.view t.there t.number_is q
-        (part_away (waits s) (waits now) q t.view (λ a e here. else (sym here ∙ ap (λ (b : Ask). b.place) (let same : Some a ≡ Some t.ask = sym e ∙ t.asks in cc)))))
-    (their_parts s r session (wait_in number state) id me.0 w seat (λ f p. refl) some_number t.at t.view t.there t.number_is place ∙ ap (λ (x : Part). set (cell s place).parts t.at x) then_is)
-    (their_waits s r session (wait_in number state) id me.0 w seat refl refl fits (λ zero. omega arith)
-        (λ z known. settled_ok (length s.homes) number state z (omega arith) most (subst (λ (k : ℕ). WaitOk (length s.homes) k z) found known)))
-    place_ok
+    lost_there =
+        on_wait s r session (wait_in number state) id me.0 w place (record {
+          inside = t.inside;
+          seat = seat;
+          number = refl;
+          spare = refl;
+          directory = refl;
+          known = refl;
+          numbered = (let row = (r.views id me.0 seat).0 in record { fast = row.fast; slow = row.slow; asks = row.asks; apart = row.apart });
+          holder_else = λ q else. refl;
+        }) (set (cell s place).parts t.at then_)
+        (λ q else. their_parts_else s r session (wait_in number state) id me.0 w seat (λ f p. refl) some_number t.at t.view t.there t.number_is q
+            (part_away (waits s) (waits now) q t.view (λ a e here. (let both : Some a ≡ Some t.ask = sym e ∙ t.asks in let same : a ≡ t.ask = cc in else (sym here ∙ ap (λ (b : Ask). b.place) same)))))
+        (their_parts s r session (wait_in number state) id me.0 w seat (λ f p. refl) some_number t.at t.view t.there t.number_is place ∙ ap (λ (x : Part). set (cell s place).parts t.at x) then_is)
+        (their_waits s r session (wait_in number state) id me.0 w seat refl refl fits (λ zero. omega arith)
+            (λ z known. settled_ok (length s.homes) number state z (omega arith) most (subst (λ (k : ℕ). WaitOk (length s.homes) k z) found known)))
+        place_ok
 
   pub lost_rule : Rule now
   lost_rule = lost_there waiting.0 waiting.1
@@ -315,7 +312,7 @@ module _ (s : Table) (r : Rule s) (id session : ℕ) (me : Mine) (seat : get_ele
 
 module _ (id session : ℕ) (me : Mine) where
   -- what is shown of a table of so many slots, whose word becomes this number
-  abbrev Steps : Table → (ℕ → ℕ) → (ℕ → ℕ → Mine → Type 0) → ℕ → Type 0
+  abbrev pub Steps : Table → (ℕ → ℕ) → (ℕ → ℕ → Mine → Type 0) → ℕ → Type 0
   Steps s f then slots =
       (w : View) × (a : Act Slot) × Rattle.atomic_table.specs.Table.Valid s.homes me.1 a
       × Rule (moved_by s (wait_word slots session) (f (get_or s.words (wait_word slots session) 0)) id me.1 w a)
