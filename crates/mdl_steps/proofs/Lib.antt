@@ -14,6 +14,7 @@ pub mod WaitFrame
 pub mod WaitFlags
 pub mod WaitSteps
 pub mod WaitGrants
+pub mod WaitEnds
 pub mod Put
 pub mod Notes
 pub mod Exclusive

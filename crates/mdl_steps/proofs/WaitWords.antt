@@ -40,7 +40,7 @@ settled_ok slots number state x more most ok = record {
 }
 
 -- a wait is opened
-pub opened_wait : (slots number : ℕ) (a : Ask) (v : View) → 0 < a.place → a.place < slots → WaitOk slots (8 * number + 9) (record { number = v.number; waits = number + 1; asks = Some a; told = None })
+pub opened_wait : (slots number : ℕ) (a : Ask) (v : View) → 0 < a.place → a.place < slots → WaitOk slots (wait_in (number + 1) 1) (record { number = v.number; waits = number + 1; asks = Some a; told = None })
 opened_wait slots number a v first last = record {
   number = omega arith;
   state = omega arith;
