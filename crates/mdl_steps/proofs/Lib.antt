@@ -15,6 +15,7 @@ pub mod WaitFlags
 pub mod WaitSteps
 pub mod WaitGrants
 pub mod WaitEnds
+pub mod WaitHands
 pub mod Put
 pub mod Notes
 pub mod Exclusive

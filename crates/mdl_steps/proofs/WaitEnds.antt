@@ -250,9 +250,12 @@ module _ (s : Table) (r : Rule s) (id : ℕ) (me : Mine) (seat : get_elem? s.vie
               (taken_ok key (cell s a.place).version (cell s a.place).parts there_ok.book id (part_at (waits s) a.place me.0) there_part is_alone there_ok.book_ok (wished session a) own asked refl refl)))
 
     -- lost: the ticket is gone
-    module _ (place ticket : ℕ) (h : Held) (may : MayCancel place ticket state h me) where
+    module _ (place : ℕ) (h : Held) (may : MayCancel place h me) (same_state : may.state ≡ state) where
+      abbrev cancelled_number : ℕ
+      cancelled_number = may.ask.number
+
       abbrev gone : View
-      gone = (ended_lost (length s.homes) place ticket state me).0
+      gone = (ended_lost (length s.homes) place cancelled_number state me).0
 
       abbrev after_gone : Table
       after_gone = after s (wait_word (length s.homes) session) (8 * me.0.waits) id gone s.homes
@@ -274,6 +277,7 @@ module _ (s : Table) (r : Rule s) (id : ℕ) (me : Mine) (seat : get_elem? s.vie
           let asked : (part_at (waits s) place me.0).asks ≡ Some (record { ticket = wished session may.ask; state = state }) =
           asked_here place session (waits s session) state me.0.asks may.ask may.asks here word_is.1 in
           let lost = may.lost in
+          let state_is = same_state in
           let fast = fast_kept key (cell s place).version (cell s place).parts h.book id (part_at (waits s) place me.0) there_part is_alone under_h.book_ok without_ask refl refl in
           let cancelled = cancelled_ok key (cell s place).version (cell s place).parts h.book id (part_at (waits s) place me.0) there_part is_alone under_h.book_ok (wished session may.ask) state asked (λ two. omega arith) refl in
           on_wait s r session (8 * me.0.waits) id me.0 gone place (record {
@@ -284,7 +288,7 @@ module _ (s : Table) (r : Rule s) (id : ℕ) (me : Mine) (seat : get_elem? s.vie
             directory = refl;
             known = refl;
             numbered = record { fast = row.fast; slow = row.slow; asks = λ b e. absurd (cc); apart = λ b e. absurd (cc) };
-            holder_else = λ q else. λ i. record { number = me.0.number; held = held_at-unchanged place (with_cancelled session ticket) (λ x. refl) q me.0.latches else i };
+            holder_else = λ q else. λ i. record { number = me.0.number; held = held_at-unchanged place (with_cancelled session cancelled_number) (λ x. refl) q me.0.latches else i };
           }) (set (cell s place).parts id without_ask)
           (λ q else. own_parts_else s r session (8 * me.0.waits) id me.0 gone seat refl some_number refl q
               (let away = asks_away q session (waits s session) me.0.asks (λ b e at. (let same : may.ask ≡ b = (let both : Some may.ask ≡ Some b = sym may.asks ∙ e in cc) in else (sym at ∙ ap (λ (c : Ask). c.place) (sym same) ∙ here))) in
@@ -292,11 +296,11 @@ module _ (s : Table) (r : Rule s) (id : ℕ) (me : Mine) (seat : get_elem? s.vie
           (own_parts s r session (8 * me.0.waits) id me.0 gone seat refl some_number refl place)
           (own_waits s r session (8 * me.0.waits) id me.0 gone seat refl some_number refl
               (subst (λ (n : ℕ). WaitOk (length s.homes) n (waiter_of gone)) (sym (waits_here s r session (8 * me.0.waits) id me.0 gone fits)) (ended_wait (length s.homes) me.0.waits session)))
-          (recorded_cell place first last h may.recorded gone (with_cancelled session ticket) (λ x. refl) refl refl without_ask (record {
+          (recorded_cell place first last h may.recorded gone (with_cancelled session cancelled_number) (λ x. refl) refl refl without_ask (record {
             counted = rw fast under_h.counted;
-            flagged = flagged_cancelled session ticket h.book h.slow h.obtrusive under_h.flagged;
+            flagged = flagged_cancelled session cancelled_number h.book h.slow h.obtrusive under_h.flagged;
             noted = rw fast under_h.noted;
-            book_ok = subst (λ (m : ℕ). BookOk key (cell s place).version (set (cell s place).parts id without_ask) (cancelling session m h.book)) may.number cancelled;
+            book_ok = cancelled;
           }))
 
 -- ---- the steps
@@ -338,14 +342,24 @@ module _ (slots id : ℕ) (me : Mine) (some_number : 0 < me.0.number) where
           subst (λ (o : Option Ask). Rule (after s (wait_word (length s.homes) me.0.number) (8 * me.0.waits) id (record (ended_granted (length s.homes) me).0 { slow = me.0.slow ++ taken_over o }) s.homes)) (sym e)
           (taken_rule s r id me seat some_number 2 told refl a e)
 
-  pub ends_lost_allowed : (place ticket state : ℕ) (h : Held) → MayCancel place ticket state h me → (n : ℕ) → n ≡ 8 * me.0.waits
-      → Allows Rule slots id me (wait_word slots me.0.number) (λ _. n) (λ _. ends_lost place ticket state (step slots (wait_word slots me.0.number) n 0 none) me n)
-  ends_lost_allowed place ticket state h may n is s r size seat fits =
-      subst (Stores id me s n (λ k found. ends_lost place ticket state (step k (wait_word k me.0.number) n 0 none) me n)) size (
-        (ended_lost (length s.homes) place ticket state me).0,
+  pub ends_lost_allowed : (place : ℕ) (h : Held) → MayCancel place h me → (n : ℕ) → n ≡ 8 * me.0.waits
+      → Allows Rule slots id me (wait_word slots me.0.number) (λ _. n) (λ _. ends_lost (step slots (wait_word slots me.0.number) n 0 none) me n)
+  ends_lost_allowed place h may n is s r size seat fits =
+      let w : View = (ended_lost (length s.homes) place may.ask.number may.state me).0 in
+      subst (Stores id me s n (λ k found. ends_lost (step k (wait_word k me.0.number) n 0 none) me n)) size (
+        (ended_lost (length s.homes) place may.ask.number may.state me).0,
         keeps,
         tt,
-        subst (λ (m : ℕ). Rule (after s (wait_word (length s.homes) me.0.number) m id (ended_lost (length s.homes) place ticket state me).0 s.homes)) (sym is)
-            (gone_rule s r id me seat some_number state may.told place ticket h may),
-        (refl, λ here. refl),
+        subst (λ (m : ℕ). Rule (after s (wait_word (length s.homes) me.0.number) m id (ended_lost (length s.homes) place may.ask.number may.state me).0 s.homes)) (sym is)
+            (gone_rule s r id me seat some_number may.state may.told place h may refl),
+        (
+          refl,
+          λ a state here asks told.
+              let both : Some may.ask ≡ Some a = sym may.asks ∙ asks in
+              let ask_is : may.ask ≡ a = cc in
+              let states : Some may.state ≡ Some state = sym may.told ∙ told in
+              let state_is : may.state ≡ state = cc in
+              let place_is : place ≡ a.place = sym may.here ∙ ap (λ (b : Ask). b.place) ask_is in
+              λ i. ended_lost (length s.homes) (place_is i) (ask_is i).number (state_is i) me,
+        ),
       )

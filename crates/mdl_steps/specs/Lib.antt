@@ -10,3 +10,4 @@ pub mod Schemas
 pub mod Seats
 pub mod WaitPlays
 pub mod WaitSeats
+pub mod WaitStates

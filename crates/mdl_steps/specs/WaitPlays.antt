@@ -123,6 +123,8 @@ ends_granted st m found m′ =
     (m′.0.number ≡ m.0.number) × (st.word ≡ wait_word st.slots m.0.number → m′ ≡ ended_granted st.slots m)
 
 -- a lost wait is ended under the latch of its place
-abbrev pub ends_lost : ℕ → ℕ → ℕ → Step Slot → Mine → ℕ → Mine → Type 0
-ends_lost place ticket state st m found m′ =
-    (m′.0.number ≡ m.0.number) × (st.word ≡ wait_word st.slots m.0.number → m′ ≡ ended_lost st.slots place ticket state m)
+abbrev pub ends_lost : Step Slot → Mine → ℕ → Mine → Type 0
+ends_lost st m found m′ =
+    (m′.0.number ≡ m.0.number)
+    × ((a : Ask) (state : ℕ) → st.word ≡ wait_word st.slots m.0.number → m.0.asks ≡ Some a → m.0.told ≡ Some state →
+    m′ ≡ ended_lost st.slots a.place a.number state m)

@@ -35,11 +35,11 @@ pub record MayGrant (place session ticket : ℕ) (h : Held) (m : Mine) : Type 0 
   pub may : MayJoin session h.book h.noted wish.mode
 
 -- the seat met its own wait lost, and holds the latch of the place where its ticket waits
-pub record MayCancel (place ticket state : ℕ) (h : Held) (m : Mine) : Type 0 where
+pub record MayCancel (place : ℕ) (h : Held) (m : Mine) : Type 0 where
   pub recorded : held_at place m.0.latches ≡ Some h
+  pub state : ℕ
   pub told : m.0.told ≡ Some state
   pub lost : 2 < state
   pub ask : Ask
   pub asks : m.0.asks ≡ Some ask
   pub here : ask.place ≡ place
-  pub number : ask.number ≡ ticket

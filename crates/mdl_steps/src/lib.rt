@@ -42,6 +42,8 @@ mod plays;
 mod schemas;
 mod slot;
 mod view;
+mod wait_word;
+mod waits;
 mod worker;
 
 pub use copies::BookCopy;
@@ -55,4 +57,5 @@ pub use maker::{Maker, OwnedTable};
 pub use plays::Order;
 pub use slot::{Directory, Slot};
 pub use view::{Ask, Held, Keys, Known, Met, Own, Read, Spare, View};
+pub use wait_word::{Loss, WaitWord};
 pub use worker::{Latched, LockTable, Worker};

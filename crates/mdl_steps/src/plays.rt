@@ -1,10 +1,13 @@
 //! The rule of the table, and what each kind of step tells its session.
-ghost use Rattle.std.specs.Prelude.{List, []};
+ghost use Rattle.std.specs.Prelude.{ℕ, List, []};
+ghost use Rattle.mdl_key.specs.declared.mode.Mode.{Mode};
+ghost use Rattle.mdl_key.specs.declared.mode.Mode.TheVariants.{S};
 ghost use Rattle.mdl_steps.specs.declared.deed.Deed.{Deed};
 ghost use Rattle.mdl_steps.specs.declared.view.Known.{Known};
 ghost use Rattle.mdl_steps.specs.Cells.{blank, numbers_for, no_numbers};
 ghost use Rattle.mdl_steps.specs.Plays.{enrols, takes_latch, puts_latch, raises_flags, lowers_flags, reads_word, writes_version, takes_directory, puts_directory, puts_reading, puts_key};
 ghost use Rattle.mdl_steps.specs.Rule.{Rule};
+ghost use Rattle.mdl_steps.specs.WaitPlays.{reads_wait, settles_lost, settles_granted, opens_wait, ends_granted, ends_lost};
 
 use crate::{Slot, View};
 use atomic_table::{Play, Split, TableRule};
@@ -129,4 +132,74 @@ pub(crate) struct PutDirectory<J: Learning> {
 
 impl<J: Learning> Play<Slot, View> for PutDirectory<J> {
     ghost then = { puts_directory J.learnt };
+}
+
+/// A wait's word is read.
+pub(crate) struct ReadWait;
+
+impl Play<Slot, View> for ReadWait {
+    ghost then = { reads_wait };
+}
+
+/// A wait is settled as lost.
+pub(crate) struct SettleLost;
+
+impl Play<Slot, View> for SettleLost {
+    ghost then = { settles_lost };
+}
+
+/// A granted wait is ended.
+pub(crate) struct EndGranted;
+
+impl Play<Slot, View> for EndGranted {
+    ghost then = { ends_granted };
+}
+
+/// A lost wait is ended.
+pub(crate) struct EndLost;
+
+impl Play<Slot, View> for EndLost {
+    ghost then = { ends_lost };
+}
+
+/// What a wait is opened for.
+pub(crate) trait Wishing {
+    ghost place: { ℕ };
+    ghost mode: { Mode };
+}
+
+/// Each call picks it.
+impl Wishing for Brand {
+    ghost place = { 0 };
+    ghost mode = { S };
+}
+
+/// A wait is opened.
+pub(crate) struct OpenWait<J: Wishing> {
+    marker: PhantomData<J>,
+}
+
+impl<J: Wishing> Play<Slot, View> for OpenWait<J> {
+    ghost then = { opens_wait J.place J.mode };
+}
+
+/// Where a ticket waits that is granted, and its number.
+pub(crate) trait Granting {
+    ghost place: { ℕ };
+    ghost ticket: { ℕ };
+}
+
+/// Each call picks them.
+impl Granting for Brand {
+    ghost place = { 0 };
+    ghost ticket = { 0 };
+}
+
+/// A wait is granted.
+pub(crate) struct GrantWait<J: Granting> {
+    marker: PhantomData<J>,
+}
+
+impl<J: Granting> Play<Slot, View> for GrantWait<J> {
+    ghost then = { settles_granted J.place J.ticket };
 }

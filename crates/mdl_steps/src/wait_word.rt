@@ -1,0 +1,63 @@
+//! The word of a session's wait.
+ghost use Rattle.std.specs.Prelude.{◌≡◌, ◌<◌, ◌^◌, ◌/◌, ◌%◌};
+ghost use Rattle.mdl_steps.specs.WaitPlays.{wait_in};
+ghost use Rattle.mdl_steps.specs.WaitStates.{lost_state};
+
+/// The word of a session's wait, as a step met it: eight times the number of the session's last wait and a state.
+#[derive(Clone, Copy, Debug, PartialEq, Eq)]
+pub struct WaitWord(pub u64);
+
+/// How a wait is lost.
+#[derive(Clone, Copy, Debug, PartialEq, Eq)]
+pub enum Loss {
+    /// As the victim of a deadlock.
+    Victim,
+    /// By its timeout.
+    Timeout,
+    /// Killed by a session.
+    Killed,
+}
+
+impl WaitWord {
+    /// The state of a session that waits for nothing.
+    pub const IDLE: u64 = 0;
+    /// The state of a wait that isn't settled.
+    pub const UNSETTLED: u64 = 1;
+    /// The state of a wait that was granted and isn't ended.
+    pub const GRANTED: u64 = 2;
+
+    /// The number of the session's last wait, or 0 before the first.
+    pub fn number(self) -> u64
+        ensures { result ≡ self.0 / 8 }
+    {
+        self.0 / 8
+    }
+
+    /// The state: one of the above, or how the wait was lost, as [`Loss::state`] has it.
+    pub fn state(self) -> u64
+        ensures { result ≡ self.0 % 8 }
+    {
+        self.0 % 8
+    }
+}
+
+impl Loss {
+    /// The state of a wait that was lost so and isn't ended.
+    pub fn state(self) -> u64
+        ensures { result ≡ lost_state self }
+    {
+        match self {
+            Loss::Victim => 3,
+            Loss::Timeout => 4,
+            Loss::Killed => 5,
+        }
+    }
+}
+
+// The word of a wait in a state.
+pub(crate) fn word_in(wait: u64, state: u64) -> u64
+    requires { (wait < 2 ^ 60) × (state < 8) }
+    ensures { result ≡ wait_in wait state }
+{
+    8 * wait + state
+}
