@@ -16,6 +16,7 @@ pub mod WaitSteps
 pub mod WaitGrants
 pub mod WaitEnds
 pub mod WaitHands
+pub mod WaitTells
 pub mod Put
 pub mod Notes
 pub mod Exclusive

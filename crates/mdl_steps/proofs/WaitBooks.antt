@@ -46,7 +46,7 @@ push_found t (x ∷ xs) none = by_bool (is_ticket t.session t.number x)
     ∙ push_found t xs (sym (ap (λ b. cond b (Some x) (ticket_of t.session t.number xs)) miss) ∙ none))
 
 -- and first in it
-first_found : (t : Ticket) (ts : List Ticket) → ticket_of t.session t.number (t ∷ ts) ≡ Some t
+pub first_found : (t : Ticket) (ts : List Ticket) → ticket_of t.session t.number (t ∷ ts) ≡ Some t
 first_found t ts = rw (is_itself t) refl
 
 first_other : (a m : ℕ) (t : Ticket) (ts : List Ticket) → is_ticket a m t ≡ false → ticket_of a m (t ∷ ts) ≡ ticket_of a m ts
@@ -93,14 +93,14 @@ module _ (key : Option KeyName) (version : ℕ) (parts : List Part) (book : Book
         };
         each = λ j z there. elim (at_set parts id j y z there) [
           | inl here ↦ subst (λ (p : Part). PartOk (record book { granted = granted; waiting = waiting }) p) here.1 (record {
-              few = (let few = mine.few in let is : length y.fast ≡ length x.fast = ap length fast in omega arith);
-              slow_held = slow;
-              versions_agree = record {
-                reads = subst (λ rs. Each (Rattle.mdl_steps.specs.Rule.ReadAgrees book) rs) (sym reads) mine.versions_agree.reads;
-                fast = subst (λ ts. Each (NoteAgrees book) ts) (sym fast) mine.versions_agree.fast;
-                slow = notes;
-              };
-            })
+            few = (let few = mine.few in let is : length y.fast ≡ length x.fast = ap length fast in omega arith);
+            slow_held = slow;
+            versions_agree = record {
+              reads = subst (λ rs. Each (Rattle.mdl_steps.specs.Rule.ReadAgrees book) rs) (sym reads) mine.versions_agree.reads;
+              fast = subst (λ ts. Each (NoteAgrees book) ts) (sym fast) mine.versions_agree.fast;
+              slow = notes;
+            };
+          })
           | inr other ↦
               let theirs = ok.each j z other.1 in
               let differs : z.number ≢ x.number = λ e. other.0 (alone j z other.1 e) in

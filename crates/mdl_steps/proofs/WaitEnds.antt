@@ -171,8 +171,8 @@ module _ (s : Table) (r : Rule s) (id : ℕ) (me : Mine) (seat : get_elem? s.vie
         (λ q else. own_parts_else s r session word id me.0 w seat refl some_number refl q (else_is q else))
         (own_parts s r session word id me.0 w seat refl some_number refl place ∙ ap (λ (x : Part). set (cell s place).parts id x) then_is)
         (own_waits s r session word id me.0 w seat refl some_number refl
-            (subst (λ (n : ℕ). WaitOk (length s.homes) n (waiter_of w)) (sym (waits_here s r session word id me.0 w fits))
-            (opened_wait (length s.homes) me.0.waits (asking place mode me.0) me.0 first last)))
+        (subst (λ (n : ℕ). WaitOk (length s.homes) n (waiter_of w)) (sym (waits_here s r session word id me.0 w fits))
+        (opened_wait (length s.homes) me.0.waits (asking place mode me.0) me.0 first last)))
         (recorded_cell place first last h may.recorded w (with_waiting ticket) (λ x. refl) refl refl then_ (record {
           counted = rw fast (u place first last h may.recorded).counted;
           flagged = may.flagged;
@@ -236,18 +236,18 @@ module _ (s : Table) (r : Rule s) (id : ℕ) (me : Mine) (seat : get_elem? s.vie
             holder_else = λ q else. refl;
           }) (set (cell s a.place).parts id with_own)
           (λ q else. own_parts_else s r session (8 * me.0.waits) id me.0 taken seat refl some_number refl q
-              (let away = asks_away q session (waits s session) me.0.asks (λ b e here. (let same : a ≡ b = (let both : Some a ≡ Some b = sym asks ∙ e in cc) in else (sym here ∙ ap (λ (c : Ask). c.place) (sym same)))) in
-              let slow = owned_else a.place q (Gain a.number a.mode) me.0.slow else in
-              λ i. record (part_at (waits s) q me.0) { asks = sym away i; slow = slow i }))
+          (let away = asks_away q session (waits s session) me.0.asks (λ b e here. (let same : a ≡ b = (let both : Some a ≡ Some b = sym asks ∙ e in cc) in else (sym here ∙ ap (λ (c : Ask). c.place) (sym same)))) in
+          let slow = owned_else a.place q (Gain a.number a.mode) me.0.slow else in
+          λ i. record (part_at (waits s) q me.0) { asks = sym away i; slow = slow i }))
           (own_parts s r session (8 * me.0.waits) id me.0 taken seat refl some_number refl a.place
-              ∙ ap (λ (x : Part). set (cell s a.place).parts id x)
-              (let slow = own_at-push a.place own me.0.slow refl in λ i. record (part_at (waits s) a.place me.0) { asks = None; slow = slow i }))
+          ∙ ap (λ (x : Part). set (cell s a.place).parts id x)
+          (let slow = own_at-push a.place own me.0.slow refl in λ i. record (part_at (waits s) a.place me.0) { asks = None; slow = slow i }))
           (own_waits s r session (8 * me.0.waits) id me.0 taken seat refl some_number refl
-              (subst (λ (n : ℕ). WaitOk (length s.homes) n (waiter_of taken)) (sym (waits_here s r session (8 * me.0.waits) id me.0 taken fits)) (ended_wait (length s.homes) me.0.waits session)))
+          (subst (λ (n : ℕ). WaitOk (length s.homes) n (waiter_of taken)) (sym (waits_here s r session (8 * me.0.waits) id me.0 taken fits)) (ended_wait (length s.homes) me.0.waits session)))
           (rw (holders_again s a.place id me.0 taken seat refl)
-              (part_cell key (cell s a.place) there_ok (set (cell s a.place).parts id with_own)
-              (fast_kept key (cell s a.place).version (cell s a.place).parts there_ok.book id (part_at (waits s) a.place me.0) there_part is_alone there_ok.book_ok with_own refl refl)
-              (taken_ok key (cell s a.place).version (cell s a.place).parts there_ok.book id (part_at (waits s) a.place me.0) there_part is_alone there_ok.book_ok (wished session a) own asked refl refl)))
+          (part_cell key (cell s a.place) there_ok (set (cell s a.place).parts id with_own)
+          (fast_kept key (cell s a.place).version (cell s a.place).parts there_ok.book id (part_at (waits s) a.place me.0) there_part is_alone there_ok.book_ok with_own refl refl)
+          (taken_ok key (cell s a.place).version (cell s a.place).parts there_ok.book id (part_at (waits s) a.place me.0) there_part is_alone there_ok.book_ok (wished session a) own asked refl refl)))
 
     -- lost: the ticket is gone
     module _ (place : ℕ) (h : Held) (may : MayCancel place h me) (same_state : may.state ≡ state) where
@@ -291,11 +291,11 @@ module _ (s : Table) (r : Rule s) (id : ℕ) (me : Mine) (seat : get_elem? s.vie
             holder_else = λ q else. λ i. record { number = me.0.number; held = held_at-unchanged place (with_cancelled session cancelled_number) (λ x. refl) q me.0.latches else i };
           }) (set (cell s place).parts id without_ask)
           (λ q else. own_parts_else s r session (8 * me.0.waits) id me.0 gone seat refl some_number refl q
-              (let away = asks_away q session (waits s session) me.0.asks (λ b e at. (let same : may.ask ≡ b = (let both : Some may.ask ≡ Some b = sym may.asks ∙ e in cc) in else (sym at ∙ ap (λ (c : Ask). c.place) (sym same) ∙ here))) in
-              λ i. record (part_at (waits s) q me.0) { asks = sym away i }))
+          (let away = asks_away q session (waits s session) me.0.asks (λ b e at. (let same : may.ask ≡ b = (let both : Some may.ask ≡ Some b = sym may.asks ∙ e in cc) in else (sym at ∙ ap (λ (c : Ask). c.place) (sym same) ∙ here))) in
+          λ i. record (part_at (waits s) q me.0) { asks = sym away i }))
           (own_parts s r session (8 * me.0.waits) id me.0 gone seat refl some_number refl place)
           (own_waits s r session (8 * me.0.waits) id me.0 gone seat refl some_number refl
-              (subst (λ (n : ℕ). WaitOk (length s.homes) n (waiter_of gone)) (sym (waits_here s r session (8 * me.0.waits) id me.0 gone fits)) (ended_wait (length s.homes) me.0.waits session)))
+          (subst (λ (n : ℕ). WaitOk (length s.homes) n (waiter_of gone)) (sym (waits_here s r session (8 * me.0.waits) id me.0 gone fits)) (ended_wait (length s.homes) me.0.waits session)))
           (recorded_cell place first last h may.recorded gone (with_cancelled session cancelled_number) (λ x. refl) refl refl without_ask (record {
             counted = rw fast under_h.counted;
             flagged = flagged_cancelled session cancelled_number h.book h.slow h.obtrusive under_h.flagged;

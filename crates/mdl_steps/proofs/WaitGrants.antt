@@ -36,12 +36,13 @@ use Rattle.mdl_steps.proofs.WaitSteps.{Waiting, waiting_session, wished, asked_h
 use Rattle.mdl_steps.proofs.WaitWords.{settled_ok}
 
 -- a ticket that waits at a place is that for which its session asks
-found_asked : (place n word m : ℕ) (a : Ask) (u : Ticket) → ticket_of n m (option_to_list (pending (asking_at place n word (Some a)))) ≡ Some u → (a.place ≡ place) × (a.number ≡ m) × (u ≡ wished n a)
+pub found_asked : (place n word m : ℕ) (a : Ask) (u : Ticket) → ticket_of n m (option_to_list (pending (asking_at place n word (Some a)))) ≡ Some u
+    → (a.place ≡ place) × (a.number ≡ m) × (u ≡ wished n a) × (word % 8 ≢ 2)
 found_asked place n word m a u e = by_bool (a.place == place)
     (λ here. by_bool (word % 8 == 2)
     (λ two. let found = rw (here, two) at e in absurd (cc))
     (λ open_. let found = rw (here, open_) at e in by_bool (is_ticket n m (wished n a))
-    (λ is. let same = rw is at found in (Rattle.std.proofs.lemmas.Bool.eqb-true a.place place here, (is_passed n m (wished n a) is).1, cc))
+    (λ is. let same = rw is at found in (Rattle.std.proofs.lemmas.Bool.eqb-true a.place place here, (is_passed n m (wished n a) is).1, (cc), λ two. (let no : true ≡ false = sym (Rattle.std.proofs.lemmas.Bool.eq-eqb (word % 8) 2 two) ∙ open_ in absurd (cc))))
     (λ miss. let gone = rw miss at found in absurd (cc))))
     (λ away. let found = rw away at e in absurd (cc))
 
@@ -93,10 +94,12 @@ module _ (s : Table) (r : Rule s) (id session : ℕ) (me : Mine) (seat : get_ele
     -- the waiting ticket is that for which the session asks
     asked : (t.ask.place ≡ place) × (t.ask.number ≡ ticket) × (may.wish ≡ wish)
     asked =
+        let told =
         found_asked place t.view.number (waits s t.view.number) ticket t.ask may.wish
         (sym (ap (λ asks. ticket_of t.view.number ticket (option_to_list (pending (asking_at place t.view.number (waits s t.view.number) asks)))) t.asks)
         ∙ sym (u.book_ok.waiting.same t.at was part_there ticket)
-        ∙ ap (λ (n : ℕ). ticket_of n ticket h.book.waiting) t.number_is ∙ may.waits)
+        ∙ ap (λ (n : ℕ). ticket_of n ticket h.book.waiting) t.number_is ∙ may.waits) in
+        (told.0, told.1, told.2)
 
     was_open : was.asks ≡ Some (record { ticket = wish; state = 1 })
     was_open = asked_here place t.view.number (waits s t.view.number) 1 t.view.asks t.ask t.asks asked.0
@@ -157,10 +160,10 @@ module _ (s : Table) (r : Rule s) (id session : ℕ) (me : Mine) (seat : get_ele
           holder_else = λ q else. λ i. record { number = me.0.number; held = held_at-unchanged place (with_admitted session ticket) (λ x. refl) q me.0.latches else i };
         }) (set (cell s place).parts t.at then_)
         (λ q else. their_parts_else s r session (wait_in number 2) id me.0 w seat (λ f p. refl) some_session t.at t.view t.there t.number_is q
-            (part_away (waits s) (waits now) q t.view (λ a e here. (let both : Some a ≡ Some t.ask = sym e ∙ t.asks in let same : a ≡ t.ask = cc in else (sym here ∙ ap (λ (b : Ask). b.place) same ∙ asked.0)))))
+        (part_away (waits s) (waits now) q t.view (λ a e here. (let both : Some a ≡ Some t.ask = sym e ∙ t.asks in let same : a ≡ t.ask = cc in else (sym here ∙ ap (λ (b : Ask). b.place) same ∙ asked.0)))))
         (their_parts s r session (wait_in number 2) id me.0 w seat (λ f p. refl) some_session t.at t.view t.there t.number_is place ∙ ap (λ (x : Part). set (cell s place).parts t.at x) then_is)
         (their_waits s r session (wait_in number 2) id me.0 w seat refl refl fits (λ zero. omega arith)
-            (λ z known. settled_ok (length s.homes) number 2 z (omega arith) (omega arith) (subst (λ (k : ℕ). WaitOk (length s.homes) k z) found known)))
+        (λ z known. settled_ok (length s.homes) number 2 z (omega arith) (omega arith) (subst (λ (k : ℕ). WaitOk (length s.homes) k z) found known)))
         place_ok
 
   pub granted_rule : Rule now
@@ -172,8 +175,8 @@ settles_granted_allowed slots id session place ticket number me some_number some
     subst (Steps id session me s (λ n. either (n == wait_in number 1) (wait_in number 2) n) (λ k found m. settles_granted place ticket (step k (wait_word k session) (wait_in number 1) (wait_in number 2) none) me found m)) size
     (exchanged (waits s session) (wait_in number 1) (wait_in number 2)
     (λ n. (w : View) × (a : Act Slot) × Rattle.atomic_table.specs.Table.Valid s.homes me.1 a
-        × Rule (moved_by s (wait_word (length s.homes) session) n id me.1 w a)
-        × settles_granted place ticket (step (length s.homes) (wait_word (length s.homes) session) (wait_in number 1) (wait_in number 2) none) me (waits s session) (w, Rattle.atomic_table.specs.Table.carried_after me.1 a))
+    × Rule (moved_by s (wait_word (length s.homes) session) n id me.1 w a)
+    × settles_granted place ticket (step (length s.homes) (wait_word (length s.homes) session) (wait_in number 1) (wait_in number 2) none) me (waits s session) (w, Rattle.atomic_table.specs.Table.carried_after me.1 a))
     (λ found. (
       (settled_granted (length s.homes) place session ticket number me).0,
       keeps,
@@ -183,8 +186,7 @@ settles_granted_allowed slots id session place ticket number me some_number some
         refl,
         λ q m here is_first.
             let same : session ≡ q = omega arith in
-            let number_is : number ≡ m = omega arith in
-            (
+            let number_is : number ≡ m = omega arith in (
               subst (λ (k : ℕ). TellsOwn (length s.homes) k (waits s session) me.0) same (tells_own s r id session me seat),
               (λ _. λ i. settled_granted (length s.homes) place (same i) ticket (number_is i) me),
               λ missed. absurd (missed (found ∙ is_first)),
@@ -199,8 +201,7 @@ settles_granted_allowed slots id session place ticket number me some_number some
       (
         refl,
         λ q m here is_first.
-            let same : session ≡ q = omega arith in
-            (
+            let same : session ≡ q = omega arith in (
               subst (λ (k : ℕ). TellsOwn (length s.homes) k (waits s session) me.0) same (tells_own s r id session me seat),
               (λ found. absurd (missed (found ∙ sym is_first))),
               λ _. λ i. met_wait (length s.homes) (same i) (waits s session) me,

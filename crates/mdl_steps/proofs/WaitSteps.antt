@@ -299,10 +299,10 @@ module _ (s : Table) (r : Rule s) (id session : ℕ) (me : Mine) (seat : get_ele
           holder_else = λ q else. refl;
         }) (set (cell s place).parts t.at then_)
         (λ q else. their_parts_else s r session (wait_in number state) id me.0 w seat (λ f p. refl) some_number t.at t.view t.there t.number_is q
-            (part_away (waits s) (waits now) q t.view (λ a e here. (let both : Some a ≡ Some t.ask = sym e ∙ t.asks in let same : a ≡ t.ask = cc in else (sym here ∙ ap (λ (b : Ask). b.place) same)))))
+        (part_away (waits s) (waits now) q t.view (λ a e here. (let both : Some a ≡ Some t.ask = sym e ∙ t.asks in let same : a ≡ t.ask = cc in else (sym here ∙ ap (λ (b : Ask). b.place) same)))))
         (their_parts s r session (wait_in number state) id me.0 w seat (λ f p. refl) some_number t.at t.view t.there t.number_is place ∙ ap (λ (x : Part). set (cell s place).parts t.at x) then_is)
         (their_waits s r session (wait_in number state) id me.0 w seat refl refl fits (λ zero. omega arith)
-            (λ z known. settled_ok (length s.homes) number state z (omega arith) most (subst (λ (k : ℕ). WaitOk (length s.homes) k z) found known)))
+        (λ z known. settled_ok (length s.homes) number state z (omega arith) most (subst (λ (k : ℕ). WaitOk (length s.homes) k z) found known)))
         place_ok
 
   pub lost_rule : Rule now
@@ -328,8 +328,7 @@ module _ (id session : ℕ) (me : Mine) where
         (
           refl,
           λ q here.
-              let same : session ≡ q = omega arith in
-              (
+              let same : session ≡ q = omega arith in (
                 subst (λ (k : ℕ). TellsOwn (length s.homes) k (waits s session) me.0) same (tells_own s r id session me seat),
                 λ i. met_wait (length s.homes) (same i) (waits s session) me,
               ),
@@ -342,8 +341,8 @@ module _ (id session : ℕ) (me : Mine) where
       subst (Steps s (λ n. either (n == wait_in number 1) (wait_in number state) n) (λ k found m. settles_lost (step k (wait_word k session) (wait_in number 1) (wait_in number state) none) me found m)) size
       (exchanged (waits s session) (wait_in number 1) (wait_in number state)
       (λ n. (w : View) × (a : Act Slot) × Rattle.atomic_table.specs.Table.Valid s.homes me.1 a
-          × Rule (moved_by s (wait_word (length s.homes) session) n id me.1 w a)
-          × settles_lost (step (length s.homes) (wait_word (length s.homes) session) (wait_in number 1) (wait_in number state) none) me (waits s session) (w, Rattle.atomic_table.specs.Table.carried_after me.1 a))
+      × Rule (moved_by s (wait_word (length s.homes) session) n id me.1 w a)
+      × settles_lost (step (length s.homes) (wait_word (length s.homes) session) (wait_in number 1) (wait_in number state) none) me (waits s session) (w, Rattle.atomic_table.specs.Table.carried_after me.1 a))
       (λ found. (
         (settled_lost (length s.homes) session number state me).0,
         keeps,
@@ -354,8 +353,7 @@ module _ (id session : ℕ) (me : Mine) where
           λ q m st here first second.
               let same : session ≡ q = omega arith in
               let number_is : number ≡ m = omega arith in
-              let state_is : state ≡ st = omega arith in
-              (
+              let state_is : state ≡ st = omega arith in (
                 subst (λ (k : ℕ). TellsOwn (length s.homes) k (waits s session) me.0) same (tells_own s r id session me seat),
                 (λ _. λ i. settled_lost (length s.homes) (same i) (number_is i) (state_is i) me),
                 λ missed. absurd (missed (found ∙ first)),
@@ -370,8 +368,7 @@ module _ (id session : ℕ) (me : Mine) where
         (
           refl,
           λ q m st here first second.
-              let same : session ≡ q = omega arith in
-              (
+              let same : session ≡ q = omega arith in (
                 subst (λ (k : ℕ). TellsOwn (length s.homes) k (waits s session) me.0) same (tells_own s r id session me seat),
                 (λ found. absurd (missed (found ∙ sym first))),
                 λ _. λ i. met_wait (length s.homes) (same i) (waits s session) me,

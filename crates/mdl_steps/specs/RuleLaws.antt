@@ -1,5 +1,5 @@
 -- What the rule of the table comes to, in words of its own. The rule holds between any two steps of all sessions.
-use Rattle.std.specs.Prelude.{◌≡◌, ◌≢◌, ℕ, ◌<◌, true, List, ◌++◌, length, slice_index, Some}
+use Rattle.std.specs.Prelude.{◌≡◌, ◌≢◌, ℕ, ◌/◌, ◌%◌, ◌<◌, ◌≤◌, true, List, ◌++◌, length, slice_index, Some, None}
 use mathlib.Core.Option.{some}
 use lib.ListN.{get_elem?}
 use Rattle.atomic_table.specs.Table.{State}
@@ -7,13 +7,15 @@ use Rattle.mdl_book.specs.declared.book_view.BookView.{BookView}
 use Rattle.mdl_book.specs.declared.ticket.Ticket.{Ticket}
 use Rattle.mdl_book.specs.Books.{lock_kind, has_obtrusive, has_tickets}
 use Rattle.mdl_book.specs.Granting.{is_lawful}
+use Rattle.mdl_book.specs.Tickets.{ticket_of}
 use Rattle.mdl_steps.specs.declared.slot.Slot.{Slot}
 use Rattle.mdl_steps.specs.declared.slot.Slot.TheVariants as slot
+use Rattle.mdl_steps.specs.declared.view.Ask.{Ask}
 use Rattle.mdl_steps.specs.declared.view.Held.{Held}
 use Rattle.mdl_steps.specs.declared.view.Own.{Own}
 use Rattle.mdl_steps.specs.declared.view.Read.{Read}
 use Rattle.mdl_steps.specs.declared.view.View.{View}
-use Rattle.mdl_steps.specs.Cells.{cell, all_fast, held_at}
+use Rattle.mdl_steps.specs.Cells.{cell, waits, all_fast, held_at}
 use Rattle.mdl_steps.specs.Layout.{latch_word, lock_word, version_word}
 use Rattle.mdl_steps.specs.Rule.{Rule, Counted, Flagged}
 
@@ -67,3 +69,24 @@ ReadsAreOfWhatStands =
     ((j : ℕ) (q : Read) → get_elem? v.reads j ≡ some q → q.place ≡ r.place → q.standing.version ≡ r.standing.version → q.standing ≡ r.standing)
     × (slice_index s.words (latch_word r.place) ≡ 0 → (book : BookView) × (get_elem? s.homes r.place ≡ some (some (slot.Place book))) × (book.standing ≡ r.standing))
     × ((j : ℕ) (w : View) (h : Held) → get_elem? s.views j ≡ some w → held_at r.place w.latches ≡ Some h → h.book.standing ≡ r.standing)
+
+-- where a session waits, its wait's word is eight times the number of its last wait and a state from 1 to 5: while that is 2 its ticket
+-- stands in the granted list of the lock's book, and otherwise in the waiting list; where it waits for nothing the state is 0. While the
+-- latch is free the book is at home
+abbrev pub WaitersAreAsTheirWordsTell : Type 0
+WaitersAreAsTheirWordsTell =
+    (s : State Slot View) → Rule s → (i : ℕ) (v : View) → get_elem? s.views i ≡ some v →
+    (waits s v.number / 8 ≡ v.waits) × (waits s v.number % 8 ≤ 5) × (v.asks ≡ None → waits s v.number % 8 ≡ 0)
+    × ((a : Ask) → v.asks ≡ Some a → (waits s v.number % 8 ≢ 0) × (0 < a.place) × (a.place < length s.homes)
+    × (slice_index s.words (latch_word a.place) ≡ 0 → (book : BookView) × (get_elem? s.homes a.place ≡ some (some (slot.Place book)))
+    × (waits s v.number % 8 ≡ 2 → ticket_of v.number a.number book.granted ≡ Some (record { session = v.number; number = a.number; mode = a.mode }))
+    × (waits s v.number % 8 ≢ 2 → ticket_of v.number a.number book.waiting ≡ Some (record { session = v.number; number = a.number; mode = a.mode }))))
+
+-- each ticket in the waiting list of a free lock's book is of a session that waits for it and wasn't granted it
+abbrev pub NobodyElseWaits : Type 0
+NobodyElseWaits =
+    (s : State Slot View) → Rule s → (place : ℕ) → 0 < place → place < length s.homes → slice_index s.words (latch_word place) ≡ 0 →
+    (book : BookView) → get_elem? s.homes place ≡ some (some (slot.Place book)) →
+    (session number : ℕ) (t : Ticket) → ticket_of session number book.waiting ≡ Some t →
+    (i : ℕ) × (v : View) × (a : Ask) × (get_elem? s.views i ≡ some v) × (v.number ≡ session) × (v.asks ≡ Some a)
+    × (a.place ≡ place) × (a.number ≡ number) × (waits s session % 8 ≢ 2)

@@ -1,5 +1,5 @@
 //! What the rule of the table comes to. Each law is proved as the contract of a function that does nothing.
-ghost use Rattle.mdl_steps.specs.RuleLaws.{FreeLocksAreAsTheirWordsTell, HeldLocksAreAsTheirRecordsTell, TakenLatchesAreHeld, NotedVersionsStand, ReadsAreOfWhatStands};
+ghost use Rattle.mdl_steps.specs.RuleLaws.{FreeLocksAreAsTheirWordsTell, HeldLocksAreAsTheirRecordsTell, TakenLatchesAreHeld, NotedVersionsStand, ReadsAreOfWhatStands, WaitersAreAsTheirWordsTell, NobodyElseWaits};
 
 /// Whenever a lock's latch is free, its word counts exactly the fast tickets held, its two flags tell whether its lists hold any
 /// ticket and an obtrusive one, and granted tickets of different sessions are compatible by the matrix. The rule holds between any two
@@ -26,4 +26,15 @@ pub fn noted_versions_stand()
 /// What a session read in the version that stands is what stands, and each of its reads of that version is the same.
 pub fn reads_are_of_what_stands()
     ensures { ReadsAreOfWhatStands }
+{}
+
+/// Where a session waits, its wait's word tells how the wait stands, and its ticket is in the granted list of the lock's book where the
+/// wait was granted, and otherwise in the waiting list. Where it waits for nothing its word says so.
+pub fn waiters_are_as_their_words_tell()
+    ensures { WaitersAreAsTheirWordsTell }
+{}
+
+/// Each ticket in a waiting list is of a session that waits for it.
+pub fn nobody_else_waits()
+    ensures { NobodyElseWaits }
 {}

@@ -43,6 +43,7 @@ mod schemas;
 mod slot;
 mod view;
 mod wait_word;
+mod waiting_in_hand;
 mod waits;
 mod worker;
 
@@ -50,8 +51,9 @@ pub use copies::BookCopy;
 pub use deed::Deed;
 pub use directory::LatchedDirectory;
 pub use laws::{
-    free_locks_are_as_their_words_tell, held_locks_are_as_their_records_tell, noted_versions_stand,
-    reads_are_of_what_stands, taken_latches_are_held,
+    free_locks_are_as_their_words_tell, held_locks_are_as_their_records_tell, nobody_else_waits,
+    noted_versions_stand, reads_are_of_what_stands, taken_latches_are_held,
+    waiters_are_as_their_words_tell,
 };
 pub use maker::{Maker, OwnedTable};
 pub use plays::Order;

@@ -165,12 +165,14 @@ impl Play<Slot, View> for EndLost {
 /// What a wait is opened for.
 pub(crate) trait Wishing {
     ghost place: { ℕ };
+
     ghost mode: { Mode };
 }
 
 /// Each call picks it.
 impl Wishing for Brand {
     ghost place = { 0 };
+
     ghost mode = { S };
 }
 
@@ -186,12 +188,14 @@ impl<J: Wishing> Play<Slot, View> for OpenWait<J> {
 /// Where a ticket waits that is granted, and its number.
 pub(crate) trait Granting {
     ghost place: { ℕ };
+
     ghost ticket: { ℕ };
 }
 
 /// Each call picks them.
 impl Granting for Brand {
     ghost place = { 0 };
+
     ghost ticket = { 0 };
 }
 

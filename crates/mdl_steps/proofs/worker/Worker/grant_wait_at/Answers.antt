@@ -60,7 +60,7 @@ returns-clause-missed g c =
     let same = c.requires.session.0 in
     let word : c.wait_word.result ≡ 8 * slots + 8 + 8 * c.args.session = omega arith in
     λ missed. (c.compare_exchange.ensures.2.1 c.args.session c.args.wait word c.word_in-open.ensures).2 missed
-        ∙ ap (λ (k : ℕ). met_wait k c.args.session c.compare_exchange.result c.args.self.now.seat.me) (sym same)
+    ∙ ap (λ (k : ℕ). met_wait k c.args.session c.compare_exchange.result c.args.self.now.seat.me) (sym same)
 
 pub returns-clause-keeps : goal.returns-clause-keeps
 returns-clause-keeps g c =

@@ -1,0 +1,86 @@
+-- What the rule's clauses on waits come to.
+use Rattle.std.proofs.Common.{◌≡◌, ◌≢◌, ℕ, ◌%◌, ◌<◌, ◌==◌, cond, List, [], ◌∷◌, ◌++◌, map, length, Some, None, refl, sym, ap, ◌∙◌, subst}
+use Rattle.std.specs.Prelude.{Option}
+use Rattle.std.specs.Option.{option_to_list}
+use Rattle.std.proofs.lemmas.Bool.{eq-eqb}
+use mathlib.Core.Option.{some, some-injective}
+use lib.ListN.{get_elem?}
+use Rattle.atomic_table.specs.Table.{State}
+use Rattle.atomic_table.proofs.Lists.{at_map}
+use Rattle.mdl_book.specs.declared.book_view.BookView.{BookView}
+use Rattle.mdl_book.specs.declared.ticket.Ticket.{Ticket}
+use Rattle.mdl_book.specs.Tickets.{ticket_of}
+use Rattle.mdl_steps.specs.declared.slot.Slot.{Slot}
+use Rattle.mdl_steps.specs.declared.slot.Slot.TheVariants as slot
+use Rattle.mdl_steps.specs.declared.view.Ask.{Ask}
+use Rattle.mdl_steps.specs.declared.view.View.{View}
+use Rattle.mdl_steps.specs.Cells.{Part, Asking, asking_at, part_at, own_at, ticket_by, due, pending, waiter_of, waits, cell}
+use Rattle.mdl_steps.specs.Rule.{Rule}
+use Rattle.mdl_steps.specs.RuleLaws.{WaitersAreAsTheirWordsTell, NobodyElseWaits}
+use Rattle.mdl_steps.proofs.Views.{at_unmap}
+use Rattle.mdl_steps.proofs.WaitBooks.{first_found}
+use Rattle.mdl_steps.proofs.WaitGrants.{found_asked}
+use Rattle.mdl_steps.proofs.WaitSteps.{wished, asked_here}
+
+pub waiters_told : WaitersAreAsTheirWordsTell
+waiters_told s r i v seat =
+    let own = r.waits_agree.each i (waiter_of v) (at_map waiter_of s.views i v seat) in (
+      own.number,
+      own.state,
+      own.idle,
+      λ a asks.
+          let at = own.asks a asks in
+          let ok = r.places a.place at.1 at.2 in
+          let word : ℕ = waits s v.number in
+          let x : Part = part_at (waits s) a.place v in
+          let there = at_map (part_at (waits s) a.place) s.views i v seat in
+          let asked : (part_at (waits s) a.place v).asks ≡ Some (record { ticket = wished v.number a; state = waits s v.number % 8 }) =
+          asked_here a.place v.number (waits s v.number) (waits s v.number % 8) v.asks a asks refl refl in (
+            at.0,
+            at.1,
+            at.2,
+            λ free. (
+              ok.book,
+              (ok.free free).0,
+              (λ granted.
+                  (ok.book_ok.each i (part_at (waits s) a.place v) there).slow_held.same a.number
+                  ∙ ap (λ o. ticket_of v.number a.number (option_to_list (due o) ++ map (ticket_by v.number) (own_at a.place v.slow))) asked
+                  ∙ ap (λ b. ticket_of v.number a.number (option_to_list (cond b (Some (wished v.number a)) None) ++ map (ticket_by v.number) (own_at a.place v.slow))) (eq-eqb (waits s v.number % 8) 2 granted)
+                  ∙ first_found (wished v.number a) (map (ticket_by v.number) (own_at a.place v.slow))),
+              λ waiting.
+                  ok.book_ok.waiting.same i (part_at (waits s) a.place v) there a.number
+                  ∙ ap (λ o. ticket_of v.number a.number (option_to_list (pending o))) asked
+                  ∙ ap (λ b. ticket_of v.number a.number (option_to_list (cond b None (Some (wished v.number a))))) (Rattle.std.proofs.Common.ne_eqb (waits s v.number % 8) 2 waiting)
+                  ∙ first_found (wished v.number a) [],
+            ),
+          ),
+    )
+
+-- the book that is at home is the one that the rule speaks of
+same_book : (a b : BookView) → ◌≡◌ {A = mathlib.Core.Option.Option (mathlib.Core.Option.Option Slot)} (some (some (slot.Place a))) (some (some (slot.Place b))) → a ≡ b
+same_book a b e = ap book_of (some-injective (slot.Place a) (slot.Place b) (some-injective (some (slot.Place a)) (some (slot.Place b)) e))
+  where
+    book_of : Slot → BookView
+    book_of (slot.Place x) = x
+    book_of (slot.Directory x) = a
+
+pub nobody_else : NobodyElseWaits
+nobody_else s r place first last free book home session number t found =
+    let ok = r.places place first last in
+    let same : ok.book ≡ book = same_book ok.book book (sym (ok.free free).0 ∙ home) in
+    let there : ticket_of session number ok.book.waiting ≡ Some t = ap (λ (b : BookView). ticket_of session number b.waiting) same ∙ found in
+    let o = ok.book_ok.waiting.owned session number t there in
+    let u = at_unmap (part_at (waits s) place) s.views o.0 o.1 o.2 in
+    let number_is : u.0.number ≡ session = ap (λ (x : Part). x.number) u.2 ∙ o.3 in
+    let asked : ticket_of u.0.number number (option_to_list (pending (asking_at place u.0.number (waits s u.0.number) u.0.asks))) ≡ Some t =
+    sym (ok.book_ok.waiting.same o.0 (part_at (waits s) place u.0) (at_map (part_at (waits s) place) s.views o.0 u.0 u.1) number)
+    ∙ ap (λ (n : ℕ). ticket_of n number ok.book.waiting) number_is ∙ there in
+    by_ask o.0 u.0 u.1 number_is u.0.asks refl asked
+  where
+    by_ask : (j : ℕ) (v : View) → get_elem? s.views j ≡ some v → v.number ≡ session → (asks : Option Ask) → v.asks ≡ asks
+        → ticket_of v.number number (option_to_list (pending (asking_at place v.number (waits s v.number) asks))) ≡ Some t
+        → (i : ℕ) × (w : View) × (a : Ask) × (get_elem? s.views i ≡ some w) × (w.number ≡ session) × (w.asks ≡ Some a) × (a.place ≡ place) × (a.number ≡ number) × (waits s session % 8 ≢ 2)
+    by_ask j v seat is None e asked = absurd (cc)
+    by_ask j v seat is (Some a) e asked =
+        let told = found_asked place v.number (waits s v.number) number a t asked in
+        (j, v, a, seat, is, e, told.0, told.1, λ two. told.3 (ap (λ (n : ℕ). waits s n % 8) is ∙ two))

@@ -1,0 +1,118 @@
+//! The waiting list of the book in hand, read and written as plain memory, which is no step.
+ghost use Rattle.std.specs.Prelude.{◌≡◌, ◌∷◌, OnOk, OnErr};
+ghost use Rattle.std.specs.Option.{ok_or, option_map};
+ghost use Rattle.mdl_key.specs.Refusals.{Refuses};
+ghost use Rattle.mdl_book.specs.Books.{full_fault, ticket_count, enqueueing, admitting, cancelling, next_grantable};
+ghost use Rattle.mdl_book.specs.Tickets.{ticket_of, ticket_id};
+ghost use Rattle.mdl_book.specs.declared.book_view.BookView.{BookView};
+ghost use Rattle.mdl_steps.specs.declared.slot.Slot.TheVariants as slot;
+ghost use Rattle.mdl_steps.specs.Seats.{rest, written};
+
+use crate::Slot;
+use crate::worker::{Latched, LockTable, Worker};
+use mdl_book::{BookError, Sessions, Ticket};
+use mdl_key::Mode;
+use mdl_word::Word;
+
+impl Worker {
+    /// The session and number of the first waiting ticket that can be granted by the book in hand, of those whose sessions are
+    /// `unsettled`, the place's word being `word`. Nothing changes.
+    pub fn next_grantable(
+        &mut self,
+        top: &LockTable,
+        latch: &Latched,
+        word: Word,
+        unsettled: &Sessions,
+    ) -> Option<(u16, u64)>
+        requires table { self.old.seat.table_id ≡ top.now.table_id }
+        requires carried { (book : BookView) × (self.old.seat.me.1 ≡ (latch.now.place, slot.Place book) ∷ rest self.old.seat.me.1) }
+        ensures seat { (self.new.seat.table_id ≡ self.old.seat.table_id) × (self.new.number ≡ self.old.number) }
+        ensures same { self.new.seat.me ≡ self.old.seat.me }
+        ensures told { (book : BookView) → self.old.seat.me.1 ≡ (latch.now.place, slot.Place book) ∷ rest self.old.seat.me.1
+            → result ≡ option_map ticket_id (next_grantable word.0 unsettled.now book) }
+    {
+        match self.seat.slot_mut(top, latch.place) {
+            Slot::Place(book) => book.next_grantable(word, unsettled),
+            // It is a place that is held.
+            Slot::Directory(_) => None,
+        }
+    }
+
+    /// Writes a ticket of the session, which waits there last, into the book in hand. Its wait is opened with [`Worker::open_wait`].
+    pub fn write_wish(
+        &mut self,
+        top: &LockTable,
+        latch: &Latched,
+        number: u64,
+        mode: Mode,
+    ) -> Result<(), BookError>
+        requires table { self.old.seat.table_id ≡ top.now.table_id }
+        requires carried { (book : BookView) × (self.old.seat.me.1 ≡ (latch.now.place, slot.Place book) ∷ rest self.old.seat.me.1) }
+        ensures seat { (self.new.seat.table_id ≡ self.old.seat.table_id) × (self.new.number ≡ self.old.number) }
+        ensures written { (book : BookView) → self.old.seat.me.1 ≡ (latch.now.place, slot.Place book) ∷ rest self.old.seat.me.1
+            → OnOk result (self.new.seat.me ≡ written latch.now.place (enqueueing (record { session = self.old.number; number = number; mode = mode }) book) self.old.seat.me) }
+        ensures unchanged { OnErr result (self.new.seat.me ≡ self.old.seat.me) }
+        ensures refused { (book : BookView) → self.old.seat.me.1 ≡ (latch.now.place, slot.Place book) ∷ rest self.old.seat.me.1
+            → Refuses (full_fault (ticket_count book)) BookError.OutOfMemory result }
+    {
+        let ticket = Ticket {
+            number,
+            session: self.number,
+            mode,
+        };
+        match self.seat.slot_mut(top, latch.place) {
+            Slot::Place(book) => book.enqueue(ticket),
+            // It is a place that is held.
+            Slot::Directory(_) => Err(BookError::NotHere),
+        }
+    }
+
+    /// Writes a waiting ticket of a session as granted last into the book in hand. Its wait is granted with [`Worker::grant_wait`]. It
+    /// takes no memory.
+    pub fn write_admission(
+        &mut self,
+        top: &LockTable,
+        latch: &Latched,
+        session: u16,
+        number: u64,
+    ) -> Result<Ticket, BookError>
+        requires table { self.old.seat.table_id ≡ top.now.table_id }
+        requires carried { (book : BookView) × (self.old.seat.me.1 ≡ (latch.now.place, slot.Place book) ∷ rest self.old.seat.me.1) }
+        ensures seat { (self.new.seat.table_id ≡ self.old.seat.table_id) × (self.new.number ≡ self.old.number) }
+        ensures written { (book : BookView) → self.old.seat.me.1 ≡ (latch.now.place, slot.Place book) ∷ rest self.old.seat.me.1
+            → OnOk result (self.new.seat.me ≡ written latch.now.place (admitting session number book) self.old.seat.me) }
+        ensures unchanged { OnErr result (self.new.seat.me ≡ self.old.seat.me) }
+        ensures refused { (book : BookView) → self.old.seat.me.1 ≡ (latch.now.place, slot.Place book) ∷ rest self.old.seat.me.1
+            → result ≡ ok_or (ticket_of session number book.waiting) BookError.NotHere }
+    {
+        match self.seat.slot_mut(top, latch.place) {
+            Slot::Place(book) => book.admit(session, number),
+            // It is a place that is held.
+            Slot::Directory(_) => Err(BookError::NotHere),
+        }
+    }
+
+    /// Takes a waiting ticket of the session out of the book in hand. Its wait is ended with [`Worker::end_lost`]. It takes no memory.
+    pub fn write_withdrawal(
+        &mut self,
+        top: &LockTable,
+        latch: &Latched,
+        number: u64,
+    ) -> Result<Ticket, BookError>
+        requires table { self.old.seat.table_id ≡ top.now.table_id }
+        requires carried { (book : BookView) × (self.old.seat.me.1 ≡ (latch.now.place, slot.Place book) ∷ rest self.old.seat.me.1) }
+        ensures seat { (self.new.seat.table_id ≡ self.old.seat.table_id) × (self.new.number ≡ self.old.number) }
+        ensures written { (book : BookView) → self.old.seat.me.1 ≡ (latch.now.place, slot.Place book) ∷ rest self.old.seat.me.1
+            → OnOk result (self.new.seat.me ≡ written latch.now.place (cancelling self.old.number number book) self.old.seat.me) }
+        ensures unchanged { OnErr result (self.new.seat.me ≡ self.old.seat.me) }
+        ensures refused { (book : BookView) → self.old.seat.me.1 ≡ (latch.now.place, slot.Place book) ∷ rest self.old.seat.me.1
+            → result ≡ ok_or (ticket_of self.old.number number book.waiting) BookError.NotHere }
+    {
+        let session = self.number;
+        match self.seat.slot_mut(top, latch.place) {
+            Slot::Place(book) => book.cancel(session, number),
+            // It is a place that is held.
+            Slot::Directory(_) => Err(BookError::NotHere),
+        }
+    }
+}
