@@ -1,7 +1,8 @@
 # The two commands of the README, `make run` and `make test`, and what else can be asked for: `make help` lists it.
 
 # The script that `make run` and `make try` run. By its ending it is one of statements (NAME.replay), of a scoped lock
-# (NAME.scoped.lock), or of an object lock. With OPTIONS=--scoped it is one of a scoped lock whatever its ending.
+# (NAME.scoped.lock), or of an object lock (NAME.lock). With OPTIONS=--scoped it is one of a scoped lock whatever its ending, and with
+# SUBCOMMAND=replay or SUBCOMMAND=lock any ending will do.
 SCRIPT = crates/mdlsim/stdin
 SUBCOMMAND = $(if $(filter %.replay,$(SCRIPT)),replay,lock)
 OPTIONS = $(if $(filter %.scoped.lock,$(SCRIPT)),--scoped)
@@ -13,7 +14,7 @@ PROGRAM = crates/mdlsim/out/mdlsim
 
 BENCH = crates/mdl_bench/out/mdl_bench
 
-.PHONY: help run try test layout docs bench examples growths build install clean kit
+.PHONY: help run try script test layout docs bench examples growths build install clean kit
 
 help:
 	@echo 'make run [SCRIPT=FILE]     builds mdlsim, proved, and prints its answers to a script: NAME.replay, NAME.lock or NAME.scoped.lock'
@@ -29,13 +30,19 @@ help:
 	@echo 'make clean                 removes what was built, and what the prover keeps for its next check'
 
 # Builds mdlsim, proved, and prints its answers to the script.
-run: build
-	@$(PROGRAM) $(SUBCOMMAND) $(OPTIONS) < $(SCRIPT)
+run: script build
+	@$(PROGRAM) $(SUBCOMMAND) $(OPTIONS) < "$(SCRIPT)"
 
 # Builds mdlsim without the proof, and prints its answers to the script. Two lines on standard error say so.
-try: kit
-	@script=$$(cd "$$(dirname "$(SCRIPT)")" && pwd)/$$(basename "$(SCRIPT)") \
-	&& cd crates/mdlsim && rt try -- $(SUBCOMMAND) $(OPTIONS) < "$$script"
+try: script kit
+	@sh make/try.sh "$(SCRIPT)" $(SUBCOMMAND) $(OPTIONS)
+
+# What would be found out only after the build: the subcommand is there, the script can be read, and its ending says what it is.
+script:
+	@case "$(SUBCOMMAND)" in replay | lock | matrix) ;; *) echo "there is no $(SUBCOMMAND): SUBCOMMAND is replay, lock or matrix" >&2; exit 1 ;; esac
+	@{ test -r "$(SCRIPT)" && test ! -d "$(SCRIPT)"; } || { echo "$(SCRIPT) isn't there, or can't be read" >&2; exit 1; }
+	@case "$(origin SUBCOMMAND) $(SCRIPT)" in "command line "* | "file crates/mdlsim/stdin" | *.lock | *.replay) ;; \
+	*) echo "$(SCRIPT): a script ends with .lock or .replay" >&2; exit 1 ;; esac
 
 # The gate: the files are in the layout, the docs agree with the tree, the examples have their answers, refused growths lose nothing, and
 # everything is proved and tested from nothing. Of the growths every third is refused here; `make growths` refuses each.

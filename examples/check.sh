@@ -8,7 +8,7 @@
 # Usage: sh examples/check.sh            all examples, those of the pages too
 #        sh examples/check.sh SCRIPT     one of them
 examples=$(cd "$(dirname "$0")" && pwd)
-sh "$examples/../make/needs.sh" rt python3 awk cmp || exit 1
+sh "$examples/../make/needs.sh" rt python3 awk cmp diff || exit 1
 made=$(mktemp -d)
 trap 'rm -rf "$made"' EXIT
 mkdir "$made/cases"

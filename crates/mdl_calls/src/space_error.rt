@@ -11,7 +11,8 @@ use thiserror::Error;
 /// before any. A refused call changes no held ticket, no definition and no wait.
 #[derive(Clone, Copy, Debug, PartialEq, Eq, Error)]
 pub enum SpaceError {
-    /// The place has no key, or there is no place for one more key.
+    /// The place has no key, or none that the session has looked up (at the table that threads share), or there is no
+    /// place for one more key.
     #[error("no such place")]
     NoPlace,
     /// The session holds no such ticket.

@@ -26,7 +26,7 @@ impl Manager {
     ghost use Rattle.mdl_shared.specs.Passes.{ArePasses, table_of};
 
     /// A space of so many places and sessions, where nobody has asked for anything, and the passes of the sessions, which have the
-    /// numbers from 1 on, in order.
+    /// numbers from 1 on, in order. There are 1 to 256 places, and 1 to 64 sessions.
     pub fn new(alloc: Global, places: u16, sessions: u16) -> Result<(Manager, Vec<Pass>), NewError>
         ensures made { IfOk result (λ made. ((table_of made.0).slots ≡ places + 1) × ((table_of made.0).words ≡ word_count (places + 1) sessions) × (length made.1.items ≡ sessions)
             × ArePasses (table_of made.0) made.1.items) }

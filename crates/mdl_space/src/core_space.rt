@@ -59,7 +59,7 @@ impl Model for CoreSpace {
 }
 
 impl CoreSpace {
-    /// A space of so many places and sessions, where nobody has asked for anything.
+    /// A space of so many places and sessions, where nobody has asked for anything: 1 to 256 places, 1 to 64 sessions.
     pub fn new(alloc: Global, places: u16, sessions: u16) -> Result<CoreSpace, NewError>
         ensures made { IfOk result (λ space. space ≡ empty_core places sessions) }
         ensures speaks { IfOk result (λ space. (who : ℕ) → 1 ≤ who → who ≤ sessions → SpeaksFor space who) }

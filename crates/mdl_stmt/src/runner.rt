@@ -61,7 +61,7 @@ impl<'s, S: LockSpace> Runner<'s, S> {
         self.work.is_some()
     }
 
-    /// Starts a statement.
+    /// Starts a statement. No statement of the session may be waiting.
     pub fn start(
         &mut self,
         space: &mut S,
@@ -84,7 +84,7 @@ impl<'s, S: LockSpace> Runner<'s, S> {
         }
     }
 
-    /// Goes on with the statement that waits.
+    /// Goes on with the statement that waits. One has to be waiting.
     pub fn go_on(&mut self, space: &mut S) -> Result<Progress, OutOfMemory>
         requires attends { Attends S.speaks_for S.own S.knows space.old self.old.context }
         requires waits { IsSome self.old.work }
