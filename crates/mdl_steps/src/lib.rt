@@ -1,11 +1,15 @@
 //! The shared lock table, as its steps see it: words that change one at a time, a slot for each place, what each session knows,
 //! and the rule that holds between any two steps.
 //!
-//! A [`Worker`] is a session's seat. Its methods are the kinds of step, one each: the latch of a place is taken
+//! A [`Worker`] is a session's seat. Each kind of step is a method; others read and write the book or the directory in hand, which is
+//! no step. The latch of a place is taken
 //! ([`Worker::take_latch`]), and the value that stands for it, [`Latched`], has to be given back ([`Worker::put_latch`]);
 //! meanwhile the session may raise flags of the lock's word ([`Worker::raise_flags`]), read it ([`Worker::read_word`]), and lower
 //! flags ([`Worker::lower_flags`]). Each keeps the rule ([`Order`]) in every interleaving of all sessions' steps, and is listed in
 //! the session's [`View`].
+//!
+//! A session waits by a word of its own, [`WaitWord`], and a ticket in a book's waiting list: [`Worker::open_wait`] opens the wait,
+//! another session grants it ([`Worker::grant_wait`]) or settles it as lost ([`Worker::settle_wait`]), and the session ends it.
 //!
 //! What a session does to its own tickets under a latch is a list of [`Deed`]s. After MySQL 5.7, `MDL_lock` and `MDL_context` of
 //! `sql/mdl.cc`; the latch, the words and the views are this project's own.
