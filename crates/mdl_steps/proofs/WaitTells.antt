@@ -64,23 +64,31 @@ same_book a b e = ap book_of (some-injective (slot.Place a) (slot.Place b) (some
     book_of (slot.Place x) = x
     book_of (slot.Directory x) = a
 
+-- each ticket in the waiting list of a place's book, whoever holds its latch, is of a session that waits for it
+module _ (s : State Slot View) (r : Rule s) (place : ℕ) (first : 0 < place) (last : place < length s.homes) (session number : ℕ) (t : Ticket)
+    (there : ticket_of session number (r.places place first last).book.waiting ≡ Some t) where
+  abbrev Asks : Type 0
+  Asks = (i : ℕ) × (w : View) × (a : Ask) × (get_elem? s.views i ≡ some w) × (w.number ≡ session) × (w.asks ≡ Some a) × (a.place ≡ place) × (a.number ≡ number) × (waits s session % 8 ≢ 2)
+
+  by_ask : (j : ℕ) (v : View) → get_elem? s.views j ≡ some v → v.number ≡ session → (asks : Option Ask) → v.asks ≡ asks
+      → ticket_of v.number number (option_to_list (pending (asking_at place v.number (waits s v.number) asks))) ≡ Some t → Asks
+  by_ask j v seat is None e asked = absurd (cc)
+  by_ask j v seat is (Some a) e asked =
+      let told = found_asked place v.number (waits s v.number) number a t asked in
+      (j, v, a, seat, is, e, told.0, told.1, λ two. told.3 (ap (λ (n : ℕ). waits s n % 8) is ∙ two))
+
+  pub asks_there : Asks
+  asks_there =
+      let ok = r.places place first last in
+      let o = ok.book_ok.waiting.owned session number t there in
+      let u = at_unmap (part_at (waits s) place) s.views o.0 o.1 o.2 in
+      let number_is : u.0.number ≡ session = ap (λ (x : Part). x.number) u.2 ∙ o.3 in
+      by_ask o.0 u.0 u.1 number_is u.0.asks refl
+      (sym (ok.book_ok.waiting.same o.0 (part_at (waits s) place u.0) (at_map (part_at (waits s) place) s.views o.0 u.0 u.1) number)
+      ∙ ap (λ (n : ℕ). ticket_of n number ok.book.waiting) number_is ∙ there)
+
 pub nobody_else : NobodyElseWaits
 nobody_else s r place first last free book home session number t found =
     let ok = r.places place first last in
     let same : ok.book ≡ book = same_book ok.book book (sym (ok.free free).0 ∙ home) in
-    let there : ticket_of session number ok.book.waiting ≡ Some t = ap (λ (b : BookView). ticket_of session number b.waiting) same ∙ found in
-    let o = ok.book_ok.waiting.owned session number t there in
-    let u = at_unmap (part_at (waits s) place) s.views o.0 o.1 o.2 in
-    let number_is : u.0.number ≡ session = ap (λ (x : Part). x.number) u.2 ∙ o.3 in
-    let asked : ticket_of u.0.number number (option_to_list (pending (asking_at place u.0.number (waits s u.0.number) u.0.asks))) ≡ Some t =
-    sym (ok.book_ok.waiting.same o.0 (part_at (waits s) place u.0) (at_map (part_at (waits s) place) s.views o.0 u.0 u.1) number)
-    ∙ ap (λ (n : ℕ). ticket_of n number ok.book.waiting) number_is ∙ there in
-    by_ask o.0 u.0 u.1 number_is u.0.asks refl asked
-  where
-    by_ask : (j : ℕ) (v : View) → get_elem? s.views j ≡ some v → v.number ≡ session → (asks : Option Ask) → v.asks ≡ asks
-        → ticket_of v.number number (option_to_list (pending (asking_at place v.number (waits s v.number) asks))) ≡ Some t
-        → (i : ℕ) × (w : View) × (a : Ask) × (get_elem? s.views i ≡ some w) × (w.number ≡ session) × (w.asks ≡ Some a) × (a.place ≡ place) × (a.number ≡ number) × (waits s session % 8 ≢ 2)
-    by_ask j v seat is None e asked = absurd (cc)
-    by_ask j v seat is (Some a) e asked =
-        let told = found_asked place v.number (waits s v.number) number a t asked in
-        (j, v, a, seat, is, e, told.0, told.1, λ two. told.3 (ap (λ (n : ℕ). waits s n % 8) is ∙ two))
+    asks_there s r place first last session number t (ap (λ (b : BookView). ticket_of session number b.waiting) same ∙ found)

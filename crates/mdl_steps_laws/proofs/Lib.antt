@@ -6,3 +6,4 @@ pub mod Redefining
 pub mod SeatSteps
 pub mod TableLocks
 pub mod TicketMembers
+pub mod WaitsTold

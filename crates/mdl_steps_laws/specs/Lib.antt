@@ -2,3 +2,4 @@ pub mod DeedLaws
 pub mod Locks
 pub mod StepLaws
 pub mod TableLaws
+pub mod WaitsTold

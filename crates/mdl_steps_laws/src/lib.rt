@@ -15,5 +15,5 @@ pub use deeds::{
 pub use steps::{lowering_does, putting_does, writing_redefines};
 pub use tables::{
     holders_may_join, next_numbers_are_new, one_place_is_one_lock, own_tickets_are_held,
-    running_tables_are_lawful, running_tables_tell_a_system,
+    running_tables_are_lawful, running_tables_tell_a_system, running_tables_tell_waits,
 };

@@ -1,9 +1,15 @@
 //! What the rule of the running table comes to in the system of locks. Each law is proved as the contract of a function that does nothing.
 ghost use Rattle.mdl_steps_laws.specs.TableLaws.{RunningTablesTellASystem, RunningTablesAreLawful, HoldersMayJoin, NextNumbersAreNew, OwnTicketsAreHeld, OnePlaceIsOneLock};
+ghost use Rattle.mdl_steps_laws.specs.WaitsTold.{RunningTablesTellWaits};
 
 /// Between any two steps of all sessions the table tells the lock of each key, its fast tickets and its book, and with them a system.
 pub fn running_tables_tell_a_system()
     ensures { RunningTablesTellASystem }
+{}
+
+/// And it tells how the waits stand: each as its session's wait word says.
+pub fn running_tables_tell_waits()
+    ensures { RunningTablesTellWaits }
 {}
 
 /// The system that the table tells is lawful, whatever the interleaving: no two sessions hold clashing tickets of one key.
