@@ -10,3 +10,5 @@ mod latches;
 mod threads;
 #[cfg(test)]
 mod visits;
+#[cfg(test)]
+mod waits;
