@@ -322,7 +322,7 @@ module _ (slots id : ℕ) (me : Mine) (some_number : 0 < me.0.number) where
         tt,
         subst (λ (m : ℕ). Rule (after s (wait_word (length s.homes) me.0.number) m id (opened (length s.homes) place mode me).0 s.homes)) (sym is)
             (opened_rule s r id me seat some_number place first (omega arith) mode h may),
-        (refl, λ here. refl),
+        (refl, λ here first_is. refl),
       )
 
   pub ends_granted_allowed : me.0.told ≡ Some 2 → (n : ℕ) → n ≡ 8 * me.0.waits

@@ -160,6 +160,7 @@ blank number spare = record {
   waits = 0;
   asks = None;
   told = None;
+  settles = [];
   fast = [];
   slow = [];
   latches = [];

@@ -59,16 +59,20 @@ opened slots place mode m =
     let waits = record v { asks = Some (asking place mode m.0); next = m.0.next + 1; waits = m.0.waits + 1; told = None; searches = true } in
     (logged (wait_word slots m.0.number) (8 * m.0.waits) v.latches waits, m.1)
 
+-- a wait of a session was settled by it
+abbrev pub settling : ℕ → ℕ → ℕ → View → View
+settling session number state v = record v { settles = v.settles ++ record { session = session; wait = number; state = state } ∷ [] }
+
 -- a wait of a session was settled as lost
 abbrev pub settled_lost : ℕ → ℕ → ℕ → ℕ → Mine → Mine
 settled_lost slots session number state m =
-    (logged (wait_word slots session) (wait_in number 1) m.0.latches (meeting session (wait_in number state) m.0), m.1)
+    (logged (wait_word slots session) (wait_in number 1) m.0.latches (settling session number state (meeting session (wait_in number state) m.0)), m.1)
 
 -- a wait of a session was granted: its ticket stands last in the record's granted list
 abbrev pub settled_granted : ℕ → ℕ → ℕ → ℕ → ℕ → Mine → Mine
 settled_granted slots place session ticket number m =
     let v = changed place (with_admitted session ticket) m.0 in
-    (logged (wait_word slots session) (wait_in number 1) v.latches (meeting session (wait_in number 2) v), m.1)
+    (logged (wait_word slots session) (wait_in number 1) v.latches (settling session number 2 (meeting session (wait_in number 2) v)), m.1)
 
 -- the ticket that was waited for, as the session has it from then on
 abbrev pub taken_over : Option Ask → List Own
@@ -115,7 +119,7 @@ settles_granted place ticket st m found m′ =
 -- a wait is opened under the latch of its place
 abbrev pub opens_wait : ℕ → Mode → Step Slot → Mine → ℕ → Mine → Type 0
 opens_wait place mode st m found m′ =
-    (m′.0.number ≡ m.0.number) × (st.word ≡ wait_word st.slots m.0.number → m′ ≡ opened st.slots place mode m)
+    (m′.0.number ≡ m.0.number) × (st.word ≡ wait_word st.slots m.0.number → st.first ≡ wait_in (m.0.waits + 1) 1 → m′ ≡ opened st.slots place mode m)
 
 -- a granted wait is ended
 abbrev pub ends_granted : Step Slot → Mine → ℕ → Mine → Type 0

@@ -62,6 +62,6 @@ pub use laws::{
 pub use maker::{Maker, OwnedTable};
 pub use plays::Order;
 pub use slot::{Directory, Slot};
-pub use view::{Ask, Held, Keys, Known, Met, Own, Read, Spare, View};
+pub use view::{Ask, Held, Keys, Known, Met, Own, Read, Settlement, Spare, View};
 pub use wait_word::{Loss, WaitWord};
 pub use worker::{Latched, LockTable, Worker};

@@ -67,6 +67,17 @@ pub struct Known {
     pub place: usize,
 }
 
+/// A wait that a session settled.
+#[derive(Drop)]
+pub struct Settlement {
+    /// The session that waited.
+    pub session: u64,
+    /// The number of its wait.
+    pub wait: u64,
+    /// The state that the wait's word has from then on: granted, or how the wait was lost.
+    pub state: u64,
+}
+
 /// A step of a session.
 #[derive(Drop)]
 pub struct Met {
@@ -105,6 +116,8 @@ pub struct View {
     pub asks: Option<Ask>,
     /// The state in which it met its wait's word settled, where it did: the word stays so until the session ends the wait.
     pub told: Option<u64>,
+    /// The waits that it settled, the first one first.
+    pub settles: [Settlement; 0],
     /// Its tickets that are only counted.
     pub fast: [Own; 0],
     /// Its tickets that stand in books.

@@ -46,7 +46,9 @@ returns-clause-keeps g c =
     let place = c.args.latch.now.place in
     let me = c.args.self.now.seat.me in
     let word : c.wait_word.result ≡ 8 * slots + 8 + 8 * me.0.number = omega arith in
-    let made = c.store.ensures.2.1 word in
+    let wait = c.requires.wait in
+    let is : c.word_in-word.result ≡ 8 * (me.0.waits + 1) + 1 = (let stored = c.word_in-word.ensures in omega arith) in
+    let made = c.store.ensures.2.1 word is in
     λ h book has.
     subst (λ (m : Mine). Holds place (with_waiting (asked_ticket c.args.mode me.0) h) book m)
     (sym (made ∙ (λ i. opened slots (sym c.requires.picked.0 i) (sym c.requires.picked.1 i) me)))
@@ -61,6 +63,8 @@ returns-clause-apart g c =
     let place = c.args.latch.now.place in
     let me = c.args.self.now.seat.me in
     let word : c.wait_word.result ≡ 8 * slots + 8 + 8 * me.0.number = omega arith in
-    let made = c.store.ensures.2.1 word in
+    let wait = c.requires.wait in
+    let is : c.word_in-word.result ≡ 8 * (me.0.waits + 1) + 1 = (let stored = c.word_in-word.ensures in omega arith) in
+    let made = c.store.ensures.2.1 word is in
     ap (elsewhere place) (made ∙ (λ i. opened slots (sym c.requires.picked.0 i) (sym c.requires.picked.1 i) me))
     ∙ elsewhere_changed place (with_waiting (asked_ticket c.args.mode me.0)) (λ x. refl) me (opened slots place c.args.mode me) refl refl
