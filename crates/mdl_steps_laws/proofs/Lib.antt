@@ -6,4 +6,8 @@ pub mod Redefining
 pub mod SeatSteps
 pub mod TableLocks
 pub mod TicketMembers
+pub mod WaitEvents
+pub mod WaitLists
+pub mod WaitOpens
+pub mod WaitSteps
 pub mod WaitsTold

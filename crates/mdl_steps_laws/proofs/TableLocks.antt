@@ -116,7 +116,7 @@ module _ (s : State Slot View) (r : Rule s) where
     }
 
     -- and no other is
-    same_book : (book : BookView) → IsBookAt s place book → book ≡ (r.places place first last).book
+    pub same_book : (book : BookView) → IsBookAt s place book → book ≡ (r.places place first last).book
     same_book book is =
         let ok = r.places place first last in
         elim (nat_told (slice_index s.words (latch_word place)) 0) [

@@ -32,7 +32,7 @@ use Rattle.mdl_steps_laws.proofs.TableLocks.{find_key, into_rule, is_placed, fir
 
 -- ---- states
 
-abbrev state_by : ℕ → WaitState
+abbrev pub state_by : ℕ → WaitState
 state_by n = cond (n == 3) Victim (cond (n == 4) TimedOut (cond (n == 5) Killed Unsettled))
 
 code_by : (n : ℕ) → n ≤ 5 → n ≢ 0 → n ≢ 2 → code_of (state_by n) ≡ n
@@ -57,7 +57,7 @@ none_passes a m (t ∷ ts) none = by_bool (is_ticket a m t)
     (λ miss. and_from (not (is_ticket a m t)) (list_all (λ u. not (is_ticket a m u)) ts) (ap not miss)
     (none_passes a m ts (sym (ap (λ b. cond b (Some t) (ticket_of a m ts)) miss) ∙ none)))
 
-found_in : (ts : List Ticket) (t : Ticket) → Contains ts t → (u : Ticket) × (ticket_of t.session t.number ts ≡ Some u)
+pub found_in : (ts : List Ticket) (t : Ticket) → Contains ts t → (u : Ticket) × (ticket_of t.session t.number ts ≡ Some u)
 found_in ts t among = by_look (ticket_of t.session t.number ts) refl
   where
     by_look : (o : Option Ticket) → ticket_of t.session t.number ts ≡ o → (u : Ticket) × (ticket_of t.session t.number ts ≡ Some u)
@@ -70,7 +70,7 @@ found_in ts t among = by_look (ticket_of t.session t.number ts) refl
 
 -- ---- the waits of a system
 
-abbrev waiter_by : (ℕ → ℕ) → Ticket → Waiter
+abbrev pub waiter_by : (ℕ → ℕ) → Ticket → Waiter
 waiter_by f t = record { ticket = t; wait = f t.session / 8; state = state_by (f t.session % 8) }
 
 told_tickets : (f : ℕ → ℕ) (ts : List Ticket) → map (λ (waiter : Waiter). waiter.ticket) (map (waiter_by f) ts) ≡ ts

@@ -7,6 +7,7 @@
 mod deeds;
 mod steps;
 mod tables;
+mod waits;
 
 pub use deeds::{
     altering_downgrades, altering_upgrades, gaining_clones, gaining_grants, losing_releases,
@@ -17,3 +18,4 @@ pub use tables::{
     holders_may_join, next_numbers_are_new, one_place_is_one_lock, own_tickets_are_held,
     running_tables_are_lawful, running_tables_tell_a_system, running_tables_tell_waits,
 };
+pub use waits::opening_begins;

@@ -1,0 +1,8 @@
+//! The steps on the words of waits are events of the system that the table tells. Each law is proved as the contract of a function that does
+//! nothing.
+ghost use Rattle.mdl_steps_laws.specs.WaitLaws.{OpeningBegins};
+
+/// As a session opens a wait under a latch, it begins one in the system. What it wrote into the book in hand before was no step.
+pub fn opening_begins()
+    ensures { OpeningBegins }
+{}
