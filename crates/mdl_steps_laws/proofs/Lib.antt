@@ -6,6 +6,8 @@ pub mod Redefining
 pub mod SeatSteps
 pub mod TableLocks
 pub mod TicketMembers
+pub mod WaitAsks
+pub mod WaitEnds
 pub mod WaitEvents
 pub mod WaitLists
 pub mod WaitOpens

@@ -35,7 +35,7 @@ use Rattle.mdl_steps_laws.proofs.TableLocks.{find_key, into_rule, is_placed, fir
 abbrev pub state_by : ℕ → WaitState
 state_by n = cond (n == 3) Victim (cond (n == 4) TimedOut (cond (n == 5) Killed Unsettled))
 
-code_by : (n : ℕ) → n ≤ 5 → n ≢ 0 → n ≢ 2 → code_of (state_by n) ≡ n
+pub code_by : (n : ℕ) → n ≤ 5 → n ≢ 0 → n ≢ 2 → code_of (state_by n) ≡ n
 code_by n most idle granted =
     elim (nat_told n 3) [
       | inl three ↦ rw (eq-eqb n 3 three) (sym three)

@@ -1,8 +1,18 @@
 //! The steps on the words of waits are events of the system that the table tells. Each law is proved as the contract of a function that does
 //! nothing.
-ghost use Rattle.mdl_steps_laws.specs.WaitLaws.{OpeningBegins};
+ghost use Rattle.mdl_steps_laws.specs.WaitLaws.{OpeningBegins, EndingHolds, EndingLeaves};
 
 /// As a session opens a wait under a latch, it begins one in the system. What it wrote into the book in hand before was no step.
 pub fn opening_begins()
     ensures { OpeningBegins }
+{}
+
+/// As a session ends a wait that was granted, it holds the ticket from then on.
+pub fn ending_holds()
+    ensures { EndingHolds }
+{}
+
+/// As a session ends a wait that was lost, under the latch of its place, the ticket goes, which waited on till then.
+pub fn ending_leaves()
+    ensures { EndingLeaves }
 {}
