@@ -9,7 +9,10 @@ pub mod TicketMembers
 pub mod WaitAsks
 pub mod WaitEnds
 pub mod WaitEvents
+pub mod WaitGrants
 pub mod WaitLists
+pub mod WaitLosses
+pub mod WaitNext
 pub mod WaitOpens
 pub mod WaitSteps
 pub mod WaitsTold

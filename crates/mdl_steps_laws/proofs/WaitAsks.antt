@@ -1,6 +1,6 @@
 -- What a session waits for, by the rule and by the locks that the table tells.
-use Rattle.std.proofs.Common.{◌≡◌, ◌≢◌, ℕ, suc, ◌+◌, ◌*◌, ◌-◌, ◌%◌, ◌<◌, ◌==◌, cond, true, inl, inr, List, [], ◌∷◌, length, map, Some, None, refl, sym, ap, ◌∙◌, subst, arith, ne_eqb}
-use Rattle.std.specs.Prelude.{Contains, Option}
+use Rattle.std.proofs.Common.{◌≡◌, ◌≢◌, ℕ, zero, suc, ◌+◌, ◌*◌, ◌-◌, ◌%◌, ◌<◌, ◌==◌, cond, true, inl, inr, List, [], ◌∷◌, length, map, Some, None, refl, sym, ap, ◌∙◌, subst, arith, ne_eqb}
+use Rattle.std.specs.Prelude.{Contains, Option, slice_get}
 use Rattle.std.specs.Option.{option_to_list}
 use mathlib.Core.Option.{some}
 use lib.ListN.{get_elem?}
@@ -15,7 +15,7 @@ use Rattle.mdl_steps.specs.declared.view.Ask.{Ask}
 use Rattle.mdl_steps.specs.declared.view.View.{View}
 use Rattle.mdl_steps.specs.Cells.{part_at, pending, waits}
 use Rattle.mdl_steps.specs.Lists.{Once}
-use Rattle.mdl_steps.specs.Rule.{Rule}
+use Rattle.mdl_steps.specs.Rule.{Rule, key_at}
 use Rattle.mdl_steps.proofs.Tickets.{is_itself, is_passed, of-without_own}
 use Rattle.mdl_steps.proofs.WaitBooks.{first_found}
 use Rattle.mdl_steps.proofs.WaitSteps.{asked_here, wished}
@@ -26,6 +26,35 @@ use Rattle.mdl_steps_laws.proofs.TableLocks.{find_key, first_place, into_rule, i
 use Rattle.mdl_steps_laws.proofs.TicketMembers.{found-passes, none-passes, without-loses}
 use Rattle.mdl_steps_laws.proofs.WaitEvents.{one_seat}
 use Rattle.mdl_steps_laws.proofs.WaitsTold.{found_in}
+
+-- what a session asks for, but a granted wait's, waits at its place
+asked_at : (s : State Slot View) (r : Rule s) (place : ℕ) (first : 0 < place) (last : place < length s.homes) (j : ℕ) (v : View) → get_elem? s.views j ≡ some v
+    → (a : Ask) → v.asks ≡ Some a → a.place ≡ place → waits s v.number % 8 ≢ 2 → ticket_of v.number a.number (r.places place first last).book.waiting ≡ Some (wished v.number a)
+asked_at s r place first last j v seat a asks here not_granted =
+    let asked : (part_at (waits s) place v).asks ≡ Some (record { ticket = wished v.number a; state = waits s v.number % 8 }) =
+    asked_here place v.number (waits s v.number) (waits s v.number % 8) v.asks a asks here refl in
+    (r.places place first last).book_ok.waiting.same j (part_at (waits s) place v) (at_map (part_at (waits s) place) s.views j v seat) a.number
+    ∙ ap (λ o. ticket_of v.number a.number (option_to_list (pending o))) asked
+    ∙ ap (λ b. ticket_of v.number a.number (option_to_list (cond b None (Some (wished v.number a))))) (ne_eqb (waits s v.number % 8) 2 not_granted)
+    ∙ first_found (wished v.number a) []
+
+-- and the place is that of a key
+at_from_get : (keys : List KeyName) (i : ℕ) (key : KeyName) → slice_get keys i ≡ Some key → get_elem? keys i ≡ some key
+at_from_get [] i key e = absurd (cc)
+at_from_get (k ∷ ks) zero key e = (let same : k ≡ key = cc in ap (λ (x : KeyName). some x) same)
+at_from_get (k ∷ ks) (suc i) key e = at_from_get ks i key e
+
+pub asked_key : (s : State Slot View) (r : Rule s) (place : ℕ) → 0 < place → place < length s.homes → (j : ℕ) (v : View) → get_elem? s.views j ≡ some v
+    → (a : Ask) → v.asks ≡ Some a → a.place ≡ place → waits s v.number % 8 ≢ 2 → (key : KeyName) × (get_elem? r.keys (place - 1) ≡ some key)
+asked_key s r place first last j v seat a asks here not_granted = by_look (key_at r.keys place) refl
+  where
+    by_look : (o : Option KeyName) → key_at r.keys place ≡ o → (key : KeyName) × (get_elem? r.keys (place - 1) ≡ some key)
+    by_look (Some key) e = (key, at_from_get r.keys (place - 1) key e)
+    by_look None e =
+        let nobody = ((r.places place first last).book_ok.named.vacant e).0.1 in
+        let waits_there = asked_at s r place first last j v seat a asks here not_granted in
+        let none : ticket_of v.number a.number (r.places place first last).book.waiting ≡ None = ap (ticket_of v.number a.number) nobody in
+        absurd (cc)
 
 module _ (s : State Slot View) (r : Rule s) (locks : KeyName → Lock) (are : AreLocksOf s locks) where
   -- a waiting ticket's session asks for it, at the place of the ticket's key
@@ -63,7 +92,7 @@ module _ (s : State Slot View) (r : Rule s) (locks : KeyName → Lock) (are : Ar
     | inr none ↦ absurd (Contains-none t (subst (λ (l : Lock). Contains l.book.waiting t) (are.without_place key none) among))
   ]
 
-  -- what a session asks for, but a granted wait's, waits there
+  -- so it is of the locks
   module _ (i : ℕ) (key : KeyName) (at : get_elem? are.keys i ≡ some key) where
     pub waiting_once : Once (locks key).book.waiting
     waiting_once = subst (λ (l : Lock). Once l.book.waiting) (is_placed s r locks are i key at) (placed s r i key (into_rule s r locks are i key at)).book_ok.waiting.once
@@ -71,14 +100,9 @@ module _ (s : State Slot View) (r : Rule s) (locks : KeyName → Lock) (are : Ar
     pub asked_waits : (j : ℕ) (v : View) → get_elem? s.views j ≡ some v → (a : Ask) → v.asks ≡ Some a → a.place ≡ suc i → waits s v.number % 8 ≢ 2
         → ticket_of v.number a.number (locks key).book.waiting ≡ Some (wished v.number a)
     asked_waits j v seat a asks here not_granted =
-        let ok = placed s r i key (into_rule s r locks are i key at) in
-        let asked : (part_at (waits s) (suc i) v).asks ≡ Some (record { ticket = wished v.number a; state = waits s v.number % 8 }) =
-        asked_here (suc i) v.number (waits s v.number) (waits s v.number % 8) v.asks a asks here refl in
+        let in_rule = into_rule s r locks are i key at in
         subst (λ (l : Lock). ticket_of v.number a.number l.book.waiting ≡ Some (wished v.number a)) (is_placed s r locks are i key at)
-        (ok.book_ok.waiting.same j (part_at (waits s) (suc i) v) (at_map (part_at (waits s) (suc i)) s.views j v seat) a.number
-        ∙ ap (λ o. ticket_of v.number a.number (option_to_list (pending o))) asked
-        ∙ ap (λ b. ticket_of v.number a.number (option_to_list (cond b None (Some (wished v.number a))))) (ne_eqb (waits s v.number % 8) 2 not_granted)
-        ∙ first_found (wished v.number a) [])
+        (asked_at s r (suc i) (first_place s r i key in_rule) (last_place s r i key in_rule) j v seat a asks here not_granted)
 
     -- a session has one ticket there at most
     pub others_wait : (session number : ℕ) → 0 < session → (t : Ticket) → ticket_of session number (locks key).book.waiting ≡ Some t

@@ -3,6 +3,7 @@ use Rattle.std.proofs.Common.{◌≡◌, ◌≢◌, ℕ, ◌*◌, ◌+◌, ◌/�
 use Rattle.std.specs.Prelude.{Contains}
 use Rattle.std.specs.List.{before_first, after_first}
 use Rattle.std.specs.Option.{option_to_list}
+use Rattle.std.proofs.lemmas.List.Elements.{Contains-append_left, Contains-append_right}
 use Rattle.atomic_table.specs.Table.{State}
 use Rattle.mdl_key.specs.Words.{KeyName}
 use Rattle.mdl_defs.specs.declared.definition.Definition.{Definition}
@@ -94,6 +95,18 @@ module _ (session number : ℕ) (ts : List Ticket) (t : Ticket) (found : ticket_
     ap (map (waiter_by f)) parts_of ∙ map_joined (waiter_by f) before (t ∷ behind),
     told_alike f g (before ++ behind) same ∙ map_joined (waiter_by f) before behind,
   )
+
+  -- or another stands in its turn
+  pub takes_turn : (f g : ℕ → ℕ) → ((u : Ticket) → Contains (without session number ts) u → g u.session ≡ f u.session)
+      → TakesTurn (waiter_by f t) (waiter_by g t) (map (waiter_by f) ts) (map (waiter_by g) ts)
+  takes_turn f g same =
+      let first = told_alike f g before (λ u among. same u (Contains-append_left before behind u among)) in
+      let last = told_alike f g behind (λ u among. same u (Contains-append_right before behind u among)) in (
+        map (waiter_by f) before,
+        map (waiter_by f) behind,
+        ap (map (waiter_by f)) parts_of ∙ map_joined (waiter_by f) before (t ∷ behind),
+        ap (map (waiter_by g)) parts_of ∙ map_joined (waiter_by g) before (t ∷ behind) ∙ (λ i. first i ++ waiter_by g t ∷ last i),
+      )
 
 -- ---- the system's waiters
 

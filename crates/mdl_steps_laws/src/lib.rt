@@ -18,4 +18,7 @@ pub use tables::{
     holders_may_join, next_numbers_are_new, one_place_is_one_lock, own_tickets_are_held,
     running_tables_are_lawful, running_tables_tell_a_system, running_tables_tell_waits,
 };
-pub use waits::{ending_holds, ending_leaves, opening_begins};
+pub use waits::{
+    ending_holds, ending_leaves, granting_grants_waiters, next_may_be_granted, opening_begins,
+    settling_loses,
+};
