@@ -12,6 +12,7 @@ pub mod WaitEvents
 pub mod WaitGrants
 pub mod WaitLists
 pub mod WaitLosses
+pub mod WaitMet
 pub mod WaitNext
 pub mod WaitOpens
 pub mod WaitSteps

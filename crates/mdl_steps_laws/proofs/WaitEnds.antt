@@ -1,37 +1,30 @@
 -- To end a wait is to end a granted one or a lost one.
-use Rattle.std.proofs.Common.{◌≡◌, ◌≢◌, ◌⊎◌, ℕ, suc, ◌+◌, ◌*◌, ◌/◌, ◌%◌, ◌<◌, ◌≤◌, inl, inr, List, ◌∷◌, ◌++◌, length, map, Some, None, refl, sym, ap, ◌∙◌, subst, arith}
-use Rattle.std.specs.Prelude.{◌↔◌, Contains, Option}
-use Rattle.std.proofs.lemmas.Bool.{eq-eqb}
+use Rattle.std.proofs.Common.{◌≡◌, ℕ, suc, ◌*◌, inl, inr, ◌∷◌, ◌++◌, length, map, Some, None, refl, sym, ap, ◌∙◌, subst, arith}
+use Rattle.std.specs.Prelude.{Contains, Option}
 use mathlib.Core.Option.{some}
 use lib.ListN.{get_elem?}
 use Rattle.atomic_table.specs.Table.{State}
 use Rattle.atomic_table.proofs.Lists.{at_map}
 use Rattle.mdl_key.specs.Words.{KeyName}
-use Rattle.mdl_defs.specs.declared.definition.Definition.{Definition}
-use Rattle.mdl_book.specs.declared.book_view.BookView.{BookView}
 use Rattle.mdl_book.specs.declared.ticket.Ticket.{Ticket}
 use Rattle.mdl_book.specs.Books.{cancelling}
-use Rattle.mdl_book.specs.Tickets.{without}
 use Rattle.mdl_steps.specs.declared.slot.Slot.{Slot}
 use Rattle.mdl_steps.specs.declared.view.Ask.{Ask}
 use Rattle.mdl_steps.specs.declared.view.View.{View}
 use Rattle.mdl_steps.specs.Cells.{waiter_of, waits}
-use Rattle.mdl_steps.specs.Plays.{Mine}
-use Rattle.mdl_steps.specs.Rule.{Rule, WaitOk}
+use Rattle.mdl_steps.specs.Rule.{Rule}
 use Rattle.mdl_steps.specs.WaitPlays.{ended_granted, ended_lost, taken_over, wait_in}
-use Rattle.mdl_steps.specs.WaitSeats.{MayCancel}
 use Rattle.mdl_steps.proofs.WaitEnds.{gone_rule, taken_rule}
 use Rattle.mdl_steps.proofs.WaitFrame.{waits_here}
 use Rattle.mdl_steps.proofs.WaitSteps.{wished}
-use Rattle.mdl_system.specs.Systems.{GrantedWait, System, Unsettled, WaitState}
+use Rattle.mdl_system.specs.Systems.{GrantedWait, WaitState}
 use Rattle.mdl_system.proofs.Deciding.{nat_told}
 use Rattle.mdl_steps_laws.specs.Locks.{Lock, granted_of}
-use Rattle.mdl_steps_laws.specs.WaitLaws.{EndingHolds, EndingLeaves, IsTold, after_wait}
+use Rattle.mdl_steps_laws.specs.WaitLaws.{EndingHolds, EndingLeaves, after_wait}
 use Rattle.mdl_steps_laws.specs.WaitsTold.{IsGrantedWait, code_of}
-use Rattle.mdl_steps_laws.proofs.TableLocks.{first_place}
 use Rattle.mdl_steps_laws.proofs.WaitAsks.{asked_waits}
-use Rattle.mdl_steps_laws.proofs.WaitEvents.{same_members, same_definitions, number_fits, one_seat, in_locks, in_rule, inside, some_session, lock_turns, lock_stays, locks_keep, waiting_same}
-use Rattle.mdl_steps_laws.proofs.WaitLists.{code_most, code_waits, leaves_order, not_waiting, waiter_is, waiting_by}
+use Rattle.mdl_steps_laws.proofs.WaitEvents.{same_members, same_definitions, number_fits, one_seat, in_locks, some_session, lock_turns, lock_stays, locks_keep, waiting_same}
+use Rattle.mdl_steps_laws.proofs.WaitLists.{code_waits, leaves_order, not_waiting, waiter_is, waiting_by}
 use Rattle.mdl_steps_laws.proofs.WaitSteps.{Stays, lock_else, other_session, unended_else, unended_same}
 use Rattle.mdl_steps_laws.proofs.WaitsTold.{code_by, state_by, waiter_by}
 

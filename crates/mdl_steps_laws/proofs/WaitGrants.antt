@@ -1,9 +1,8 @@
 -- To grant a wait is to grant the waiter.
-use Rattle.std.proofs.Common.{◌≡◌, ◌≢◌, ℕ, suc, ◌+◌, ◌*◌, ◌%◌, ◌<◌, ◌≤◌, true, inl, inr, List, [], ◌∷◌, ◌++◌, length, map, Some, refl, sym, ap, ◌∙◌, subst, arith, append_assoc}
-use Rattle.std.specs.Prelude.{◌↔◌, Contains, Option}
+use Rattle.std.proofs.Common.{◌≡◌, ℕ, suc, true, inl, inr, [], ◌∷◌, ◌++◌, length, map, Some, refl, sym, ap, ◌∙◌, subst, arith, append_assoc}
+use Rattle.std.specs.Prelude.{Contains, Option}
 use Rattle.std.specs.Option.{option_to_list}
 use Rattle.atomic_table.specs.Table.{State}
-use Rattle.mdl_key.specs.Words.{KeyName}
 use Rattle.mdl_book.specs.declared.book_view.BookView.{BookView}
 use Rattle.mdl_book.specs.declared.ticket.Ticket.{Ticket}
 use Rattle.mdl_book.specs.Books as books

@@ -1,12 +1,11 @@
 -- The ticket that a book finds next may be granted.
-use Rattle.std.proofs.Common.{◌≡◌, ◌≢◌, ℕ, suc, ◌<◌, ◌&&◌, ◌||◌, Bool, true, false, not, cond, inl, inr, List, [], ◌∷◌, length, map, Some, None, refl, sym, ap, ◌∙◌, subst, arith}
-use Rattle.std.specs.Prelude.{Contains, Option}
+use Rattle.std.proofs.Common.{◌≡◌, ℕ, suc, ◌||◌, Bool, true, false, not, inl, inr, List, [], ◌∷◌, Some, None, refl, sym, ap, ◌∙◌, subst}
+use Rattle.std.specs.Prelude.{Contains}
 use Rattle.std.proofs.lemmas.Bool.{and_parts}
 use Rattle.std.specs.FinSet as set
-use mathlib.Core.Option.{some}
 use Rattle.atomic_table.proofs.Lists.{at_map}
 use Rattle.mdl_key.specs.declared.namespace.Kind.{Kind}
-use Rattle.mdl_key.specs.Words.{KeyName, is_obtrusive}
+use Rattle.mdl_key.specs.Words.{is_obtrusive}
 use Rattle.mdl_word.specs.Words.{blocks_by, counts_of}
 use Rattle.mdl_book.specs.declared.ticket.Ticket.{Ticket}
 use Rattle.mdl_book.specs.Books.{any_obtrusive, has_obtrusive, is_ready, lock_kind}
@@ -18,7 +17,7 @@ use Rattle.mdl_steps.specs.Cells.{cell, holder_at}
 use Rattle.mdl_steps.specs.Deeds.{MayJoin}
 use Rattle.mdl_steps.specs.Lists.{Once}
 use Rattle.mdl_steps.specs.Rule.{key_at}
-use Rattle.mdl_steps.proofs.Holder.{Under, under}
+use Rattle.mdl_steps.proofs.Holder.{under}
 use Rattle.mdl_steps.proofs.Tickets.{is_itself, is_passed}
 use Rattle.mdl_steps.proofs.Views.{by_bool}
 use Rattle.mdl_system.proofs.MemberLemmas.{Contains-none}

@@ -1,9 +1,7 @@
 -- To open a wait is to begin it.
-use Rattle.std.proofs.Common.{◌≡◌, ◌≢◌, ℕ, suc, ◌+◌, ◌*◌, ◌%◌, ◌<◌, List, [], ◌∷◌, ◌++◌, length, map, refl, sym, ap, ◌∙◌, subst, arith}
-use Rattle.std.specs.Prelude.{Contains}
+use Rattle.std.proofs.Common.{◌≡◌, ◌≢◌, ℕ, suc, ◌+◌, ◌%◌, [], ◌∷◌, ◌++◌, length, map, refl, sym, ap, ◌∙◌, arith}
 use Rattle.atomic_table.specs.Table.{State}
 use Rattle.atomic_table.proofs.Lists.{at_map}
-use Rattle.mdl_key.specs.Words.{KeyName}
 use Rattle.mdl_book.specs.declared.ticket.Ticket.{Ticket}
 use Rattle.mdl_book.specs.Books.{enqueueing}
 use Rattle.mdl_steps.specs.declared.slot.Slot.{Slot}
@@ -12,8 +10,7 @@ use Rattle.mdl_steps.specs.Cells.{waiter_of, waits}
 use Rattle.mdl_steps.specs.WaitPlays.{asked_ticket, opened, wait_in}
 use Rattle.mdl_steps.proofs.WaitEnds.{opened_rule}
 use Rattle.mdl_steps.proofs.WaitFrame.{waits_else, waits_here}
-use Rattle.mdl_system.specs.Systems.{Unsettled, Waiter, WaitState}
-use Rattle.mdl_system.specs.Events.{BeginsWait}
+use Rattle.mdl_system.specs.Systems.{Unsettled, WaitState}
 use Rattle.mdl_steps_laws.specs.Locks.{Lock, granted_of}
 use Rattle.mdl_steps_laws.specs.WaitLaws.{OpeningBegins, after_wait}
 use Rattle.mdl_steps_laws.specs.WaitsTold.{code_of}

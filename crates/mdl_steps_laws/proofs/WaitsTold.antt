@@ -1,6 +1,6 @@
 -- The waits of the system that the running table tells.
-use Rattle.std.proofs.Common.{◌≡◌, ◌≢◌, ◌⊎◌, ℕ, zero, suc, ◌+◌, ◌*◌, ◌/◌, ◌%◌, ◌<◌, ◌≤◌, ◌==◌, true, false, not, cond, inl, inr, List, [], ◌∷◌, length, map, Some, None, refl, sym, ap, ◌∙◌, subst, arith}
-use Rattle.std.specs.Prelude.{◌↔◌, Contains, Option, slice_index_or}
+use Rattle.std.proofs.Common.{◌≡◌, ◌≢◌, ℕ, zero, suc, ◌/◌, ◌%◌, ◌<◌, ◌≤◌, ◌==◌, true, not, cond, inl, inr, List, [], ◌∷◌, length, map, Some, None, refl, sym, ap, ◌∙◌, subst, arith}
+use Rattle.std.specs.Prelude.{Contains, Option, slice_index_or}
 use Rattle.std.specs.List.{flat_map, list_all}
 use Rattle.std.specs.Option.{option_to_list, option_map}
 use Rattle.std.proofs.lemmas.Bool.{and_from, eq-eqb, eqb-true}
@@ -10,7 +10,6 @@ use lib.ListN.{get_elem?}
 use Rattle.atomic_table.specs.Table.{State}
 use Rattle.atomic_table.proofs.Lists.{at_map}
 use Rattle.mdl_key.specs.Words.{KeyName}
-use Rattle.mdl_defs.specs.declared.definition.Definition.{Definition}
 use Rattle.mdl_book.specs.declared.ticket.Ticket.{Ticket}
 use Rattle.mdl_book.specs.Tickets.{is_ticket, ticket_of}
 use Rattle.mdl_steps.specs.declared.slot.Slot.{Slot}
@@ -22,12 +21,12 @@ use Rattle.mdl_steps.specs.WaitPlays.{wait_in}
 use Rattle.mdl_steps.proofs.Tickets.{is_itself}
 use Rattle.mdl_steps.proofs.Views.{by_bool, at_inside, other}
 use Rattle.mdl_steps.proofs.WaitTells.{asks_there}
-use Rattle.mdl_system.specs.Systems.{GrantedWait, System, Waiter, WaitState, Unsettled, Victim, TimedOut, Killed}
+use Rattle.mdl_system.specs.Systems.{GrantedWait, Waiter, WaitState, Unsettled, Victim, TimedOut, Killed}
 use Rattle.mdl_system.proofs.Deciding.{nat_told}
 use Rattle.mdl_system.proofs.MemberLemmas.{Contains-none, Contains-map_from, Contains-flat_map, Contains-flat_map_from}
 use Rattle.mdl_system.proofs.OrderLemmas.{Contains-here, Contains-cons_cases}
 use Rattle.mdl_steps_laws.specs.Locks.{Lock, AreLocksOf, Tells}
-use Rattle.mdl_steps_laws.specs.WaitsTold.{code_of, IsGrantedWait, TellsWaits, RunningTablesTellWaits}
+use Rattle.mdl_steps_laws.specs.WaitsTold.{code_of, RunningTablesTellWaits}
 use Rattle.mdl_steps_laws.proofs.TableLocks.{find_key, into_rule, is_placed, first_place, last_place, placed, running_tables_tell_a_system}
 
 -- ---- states

@@ -1,6 +1,6 @@
 -- The steps on the words of waits are events of the system that the table tells. Each is one step, which changes the word, and the record of
 -- a latch with it: what its session writes into the book in hand before that or after it, no table tells.
-use Rattle.std.specs.Prelude.{◌≡◌, ℕ, suc, ◌+◌, ◌<◌, true, length, List, Some, None, slice_set}
+use Rattle.std.specs.Prelude.{◌≡◌, ℕ, suc, ◌+◌, ◌<◌, true, length, List, Some, slice_set}
 use Rattle.std.specs.FinSet as set
 use Rattle.std.specs.Ordering.{nat_cmp}
 use mathlib.Core.Option.{some}
@@ -24,10 +24,10 @@ use Rattle.mdl_steps.specs.Cells.{held_at, waits}
 use Rattle.mdl_steps.specs.Layout.{wait_word}
 use Rattle.mdl_steps.specs.Plays.{Mine}
 use Rattle.mdl_steps.specs.Rule.{Rule}
-use Rattle.mdl_steps.specs.WaitPlays.{asked_ticket, ended_granted, ended_lost, opened, settled_granted, settled_lost, wait_in}
+use Rattle.mdl_steps.specs.WaitPlays.{asked_ticket, ended_granted, ended_lost, met_wait, opened, settled_granted, settled_lost, wait_in}
 use Rattle.mdl_steps.specs.WaitSeats.{MayCancel, MayGrant, MayOpen}
 use Rattle.mdl_steps.specs.WaitStates.{lost_state}
-use Rattle.mdl_system.specs.Events.{BeginWait, EndGrantedWait, EndLostWait, Event, GrantWaiter, Happens, SettleLost}
+use Rattle.mdl_system.specs.Events.{BeginWait, EndGrantedWait, EndLostWait, Event, GrantWaiter, Happens, SameSystem, SettleLost}
 use Rattle.mdl_system.specs.Systems.{System, WaitState, Unsettled, Victim, TimedOut, Killed}
 use Rattle.mdl_steps_laws.specs.Locks.{Lock, AreKeysOf, AreLocksOf, Tells}
 use Rattle.mdl_steps_laws.specs.WaitsTold.{TellsWaits, code_of}
@@ -42,6 +42,10 @@ IsTold s system = (locks : KeyName → Lock) × AreLocksOf s locks × Tells lock
 abbrev pub Brings : Event Change → State Slot View → State Slot View → Type 0
 Brings event s s′ =
     Rule s′ × ((a b : System Definition) → IsTold s a → IsTold s′ b → Happens (λ (at : KeyName). applied at.namespace) event a b)
+
+-- nothing is done from one table to another: the rule holds of that, and whichever systems they tell are one
+abbrev pub Rests : State Slot View → State Slot View → Type 0
+Rests s s′ = Rule s′ × ((a b : System Definition) → IsTold s a → IsTold s′ b → SameSystem a b)
 
 -- the table after a step of a seat by which the wait word of a session became this
 abbrev pub after_wait : State Slot View → ℕ → ℕ → ℕ → Mine → State Slot View
@@ -115,3 +119,9 @@ EndingLeaves =
       wait = me.0.waits;
       state = how;
     })) s (after_wait s me.0.number (wait_in me.0.waits 0) id (ended_lost (length s.homes) (suc i) may.ask.number may.state me))
+
+-- to read a wait word, or to meet there another than the one that was to be settled, is to do nothing
+abbrev pub MeetingRests : Type 0
+MeetingRests =
+    (s : State Slot View) → Rule s → (id : ℕ) (me : Mine) → get_elem? s.views id ≡ some me.0 → (session : ℕ) →
+    Rests s (after_wait s session (waits s session) id (met_wait (length s.homes) session (waits s session) me))

@@ -19,6 +19,6 @@ pub use tables::{
     running_tables_are_lawful, running_tables_tell_a_system, running_tables_tell_waits,
 };
 pub use waits::{
-    ending_holds, ending_leaves, granting_grants_waiters, next_may_be_granted, opening_begins,
-    settling_loses,
+    ending_holds, ending_leaves, granting_grants_waiters, meeting_rests, next_may_be_granted,
+    opening_begins, settling_loses,
 };

@@ -1,6 +1,6 @@
 //! The steps on the words of waits are events of the system that the table tells. Each law is proved as the contract of a function that does
 //! nothing.
-ghost use Rattle.mdl_steps_laws.specs.WaitLaws.{OpeningBegins, SettlingLoses, GrantingGrantsWaiters, NextMayBeGranted, EndingHolds, EndingLeaves};
+ghost use Rattle.mdl_steps_laws.specs.WaitLaws.{OpeningBegins, SettlingLoses, GrantingGrantsWaiters, NextMayBeGranted, EndingHolds, EndingLeaves, MeetingRests};
 
 /// As a session opens a wait under a latch, it begins one in the system. What it wrote into the book in hand before was no step.
 pub fn opening_begins()
@@ -30,4 +30,9 @@ pub fn ending_holds()
 /// As a session ends a wait that was lost, under the latch of its place, the ticket goes, which waited on till then.
 pub fn ending_leaves()
     ensures { EndingLeaves }
+{}
+
+/// As a wait word is read, or isn't the one that was to be settled, nothing happens.
+pub fn meeting_rests()
+    ensures { MeetingRests }
 {}
