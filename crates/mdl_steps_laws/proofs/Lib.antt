@@ -6,6 +6,7 @@ pub mod Redefining
 pub mod SeatSteps
 pub mod TableLocks
 pub mod TicketMembers
+pub mod ToldDeeds
 pub mod WaitAsks
 pub mod WaitEnds
 pub mod WaitEvents

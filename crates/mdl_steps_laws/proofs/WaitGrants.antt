@@ -83,7 +83,7 @@ granting_grants_waiters s r keys keys_are i key at id me seat session ticket num
                   let granted = (told′.3.unended g).0 among in
                   elim (nat_told g.session session) [
                     | inl mine ↦
-                        let before = was_there s r session n id me.0 w seat stays (λ _. Unit {0}) (λ _. refl) granted.0 granted.1 granted.3 tt in
+                        let before = was_there s id me.0 w seat refl (λ _. Unit {0}) (λ _. refl) granted.0 granted.1 granted.3 tt in
                         let number_is : before.0.number ≡ asks.view.number = before.2 ∙ granted.4 ∙ mine ∙ sym wish_is.0 ∙ sym asks.number_is in
                         let one : before.0 ≡ asks.view = one_seat s r granted.0 asks.seat before.0 asks.view before.1 asks.there number_is
                         (let is = asks.number_is in let of = wish_is.0 in omega arith) in
@@ -101,7 +101,7 @@ granting_grants_waiters s r keys keys_are i key at id me seat session ticket num
                     let granted = (told.3.unended g).0 among in
                     (told′.3.unended g).1 ((unended_else s r session n id me.0 w seat stays (λ _. refl) g (other_session s g granted session (λ two. omega arith))).1 granted)
                 | inr e ↦
-                    let after = now_there s r session n id me.0 w seat stays (λ _. Unit {0}) (λ _. refl) asks.seat asks.view asks.there tt in
+                    let after = now_there s id me.0 w seat refl (λ _. Unit {0}) (λ _. refl) asks.seat asks.view asks.there tt in
                     subst (Contains y.unended) (sym e)
                     ((told′.3.unended (record { session = may.wish.session; wait = number; ticket = may.wish.number })).1
                     (asks.seat, after.0, asks.ask, after.1, after.2 ∙ asks.number_is, after.3 ∙ asks.asks, asks.ticket_is, ap (waits s′) wish_is.0 ∙ now))

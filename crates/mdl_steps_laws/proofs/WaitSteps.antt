@@ -33,6 +33,36 @@ other_session s x granted session not same =
     let is : waits s session ≡ waits s x.session = ap (waits s) (sym same) in
     not (omega arith)
 
+-- ---- views, where one is another that has its number
+
+module _ (s : State Slot View) (id : ℕ) (v w : View) (seat : get_elem? s.views id ≡ some v) (number : w.number ≡ v.number) where
+  module _ (Of : ℕ → Type 0) (asks_kept : Of v.number → w.asks ≡ v.asks) where
+    pub now_there : (j : ℕ) (u : View) → get_elem? s.views j ≡ some u → Of u.number
+        → (u′ : View) × (get_elem? (set s.views id w) j ≡ some u′) × (u′.number ≡ u.number) × (u′.asks ≡ u.asks)
+    now_there j u there of = elim (nat_told j id) [
+      | inl e ↦
+          let is : u ≡ v = some-injective u v (sym there ∙ ap (get_elem? s.views) e ∙ seat) in (
+            w,
+            subst (λ (k : ℕ). get_elem? (set s.views id w) k ≡ some w) (sym e) (set_here s.views id w (at_inside s.views id v seat)),
+            number ∙ ap (λ (x : View). x.number) (sym is),
+            asks_kept (subst (λ (x : View). Of x.number) is of) ∙ ap (λ (x : View). x.asks) (sym is),
+          )
+      | inr e ↦ (u, set_else s.views id j w e ∙ there, refl, refl)
+    ]
+
+    pub was_there : (j : ℕ) (u′ : View) → get_elem? (set s.views id w) j ≡ some u′ → Of u′.number
+        → (u : View) × (get_elem? s.views j ≡ some u) × (u.number ≡ u′.number) × (u.asks ≡ u′.asks)
+    was_there j u′ there of = elim (at_set s.views id j w u′ there) [
+      | inl e ↦
+          let same : v.number ≡ u′.number = sym number ∙ ap (λ (x : View). x.number) e.1 in (
+            v,
+            subst (λ (k : ℕ). get_elem? s.views k ≡ some v) (sym e.0) seat,
+            same,
+            sym (asks_kept (subst Of (sym same) of)) ∙ ap (λ (x : View). x.asks) e.1,
+          )
+      | inr e ↦ (u′, e.1, refl, refl)
+    ]
+
 -- what a step on a wait's word leaves of its seat's view
 pub record Stays (v w : View) : Type 0 where
   pub number : w.number ≡ v.number
@@ -108,44 +138,17 @@ module _ (s : State Slot View) (r : Rule s) (session n id : ℕ) (v w : View) (s
 
   -- ---- granted waits
 
-  module _ (Of : ℕ → Type 0) (asks_kept : Of v.number → w.asks ≡ v.asks) where
-    pub now_there : (j : ℕ) (u : View) → get_elem? s.views j ≡ some u → Of u.number
-        → (u′ : View) × (get_elem? (set s.views id w) j ≡ some u′) × (u′.number ≡ u.number) × (u′.asks ≡ u.asks)
-    now_there j u there of = elim (nat_told j id) [
-      | inl e ↦
-          let is : u ≡ v = some-injective u v (sym there ∙ ap (get_elem? s.views) e ∙ seat) in (
-            w,
-            subst (λ (k : ℕ). get_elem? (set s.views id w) k ≡ some w) (sym e) (set_here s.views id w (at_inside s.views id v seat)),
-            stays.number ∙ ap (λ (x : View). x.number) (sym is),
-            asks_kept (subst (λ (x : View). Of x.number) is of) ∙ ap (λ (x : View). x.asks) (sym is),
-          )
-      | inr e ↦ (u, set_else s.views id j w e ∙ there, refl, refl)
-    ]
-
-    pub was_there : (j : ℕ) (u′ : View) → get_elem? (set s.views id w) j ≡ some u′ → Of u′.number
-        → (u : View) × (get_elem? s.views j ≡ some u) × (u.number ≡ u′.number) × (u.asks ≡ u′.asks)
-    was_there j u′ there of = elim (at_set s.views id j w u′ there) [
-      | inl e ↦
-          let number : v.number ≡ u′.number = sym stays.number ∙ ap (λ (x : View). x.number) e.1 in (
-            v,
-            subst (λ (k : ℕ). get_elem? s.views k ≡ some v) (sym e.0) seat,
-            number,
-            sym (asks_kept (subst Of (sym number) of)) ∙ ap (λ (x : View). x.asks) e.1,
-          )
-      | inr e ↦ (u′, e.1, refl, refl)
-    ]
-
   -- those of other sessions stay
   module _ (asks_kept : v.number ≢ session → w.asks ≡ v.asks) where
     pub unended_else : (x : GrantedWait) → x.session ≢ session → IsGrantedWait after x ↔ IsGrantedWait s x
     unended_else x else = (
       (λ granted.
           let of : granted.1.number ≢ session = λ e. else (sym granted.4 ∙ e) in
-          let was = was_there (λ m. m ≢ session) asks_kept granted.0 granted.1 granted.3 of in
+          let was = was_there s id v w seat stays.number (λ m. m ≢ session) asks_kept granted.0 granted.1 granted.3 of in
           (granted.0, was.0, granted.2, was.1, was.2 ∙ granted.4, was.3 ∙ granted.5, granted.6, sym (waits_else s r session n id v w x.session else) ∙ granted.7)),
       λ granted.
           let of : granted.1.number ≢ session = λ e. else (sym granted.4 ∙ e) in
-          let now = now_there (λ m. m ≢ session) asks_kept granted.0 granted.1 granted.3 of in
+          let now = now_there s id v w seat stays.number (λ m. m ≢ session) asks_kept granted.0 granted.1 granted.3 of in
           (granted.0, now.0, granted.2, now.1, now.2 ∙ granted.4, now.3 ∙ granted.5, granted.6, waits_else s r session n id v w x.session else ∙ granted.7),
     )
 
