@@ -197,19 +197,19 @@ module _ (s : Table) (r : Rule s) (id : ℕ) (me : Mine) (seat : get_elem? s.vie
 
     -- granted: the ticket is the session's own
     module _ (granted : state ≡ 2) (a : Ask) (asks : me.0.asks ≡ Some a) where
-      abbrev own : Own
+      abbrev pub own : Own
       own = record { number = a.number; place = a.place; mode = a.mode; noted = None }
 
-      abbrev taken : View
+      abbrev pub taken : View
       taken = record (ended_granted (length s.homes) me).0 { slow = me.0.slow ++ own ∷ [] }
 
-      abbrev after_taken : Table
+      abbrev pub after_taken : Table
       after_taken = after s (wait_word (length s.homes) session) (8 * me.0.waits) id taken s.homes
 
       abbrev with_own : Part
       with_own = record (part_at (waits s) a.place me.0) { asks = None; slow = own_at a.place me.0.slow ++ own ∷ [] }
 
-      taken_rule : Rule after_taken
+      pub taken_rule : Rule after_taken
       taken_rule =
           let row = (r.views id me.0 seat).0 in
           let first = (inside a asks).0 in
@@ -251,19 +251,19 @@ module _ (s : Table) (r : Rule s) (id : ℕ) (me : Mine) (seat : get_elem? s.vie
 
     -- lost: the ticket is gone
     module _ (place : ℕ) (h : Held) (may : MayCancel place h me) (same_state : may.state ≡ state) where
-      abbrev cancelled_number : ℕ
+      abbrev pub cancelled_number : ℕ
       cancelled_number = may.ask.number
 
-      abbrev gone : View
+      abbrev pub gone : View
       gone = (ended_lost (length s.homes) place cancelled_number state me).0
 
-      abbrev after_gone : Table
+      abbrev pub after_gone : Table
       after_gone = after s (wait_word (length s.homes) session) (8 * me.0.waits) id gone s.homes
 
       abbrev without_ask : Part
       without_ask = record (part_at (waits s) place me.0) { asks = None }
 
-      gone_rule : Rule after_gone
+      pub gone_rule : Rule after_gone
       gone_rule =
           let row = (r.views id me.0 seat).0 in
           let here = may.here in

@@ -1,5 +1,6 @@
 -- What a session does under a latch is an event of the system of locks.
 use Rattle.std.proofs.Common.{◌≡◌, ℕ, true, inl, inr, List, [], ◌∷◌, ◌++◌, refl, sym, ap, ◌∙◌, subst, append_assoc}
+use Rattle.std.specs.Prelude.{Option}
 use Rattle.std.proofs.lemmas.Bool.{and_from}
 use Rattle.mdl_key.specs.declared.mode.Mode.{Mode}
 use Rattle.mdl_key.specs.Words.{KeyName}
@@ -12,7 +13,7 @@ use Rattle.mdl_book.specs.Tickets as tickets
 use Rattle.mdl_book.specs.Tickets.{is_ticket, ticket_of, without, with_mode}
 use Rattle.mdl_steps.specs.declared.deed.Deed.{Deed}
 use Rattle.mdl_steps.specs.declared.deed.Deed.TheVariants.{Gain, Alter, Lose}
-use Rattle.mdl_steps.specs.Deeds.{all_booked, booked}
+use Rattle.mdl_steps.specs.Deeds.{MayJoin, all_booked, booked}
 use Rattle.mdl_steps.proofs.Deeds.{may_join}
 use Rattle.mdl_system.specs.BookLaws.{of_lock}
 use Rattle.mdl_system.specs.Events.{SameElsewhere, ElseSame, Gains, Loses, Replaces}
@@ -21,7 +22,7 @@ use Rattle.mdl_system.proofs.BookLemmas.{changes-by_lists, grantable-by_lists}
 use Rattle.mdl_system.proofs.Deciding.{key_told}
 use Rattle.mdl_system.proofs.MemberLemmas.{push-gains}
 use Rattle.mdl_steps_laws.specs.Locks.{Lock, Tells, granted_of, versioned}
-use Rattle.mdl_steps_laws.specs.DeedLaws.{Does, IsOnly, MayTake, LosingReleases, GainingGrants, GainingClones, AlteringDowngrades, AlteringUpgrades}
+use Rattle.mdl_steps_laws.specs.DeedLaws.{Does, IsOnly, MayBeJoined, MayTake, LosingReleases, GainingGrants, GainingClones, AlteringDowngrades, AlteringUpgrades}
 use Rattle.mdl_steps_laws.proofs.TicketMembers.{loses-behind, replaces-behind, found-passes, found-apart, without-loses, with_mode-replaces}
 
 -- deeds leave what stands
@@ -65,14 +66,18 @@ module _ (session : ℕ) (deeds : List Deed) (key : KeyName) (old new : KeyName 
 pub held_by_own : {D : Type 0} (a : System D) (session : ℕ) (h : Holding) → Held a session h → Held a h.session h
 held_by_own a session h held = subst (λ n. Held a n h) (sym held.1) held
 
-grantable : (locks : KeyName → Lock) (a : System Definition) → Tells locks a → (session : ℕ) (key : KeyName) (mode : Mode) → MayTake session mode (locks key) a → IsGrantable a session key mode
-grantable locks a tells session key mode may =
+pub grantable_by : (locks : KeyName → Lock) (a : System Definition) → Tells locks a → (session : ℕ) (key : KeyName) (mode : Mode) (noted : Option ℕ) → MayBeJoined noted (locks key)
+    → MayJoin session (locks key).book noted mode → book.goes_first (books.lock_kind (locks key).book) (locks key).book.waiting session mode ≡ true → IsGrantable a session key mode
+grantable_by locks a tells session key mode noted ready joins first =
     let l : Lock = locks key in
-    let compatible = may_join session l.book l.fast may.ready.obtrusive may.noted mode may.ready.lawful may.ready.noted_counts may.joins in
-    let both : book.is_grantable (books.lock_kind l.book) (granted_of l) l.book.waiting session mode ≡ true = and_from _ _ compatible may.first in
+    let compatible = may_join session l.book l.fast ready.obtrusive noted mode ready.lawful ready.noted_counts joins in
+    let both : book.is_grantable (books.lock_kind l.book) (granted_of l) l.book.waiting session mode ≡ true = and_from _ _ compatible first in
     (grantable-by_lists a (λ k. granted_of (locks k)) tells.granted session key mode).1
     (subst (λ ws. book.is_grantable (lock_kind key) (granted_of l) ws session mode ≡ true) (sym (tells.waiting key))
     (subst (λ (k : KeyName). book.is_grantable (lock_kind k) (granted_of l) l.book.waiting session mode ≡ true) (tells.keyed key) both))
+
+grantable : (locks : KeyName → Lock) (a : System Definition) → Tells locks a → (session : ℕ) (key : KeyName) (mode : Mode) → MayTake session mode (locks key) a → IsGrantable a session key mode
+grantable locks a tells session key mode may = grantable_by locks a tells session key mode may.noted may.ready may.joins may.first
 
 -- ---- one that goes
 

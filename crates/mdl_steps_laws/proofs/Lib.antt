@@ -6,4 +6,15 @@ pub mod Redefining
 pub mod SeatSteps
 pub mod TableLocks
 pub mod TicketMembers
+pub mod ToldDeeds
+pub mod WaitAsks
+pub mod WaitEnds
+pub mod WaitEvents
+pub mod WaitGrants
+pub mod WaitLists
+pub mod WaitLosses
+pub mod WaitMet
+pub mod WaitNext
+pub mod WaitOpens
+pub mod WaitSteps
 pub mod WaitsTold

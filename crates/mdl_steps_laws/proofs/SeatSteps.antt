@@ -31,12 +31,12 @@ use Rattle.mdl_steps_laws.proofs.OneLock.{one_lock}
 use Rattle.mdl_steps_laws.proofs.TableLocks.{first_place, into_rule, last_place, ruled_book}
 
 -- the waits' words have no part in the fast tickets
-any_waits : (f g : ℕ → ℕ) (q : ℕ) (views : List View) → all_fast (map (part_at f q) views) ≡ all_fast (map (part_at g q) views)
+pub any_waits : (f g : ℕ → ℕ) (q : ℕ) (views : List View) → all_fast (map (part_at f q) views) ≡ all_fast (map (part_at g q) views)
 any_waits f g q [] = refl
 any_waits f g q (v ∷ vs) = ap (λ ts. map (ticket_by v.number) (own_at q v.fast) ++ ts) (any_waits f g q vs)
 
 -- a part with the same fast tickets, whatever is noted under them
-all_fast-alike : (parts : List Part) (id : ℕ) (x y : Part) → get_elem? parts id ≡ some x → map (ticket_by y.number) y.fast ≡ map (ticket_by x.number) x.fast → all_fast (set parts id y) ≡ all_fast parts
+pub all_fast-alike : (parts : List Part) (id : ℕ) (x y : Part) → get_elem? parts id ≡ some x → map (ticket_by y.number) y.fast ≡ map (ticket_by x.number) x.fast → all_fast (set parts id y) ≡ all_fast parts
 all_fast-alike [] id x y at same = refl
 all_fast-alike (z ∷ zs) zero x y at same =
     ap (λ ts. ts ++ all_fast zs) (same ∙ ap (λ (p : Part). map (ticket_by p.number) p.fast) (sym (some-injective z x at)))

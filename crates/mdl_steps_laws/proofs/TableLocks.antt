@@ -116,7 +116,7 @@ module _ (s : State Slot View) (r : Rule s) where
     }
 
     -- and no other is
-    same_book : (book : BookView) → IsBookAt s place book → book ≡ (r.places place first last).book
+    pub same_book : (book : BookView) → IsBookAt s place book → book ≡ (r.places place first last).book
     same_book book is =
         let ok = r.places place first last in
         elim (nat_told (slice_index s.words (latch_word place)) 0) [
@@ -129,7 +129,7 @@ module _ (s : State Slot View) (r : Rule s) where
         ]
 
   -- the keys are those of the rule
-  ruled_keys : AreKeysOf s r.keys
+  pub ruled_keys : AreKeysOf s r.keys
   ruled_keys = record {
     free = r.directory_agrees.free;
     taken = λ i v seat k has. (r.directory_agrees.held i (desk_of v) (at_map desk_of s.views i v seat) k has).2;

@@ -1,6 +1,6 @@
 -- The waits of the system that the running table tells.
-use Rattle.std.proofs.Common.{◌≡◌, ◌≢◌, ◌⊎◌, ℕ, zero, suc, ◌+◌, ◌*◌, ◌/◌, ◌%◌, ◌<◌, ◌≤◌, ◌==◌, true, false, not, cond, inl, inr, List, [], ◌∷◌, length, map, Some, None, refl, sym, ap, ◌∙◌, subst, arith}
-use Rattle.std.specs.Prelude.{◌↔◌, Contains, Option, slice_index_or}
+use Rattle.std.proofs.Common.{◌≡◌, ◌≢◌, ℕ, zero, suc, ◌/◌, ◌%◌, ◌<◌, ◌≤◌, ◌==◌, true, not, cond, inl, inr, List, [], ◌∷◌, length, map, Some, None, refl, sym, ap, ◌∙◌, subst, arith}
+use Rattle.std.specs.Prelude.{Contains, Option, slice_index_or}
 use Rattle.std.specs.List.{flat_map, list_all}
 use Rattle.std.specs.Option.{option_to_list, option_map}
 use Rattle.std.proofs.lemmas.Bool.{and_from, eq-eqb, eqb-true}
@@ -10,7 +10,6 @@ use lib.ListN.{get_elem?}
 use Rattle.atomic_table.specs.Table.{State}
 use Rattle.atomic_table.proofs.Lists.{at_map}
 use Rattle.mdl_key.specs.Words.{KeyName}
-use Rattle.mdl_defs.specs.declared.definition.Definition.{Definition}
 use Rattle.mdl_book.specs.declared.ticket.Ticket.{Ticket}
 use Rattle.mdl_book.specs.Tickets.{is_ticket, ticket_of}
 use Rattle.mdl_steps.specs.declared.slot.Slot.{Slot}
@@ -22,20 +21,20 @@ use Rattle.mdl_steps.specs.WaitPlays.{wait_in}
 use Rattle.mdl_steps.proofs.Tickets.{is_itself}
 use Rattle.mdl_steps.proofs.Views.{by_bool, at_inside, other}
 use Rattle.mdl_steps.proofs.WaitTells.{asks_there}
-use Rattle.mdl_system.specs.Systems.{GrantedWait, System, Waiter, WaitState, Unsettled, Victim, TimedOut, Killed}
+use Rattle.mdl_system.specs.Systems.{GrantedWait, Waiter, WaitState, Unsettled, Victim, TimedOut, Killed}
 use Rattle.mdl_system.proofs.Deciding.{nat_told}
 use Rattle.mdl_system.proofs.MemberLemmas.{Contains-none, Contains-map_from, Contains-flat_map, Contains-flat_map_from}
 use Rattle.mdl_system.proofs.OrderLemmas.{Contains-here, Contains-cons_cases}
 use Rattle.mdl_steps_laws.specs.Locks.{Lock, AreLocksOf, Tells}
-use Rattle.mdl_steps_laws.specs.WaitsTold.{code_of, IsGrantedWait, TellsWaits, RunningTablesTellWaits}
+use Rattle.mdl_steps_laws.specs.WaitsTold.{code_of, RunningTablesTellWaits}
 use Rattle.mdl_steps_laws.proofs.TableLocks.{find_key, into_rule, is_placed, first_place, last_place, placed, running_tables_tell_a_system}
 
 -- ---- states
 
-abbrev state_by : ℕ → WaitState
+abbrev pub state_by : ℕ → WaitState
 state_by n = cond (n == 3) Victim (cond (n == 4) TimedOut (cond (n == 5) Killed Unsettled))
 
-code_by : (n : ℕ) → n ≤ 5 → n ≢ 0 → n ≢ 2 → code_of (state_by n) ≡ n
+pub code_by : (n : ℕ) → n ≤ 5 → n ≢ 0 → n ≢ 2 → code_of (state_by n) ≡ n
 code_by n most idle granted =
     elim (nat_told n 3) [
       | inl three ↦ rw (eq-eqb n 3 three) (sym three)
@@ -57,7 +56,7 @@ none_passes a m (t ∷ ts) none = by_bool (is_ticket a m t)
     (λ miss. and_from (not (is_ticket a m t)) (list_all (λ u. not (is_ticket a m u)) ts) (ap not miss)
     (none_passes a m ts (sym (ap (λ b. cond b (Some t) (ticket_of a m ts)) miss) ∙ none)))
 
-found_in : (ts : List Ticket) (t : Ticket) → Contains ts t → (u : Ticket) × (ticket_of t.session t.number ts ≡ Some u)
+pub found_in : (ts : List Ticket) (t : Ticket) → Contains ts t → (u : Ticket) × (ticket_of t.session t.number ts ≡ Some u)
 found_in ts t among = by_look (ticket_of t.session t.number ts) refl
   where
     by_look : (o : Option Ticket) → ticket_of t.session t.number ts ≡ o → (u : Ticket) × (ticket_of t.session t.number ts ≡ Some u)
@@ -70,7 +69,7 @@ found_in ts t among = by_look (ticket_of t.session t.number ts) refl
 
 -- ---- the waits of a system
 
-abbrev waiter_by : (ℕ → ℕ) → Ticket → Waiter
+abbrev pub waiter_by : (ℕ → ℕ) → Ticket → Waiter
 waiter_by f t = record { ticket = t; wait = f t.session / 8; state = state_by (f t.session % 8) }
 
 told_tickets : (f : ℕ → ℕ) (ts : List Ticket) → map (λ (waiter : Waiter). waiter.ticket) (map (waiter_by f) ts) ≡ ts

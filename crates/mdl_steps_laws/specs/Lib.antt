@@ -2,4 +2,6 @@ pub mod DeedLaws
 pub mod Locks
 pub mod StepLaws
 pub mod TableLaws
+pub mod ToldDeeds
+pub mod WaitLaws
 pub mod WaitsTold

@@ -1,5 +1,6 @@
 //! The running table is tied to the system of locks that a reader believes: which locks, and which system, a state of the table tells
-//! (`specs/Locks`), that this system is lawful, and that what a session does under a latch is an event of it (`specs/DeedLaws`).
+//! (`specs/Locks`), that this system is lawful, and that what a session does under a latch (`specs/DeedLaws`) and to the words of waits
+//! (`specs/WaitLaws`) is an event of it.
 //!
 //! There is no code here: each law is the contract of a function that does nothing.
 #![tactic(auto)]
@@ -7,13 +8,21 @@
 mod deeds;
 mod steps;
 mod tables;
+mod waits;
 
 pub use deeds::{
     altering_downgrades, altering_upgrades, gaining_clones, gaining_grants, losing_releases,
     moving_merges, redefining_changes,
 };
-pub use steps::{lowering_does, putting_does, writing_redefines};
+pub use steps::{
+    lowering_does, lowering_is_done, putting_does, putting_is_done, writing_is_done,
+    writing_redefines,
+};
 pub use tables::{
     holders_may_join, next_numbers_are_new, one_place_is_one_lock, own_tickets_are_held,
     running_tables_are_lawful, running_tables_tell_a_system, running_tables_tell_waits,
+};
+pub use waits::{
+    ending_holds, ending_leaves, granting_grants_waiters, meeting_rests, next_may_be_granted,
+    opening_begins, settling_loses,
 };

@@ -1,6 +1,7 @@
 //! The steps by which deeds and changes of definitions come to be of the table do them in the locks that it tells. Each law is proved as
 //! the contract of a function that does nothing.
 ghost use Rattle.mdl_steps_laws.specs.StepLaws.{PuttingDoes, LoweringDoes, WritingRedefines};
+ghost use Rattle.mdl_steps_laws.specs.ToldDeeds.{PuttingIsDone, LoweringIsDone, WritingIsDone};
 
 /// As a latch is put after deeds, they are done to the lock of its key, and nothing is to any other.
 pub fn putting_does()
@@ -15,4 +16,19 @@ pub fn lowering_does()
 /// As a version is written under the latch, what stands in the lock of its key is changed, and nothing is in any other.
 pub fn writing_redefines()
     ensures { WritingRedefines }
+{}
+
+/// So the deeds are done in the system, whichever the table tells, as a latch is put after them: all waits stay as they are.
+pub fn putting_is_done()
+    ensures { PuttingIsDone }
+{}
+
+/// So they are as flags are lowered after them.
+pub fn lowering_is_done()
+    ensures { LoweringIsDone }
+{}
+
+/// And a change of a definition is made in the system as the version is written.
+pub fn writing_is_done()
+    ensures { WritingIsDone }
 {}
