@@ -2,6 +2,10 @@ pub mod Visiting
 pub mod Altering
 pub mod Trying
 pub mod Leaving
+pub mod Steps
+pub mod Way
+pub mod Waiting
+pub mod Serving
 pub mod Losing
 pub mod Covered
 pub mod Weaker

@@ -46,6 +46,7 @@ mod covering;
 mod definitions;
 mod directories;
 mod downgrades;
+mod granting;
 mod holdings;
 mod latches;
 mod laws;

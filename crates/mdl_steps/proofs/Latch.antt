@@ -3,13 +3,14 @@ use Rattle.std.proofs.Common.{◌≡◌, ◌≢◌, ℕ, ◌%◌, ◌<◌, ◌==
 use Rattle.std.specs.Prelude.{Option}
 use Rattle.std.specs.List.{list_all}
 use Rattle.std.specs.Option.{option_to_list}
-use Rattle.std.proofs.lemmas.Bool.{and_parts}
+use Rattle.std.proofs.lemmas.Bool.{and_parts, eq-eqb}
 use Rattle.std.proofs.lemmas.List.Folds.{list_all-append}
 use mathlib.Core.Option.{some, none}
 use lib.ListN.{get_elem?}
 use prog.Atomic.{either}
 use Rattle.atomic_table.specs.Table.{State, Allows, step, Act, takes, keeps, stepped as moved_by}
 use Rattle.atomic_table.proofs.Lists.{at_map, set_else, exchanged}
+use Rattle.mdl_key.specs.declared.mode.Mode.{Mode}
 use Rattle.mdl_key.specs.declared.namespace.Kind.{Kind}
 use Rattle.mdl_key.specs.Words.{is_mode_of}
 use Rattle.mdl_book.specs.declared.ticket.Ticket.{Ticket}
@@ -23,13 +24,14 @@ use Rattle.mdl_steps.specs.declared.view.Ask.{Ask}
 use Rattle.mdl_steps.specs.declared.view.Held.{Held}
 use Rattle.mdl_steps.specs.declared.view.Known.{Known}
 use Rattle.mdl_steps.specs.declared.view.View.{View}
-use Rattle.mdl_steps.specs.Cells.{part_at, holder_at, desk_of, cell, waits, ticket_by, own_at, asking_at, due, all_fast}
+use Rattle.mdl_steps.specs.Cells.{Part, part_at, holder_at, desk_of, waiter_of, cell, waits, ticket_by, own_at, asking_at, due, pending, all_fast}
 use Rattle.mdl_steps.specs.Layout.{latch_word}
 use Rattle.mdl_steps.specs.Plays.{Mine, IsFresh, latched, logged, takes_latch}
 use Rattle.mdl_steps.specs.Rule.{Rule, PlaceOk, Numbered, key_at}
 use Rattle.mdl_steps.proofs.Views.{by_bool, held_at-first, held_at-past, each_at, other}
 use Rattle.mdl_steps.proofs.Lift.{Table, Moved, after, on_latch, only_logged, parts_again, seat_there}
 use Rattle.mdl_steps.proofs.Holder.{taken_cell}
+use Rattle.mdl_steps.proofs.Tickets.{is_passed}
 
 -- the due ticket is the one that the view asks for
 pub due_asked : (place n word : ℕ) (asks : Option Ask) (t : Ticket) → due (asking_at place n word asks) ≡ Some t → (a : Ask) × (asks ≡ Some a) × (t.number ≡ a.number)
@@ -58,6 +60,10 @@ of-unwaited n number (Some t) own apart =
     let test : is_ticket n number t ≡ false = rw differs (and_false (t.session == n)) in
     rw test refl
 
+-- a ticket is found by its session and number
+found_itself : (n number : ℕ) (mode : Mode) → let t : Ticket = record { session = n; number = number; mode = mode } in ticket_of n number (option_to_list (Some t)) ≡ Some t
+found_itself n number mode = rw (eq-eqb n n refl, eq-eqb number number refl) refl
+
 -- granted tickets alone are lawful
 lawful_granted : (kind : Kind) (fast granted : List Ticket) → is_lawful kind (fast ++ granted) ≡ true → is_lawful kind granted ≡ true
 lawful_granted kind fast granted lawful =
@@ -68,6 +74,25 @@ modes_granted : (kind : Kind) (fast granted : List Ticket) → list_all (λ t. i
 modes_granted kind fast granted all =
     let test : Ticket → Bool = λ t. is_mode_of kind t.mode in
     (and_parts (list_all test fast) (list_all test granted) (sym (list_all-append test fast granted) ∙ all)).1
+
+-- what is asked for has one number
+pending_number : (n number : ℕ) (t : Ticket) (wish : Option Ticket) → ticket_of n number (option_to_list wish) ≡ Some t → (w : Ticket) × (wish ≡ Some w) × (w.number ≡ number)
+pending_number n number t None e = absurd (cc)
+pending_number n number t (Some w) e = (
+  w,
+  refl,
+  by_bool (is_ticket n number w) (λ is. (is_passed n number w is).1) (λ miss. let gone = rw miss at e in absurd (cc)),
+)
+
+-- so a session whose tickets in the list are just what it asks for has one there at most
+one_wish : (n first second : ℕ) (t u : Ticket) (wish : Option Ticket) → ticket_of n first (option_to_list wish) ≡ Some t → ticket_of n second (option_to_list wish) ≡ Some u → first ≡ second
+one_wish n first second t u wish a b =
+    let x = pending_number n first t wish a in
+    let y = pending_number n second u wish b in
+    sym x.2 ∙ ap (λ (w : Ticket). w.number) (some_same x.0 y.0 (sym x.1 ∙ y.1)) ∙ y.2
+  where
+    some_same : (v w : Ticket) → Some v ≡ Some w → v ≡ w
+    some_same v w e = cc
 
 module _ (slots id place : ℕ) (me : Mine) (some_number : 0 < me.0.number) (first : 0 < place) (last : place < slots) where
   module _ (s : Table) (r : Rule s) (size : length s.homes ≡ slots) (seat : get_elem? s.views id ≡ some me.0) where
@@ -99,6 +124,18 @@ module _ (slots id place : ℕ) (me : Mine) (some_number : 0 < me.0.number) (fir
       vacant = λ k recorded none.
           let keys_are = (r.directory_agrees.held id (desk_of me.0) (at_map desk_of s.views id me.0 seat) k recorded).2 in
           (ok.book_ok.named.vacant (rw (sym keys_are) none)).0;
+      once = ok.book_ok.waiting.once;
+      single = λ session first_ second t u there also.
+          let x = ok.book_ok.waiting.owned session first_ t there in
+          let same = λ (n : ℕ). ap (λ (who : ℕ). ticket_of who n ok.book.waiting) (sym x.3) ∙ ok.book_ok.waiting.same x.0 x.1 x.2 n in
+          one_wish x.1.number first_ second t u (pending x.1.asks) (sym (same first_) ∙ there) (sym (same second) ∙ also);
+      wished = ok.book_ok.waiting.modes;
+      lost = λ a state asks here told lost.
+          let mine : Part = part_at (waits s) place me.0 in
+          let word_is : waits s me.0.number % 8 ≡ state = ((r.waits_agree.each id (waiter_of me.0) (at_map waiter_of s.views id me.0 seat)).told state told).1 in
+          ok.book_ok.waiting.same id mine (at_map (part_at (waits s) place) s.views id me.0 seat) a.number
+          ∙ ap (λ (x : Option Ask). ticket_of me.0.number a.number (option_to_list (pending (asking_at place me.0.number (waits s me.0.number) x)))) asks
+          ∙ rw (eq-eqb a.place place here, other (waits s me.0.number % 8) 2 (λ e. omega arith)) (found_itself me.0.number a.number a.mode);
     }
 
     numbered : (w : View) → w.next ≡ me.0.next → w.fast ≡ me.0.fast → w.slow ≡ me.0.slow → w.asks ≡ me.0.asks → Numbered w

@@ -86,7 +86,7 @@ module _ (session number : ℕ) where
 
   -- ---- what isn't found stays so
 
-  none-without : (a m : ℕ) (ts : List Ticket) → ticket_of a m ts ≡ None → ticket_of a m (without session number ts) ≡ None
+  pub none-without : (a m : ℕ) (ts : List Ticket) → ticket_of a m ts ≡ None → ticket_of a m (without session number ts) ≡ None
   none-without a m [] e = refl
   none-without a m (t ∷ ts) e = by_bool (is_ticket a m t)
       (λ found. let first = rw found at e in absurd (cc))

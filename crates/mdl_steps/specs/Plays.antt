@@ -10,12 +10,14 @@ use Rattle.mdl_key.specs.Words.{KeyName, is_mode_of}
 use Rattle.mdl_word.specs.Words.{flags_alone, all_but_flags}
 use Rattle.mdl_defs.specs.declared.standing.Standing.{Standing}
 use Rattle.mdl_book.specs.declared.book_view.BookView.{BookView}
+use Rattle.mdl_book.specs.declared.ticket.Ticket.{Ticket}
 use Rattle.mdl_book.specs.Tickets.{ticket_of}
 use Rattle.mdl_book.specs.Granting.{is_lawful}
 use Rattle.mdl_book.specs.Books.{lock_kind}
 use Rattle.mdl_steps.specs.declared.deed.Deed.{Deed}
 use Rattle.mdl_steps.specs.declared.slot.Slot.{Slot}
 use Rattle.mdl_steps.specs.declared.slot.Slot.TheVariants as slot
+use Rattle.mdl_steps.specs.declared.view.Ask.{Ask}
 use Rattle.mdl_steps.specs.declared.view.Held.{Held}
 use Rattle.mdl_steps.specs.declared.view.Keys.{Keys}
 use Rattle.mdl_steps.specs.declared.view.Known.{Known}
@@ -24,7 +26,7 @@ use Rattle.mdl_steps.specs.declared.view.View.{View}
 use Rattle.mdl_steps.specs.Cells.{own_at, ticket_by}
 use Rattle.mdl_steps.specs.Deeds.{all_done, NotWaited}
 use Rattle.mdl_steps.specs.Layout.{latch_word, lock_word, version_word}
-use Rattle.mdl_steps.specs.Lists.{Distinct}
+use Rattle.mdl_steps.specs.Lists.{Distinct, Once}
 use Rattle.mdl_steps.specs.Rule.{TellsLists, KnowsKeys, IsUnused, key_at}
 
 -- a session's seat: its view, and the slots that it took
@@ -38,7 +40,8 @@ logged word found held v = record v { log = v.log ++ record { word = word; found
 -- ---- the record of a latch
 
 -- as the latch is taken: the word's flags tell the lists exactly then, granted tickets are compatible and in modes of the kind, the book has
--- of the session just the tickets that it has (but for one that it waits for), and it is the book of each key that is known to be here
+-- of the session just the tickets that it has (but for one that it waits for), and it is the book of each key that is known to be here.
+-- Each session waits at most once, for a mode of the kind, and so does the session itself where it met its wait lost
 pub record IsFresh (place : ℕ) (h : Held) (m : Mine) : Type 0 where
   pub here : h.place ≡ place
   pub exact : TellsLists h.book h.slow h.obtrusive
@@ -49,6 +52,11 @@ pub record IsFresh (place : ℕ) (h : Held) (m : Mine) : Type 0 where
       ticket_of m.0.number number h.book.granted ≡ ticket_of m.0.number number (map (ticket_by m.0.number) (own_at place m.0.slow))
   pub named : (i : ℕ) (k : Known) → get_elem? m.0.known i ≡ some k → k.place ≡ place → h.book.key ≡ k.key
   pub vacant : (k : Keys) → m.0.directory ≡ Some k → key_at k.keys place ≡ None → IsUnused h.book
+  pub once : Once h.book.waiting
+  pub single : (session first second : ℕ) (t u : Ticket) → ticket_of session first h.book.waiting ≡ Some t → ticket_of session second h.book.waiting ≡ Some u → first ≡ second
+  pub wished : list_all (λ t. is_mode_of (lock_kind h.book) t.mode) h.book.waiting ≡ true
+  pub lost : (a : Ask) (state : ℕ) → m.0.asks ≡ Some a → a.place ≡ place → m.0.told ≡ Some state → 2 < state →
+      ticket_of m.0.number a.number h.book.waiting ≡ Some (record { session = m.0.number; number = a.number; mode = a.mode })
 
 -- with a flag or both raised
 abbrev pub raised : Bool → Bool → Held → Held
