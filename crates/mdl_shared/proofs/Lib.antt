@@ -18,3 +18,4 @@ pub mod Gathering
 pub mod Sorting
 pub mod Listing
 pub mod Telling
+pub mod Awaiting

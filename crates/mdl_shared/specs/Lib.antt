@@ -1,6 +1,7 @@
 pub mod Audits
 pub mod Coverings
 pub mod Idle
+pub mod Keepings
 pub mod Leavings
 pub mod Limits
 pub mod Lookups
@@ -13,3 +14,4 @@ pub mod Redefinitions
 pub mod Tables
 pub mod Upgrades
 pub mod Visits
+pub mod Waitings
