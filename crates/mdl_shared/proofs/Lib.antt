@@ -19,3 +19,4 @@ pub mod Sorting
 pub mod Listing
 pub mod Telling
 pub mod Awaiting
+pub mod Polling

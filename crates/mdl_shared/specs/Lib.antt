@@ -9,6 +9,7 @@ pub mod Members
 pub mod Modes
 pub mod OwnLists
 pub mod Passes
+pub mod Polls
 pub mod Readings
 pub mod Redefinitions
 pub mod Tables
