@@ -19,9 +19,7 @@ use Rattle.mdl_steps.specs.declared.slot.Slot.TheVariants as slot
 use Rattle.mdl_steps.specs.declared.view.Held.{Held}
 use Rattle.mdl_steps.specs.declared.view.Met.{Met}
 use Rattle.mdl_steps.specs.declared.view.Own.{Own}
-use Rattle.mdl_steps.specs.declared.view.View.{View}
 use Rattle.mdl_steps.specs.Cells.{held_at, own_at, ticket_by}
-use Rattle.mdl_steps.specs.Deeds.{NotWaited}
 use Rattle.mdl_steps.specs.Layout.{latch_word, version_word}
 use Rattle.mdl_steps.specs.Plays.{Mine, IsFresh, latched, redefined, restood, unlatched}
 use Rattle.mdl_steps.specs.Seats.{Holds, HasExclusive, HasRedefined, written}
@@ -32,6 +30,8 @@ use Rattle.mdl_shared.specs.Leavings.{Learns, knowing}
 use Rattle.mdl_shared.specs.Members.{numbered}
 use Rattle.mdl_shared.specs.Redefinitions.{AreStepsOf, HasExclusiveAt, IsRefusedFor, MeetsFault, Redefines, redefined_and_put}
 use Rattle.mdl_shared.specs.Visits.{IsInside, IsStepOf, and_made}
+use Rattle.mdl_shared.specs.Waitings.{is_ask_apart}
+use Rattle.mdl_shared.proofs.Awaiting.{not_waited}
 
 -- a seat has one record of a latch
 pub one_record : {place : ℕ} {h g : Held} {b c : BookView} {m : Mine} → Holds place h b m → Holds place g c m → h ≡ g
@@ -48,10 +48,6 @@ module _ (place : ℕ) (change : Change) (h : Held) (m m′ : Mine) (is : m′ �
   })
 
 -- ---- the session's ticket
-
--- who waits for nothing doesn't wait for a ticket
-pub waits_for_none : (v : View) (number : ℕ) → is_some v.asks ≡ false → NotWaited v number
-waits_for_none v number none = λ a asks same. let some = ap is_some (sym asks) ∙ none in absurd (cc)
 
 -- the ticket of a number is the one that a book has of it
 pub own_is : (who place number : ℕ) (t : Own) (slow : List Own) → numbered number slow ≡ Some t → t.place ≡ place
@@ -76,12 +72,12 @@ held_so None place mode e = absurd (cc)
 held_so (Some t) place mode e = let both : ◌≡◌ {A = ℕ × Mode} (t.place, t.mode) (place, mode) = cc in (t, refl, ap (λ (p : ℕ × Mode). p.0) both, ap (λ (p : ℕ × Mode). p.1) both)
 
 -- a session that has an exclusive ticket at a place has it in the book there
-pub exclusive_there : (place : ℕ) (h : Held) (m : Mine) → IsFresh place h m → is_some m.0.asks ≡ false → HasExclusiveAt place m.0.slow → HasExclusive h m
-exclusive_there place h m fresh unwaited held =
+pub exclusive_there : (place : ℕ) (h : Held) (m : Mine) → IsFresh place h m → is_ask_apart m.0.next m.0.slow m.0.asks ≡ true → HasExclusiveAt place m.0.slow → HasExclusive h m
+exclusive_there place h m fresh apart held =
     let number = held.0 in
     let t = held.1 in
     let who = m.0.number in
-    let there = fresh.own number (waits_for_none m.0 number unwaited) ∙ own_is who place number t m.0.slow held.2 held.3 in
+    let there = fresh.own number (not_waited m.0 number (ap is_some held.2) apart) ∙ own_is who place number t m.0.slow held.2 held.3 in
     (ticket_by who t, find-contains (is_ticket who number) h.book.granted (ticket_by who t) there, refl, held.4)
 
 -- ---- a visit that changes

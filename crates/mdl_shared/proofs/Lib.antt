@@ -22,3 +22,5 @@ pub mod Gathering
 pub mod Sorting
 pub mod Listing
 pub mod Telling
+pub mod Awaiting
+pub mod Polling

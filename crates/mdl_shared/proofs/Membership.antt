@@ -88,7 +88,7 @@ one_placed known (x ∷ xs) t all here =
 
 -- ---- with one key more that the session knows
 
-still_known : (known : List Known) (one : Known) (place : ℕ) → is_known_place known place ≡ true → is_known_place (known ++ one ∷ []) place ≡ true
+pub still_known : (known : List Known) (one : Known) (place : ℕ) → is_known_place known place ≡ true → is_known_place (known ++ one ∷ []) place ≡ true
 still_known [] one place e = absurd (cc)
 still_known (k ∷ ks) one place e =
     by_bool (k.place == place) (λ hit. rw hit refl) (λ miss. rw miss (still_known ks one place (rw miss at e)))

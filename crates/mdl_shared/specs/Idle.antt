@@ -6,6 +6,6 @@ use Rattle.mdl_steps.specs.Plays.{Mine}
 abbrev pub IsIdle : Mine → Type 0
 IsIdle m = (length m.0.latches ≡ 0) × (is_some m.0.directory ≡ false) × (length m.1 ≡ 0)
 
--- each ticket that it has stands in a book, and it waits for none
+-- each ticket that it has stands in a book
 abbrev pub HasSlowAlone : Mine → Type 0
-HasSlowAlone m = (length m.0.fast ≡ 0) × (is_some m.0.asks ≡ false)
+HasSlowAlone m = length m.0.fast ≡ 0

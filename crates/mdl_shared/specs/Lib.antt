@@ -2,6 +2,7 @@ pub mod Audits
 pub mod Coverings
 pub mod Grantings
 pub mod Idle
+pub mod Keepings
 pub mod Leavings
 pub mod Limits
 pub mod Lookups
@@ -9,8 +10,10 @@ pub mod Members
 pub mod Modes
 pub mod OwnLists
 pub mod Passes
+pub mod Polls
 pub mod Readings
 pub mod Redefinitions
 pub mod Tables
 pub mod Upgrades
 pub mod Visits
+pub mod Waitings

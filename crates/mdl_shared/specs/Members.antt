@@ -6,7 +6,8 @@ use Rattle.mdl_key.specs.declared.mode.Mode.{Mode}
 use Rattle.mdl_key.specs.declared.namespace.Kind.{Kind}
 use Rattle.mdl_key.specs.Words.{KeyName, is_mode_of, key_eq, kind_of}
 use Rattle.mdl_calls.specs.declared.space_error.SpaceError.{SpaceError}
-use Rattle.mdl_calls.specs.declared.space_error.SpaceError.TheVariants.{NoPlace, NotHeld, BadMode, CounterFull}
+use Rattle.mdl_calls.specs.declared.space_error.SpaceError.TheVariants.{NoPlace, NotHeld, AlreadyWaiting, BadMode, CounterFull}
+use Rattle.mdl_steps.specs.declared.view.Ask.{Ask}
 use Rattle.mdl_steps.specs.declared.view.Known.{Known}
 use Rattle.mdl_steps.specs.declared.view.Own.{Own}
 use Rattle.mdl_steps.specs.Deeds.{is_own}
@@ -43,10 +44,13 @@ holding_fault number tickets = if is_some (numbered number tickets) then None el
 abbrev pub kind_known : ℕ → List Known → Option Kind
 kind_known place known = option_map (λ (k : Known). kind_of k.key.namespace) (find (λ (k : Known). k.place == place) known)
 
--- why a wish for a mode isn't even tried, at a place whose key is of this kind, or isn't known; the next ticket has this number
-abbrev pub wish_fault : Option Kind → Mode → ℕ → Option SpaceError
-wish_fault None mode next = Some NoPlace
-wish_fault (Some kind) mode next = if not (is_mode_of kind mode) then Some BadMode else (if nat_le most_numbers next then Some CounterFull else None)
+-- why a wish for a mode isn't even tried, at a place whose key is of this kind, or isn't known, by a session with this wait, or none, whose next
+-- ticket has this number
+abbrev pub wish_fault : Option Kind → Option Ask → Mode → ℕ → Option SpaceError
+wish_fault None asks mode next = Some NoPlace
+wish_fault (Some kind) asks mode next =
+    if is_some asks then Some AlreadyWaiting
+    else (if not (is_mode_of kind mode) then Some BadMode else (if nat_le most_numbers next then Some CounterFull else None))
 
 -- the place of a key that the session has looked up
 abbrev pub place_known : KeyName → List Known → Option ℕ

@@ -1,10 +1,11 @@
 -- Tickets that get another mode, that are cloned and merged: why that is refused, and the session's list of tickets then.
-use Rattle.std.specs.Prelude.{ℕ, ◌==◌, Bool, false, not, ◌&&◌, nat_le, List, map, Option, Some, None, if◌then◌else◌}
+use Rattle.std.specs.Prelude.{ℕ, ◌==◌, Bool, false, not, ◌&&◌, nat_le, List, map, Option, Some, None, is_some, if◌then◌else◌}
 use Rattle.std.specs.Option.{option_map_or}
 use Rattle.mdl_key.specs.declared.mode.Mode.{Mode}
 use Rattle.mdl_key.specs.Words.{is_mode_of}
 use Rattle.mdl_calls.specs.declared.space_error.SpaceError.{SpaceError}
-use Rattle.mdl_calls.specs.declared.space_error.SpaceError.TheVariants.{NotHeld, NotUpgradable, BadMode, CounterFull}
+use Rattle.mdl_calls.specs.declared.space_error.SpaceError.TheVariants.{NotHeld, NotUpgradable, AlreadyWaiting, BadMode, CounterFull}
+use Rattle.mdl_steps.specs.declared.view.Ask.{Ask}
 use Rattle.mdl_steps.specs.declared.view.Known.{Known}
 use Rattle.mdl_steps.specs.declared.view.Own.{Own}
 use Rattle.mdl_steps.specs.Deeds.{is_own}
@@ -28,19 +29,21 @@ abbrev pub downgrade_fault : Option Own → Mode → List Known → Option Space
 downgrade_fault None mode known = Some NotHeld
 downgrade_fault (Some t) mode known = if may_downgrade t.mode mode && is_fit t.place mode known then None else Some NotUpgradable
 
--- why a ticket isn't cloned: there is none, or its mode isn't as strong as the other one, or this is none of its lock's kind, or the session's
--- next ticket has too great a number
-abbrev pub clone_fault : Option Own → Mode → List Known → ℕ → Option SpaceError
-clone_fault None mode known next = Some NotHeld
-clone_fault (Some t) mode known next =
-    if not (covers t.mode mode && is_fit t.place mode known) then Some BadMode else (if nat_le most_numbers next then Some CounterFull else None)
+-- why a ticket isn't cloned: there is none, or the session has a wait, or its mode isn't as strong as the other one, or this is none of its lock's
+-- kind, or the session's next ticket has too great a number
+abbrev pub clone_fault : Option Own → Option Ask → Mode → List Known → ℕ → Option SpaceError
+clone_fault None asks mode known next = Some NotHeld
+clone_fault (Some t) asks mode known next =
+    if is_some asks then Some AlreadyWaiting
+    else (if not (covers t.mode mode && is_fit t.place mode known) then Some BadMode else (if nat_le most_numbers next then Some CounterFull else None))
 
 -- whether a ticket may take the mode of another: there are two, of one place, and the other is at least as strong
 abbrev pub may_merge : Own → Own → Bool
 may_merge kept gone = not (kept.number == gone.number) && (kept.place == gone.place && covers gone.mode kept.mode)
 
--- why two tickets aren't merged
-abbrev pub merge_fault : Option Own → Option Own → Option SpaceError
-merge_fault None _ = Some NotHeld
-merge_fault (Some kept) None = Some NotHeld
-merge_fault (Some kept) (Some gone) = if may_merge kept gone then None else Some BadMode
+-- why two tickets aren't merged by a session with this wait, or none
+abbrev pub merge_fault : Option Own → Option Own → Option Ask → Option SpaceError
+merge_fault None _ _ = Some NotHeld
+merge_fault (Some kept) None _ = Some NotHeld
+merge_fault (Some kept) (Some gone) asks =
+    if is_some asks then Some AlreadyWaiting else (if may_merge kept gone then None else Some BadMode)

@@ -1,11 +1,12 @@
 -- Upgrades of tickets: which are tried.
-use Rattle.std.specs.Prelude.{Bool, false, ◌&&◌, ◌||◌, List, Option, Some, None, if◌then◌else◌}
+use Rattle.std.specs.Prelude.{Bool, false, ◌&&◌, ◌||◌, not, List, Option, Some, None, is_some, if◌then◌else◌}
 use Rattle.mdl_key.specs.declared.mode.Mode.{Mode}
 use Rattle.mdl_key.specs.declared.namespace.Kind.{Kind}
 use Rattle.mdl_key.specs.Words.{is_mode_of}
 use Rattle.mdl_system.specs.Strength.{covers, may_upgrade}
 use Rattle.mdl_calls.specs.declared.space_error.SpaceError.{SpaceError}
-use Rattle.mdl_calls.specs.declared.space_error.SpaceError.TheVariants.{NotHeld, NotUpgradable}
+use Rattle.mdl_calls.specs.declared.space_error.SpaceError.TheVariants.{NotHeld, NotUpgradable, AlreadyWaiting}
+use Rattle.mdl_steps.specs.declared.view.Ask.{Ask}
 use Rattle.mdl_steps.specs.declared.view.Known.{Known}
 use Rattle.mdl_steps.specs.declared.view.Own.{Own}
 use Rattle.mdl_shared.specs.Members.{kind_known}
@@ -16,7 +17,8 @@ abbrev pub can_have : Mode → Own → Option Kind → Bool
 can_have mode t None = false
 can_have mode t (Some kind) = (covers t.mode mode || may_upgrade t.mode mode) && is_mode_of kind mode
 
--- why an upgrade of a ticket isn't even tried
-abbrev pub upgrade_fault : Mode → List Known → Option Own → Option SpaceError
-upgrade_fault mode known None = Some NotHeld
-upgrade_fault mode known (Some t) = if can_have mode t (kind_known t.place known) then None else Some NotUpgradable
+-- why an upgrade of a ticket isn't even tried by a session with this wait, or none
+abbrev pub upgrade_fault : Mode → List Known → Option Ask → Option Own → Option SpaceError
+upgrade_fault mode known asks None = Some NotHeld
+upgrade_fault mode known asks (Some t) =
+    if not (can_have mode t (kind_known t.place known)) then Some NotUpgradable else (if is_some asks then Some AlreadyWaiting else None)

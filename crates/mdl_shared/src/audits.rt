@@ -4,6 +4,7 @@ ghost use Rattle.std.specs.Arc.{arc_value};
 ghost use Rattle.mdl_calls.specs.declared.space_error.SpaceError.TheVariants as cause;
 ghost use Rattle.mdl_steps.specs.declared.view.Keys.{Keys};
 ghost use Rattle.mdl_shared.specs.Audits.{Audits};
+ghost use Rattle.mdl_shared.specs.Keepings.{KeepsWait};
 ghost use Rattle.mdl_shared.specs.Lookups.{TookDirectory};
 ghost use Rattle.mdl_shared.specs.Readings.{ReadsNothing};
 
@@ -19,6 +20,7 @@ impl Member {
     fn audit<R: Wait>(&mut self, rt: &R) -> Result<Vec<Audited>, AllocError>
         ensures same { (self.new.table ≡ self.old.table) × (self.new.worker.number ≡ self.old.worker.number) × (self.new.next ≡ self.old.next)
             × (self.new.known.items ≡ self.old.known.items) × (self.new.tickets.items ≡ self.old.tickets.items) }
+        ensures wait { KeepsWait self.old self.new }
         ensures reads { ReadsNothing self.old.worker.seat.me self.new.worker.seat.me }
         ensures told { IfOk result (λ audited. (k : Keys) × TookDirectory (arc_value self.old.table).shared.table_id.slots k self.old.worker.seat.me self.new.worker.seat.me
             × Audits (length k.keys) audited.items self.old.worker.seat.me self.new.worker.seat.me) }
@@ -37,6 +39,7 @@ impl<R: Wait> Session<R> {
         ensures session { (self.new.member.table ≡ self.old.member.table) × (self.new.member.worker.number ≡ self.old.member.worker.number)
             × (self.new.member.next ≡ self.old.member.next) × (self.new.member.known.items ≡ self.old.member.known.items)
             × (self.new.member.tickets.items ≡ self.old.member.tickets.items) }
+        ensures wait { KeepsWait self.old.member self.new.member }
         ensures reads { ReadsNothing self.old.member.worker.seat.me self.new.member.worker.seat.me }
         ensures told { IfOk result (λ audited. (k : Keys) × TookDirectory (arc_value self.old.member.table).shared.table_id.slots k self.old.member.worker.seat.me self.new.member.worker.seat.me
             × Audits (length k.keys) audited.items self.old.member.worker.seat.me self.new.member.worker.seat.me) }

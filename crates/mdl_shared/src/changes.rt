@@ -4,6 +4,7 @@ ghost use Rattle.std.specs.Option.{option_map};
 ghost use Rattle.mdl_key.specs.declared.mode.Mode.TheVariants.{X};
 ghost use Rattle.mdl_steps.specs.declared.view.Own.{Own};
 ghost use Rattle.mdl_steps.specs.Plays.{noting_version};
+ghost use Rattle.mdl_shared.specs.Keepings.{KeepsWait};
 ghost use Rattle.mdl_shared.specs.Members.{numbered};
 ghost use Rattle.mdl_shared.specs.Readings.{ReadsNothing};
 ghost use Rattle.mdl_shared.specs.Redefinitions.{HasExclusiveAt, IsRefusedAs, IsRefusedFor, Redefines, exclusive_fault};
@@ -32,6 +33,7 @@ impl Member {
     fn change<R: Wait>(&mut self, rt: &R, place: usize, change: &Change) -> Result<u64, ChangeError>
         requires held { HasExclusiveAt place self.old.tickets.items }
         ensures same { (self.new.table ≡ self.old.table) × (self.new.worker.number ≡ self.old.worker.number) × (self.new.next ≡ self.old.next) × (self.new.known.items ≡ self.old.known.items) }
+        ensures wait { KeepsWait self.old self.new }
         ensures changed { IfOk result (λ version. (self.new.tickets.items ≡ noting_version place version self.old.tickets.items)
             × Redefines place change.now version self.old.worker.seat.me self.new.worker.seat.me) }
         ensures unchanged { OnErr result ((self.new.tickets.items ≡ self.old.tickets.items) × ReadsNothing self.old.worker.seat.me self.new.worker.seat.me) }
@@ -49,6 +51,7 @@ impl<R: Wait> Session<R> {
     pub fn change_definition(&mut self, id: TicketId, change: &Change) -> Result<u64, SpaceError>
         ensures session { (self.new.member.table ≡ self.old.member.table) × (self.new.member.worker.number ≡ self.old.member.worker.number)
             × (self.new.member.next ≡ self.old.member.next) × (self.new.member.known.items ≡ self.old.member.known.items) }
+        ensures wait { KeepsWait self.old.member self.new.member }
         ensures changed { IfOk result (λ version. (t : Own) × (numbered id self.old.member.tickets.items ≡ Some t) × (t.mode ≡ X)
             × (self.new.member.tickets.items ≡ noting_version t.place version self.old.member.tickets.items)
             × Redefines t.place change.now version self.old.member.worker.seat.me self.new.member.worker.seat.me) }

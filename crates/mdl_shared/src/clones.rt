@@ -3,6 +3,7 @@ ghost use Rattle.std.specs.Prelude.{◌≡◌, ◌⊎◌, ◌+◌, ◌<◌, ◌+
 ghost use Rattle.mdl_calls.specs.declared.space_error.SpaceError.TheVariants as cause;
 ghost use Rattle.mdl_steps.specs.declared.view.Met.{Met};
 ghost use Rattle.mdl_steps.specs.declared.view.Own.{Own};
+ghost use Rattle.mdl_shared.specs.Keepings.{KeepsWait};
 ghost use Rattle.mdl_shared.specs.Leavings.{MeetsOwn};
 ghost use Rattle.mdl_shared.specs.Members.{most_numbers, numbered};
 ghost use Rattle.mdl_shared.specs.Modes.{clone_fault, is_fit};
@@ -27,8 +28,10 @@ impl Member {
         requires held { numbered held.number self.old.tickets.items ≡ Some held }
         requires fits { is_fit held.place mode self.old.known.items ≡ true }
         requires covers { covers held.mode mode ≡ true }
+        requires unwaited { self.old.asks ≡ None }
         requires room { self.old.next < most_numbers }
         ensures same { (self.new.table ≡ self.old.table) × (self.new.worker.number ≡ self.old.worker.number) × (self.new.known.items ≡ self.old.known.items) }
+        ensures wait { KeepsWait self.old self.new }
         ensures reads { ReadsNothing self.old.worker.seat.me self.new.worker.seat.me }
         ensures doubled { IfOk result (λ id. (id ≡ self.old.next) × (self.new.next ≡ id + 1)
             × (self.new.tickets.items ≡ self.old.tickets.items ++ record { number = id; place = held.place; mode = mode; noted = None } ∷ [])
@@ -63,20 +66,24 @@ impl<R: Wait> Session<R> {
     pub fn clone_ticket(&mut self, id: TicketId, mode: Mode) -> Result<TicketId, SpaceError>
         ensures session { (self.new.member.table ≡ self.old.member.table) × (self.new.member.worker.number ≡ self.old.member.worker.number)
             × (self.new.member.known.items ≡ self.old.member.known.items) }
+        ensures wait { KeepsWait self.old.member self.new.member }
         ensures reads { ReadsNothing self.old.member.worker.seat.me self.new.member.worker.seat.me }
         ensures cloned { IfOk result (λ new. (new ≡ self.old.member.next) × (self.new.member.next ≡ new + 1)
             × ((t : Own) × (numbered id self.old.member.tickets.items ≡ Some t)
             × (self.new.member.tickets.items ≡ self.old.member.tickets.items ++ record { number = new; place = t.place; mode = mode; noted = None } ∷ [])
             × ((e : Met) × IsStepOf self.old.member.worker.seat.me self.new.member.worker.seat.me e × MeetsOwn t.place self.old.member.worker.number id e))) }
         ensures unchanged { OnErr result ((self.new.member.tickets.items ≡ self.old.member.tickets.items) × (self.new.member.next ≡ self.old.member.next)) }
-        ensures unfit { IfSome (clone_fault (numbered id self.old.member.tickets.items) mode self.old.member.known.items self.old.member.next) (λ why. result ≡ Err why) }
-        ensures refused { IfErr result (λ why. (clone_fault (numbered id self.old.member.tickets.items) mode self.old.member.known.items self.old.member.next ≡ Some why)
+        ensures unfit { IfSome (clone_fault (numbered id self.old.member.tickets.items) self.old.member.asks mode self.old.member.known.items self.old.member.next) (λ why. result ≡ Err why) }
+        ensures refused { IfErr result (λ why. (clone_fault (numbered id self.old.member.tickets.items) self.old.member.asks mode self.old.member.known.items self.old.member.next ≡ Some why)
             ⊎ ((why ≡ cause.OutOfMemory) ⊎ ((why ≡ cause.Full) × ((t : Own) × (numbered id self.old.member.tickets.items ≡ Some t)
             × ((e : Met) × IsStepOf self.old.member.worker.seat.me self.new.member.worker.seat.me e × MeetsFull t.place e))))) }
     {
         let Some(held) = self.member.ticket(id) else {
             return Err(SpaceError::NotHeld);
         };
+        if self.member.asks.is_some() {
+            return Err(SpaceError::AlreadyWaiting);
+        }
         if !covers(held.mode, mode) || !self.member.is_fit(held.place, mode) {
             return Err(SpaceError::BadMode);
         }

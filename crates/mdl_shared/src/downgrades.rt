@@ -3,6 +3,7 @@ ghost use Rattle.std.specs.Prelude.{◌≡◌, Some, OnOk, OnErr, true};
 ghost use Rattle.mdl_key.specs.Refusals.{RefusesJust};
 ghost use Rattle.mdl_steps.specs.declared.view.Met.{Met};
 ghost use Rattle.mdl_steps.specs.declared.view.Own.{Own};
+ghost use Rattle.mdl_shared.specs.Keepings.{KeepsWait};
 ghost use Rattle.mdl_shared.specs.Leavings.{MeetsOwn};
 ghost use Rattle.mdl_shared.specs.Members.{numbered};
 ghost use Rattle.mdl_shared.specs.Modes.{downgrade_fault, in_mode_at, is_fit};
@@ -27,6 +28,7 @@ impl Member {
         requires fits { is_fit held.place mode self.old.known.items ≡ true }
         requires covers { covers held.mode mode ≡ true }
         ensures same { (self.new.table ≡ self.old.table) × (self.new.worker.number ≡ self.old.worker.number) × (self.new.next ≡ self.old.next) × (self.new.known.items ≡ self.old.known.items) }
+        ensures wait { KeepsWait self.old self.new }
         ensures reads { ReadsNothing self.old.worker.seat.me self.new.worker.seat.me }
         ensures weakened { self.new.tickets.items ≡ in_mode_at held.place held.number mode self.old.tickets.items }
         ensures step { (e : Met) × IsStepOf self.old.worker.seat.me self.new.worker.seat.me e × MeetsOwn held.place self.old.worker.number held.number e }
@@ -41,6 +43,7 @@ impl<R: Wait> Session<R> {
     pub fn downgrade(&mut self, id: TicketId, mode: Mode) -> Result<(), SpaceError>
         ensures session { (self.new.member.table ≡ self.old.member.table) × (self.new.member.worker.number ≡ self.old.member.worker.number)
             × (self.new.member.next ≡ self.old.member.next) × (self.new.member.known.items ≡ self.old.member.known.items) }
+        ensures wait { KeepsWait self.old.member self.new.member }
         ensures reads { ReadsNothing self.old.member.worker.seat.me self.new.member.worker.seat.me }
         ensures downgraded { OnOk result ((t : Own) × (numbered id self.old.member.tickets.items ≡ Some t)
             × (self.new.member.tickets.items ≡ in_mode_at t.place id mode self.old.member.tickets.items)

@@ -57,6 +57,7 @@ mod new_error;
 mod own_lists;
 mod pass;
 mod places;
+mod polls;
 mod reads;
 mod redefining;
 mod releasing;

@@ -3,7 +3,7 @@ ghost use Rattle.std.specs.Prelude.{◌≡◌, ℕ, ◌+◌, ◌<◌, ◌≤◌,
 ghost use Rattle.std.specs.Arc.{arc_value};
 ghost use Rattle.mdl_key.specs.Refusals.{Refuses};
 ghost use Rattle.mdl_shared.specs.Limits.{new_fault};
-ghost use Rattle.mdl_steps.specs.Layout.{enrol_word, word_count};
+ghost use Rattle.mdl_steps.specs.Layout.{word_count};
 ghost use Rattle.mdl_steps.specs.Seats.{IsSized};
 
 use crate::member::Member;
@@ -53,7 +53,7 @@ impl Manager {
     {
         let (table, maker) = Maker::of_places(alloc, places, sessions)?;
         let table = Arc::new(alloc, table)?;
-        let passes = Manager::enrol_all(alloc, &table, maker, places + 1)?;
+        let passes = Manager::enrol_all(alloc, &table, maker, places + 1, sessions)?;
         Ok((Manager { table }, passes))
     }
 
@@ -63,18 +63,19 @@ impl Manager {
         table: &Arc<OwnedTable, Global>,
         mut maker: Maker,
         slots: usize,
+        sessions: usize,
     ) -> Result<Vec<Pass>, AllocError>
         requires seated { maker.seat.table_id ≡ (arc_value table.now).shared.table_id }
         requires sized { IsSized (arc_value table.now).shared.table_id }
         requires slots { slots ≡ (arc_value table.now).shared.table_id.slots }
-        requires words { enrol_word slots < (arc_value table.now).shared.table_id.words }
+        requires sessions { (sessions ≡ maker.most) × ((arc_value table.now).shared.table_id.words ≡ word_count slots sessions) }
         requires narrow { (0 < slots) × (slots ≤ 65536) }
         requires first { maker.given ≡ 0 }
         ensures { IfOk result (λ passes. (length passes.items ≡ maker.most) × ArePasses (arc_value table.now).shared.table_id passes.items) }
     {
         let mut passes = Vec::new(alloc);
         while let Some(worker) = maker.enrol(&table.shared, slots) {
-            let member = Member::new(alloc, Arc::try_clone(table)?, worker);
+            let member = Member::new(alloc, Arc::try_clone(table)?, worker, sessions);
             passes.push(Pass { member })?;
         }
         Ok(passes)

@@ -1,13 +1,15 @@
 //! What a session has of the space, whether it is open or not.
-ghost use Rattle.std.specs.Prelude.{◌≡◌, ◌<◌, ◌≤◌, ℕ, true, [], length};
+ghost use Rattle.std.specs.Prelude.{◌≡◌, ◌<◌, ◌≤◌, ℕ, true, [], length, None};
 ghost use Rattle.std.specs.Arc.{arc_value};
 ghost use Rattle.mdl_steps.specs.Cells.{blank, no_numbers};
+ghost use Rattle.mdl_steps.specs.Layout.{word_count};
 ghost use Rattle.mdl_steps.specs.Plays.{logged};
 ghost use Rattle.mdl_steps.specs.Seats.{IsSized};
 ghost use Rattle.mdl_shared.specs.Idle.{IsIdle, HasSlowAlone};
 ghost use Rattle.mdl_shared.specs.Members.{are_placed, are_within};
+ghost use Rattle.mdl_shared.specs.Waitings.{is_ask_apart, is_ask_placed};
 
-use mdl_steps::{Known, Own, OwnedTable, Worker};
+use mdl_steps::{Ask, Known, Own, OwnedTable, Worker};
 use std::alloc::Global;
 use std::sync::Arc;
 
@@ -23,6 +25,12 @@ pub(crate) struct Member {
     pub(crate) known: Vec<Known>,
     /// The number of its next ticket.
     pub(crate) next: u64,
+    /// The ticket that it waits for, where it has a wait.
+    pub(crate) asks: Option<Ask>,
+    /// The number of its last wait, or 0 before the first.
+    pub(crate) waits: u64,
+    /// How many sessions the space has.
+    pub(crate) sessions: usize,
     ghost seated: { worker.seat.table_id ≡ (arc_value table).shared.table_id },
     ghost sized: { IsSized (arc_value table).shared.table_id },
     ghost narrow: { (0 < (arc_value table).shared.table_id.slots) × ((arc_value table).shared.table_id.slots ≤ 65536) },
@@ -31,19 +39,34 @@ pub(crate) struct Member {
     ghost listed: { tickets.items ≡ worker.seat.me.0.slow },
     ghost known_is: { known.items ≡ worker.seat.me.0.known },
     ghost next_is: { next ≡ worker.seat.me.0.next },
+    ghost asks_is: { asks ≡ worker.seat.me.0.asks },
+    ghost waits_is: { waits ≡ worker.seat.me.0.waits },
     ghost placed: { are_placed known.items tickets.items ≡ true },
     ghost within: { are_within (arc_value table).shared.table_id.slots known.items ≡ true },
+    ghost awaited: { is_ask_placed known.items asks ≡ true },
+    ghost apart: { is_ask_apart next tickets.items asks ≡ true },
+    ghost fewer: { waits < next },
+    ghost enrolled: { worker.number ≤ sessions },
+    ghost words: { (arc_value table).shared.table_id.words ≡ word_count (arc_value table).shared.table_id.slots sessions },
 }
 
 impl Member {
     /// Of a session that has nothing yet. It takes no memory.
-    pub(crate) fn new(alloc: Global, table: Arc<OwnedTable, Global>, worker: Worker) -> Member
+    pub(crate) fn new(
+        alloc: Global,
+        table: Arc<OwnedTable, Global>,
+        worker: Worker,
+        sessions: usize,
+    ) -> Member
         requires seated { worker.seat.table_id ≡ (arc_value table).shared.table_id }
         requires sized { IsSized (arc_value table).shared.table_id }
         requires narrow { (0 < (arc_value table).shared.table_id.slots) × ((arc_value table).shared.table_id.slots ≤ 65536) }
+        requires enrolled { worker.number ≤ sessions }
+        requires words { (arc_value table).shared.table_id.words ≡ word_count (arc_value table).shared.table_id.slots sessions }
         requires fresh { (word : ℕ) × (worker.seat.me ≡ (logged word worker.number [] (blank worker.number no_numbers), [])) }
-        ensures made { (result.table ≡ table) × (result.worker ≡ worker) }
-        ensures nothing { (result.tickets.items ≡ []) × (result.known.items ≡ []) × (result.next ≡ 1) }
+        ensures made { (result.table ≡ table) × (result.worker ≡ worker) × (result.sessions ≡ sessions) }
+        ensures nothing { (result.tickets.items ≡ []) × (result.known.items ≡ []) × (result.next ≡ 1)
+            × (result.asks ≡ None) × (result.waits ≡ 0) }
     {
         Member {
             table,
@@ -51,6 +74,9 @@ impl Member {
             tickets: Vec::new(alloc),
             known: Vec::new(alloc),
             next: 1,
+            asks: None,
+            waits: 0,
+            sessions,
         }
     }
 }

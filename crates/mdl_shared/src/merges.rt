@@ -3,6 +3,7 @@ ghost use Rattle.std.specs.Prelude.{◌≡◌, ◌≢◌, Some, OnOk, OnErr};
 ghost use Rattle.mdl_key.specs.Refusals.{RefusesJust};
 ghost use Rattle.mdl_steps.specs.declared.view.Met.{Met};
 ghost use Rattle.mdl_steps.specs.declared.view.Own.{Own};
+ghost use Rattle.mdl_shared.specs.Keepings.{KeepsWait};
 ghost use Rattle.mdl_shared.specs.Leavings.{MeetsOwn};
 ghost use Rattle.mdl_shared.specs.Members.{numbered, without_at};
 ghost use Rattle.mdl_shared.specs.Modes.{in_mode_at, may_merge, merge_fault};
@@ -27,6 +28,7 @@ impl Member {
         requires two { kept.number ≢ gone.number }
         requires here { kept.place ≡ gone.place }
         ensures same { (self.new.table ≡ self.old.table) × (self.new.worker.number ≡ self.old.worker.number) × (self.new.next ≡ self.old.next) × (self.new.known.items ≡ self.old.known.items) }
+        ensures wait { KeepsWait self.old self.new }
         ensures reads { ReadsNothing self.old.worker.seat.me self.new.worker.seat.me }
         ensures folded { self.new.tickets.items ≡ without_at kept.place gone.number (in_mode_at kept.place kept.number gone.mode self.old.tickets.items) }
         ensures step { (e : Met) × IsStepOf self.old.worker.seat.me self.new.worker.seat.me e
@@ -51,13 +53,14 @@ impl<R: Wait> Session<R> {
     pub fn merge(&mut self, old: TicketId, new: TicketId) -> Result<(), SpaceError>
         ensures session { (self.new.member.table ≡ self.old.member.table) × (self.new.member.worker.number ≡ self.old.member.worker.number)
             × (self.new.member.next ≡ self.old.member.next) × (self.new.member.known.items ≡ self.old.member.known.items) }
+        ensures wait { KeepsWait self.old.member self.new.member }
         ensures reads { ReadsNothing self.old.member.worker.seat.me self.new.member.worker.seat.me }
         ensures merged { OnOk result ((kept : Own) × (gone : Own) × (numbered old self.old.member.tickets.items ≡ Some kept) × (numbered new self.old.member.tickets.items ≡ Some gone)
             × (self.new.member.tickets.items ≡ without_at kept.place new (in_mode_at kept.place old gone.mode self.old.member.tickets.items))
             × ((e : Met) × IsStepOf self.old.member.worker.seat.me self.new.member.worker.seat.me e
             × MeetsOwn kept.place self.old.member.worker.number old e × MeetsOwn kept.place self.old.member.worker.number new e)) }
         ensures unchanged { OnErr result (self.new.member.tickets.items ≡ self.old.member.tickets.items) }
-        ensures refused { RefusesJust (merge_fault (numbered old self.old.member.tickets.items) (numbered new self.old.member.tickets.items)) result }
+        ensures refused { RefusesJust (merge_fault (numbered old self.old.member.tickets.items) (numbered new self.old.member.tickets.items) self.old.member.asks) result }
     {
         let Some(kept) = self.member.ticket(old) else {
             return Err(SpaceError::NotHeld);
@@ -65,6 +68,9 @@ impl<R: Wait> Session<R> {
         let Some(gone) = self.member.ticket(new) else {
             return Err(SpaceError::NotHeld);
         };
+        if self.member.asks.is_some() {
+            return Err(SpaceError::AlreadyWaiting);
+        }
         if !may_merge(kept, gone) {
             return Err(SpaceError::BadMode);
         }

@@ -1,5 +1,5 @@
 //! The right to a session.
-ghost use Rattle.std.specs.Prelude.{◌≡◌, length};
+ghost use Rattle.std.specs.Prelude.{◌≡◌, None, length};
 
 use crate::member::Member;
 
@@ -8,6 +8,7 @@ use crate::member::Member;
 pub struct Pass {
     pub(crate) member: Member,
     ghost empty: { length member.tickets.items ≡ 0 },
+    ghost unwaited: { member.asks ≡ None },
 }
 
 impl Pass {

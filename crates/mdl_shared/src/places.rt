@@ -4,6 +4,7 @@ ghost use Rattle.std.specs.Arc.{arc_value};
 ghost use Rattle.mdl_calls.specs.declared.space_error.SpaceError.TheVariants as cause;
 ghost use Rattle.mdl_steps.specs.declared.view.Keys.{Keys};
 ghost use Rattle.mdl_shared.specs.declared.resolve_error.ResolveError.TheVariants.{NoPlace};
+ghost use Rattle.mdl_shared.specs.Keepings.{KeepsWait};
 ghost use Rattle.mdl_shared.specs.Lookups.{TookDirectory, IsAnswer};
 ghost use Rattle.mdl_shared.specs.Members.{LearnsPlace, place_known};
 ghost use Rattle.mdl_shared.specs.Readings.{ReadsNothing};
@@ -31,6 +32,7 @@ impl Member {
     // Looks a key up in the directory. All that takes memory of its own is done before.
     fn look_up<R: Wait>(&mut self, rt: &R, key: &Key) -> Result<usize, ResolveError>
         ensures same { (self.new.table ≡ self.old.table) × (self.new.worker.number ≡ self.old.worker.number) × (self.new.next ≡ self.old.next) × (self.new.tickets.items ≡ self.old.tickets.items) }
+        ensures wait { KeepsWait self.old self.new }
         ensures reads { ReadsNothing self.old.worker.seat.me self.new.worker.seat.me }
         ensures known { IfOk result (λ place. (0 < place) × (place < (arc_value self.old.table).shared.table_id.slots)
             × (self.new.known.items ≡ self.old.known.items ++ record { key = key.now; place = place } ∷ [])) }
@@ -62,6 +64,7 @@ impl<R: Wait> Session<R> {
     pub fn resolve(&mut self, key: &Key) -> Result<Place, SpaceError>
         ensures session { (self.new.member.table ≡ self.old.member.table) × (self.new.member.worker.number ≡ self.old.member.worker.number)
             × (self.new.member.next ≡ self.old.member.next) × (self.new.member.tickets.items ≡ self.old.member.tickets.items) }
+        ensures wait { KeepsWait self.old.member self.new.member }
         ensures reads { ReadsNothing self.old.member.worker.seat.me self.new.member.worker.seat.me }
         ensures known { IfOk result (λ place. (0 < place) × (place < (arc_value self.old.member.table).shared.table_id.slots)
             × LearnsPlace key.now place (place_known key.now self.old.member.known.items) self.old.member.known.items self.new.member.known.items) }

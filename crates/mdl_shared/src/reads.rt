@@ -7,6 +7,7 @@ ghost use Rattle.mdl_defs.specs.declared.standing.Standing.{Standing};
 ghost use Rattle.mdl_steps.specs.declared.view.Met.{Met};
 ghost use Rattle.mdl_steps.specs.declared.view.Own.{Own};
 ghost use Rattle.mdl_steps.specs.Plays.{noting_version};
+ghost use Rattle.mdl_shared.specs.Keepings.{KeepsWait};
 ghost use Rattle.mdl_shared.specs.Leavings.{MeetsStanding};
 ghost use Rattle.mdl_shared.specs.Members.{noting_at, numbered, holding_fault};
 ghost use Rattle.mdl_shared.specs.Readings.{ReadsNothing, ReadsThere};
@@ -26,6 +27,7 @@ impl Member {
     fn read<R: Wait>(&mut self, rt: &R, place: usize, _id: TicketId) -> Result<Standing, AllocError>
         requires held { option_map (λ (t : Own). t.place) (numbered _id self.old.tickets.items) ≡ Some place }
         ensures same { (self.new.table ≡ self.old.table) × (self.new.worker.number ≡ self.old.worker.number) × (self.new.next ≡ self.old.next) × (self.new.known.items ≡ self.old.known.items) }
+        ensures wait { KeepsWait self.old self.new }
         ensures read { IfOk result (λ standing. (self.new.tickets.items ≡ noting_version place standing.version self.old.tickets.items)
             × ReadsThere place standing self.old.worker.seat.me self.new.worker.seat.me
             × ((e : Met) × IsStepOf self.old.worker.seat.me self.new.worker.seat.me e × MeetsStanding place self.old.worker.number standing e)) }
@@ -72,6 +74,7 @@ impl<R: Wait> Session<R> {
     pub fn read_definition(&mut self, id: TicketId) -> Result<Standing, SpaceError>
         ensures session { (self.new.member.table ≡ self.old.member.table) × (self.new.member.worker.number ≡ self.old.member.worker.number)
             × (self.new.member.next ≡ self.old.member.next) × (self.new.member.known.items ≡ self.old.member.known.items) }
+        ensures wait { KeepsWait self.old.member self.new.member }
         ensures read { IfOk result (λ standing. (t : Own) × (numbered id self.old.member.tickets.items ≡ Some t)
             × (self.new.member.tickets.items ≡ noting_version t.place standing.version self.old.member.tickets.items)
             × ReadsThere t.place standing self.old.member.worker.seat.me self.new.member.worker.seat.me

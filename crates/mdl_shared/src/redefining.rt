@@ -1,5 +1,5 @@
 //! What stands under a key is changed under the latch of its place.
-ghost use Rattle.std.specs.Prelude.{◌≡◌, ◌+◌, [], is_some, false, IfOk, IfErr, OnErr};
+ghost use Rattle.std.specs.Prelude.{◌≡◌, ◌+◌, [], true, IfOk, IfErr, OnErr};
 ghost use Rattle.mdl_key.specs.Refusals.{Refuses, RefusesJust};
 ghost use Rattle.mdl_defs.specs.declared.standing.Standing.{Standing};
 ghost use Rattle.mdl_defs.specs.Standings.{standing_fault, standing_after};
@@ -10,6 +10,7 @@ ghost use Rattle.mdl_steps.specs.Seats.{IsSized, IsPlace, IsRising, Holds, HasEx
 ghost use Rattle.mdl_shared.specs.Leavings.{Learns};
 ghost use Rattle.mdl_shared.specs.Redefinitions.{HasExclusiveAt, IsRefusedFor, Redefines, redefined_and_put};
 ghost use Rattle.mdl_shared.specs.Visits.{Visits};
+ghost use Rattle.mdl_shared.specs.Waitings.{is_ask_apart};
 
 use crate::latches::await_latch;
 use mdl_defs::{Change, ChangeError};
@@ -28,7 +29,7 @@ pub(crate) fn redefine_at<R: Wait>(
     requires table { (worker.old.seat.table_id ≡ top.now.table_id) × IsSized top.now.table_id }
     requires place { IsPlace top.now.table_id place }
     requires rising { IsRising place worker.old.seat.me }
-    requires unwaited { is_some worker.old.seat.me.0.asks ≡ false }
+    requires apart { is_ask_apart worker.old.seat.me.0.next worker.old.seat.me.0.slow worker.old.seat.me.0.asks ≡ true }
     requires held { HasExclusiveAt place worker.old.seat.me.0.slow }
     ensures seat { (worker.new.seat.table_id ≡ worker.old.seat.table_id) × (worker.new.number ≡ worker.old.number) }
     ensures changed { IfOk result (λ version. Redefines place change.now version worker.old.seat.me worker.new.seat.me

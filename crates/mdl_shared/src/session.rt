@@ -1,5 +1,5 @@
 //! Sessions, which make the calls.
-ghost use Rattle.std.specs.Prelude.{◌≡◌, ◌<◌, length, MatchResult};
+ghost use Rattle.std.specs.Prelude.{◌≡◌, ◌<◌, ◌⊎◌, None, true, is_some, length, MatchResult};
 
 use crate::member::Member;
 use crate::{Manager, Pass};
@@ -12,7 +12,7 @@ pub struct Session<R> {
     pub(crate) member: Member,
 }
 
-/// A session isn't closed while it holds tickets. Here it is again.
+/// A session isn't closed while it holds tickets or has a wait. Here it is again.
 pub struct HoldsTickets<R>(pub Session<R>);
 
 impl<R> Session<R> {
@@ -37,14 +37,14 @@ impl<R> Session<R> {
 }
 
 impl<R: Drop> Session<R> {
-    /// Closes the session, and gives its pass back. While it has a ticket, that is refused, and the session stays as it is. It
-    /// takes no memory.
+    /// Closes the session, and gives its pass back. While it has a ticket or a wait, settled or not, that is refused, and the session
+    /// stays as it is. It takes no memory.
     pub fn close(self) -> Result<Pass, HoldsTickets<R>>
         ensures { MatchResult result
-            (λ pass. (length self.member.tickets.items ≡ 0) × (pass.member ≡ self.member))
-            (λ held. (0 < length self.member.tickets.items) × (held.0 ≡ self)) }
+            (λ pass. (length self.member.tickets.items ≡ 0) × (self.member.asks ≡ None) × (pass.member ≡ self.member))
+            (λ held. ((0 < length self.member.tickets.items) ⊎ (is_some self.member.asks ≡ true)) × (held.0 ≡ self)) }
     {
-        if !self.member.tickets.is_empty() {
+        if !self.member.tickets.is_empty() || self.member.asks.is_some() {
             return Err(HoldsTickets(self));
         }
         let Session { rt: _, member } = self;

@@ -7,6 +7,7 @@ ghost use Rattle.mdl_calls.specs.declared.space_error.SpaceError.TheVariants as 
 ghost use Rattle.mdl_steps.specs.declared.view.Keys.{Keys};
 ghost use Rattle.mdl_steps.specs.declared.view.Known.{Known};
 ghost use Rattle.mdl_steps.specs.Schemas.{is_known, unknown};
+ghost use Rattle.mdl_shared.specs.Keepings.{KeepsWait};
 ghost use Rattle.mdl_shared.specs.Lookups.{TookDirectory};
 ghost use Rattle.mdl_shared.specs.Readings.{ReadsNothing};
 ghost use Rattle.mdl_shared.specs.Tables.{AreTables, HasAsked};
@@ -25,6 +26,7 @@ impl Member {
     // The places of a schema's tables that have a definition. All memory is had before the session knows more keys.
     fn tables_of<R: Wait>(&mut self, rt: &R, schema: &str) -> Result<Vec<Place>, AllocError>
         ensures same { (self.new.table ≡ self.old.table) × (self.new.worker.number ≡ self.old.worker.number) × (self.new.next ≡ self.old.next) × (self.new.tickets.items ≡ self.old.tickets.items) }
+        ensures wait { KeepsWait self.old self.new }
         ensures reads { ReadsNothing self.old.worker.seat.me self.new.worker.seat.me }
         ensures told { IfOk result (λ places. (k : Keys) × (tables : List Known)
             × TookDirectory (arc_value self.old.table).shared.table_id.slots k self.old.worker.seat.me self.new.worker.seat.me
@@ -84,6 +86,7 @@ impl<R: Wait> Session<R> {
     pub fn tables_of(&mut self, schema: &str) -> Result<Vec<Place>, SpaceError>
         ensures session { (self.new.member.table ≡ self.old.member.table) × (self.new.member.worker.number ≡ self.old.member.worker.number)
             × (self.new.member.next ≡ self.old.member.next) × (self.new.member.tickets.items ≡ self.old.member.tickets.items) }
+        ensures wait { KeepsWait self.old.member self.new.member }
         ensures reads { ReadsNothing self.old.member.worker.seat.me self.new.member.worker.seat.me }
         ensures told { IfOk result (λ places. (k : Keys) × (tables : List Known)
             × TookDirectory (arc_value self.old.member.table).shared.table_id.slots k self.old.member.worker.seat.me self.new.member.worker.seat.me

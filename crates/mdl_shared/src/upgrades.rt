@@ -7,6 +7,7 @@ ghost use Rattle.mdl_system.specs.Strength.{covers};
 ghost use Rattle.mdl_calls.specs.declared.answers.Upgrade.TheVariants.{Upgraded, WouldWait};
 ghost use Rattle.mdl_steps.specs.declared.view.Met.{Met};
 ghost use Rattle.mdl_steps.specs.declared.view.Own.{Own};
+ghost use Rattle.mdl_shared.specs.Keepings.{KeepsWait};
 ghost use Rattle.mdl_shared.specs.Members.{kind_known, numbered};
 ghost use Rattle.mdl_shared.specs.Modes.{in_mode_at};
 ghost use Rattle.mdl_shared.specs.Readings.{ReadsNothing};
@@ -37,6 +38,7 @@ impl Member {
         requires known { kind_known place self.old.known.items ≡ Some _kind }
         requires mode { (is_mode_of _kind mode ≡ true) × (is_obtrusive _kind mode ≡ true) }
         ensures same { (self.new.table ≡ self.old.table) × (self.new.worker.number ≡ self.old.worker.number) × (self.new.next ≡ self.old.next) × (self.new.known.items ≡ self.old.known.items) }
+        ensures wait { KeepsWait self.old self.new }
         ensures reads { ReadsNothing self.old.worker.seat.me self.new.worker.seat.me }
         ensures upgraded { result ≡ Upgraded → (self.new.tickets.items ≡ in_mode_at place id mode self.old.tickets.items)
             × ((e : Met) × IsStepOf self.old.worker.seat.me self.new.worker.seat.me e × MeetsGrantable place self.old.worker.number mode e) }
@@ -59,6 +61,7 @@ impl<R: Wait> Session<R> {
     pub fn upgrade_now(&mut self, id: TicketId, mode: Mode) -> Result<Upgrade, SpaceError>
         ensures session { (self.new.member.table ≡ self.old.member.table) × (self.new.member.worker.number ≡ self.old.member.worker.number)
             × (self.new.member.next ≡ self.old.member.next) × (self.new.member.known.items ≡ self.old.member.known.items) }
+        ensures wait { KeepsWait self.old.member self.new.member }
         ensures reads { ReadsNothing self.old.member.worker.seat.me self.new.member.worker.seat.me }
         ensures covered { (t : Own) → numbered id self.old.member.tickets.items ≡ Some t → covers t.mode mode ≡ true
             → self.new.member.tickets.items ≡ self.old.member.tickets.items }
@@ -69,7 +72,7 @@ impl<R: Wait> Session<R> {
             × ((t : Own) × (numbered id self.old.member.tickets.items ≡ Some t) × (covers t.mode mode ≡ false)
             × ((e : Met) × IsStepOf self.old.member.worker.seat.me self.new.member.worker.seat.me e × MeetsBlocked t.place self.old.member.worker.number mode e)) }
         ensures unchanged { OnErr result (self.new.member.tickets.items ≡ self.old.member.tickets.items) }
-        ensures refused { RefusesJust (upgrade_fault mode self.old.member.known.items (numbered id self.old.member.tickets.items)) result }
+        ensures refused { RefusesJust (upgrade_fault mode self.old.member.known.items self.old.member.asks (numbered id self.old.member.tickets.items)) result }
     {
         let Some((place, held)) = self.member.place_and_mode(id) else {
             return Err(SpaceError::NotHeld);
@@ -81,6 +84,9 @@ impl<R: Wait> Session<R> {
         let is_allowed = is_covered || may_upgrade(held, mode);
         if !is_allowed || !kind.has_mode(mode) {
             return Err(SpaceError::NotUpgradable);
+        }
+        if self.member.asks.is_some() {
+            return Err(SpaceError::AlreadyWaiting);
         }
         if is_covered {
             return Ok(Upgrade::Upgraded);

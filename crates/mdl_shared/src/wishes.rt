@@ -6,6 +6,7 @@ ghost use Rattle.mdl_calls.specs.declared.answers.Attempt.TheVariants.{Granted, 
 ghost use Rattle.mdl_calls.specs.declared.space_error.SpaceError.TheVariants as cause;
 ghost use Rattle.mdl_steps.specs.declared.view.Met.{Met};
 ghost use Rattle.mdl_steps.specs.declared.view.Own.{Own};
+ghost use Rattle.mdl_shared.specs.Keepings.{KeepsWait};
 ghost use Rattle.mdl_shared.specs.Members.{kind_known, most_numbers, wish_fault};
 ghost use Rattle.mdl_shared.specs.Readings.{ReadsNothing};
 ghost use Rattle.mdl_shared.specs.Visits.{IsStepOf, MeetsBlocked, MeetsFull, MeetsGrantable};
@@ -43,8 +44,10 @@ impl Member {
     ) -> Result<Attempt, SpaceError>
         requires known { kind_known place self.old.known.items ≡ Some kind }
         requires mode { is_mode_of kind mode ≡ true }
+        requires unwaited { self.old.asks ≡ None }
         requires room { self.old.next < most_numbers }
         ensures same { (self.new.table ≡ self.old.table) × (self.new.worker.number ≡ self.old.worker.number) × (self.new.known.items ≡ self.old.known.items) }
+        ensures wait { KeepsWait self.old self.new }
         ensures reads { ReadsNothing self.old.worker.seat.me self.new.worker.seat.me }
         ensures granted { (id : ℕ) → result ≡ Ok (Granted id) → (id ≡ self.old.next)
             × (self.new.tickets.items ≡ self.old.tickets.items ++ record { number = id; place = place; mode = mode; noted = None } ∷ [])
@@ -91,6 +94,7 @@ impl<R: Wait> Session<R> {
     pub fn try_now(&mut self, place: Place, mode: Mode) -> Result<Attempt, SpaceError>
         ensures session { (self.new.member.table ≡ self.old.member.table) × (self.new.member.worker.number ≡ self.old.member.worker.number)
             × (self.new.member.known.items ≡ self.old.member.known.items) }
+        ensures wait { KeepsWait self.old.member self.new.member }
         ensures reads { ReadsNothing self.old.member.worker.seat.me self.new.member.worker.seat.me }
         ensures granted { (id : ℕ) → result ≡ Ok (Granted id) → (id ≡ self.old.member.next)
             × (self.new.member.tickets.items ≡ self.old.member.tickets.items ++ record { number = id; place = place; mode = mode; noted = None } ∷ [])
@@ -99,14 +103,17 @@ impl<R: Wait> Session<R> {
         ensures would_wait { result ≡ Ok WouldWait → (self.new.member.tickets.items ≡ self.old.member.tickets.items) × (self.new.member.next ≡ self.old.member.next)
             × ((e : Met) × IsStepOf self.old.member.worker.seat.me self.new.member.worker.seat.me e × MeetsBlocked place self.old.member.worker.number mode e) }
         ensures unchanged { OnErr result ((self.new.member.tickets.items ≡ self.old.member.tickets.items) × (self.new.member.next ≡ self.old.member.next)) }
-        ensures unfit { IfSome (wish_fault (kind_known place self.old.member.known.items) mode self.old.member.next) (λ why. result ≡ Err why) }
-        ensures refused { IfErr result (λ why. (wish_fault (kind_known place self.old.member.known.items) mode self.old.member.next ≡ Some why)
+        ensures unfit { IfSome (wish_fault (kind_known place self.old.member.known.items) self.old.member.asks mode self.old.member.next) (λ why. result ≡ Err why) }
+        ensures refused { IfErr result (λ why. (wish_fault (kind_known place self.old.member.known.items) self.old.member.asks mode self.old.member.next ≡ Some why)
             ⊎ ((why ≡ cause.OutOfMemory) ⊎ ((why ≡ cause.Full) × ((e : Met) × IsStepOf self.old.member.worker.seat.me self.new.member.worker.seat.me e × MeetsFull place e)))) }
     {
         let place = place as usize;
         let Some(kind) = self.member.kind_at(place) else {
             return Err(SpaceError::NoPlace);
         };
+        if self.member.asks.is_some() {
+            return Err(SpaceError::AlreadyWaiting);
+        }
         if !kind.has_mode(mode) {
             return Err(SpaceError::BadMode);
         }

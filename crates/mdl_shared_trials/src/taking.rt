@@ -1,5 +1,5 @@
 //! A session takes a lock for itself and gives it up, over and over: for tests, and to time it.
-ghost use Rattle.std.specs.Prelude.{◌≡◌, length};
+ghost use Rattle.std.specs.Prelude.{◌≡◌, None, length};
 ghost use Rattle.mdl_shared.specs.Passes.{table_of, pass_table};
 
 use mdl_calls::{Attempt, Place};
@@ -11,8 +11,10 @@ use std::thread::Threads;
 
 // Whether a session got the lock for itself. It has given it up again.
 fn takes<R: Wait>(session: &mut Session<R>, place: Place) -> bool
-    requires { length session.old.member.tickets.items ≡ 0 }
-    ensures { length session.new.member.tickets.items ≡ 0 }
+    requires unheld { length session.old.member.tickets.items ≡ 0 }
+    requires unwaited { session.old.member.asks ≡ None }
+    ensures unheld { length session.new.member.tickets.items ≡ 0 }
+    ensures unwaited { session.new.member.asks ≡ None }
 {
     match session.try_now(place, Mode::X) {
         Ok(Attempt::Granted(id)) => session.release(id).is_ok(),

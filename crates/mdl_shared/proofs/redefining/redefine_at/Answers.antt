@@ -15,7 +15,7 @@ redefine-requires-clause-held g c =
     let taken = latch.ensures.taken in
     let h = taken.0 in
     let came : Mine = latch.new.worker.seat.me in
-    let exclusive = exclusive_there c.args.place h c.args.worker.now.seat.me taken.1 c.requires.unwaited c.requires.held in (
+    let exclusive = exclusive_there c.args.place h c.args.worker.now.seat.me taken.1 c.requires.apart c.requires.held in (
       h,
       subst (λ (q : ℕ). Holds q h h.book came) (sym latch.ensures.place) taken.2,
       taken.1.exact,

@@ -28,8 +28,8 @@ given_up P t [] before after (Ok u) none is ok told =
     let gone : without_at told.0.place t.number (t ∷ []) ≡ [] = subst (λ (x : Own). without_at x.place t.number (t ∷ []) ≡ []) same (none_left t) in
     ap length (told.2 ∙ ap (without_at told.0.place t.number) is ∙ gone)
 
-pub returns-in-Ok-Granted : goal.returns-in-Ok-Granted
-returns-in-Ok-Granted g c =
+pub returns-in-Ok-Granted-clause-unheld : goal.returns-in-Ok-Granted-clause-unheld
+returns-in-Ok-Granted-clause-unheld g c =
     let is = c.in-Ok-Granted.field-0-is in
     let granted = c.in-Ok-Granted.ensures.granted c.in-Ok-Granted.id (cc) in
-    given_up _ _ _ _ _ _ c.requires granted.1 c.release.ensures.refused c.release.ensures.released
+    given_up _ _ _ _ _ _ c.requires.unheld granted.1 c.release.ensures.refused c.release.ensures.released

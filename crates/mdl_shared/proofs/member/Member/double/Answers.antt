@@ -1,11 +1,13 @@
 -- The mode is one of the kind of a key that the session knows, and the ticket that it gets is the last of its own.
-use Rattle.std.proofs.Common.{◌≡◌, ◌+◌, ◌<◌, List, [], ◌∷◌, ◌++◌, None, true, sym, ap, ◌∙◌, subst}
+use Rattle.std.specs.Prelude.{is_some}
+use Rattle.std.proofs.Common.{◌≡◌, ◌+◌, ◌<◌, List, [], ◌∷◌, ◌++◌, None, true, sym, ap, ◌∙◌, subst, ℕ, ◌≤◌, arith}
 use Rattle.mdl_steps.specs.declared.view.Known.{Known}
 use Rattle.mdl_steps.specs.declared.view.Own.{Own}
 use Rattle.mdl_steps.specs.Plays.{Mine}
 use Rattle.mdl_shared.specs.Idle.{IsIdle, HasSlowAlone}
 use Rattle.mdl_shared.specs.Members.{are_placed}
 use Rattle.mdl_shared.specs.Modes.{is_fit}
+use Rattle.mdl_shared.proofs.Awaiting.{apart_none, waits_apart}
 use Rattle.mdl_shared.proofs.Fitting.{fit_place, fit_there}
 use Rattle.mdl_shared.proofs.Membership.{known_within, one_placed}
 use Rattle.mdl_shared.proofs.member.Member.double.Goals as goal
@@ -36,6 +38,18 @@ invariant_of-self-in-Ok g c =
       listed = pushed ∙ ap (λ (ts : List Own). ts ++ t ∷ []) self.listed ∙ sym (ap (λ (m : Mine). m.0.slow) now);
       known_is = self.known_is ∙ sym (ap (λ (m : Mine). m.0.known) now);
       next_is = ap (λ n. n + 1) self.next_is ∙ sym (ap (λ (m : Mine). m.0.next) now);
+      asks_is = self.asks_is ∙ sym (ap (λ (m : Mine). m.0.asks) now);
+      waits_is = self.waits_is ∙ sym (ap (λ (m : Mine). m.0.waits) now);
       placed = ap (are_placed self.known.items) pushed ∙ one_placed self.known.items self.tickets.items t self.placed (fit_place c.args.held.place c.args.mode self.known.items c.requires.fits);
       within = self.within;
+      awaited = self.awaited;
+      apart = apart_none _ _ self.asks c.requires.unwaited;
+      fewer = let less = self.fewer in omega arith;
+      enrolled = subst (λ (n : ℕ). n ≤ self.sessions) (sym c.double.ensures.seat.1) self.enrolled;
+      words = self.words;
     }
+
+pub double-requires-clause-unwaited : goal.double-requires-clause-unwaited
+double-requires-clause-unwaited g c =
+    let self = c.args.self.now in
+    waits_apart self.worker.seat.me.0 self.next c.args.held.number self.tickets.items self.asks self.next_is self.listed self.asks_is self.apart (ap is_some c.requires.held)

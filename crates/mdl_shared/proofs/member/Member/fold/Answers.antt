@@ -1,11 +1,14 @@
 -- The tickets are of a place whose key the session knows.
-use Rattle.std.proofs.Common.{◌<◌, sym, ap, ◌∙◌, subst}
+use Rattle.std.specs.Prelude.{is_some}
+use Rattle.std.proofs.Common.{◌<◌, sym, ap, ◌∙◌, subst, ℕ, ◌≤◌}
 use Rattle.std.specs.Option.{option_map}
 use Rattle.mdl_steps.specs.declared.view.Own.{Own}
 use Rattle.mdl_steps.specs.Plays.{Mine}
 use Rattle.mdl_shared.specs.Idle.{IsIdle, HasSlowAlone}
 use Rattle.mdl_shared.specs.Members.{are_placed, is_known_place, without_at}
 use Rattle.mdl_shared.specs.Modes.{in_mode_at}
+use Rattle.mdl_shared.specs.Waitings.{is_ask_apart}
+use Rattle.mdl_shared.proofs.Awaiting.{apart_altered, apart_lost, waits_apart}
 use Rattle.mdl_shared.proofs.Fitting.{altered_placed}
 use Rattle.mdl_shared.proofs.Membership.{has_numbered, some_key, known_within, placed_at, still_placed}
 use Rattle.mdl_shared.proofs.member.Member.fold.Goals as goal
@@ -41,10 +44,26 @@ invariant_of-self g c =
       listed = tickets ∙ ap (λ ts. without_at kept.place gone.number (in_mode_at kept.place kept.number gone.mode ts)) self.listed ∙ sym (ap (λ (m : Mine). m.0.slow) now);
       known_is = self.known_is ∙ sym (ap (λ (m : Mine). m.0.known) now);
       next_is = self.next_is ∙ sym (ap (λ (m : Mine). m.0.next) now);
+      asks_is = self.asks_is ∙ sym (ap (λ (m : Mine). m.0.asks) now);
+      waits_is = self.waits_is ∙ sym (ap (λ (m : Mine). m.0.waits) now);
       placed = ap (are_placed self.known.items) tickets
           ∙ still_placed self.known.items (in_mode_at kept.place kept.number gone.mode self.tickets.items) kept.place gone.number (altered_placed self.known.items kept.place kept.number gone.mode self.tickets.items self.placed);
       within = self.within;
+      awaited = self.awaited;
+      apart = ap (λ ts. is_ask_apart self.next ts self.asks) tickets
+          ∙ apart_lost self.next (in_mode_at kept.place kept.number gone.mode self.tickets.items) kept.place gone.number self.asks
+          (apart_altered self.next self.tickets.items kept.place kept.number gone.mode self.asks self.apart);
+      fewer = self.fewer;
+      enrolled = subst (λ (n : ℕ). n ≤ self.sessions) (sym c.fold.ensures.seat.1) self.enrolled;
+      words = self.words;
     }
 
 pub returns-clause-reads : goal.returns-clause-reads
 returns-clause-reads g c = ap (λ (m : Mine). m.0.reads) c.fold.ensures.folded.now
+
+pub fold-requires-clause-unwaited : goal.fold-requires-clause-unwaited
+fold-requires-clause-unwaited g c =
+    let self = c.args.self.now in (
+      waits_apart self.worker.seat.me.0 self.next c.args.kept.number self.tickets.items self.asks self.next_is self.listed self.asks_is self.apart (ap is_some c.requires.kept),
+      waits_apart self.worker.seat.me.0 self.next c.args.gone.number self.tickets.items self.asks self.next_is self.listed self.asks_is self.apart (ap is_some c.requires.gone),
+    )

@@ -1,10 +1,12 @@
 -- The key is the last that the session knows, and its place is one of the table's.
-use Rattle.std.proofs.Common.{◌≡◌, ℕ, ◌<◌, List, [], ◌∷◌, ◌++◌, sym, ap, ◌∙◌, subst}
+use Rattle.std.proofs.Common.{◌≡◌, ℕ, ◌<◌, List, [], ◌∷◌, ◌++◌, sym, ap, ◌∙◌, subst, ◌≤◌}
 use Rattle.mdl_key.specs.Words.{KeyName}
 use Rattle.mdl_steps.specs.declared.view.Known.{Known}
 use Rattle.mdl_steps.specs.Plays.{Mine}
 use Rattle.mdl_shared.specs.Idle.{HasSlowAlone}
 use Rattle.mdl_shared.specs.Members.{are_placed, are_within}
+use Rattle.mdl_shared.specs.Waitings.{is_ask_placed}
+use Rattle.mdl_shared.proofs.Awaiting.{awaited_more}
 use Rattle.mdl_shared.proofs.Membership.{known_more, within_more}
 use Rattle.mdl_shared.proofs.member.Member.look_up.Goals as goal
 
@@ -28,6 +30,13 @@ invariant_of-self-2 g c =
       listed = self.listed ∙ sym (ap (λ (m : Mine). m.0.slow) now);
       known_is = pushed ∙ ap (λ (ks : List Known). ks ++ one ∷ []) self.known_is ∙ sym (ap (λ (m : Mine). m.0.known) now);
       next_is = self.next_is ∙ sym (ap (λ (m : Mine). m.0.next) now);
+      asks_is = self.asks_is ∙ sym (ap (λ (m : Mine). m.0.asks) now);
+      waits_is = self.waits_is ∙ sym (ap (λ (m : Mine). m.0.waits) now);
       placed = ap (λ (ks : List Known). are_placed ks self.tickets.items) pushed ∙ known_more self.known.items one self.tickets.items self.placed;
       within = ap (are_within _) pushed ∙ within_more _ self.known.items one self.within (known.0, inside);
+      awaited = ap (λ (ks : List Known). is_ask_placed ks self.asks) pushed ∙ awaited_more self.known.items one self.asks self.awaited;
+      apart = self.apart;
+      fewer = self.fewer;
+      enrolled = subst (λ (n : ℕ). n ≤ self.sessions) (sym c.resolve.ensures.seat.1) self.enrolled;
+      words = self.words;
     }

@@ -1,9 +1,10 @@
 -- The ticket is of a place whose key the session knows, and what it noted under its tickets its view has.
-use Rattle.std.specs.Prelude.{is_some}
-use Rattle.std.proofs.Common.{◌<◌, length, sym, ap, ◌∙◌, subst}
+use Rattle.std.proofs.Common.{◌<◌, length, sym, ap, ◌∙◌, subst, ℕ, ◌≤◌}
 use Rattle.mdl_steps.specs.Plays.{Mine, noting_version}
 use Rattle.mdl_shared.specs.Idle.{IsIdle}
 use Rattle.mdl_shared.specs.Members.{are_placed}
+use Rattle.mdl_shared.specs.Waitings.{is_ask_apart}
+use Rattle.mdl_shared.proofs.Awaiting.{apart_noted}
 use Rattle.mdl_shared.proofs.Membership.{has_numbered, known_within, placed_at, noted_placed, none_noted}
 use Rattle.mdl_shared.proofs.member.Member.read.Goals as goal
 
@@ -26,10 +27,17 @@ invariant_of-self-2 g c =
       sized = self.sized;
       narrow = self.narrow;
       idle = subst IsIdle (sym now) self.idle;
-      slow = (ap (λ (m : Mine). length m.0.fast) now ∙ none_noted place version self.worker.seat.me.0.fast self.slow.0, ap (λ (m : Mine). is_some m.0.asks) now ∙ self.slow.1);
+      slow = ap (λ (m : Mine). length m.0.fast) now ∙ none_noted place version self.worker.seat.me.0.fast self.slow;
       listed = noted ∙ ap (noting_version place version) self.listed ∙ sym (ap (λ (m : Mine). m.0.slow) now);
       known_is = self.known_is ∙ sym (ap (λ (m : Mine). m.0.known) now);
       next_is = self.next_is ∙ sym (ap (λ (m : Mine). m.0.next) now);
+      asks_is = self.asks_is ∙ sym (ap (λ (m : Mine). m.0.asks) now);
+      waits_is = self.waits_is ∙ sym (ap (λ (m : Mine). m.0.waits) now);
       placed = ap (are_placed self.known.items) noted ∙ noted_placed self.known.items self.tickets.items place version self.placed;
       within = self.within;
+      awaited = self.awaited;
+      apart = ap (λ ts. is_ask_apart self.next ts self.asks) noted ∙ apart_noted self.next self.tickets.items place version self.asks self.apart;
+      fewer = self.fewer;
+      enrolled = subst (λ (n : ℕ). n ≤ self.sessions) (sym c.read_at.ensures.seat.1) self.enrolled;
+      words = self.words;
     }

@@ -1,10 +1,12 @@
 -- The ticket is of a place whose key the session knows.
-use Rattle.std.proofs.Common.{◌<◌, List, sym, ap, ◌∙◌, subst}
+use Rattle.std.proofs.Common.{◌<◌, List, sym, ap, ◌∙◌, subst, ℕ, ◌≤◌}
 use Rattle.mdl_steps.specs.declared.view.Own.{Own}
 use Rattle.mdl_steps.specs.Plays.{Mine}
 use Rattle.mdl_shared.specs.Idle.{IsIdle, HasSlowAlone}
 use Rattle.mdl_shared.specs.Leavings.{HasTicket}
-use Rattle.mdl_shared.specs.Members.{are_placed, is_known_place, without_at}
+use Rattle.mdl_shared.specs.Members.{are_placed, is_known_place, without_at, numbered}
+use Rattle.mdl_shared.specs.Waitings.{is_ask_apart}
+use Rattle.mdl_shared.proofs.Awaiting.{apart_lost, some_there, waits_apart}
 use Rattle.mdl_shared.proofs.Membership.{has_numbered, some_key, known_within, placed_at, still_placed}
 use Rattle.mdl_shared.proofs.member.Member.release.Goals as goal
 
@@ -39,9 +41,21 @@ invariant_of-self g c =
       listed = c.strike.ensures ∙ ap (without_at c.args.place c.args.id) self.listed ∙ sym (ap (λ (m : Mine). m.0.slow) now);
       known_is = self.known_is ∙ sym (ap (λ (m : Mine). m.0.known) now);
       next_is = self.next_is ∙ sym (ap (λ (m : Mine). m.0.next) now);
+      asks_is = self.asks_is ∙ sym (ap (λ (m : Mine). m.0.asks) now);
+      waits_is = self.waits_is ∙ sym (ap (λ (m : Mine). m.0.waits) now);
       placed = ap (are_placed self.known.items) c.strike.ensures ∙ still_placed self.known.items self.tickets.items c.args.place c.args.id self.placed;
       within = self.within;
+      awaited = self.awaited;
+      apart = ap (λ (ts : List Own). is_ask_apart self.next ts self.asks) c.strike.ensures ∙ apart_lost self.next self.tickets.items c.args.place c.args.id self.asks self.apart;
+      fewer = self.fewer;
+      enrolled = subst (λ (n : ℕ). n ≤ self.sessions) (sym c.release.ensures.seat.1) self.enrolled;
+      words = self.words;
     }
 
 pub returns-clause-reads : goal.returns-clause-reads
 returns-clause-reads g c = ap (λ (m : Mine). m.0.reads) c.release.ensures.released.now
+
+pub release-requires-clause-unwaited : goal.release-requires-clause-unwaited
+release-requires-clause-unwaited g c =
+    let self = c.args.self.now in
+    waits_apart self.worker.seat.me.0 self.next c.args.id self.tickets.items self.asks self.next_is self.listed self.asks_is self.apart (some_there (λ (t : Own). t.place) (numbered c.args.id self.tickets.items) c.args.place c.requires.held)

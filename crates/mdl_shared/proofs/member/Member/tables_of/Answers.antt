@@ -1,5 +1,5 @@
 -- The session's lists are those of its view, with the schema's tables that it didn't know.
-use Rattle.std.proofs.Common.{◌≡◌, ℕ, ◌<◌, not, List, ◌++◌, sym, ap, ◌∙◌, subst}
+use Rattle.std.proofs.Common.{◌≡◌, ℕ, ◌<◌, not, List, ◌++◌, sym, ap, ◌∙◌, subst, ◌≤◌}
 use Rattle.std.specs.Arc.{arc_value}
 use Rattle.std.proofs.lemmas.List.Elements.{All-filter}
 use Rattle.mdl_steps.specs.declared.view.Known.{Known}
@@ -10,6 +10,8 @@ use Rattle.mdl_shared.specs.Lookups.{TookDirectory}
 use Rattle.mdl_shared.specs.Members.{are_placed, are_within}
 use Rattle.mdl_shared.specs.Tables.{AreWithin, HasAsked, knowing_all}
 use Rattle.mdl_shared.specs.Visits.{and_made}
+use Rattle.mdl_shared.specs.Waitings.{is_ask_placed}
+use Rattle.mdl_shared.proofs.Awaiting.{awaited_and}
 use Rattle.mdl_shared.proofs.Asking.{asked_after, goes_on}
 use Rattle.mdl_shared.proofs.Listing.{took_earlier}
 use Rattle.mdl_shared.proofs.Membership.{known_and, within_and}
@@ -35,9 +37,16 @@ invariant_of-self-2 g c =
       listed = self.listed ∙ sym (ap (λ (m : Mine). m.0.slow) now);
       known_is = learnt ∙ ap (λ (ks : List Known). ks ++ unknown ks tables) self.known_is ∙ sym (ap (λ (m : Mine). m.0.known) now);
       next_is = self.next_is ∙ sym (ap (λ (m : Mine). m.0.next) now);
+      asks_is = self.asks_is ∙ sym (ap (λ (m : Mine). m.0.asks) now);
+      waits_is = self.waits_is ∙ sym (ap (λ (m : Mine). m.0.waits) now);
       placed = ap (λ (ks : List Known). are_placed ks self.tickets.items) learnt ∙ known_and self.known.items new self.tickets.items self.placed;
       within = ap (are_within slots) learnt ∙ within_and slots self.known.items new self.within
           (All-filter (λ (k : Known). not (is_known self.known.items k.key)) (λ (x : Known). (0 < x.place) × (x.place < slots)) tables within);
+      awaited = ap (λ (ks : List Known). is_ask_placed ks self.asks) learnt ∙ awaited_and self.known.items new self.asks self.awaited;
+      apart = self.apart;
+      fewer = self.fewer;
+      enrolled = subst (λ (n : ℕ). n ≤ self.sessions) (sym (c.ask_all.ensures.seat.1 ∙ c.find_tables.ensures.seat.1)) self.enrolled;
+      words = self.words;
     }
 
 pub returns-clause-told : goal.returns-clause-told

@@ -1,9 +1,10 @@
 -- The place is that of a key that the session knows; the ticket that it gets is the last of its own.
-use Rattle.std.proofs.Common.{◌+◌, ◌<◌, List, [], ◌∷◌, ◌++◌, Ok, None, sym, ap, ◌∙◌, subst}
+use Rattle.std.proofs.Common.{◌+◌, ◌<◌, List, [], ◌∷◌, ◌++◌, Ok, None, sym, ap, ◌∙◌, subst, ℕ, ◌≤◌, arith}
 use Rattle.mdl_steps.specs.declared.view.Own.{Own}
 use Rattle.mdl_steps.specs.Plays.{Mine}
 use Rattle.mdl_shared.specs.Idle.{IsIdle, HasSlowAlone}
 use Rattle.mdl_shared.specs.Members.{are_placed, kind_known}
+use Rattle.mdl_shared.proofs.Awaiting.{apart_none}
 use Rattle.mdl_shared.proofs.Membership.{kind_there, kind_place, known_within, one_placed}
 use Rattle.mdl_shared.proofs.member.Member.try_for.Goals as goal
 
@@ -32,6 +33,13 @@ invariant_of-self-in-Ok-Granted g c =
       listed = pushed ∙ ap (λ (ts : List Own). ts ++ t ∷ []) self.listed ∙ sym (ap (λ (m : Mine). m.0.slow) now);
       known_is = self.known_is ∙ sym (ap (λ (m : Mine). m.0.known) now);
       next_is = ap (λ n. n + 1) self.next_is ∙ sym (ap (λ (m : Mine). m.0.next) now);
+      asks_is = self.asks_is ∙ sym (ap (λ (m : Mine). m.0.asks) now);
+      waits_is = self.waits_is ∙ sym (ap (λ (m : Mine). m.0.waits) now);
       placed = ap (are_placed self.known.items) pushed ∙ one_placed self.known.items self.tickets.items t self.placed (kind_place c.args.place c.args.kind self.known.items c.requires.known);
       within = self.within;
+      awaited = self.awaited;
+      apart = apart_none _ _ self.asks c.requires.unwaited;
+      fewer = let less = self.fewer in omega arith;
+      enrolled = subst (λ (n : ℕ). n ≤ self.sessions) (sym c.try_grant.ensures.seat.1) self.enrolled;
+      words = self.words;
     }

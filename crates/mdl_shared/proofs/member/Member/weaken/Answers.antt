@@ -1,11 +1,14 @@
 -- The ticket is of a place whose key the session knows, and the mode is one of its kind.
-use Rattle.std.proofs.Common.{◌≡◌, ◌<◌, List, Some, true, sym, ap, ◌∙◌, subst}
+use Rattle.std.specs.Prelude.{is_some}
+use Rattle.std.proofs.Common.{◌≡◌, ◌<◌, List, Some, true, sym, ap, ◌∙◌, subst, ℕ, ◌≤◌}
 use Rattle.mdl_steps.specs.declared.view.Known.{Known}
 use Rattle.mdl_steps.specs.declared.view.Own.{Own}
 use Rattle.mdl_steps.specs.Plays.{Mine}
 use Rattle.mdl_shared.specs.Idle.{IsIdle, HasSlowAlone}
 use Rattle.mdl_shared.specs.Members.{are_placed, numbered}
 use Rattle.mdl_shared.specs.Modes.{in_mode_at, is_fit}
+use Rattle.mdl_shared.specs.Waitings.{is_ask_apart}
+use Rattle.mdl_shared.proofs.Awaiting.{apart_altered, waits_apart}
 use Rattle.mdl_shared.proofs.Membership.{known_within}
 use Rattle.mdl_shared.proofs.Fitting.{altered_placed, fit_place, fit_there}
 use Rattle.mdl_shared.proofs.member.Member.weaken.Goals as goal
@@ -39,9 +42,21 @@ invariant_of-self g c =
       listed = c.set_mode.ensures ∙ ap (in_mode_at held.place held.number c.args.mode) self.listed ∙ sym (ap (λ (m : Mine). m.0.slow) now);
       known_is = self.known_is ∙ sym (ap (λ (m : Mine). m.0.known) now);
       next_is = self.next_is ∙ sym (ap (λ (m : Mine). m.0.next) now);
+      asks_is = self.asks_is ∙ sym (ap (λ (m : Mine). m.0.asks) now);
+      waits_is = self.waits_is ∙ sym (ap (λ (m : Mine). m.0.waits) now);
       placed = ap (are_placed self.known.items) c.set_mode.ensures ∙ altered_placed self.known.items held.place held.number c.args.mode self.tickets.items self.placed;
       within = self.within;
+      awaited = self.awaited;
+      apart = ap (λ (ts : List Own). is_ask_apart self.next ts self.asks) c.set_mode.ensures ∙ apart_altered self.next self.tickets.items held.place held.number c.args.mode self.asks self.apart;
+      fewer = self.fewer;
+      enrolled = subst (λ (n : ℕ). n ≤ self.sessions) (sym c.weaken.ensures.seat.1) self.enrolled;
+      words = self.words;
     }
 
 pub returns-clause-reads : goal.returns-clause-reads
 returns-clause-reads g c = ap (λ (m : Mine). m.0.reads) c.weaken.ensures.weakened.now
+
+pub weaken-requires-clause-unwaited : goal.weaken-requires-clause-unwaited
+weaken-requires-clause-unwaited g c =
+    let self = c.args.self.now in
+    waits_apart self.worker.seat.me.0 self.next c.args.held.number self.tickets.items self.asks self.next_is self.listed self.asks_is self.apart (ap is_some c.requires.held)

@@ -1,0 +1,107 @@
+-- The ticket that a session waits for, as its own lists change.
+use Rattle.std.proofs.Common.{◌≡◌, ℕ, ◌==◌, true, false, List, [], ◌∷◌, ◌++◌, Option, Some, None, refl, sym, ap, ◌∙◌, subst, append_assoc, append-nil}
+use Rattle.std.specs.Prelude.{is_some, not}
+use Rattle.std.specs.Option.{option_map}
+use Rattle.std.proofs.lemmas.Bool.{and_parts, and_from, eqb-true, eq-eqb}
+use Rattle.mdl_key.specs.declared.mode.Mode.{Mode}
+use Rattle.mdl_steps.specs.declared.view.Ask.{Ask}
+use Rattle.mdl_steps.specs.declared.view.Known.{Known}
+use Rattle.mdl_steps.specs.declared.view.Own.{Own}
+use Rattle.mdl_steps.specs.declared.view.View.{View}
+use Rattle.mdl_steps.specs.Deeds.{NotWaited, is_own}
+use Rattle.mdl_steps.specs.Plays.{noting_version}
+use Rattle.mdl_steps.proofs.Views.{by_bool}
+use Rattle.mdl_shared.specs.Members.{is_known_place, numbered, without_at}
+use Rattle.mdl_shared.specs.Modes.{in_mode_at}
+use Rattle.mdl_shared.specs.Waitings.{is_ask_apart, is_ask_placed, is_no_number}
+use Rattle.mdl_shared.proofs.Membership.{still_known}
+
+-- ---- no ticket of the list is waited for
+
+other_number : (wanted number : ℕ) (tickets : List Own) → is_some (numbered number tickets) ≡ true → is_no_number wanted tickets ≡ true → wanted ≡ number → ⊥
+other_number wanted number [] there none same = absurd (cc)
+other_number wanted number (t ∷ ts) there none same =
+    let parts = and_parts (not (t.number == wanted)) (is_no_number wanted ts) none in
+    by_bool (t.number == number)
+    (λ hit.
+    let is : (t.number == wanted) ≡ true = eq-eqb t.number wanted (eqb-true t.number number hit ∙ sym same) in
+    let first = parts.0 in
+    absurd (cc))
+    (λ miss. other_number wanted number ts (rw miss at there) parts.1 same)
+
+pub not_waited : (v : View) (number : ℕ) → is_some (numbered number v.slow) ≡ true → is_ask_apart v.next v.slow v.asks ≡ true → NotWaited v number
+not_waited v number there apart = λ a asks same.
+    let here = subst (λ (o : Option Ask). is_ask_apart v.next v.slow o ≡ true) asks apart in
+    other_number a.number number v.slow there (and_parts _ (is_no_number a.number v.slow) here).1 same
+
+-- as the view has it
+pub apart_seen : (next next′ : ℕ) (tickets tickets′ : List Own) (asks asks′ : Option Ask) → next ≡ next′ → tickets ≡ tickets′ → asks ≡ asks′
+    → is_ask_apart next tickets asks ≡ true → is_ask_apart next′ tickets′ asks′ ≡ true
+apart_seen next next′ tickets tickets′ asks asks′ one two three all =
+    subst (λ (o : Option Ask). is_ask_apart next′ tickets′ o ≡ true) three
+    (subst (λ (ts : List Own). is_ask_apart next′ ts asks ≡ true) two (subst (λ (n : ℕ). is_ask_apart n tickets asks ≡ true) one all))
+
+pub waits_apart : (v : View) (next number : ℕ) (tickets : List Own) (asks : Option Ask) → next ≡ v.next → tickets ≡ v.slow → asks ≡ v.asks
+    → is_ask_apart next tickets asks ≡ true → is_some (numbered number tickets) ≡ true → NotWaited v number
+waits_apart v next number tickets asks one two three all there =
+    not_waited v number (subst (λ (ts : List Own). is_some (numbered number ts) ≡ true) two there) (apart_seen next v.next tickets v.slow asks v.asks one two three all)
+
+-- a ticket of which anything is told is there
+pub some_there : {U : Type 0} (f : Own → U) (o : Option Own) (u : U) → option_map f o ≡ Some u → is_some o ≡ true
+some_there f None u e = absurd (cc)
+some_there f (Some t) u e = refl
+
+-- ---- as the tickets change
+
+lost : (wanted place number : ℕ) (tickets : List Own) → is_no_number wanted tickets ≡ true → is_no_number wanted (without_at place number tickets) ≡ true
+lost wanted place number [] all = refl
+lost wanted place number (t ∷ ts) all =
+    let parts = and_parts (not (t.number == wanted)) (is_no_number wanted ts) all in
+    by_bool (is_own place number t)
+    (λ gone. rw gone (lost wanted place number ts parts.1))
+    (λ stays. rw stays (and_from _ _ parts.0 (lost wanted place number ts parts.1)))
+
+altered : (wanted place number : ℕ) (mode : Mode) (tickets : List Own) → is_no_number wanted tickets ≡ true → is_no_number wanted (in_mode_at place number mode tickets) ≡ true
+altered wanted place number mode [] all = refl
+altered wanted place number mode (t ∷ ts) all =
+    let parts = and_parts (not (t.number == wanted)) (is_no_number wanted ts) all in
+    by_bool (is_own place number t)
+    (λ own. rw own (and_from _ _ parts.0 (altered wanted place number mode ts parts.1)))
+    (λ other. rw other (and_from _ _ parts.0 (altered wanted place number mode ts parts.1)))
+
+noted : (wanted place version : ℕ) (tickets : List Own) → is_no_number wanted tickets ≡ true → is_no_number wanted (noting_version place version tickets) ≡ true
+noted wanted place version [] all = refl
+noted wanted place version (t ∷ ts) all =
+    let parts = and_parts (not (t.number == wanted)) (is_no_number wanted ts) all in
+    by_bool (t.place == place)
+    (λ here. rw here (and_from _ _ parts.0 (noted wanted place version ts parts.1)))
+    (λ elsewhere. rw elsewhere (and_from _ _ parts.0 (noted wanted place version ts parts.1)))
+
+module _ (next : ℕ) (tickets : List Own) where
+  pub apart_lost : (place number : ℕ) (asks : Option Ask) → is_ask_apart next tickets asks ≡ true → is_ask_apart next (without_at place number tickets) asks ≡ true
+  apart_lost place number None all = refl
+  apart_lost place number (Some a) all = let parts = and_parts _ (is_no_number a.number tickets) all in and_from _ _ parts.0 (lost a.number place number tickets parts.1)
+
+  pub apart_altered : (place number : ℕ) (mode : Mode) (asks : Option Ask) → is_ask_apart next tickets asks ≡ true → is_ask_apart next (in_mode_at place number mode tickets) asks ≡ true
+  apart_altered place number mode None all = refl
+  apart_altered place number mode (Some a) all = let parts = and_parts _ (is_no_number a.number tickets) all in and_from _ _ parts.0 (altered a.number place number mode tickets parts.1)
+
+  pub apart_noted : (place version : ℕ) (asks : Option Ask) → is_ask_apart next tickets asks ≡ true → is_ask_apart next (noting_version place version tickets) asks ≡ true
+  apart_noted place version None all = refl
+  apart_noted place version (Some a) all = let parts = and_parts _ (is_no_number a.number tickets) all in and_from _ _ parts.0 (noted a.number place version tickets parts.1)
+
+  -- where nothing is waited for
+  pub apart_none : (asks : Option Ask) → asks ≡ None → is_ask_apart next tickets asks ≡ true
+  apart_none None e = refl
+  apart_none (Some a) e = absurd (cc)
+
+-- ---- as the keys that it knows grow
+
+pub awaited_more : (known : List Known) (one : Known) (asks : Option Ask) → is_ask_placed known asks ≡ true → is_ask_placed (known ++ one ∷ []) asks ≡ true
+awaited_more known one None all = refl
+awaited_more known one (Some a) all = still_known known one a.place all
+
+pub awaited_and : (known more : List Known) (asks : Option Ask) → is_ask_placed known asks ≡ true → is_ask_placed (known ++ more) asks ≡ true
+awaited_and known [] asks all = ap (λ (ks : List Known). is_ask_placed ks asks) (append-nil known) ∙ all
+awaited_and known (x ∷ xs) asks all =
+    ap (λ (ks : List Known). is_ask_placed ks asks) (sym (append_assoc known (x ∷ []) xs)) ∙ awaited_and (known ++ x ∷ []) xs asks (awaited_more known x asks all)

@@ -1,0 +1,51 @@
+-- What a session meets in the words of waits, its own and those of others.
+use Rattle.std.specs.Prelude.{◌≡◌, ℕ, ◌/◌, ◌%◌, ◌==◌, Option, Some, None, if◌then◌else◌}
+use Rattle.std.specs.Option.{option_map}
+use Rattle.mdl_calls.specs.declared.answers.Settled.{Settled}
+use Rattle.mdl_calls.specs.declared.answers.Settled.TheVariants.{Granted, Victim, Timeout, Killed}
+use Rattle.mdl_calls.specs.declared.space_error.SpaceError.{SpaceError}
+use Rattle.mdl_calls.specs.declared.space_error.SpaceError.TheVariants.{NoWait}
+use Rattle.mdl_steps.specs.declared.view.Ask.{Ask}
+use Rattle.mdl_steps.specs.declared.view.Met.{Met}
+use Rattle.mdl_steps.specs.Layout.{wait_word}
+use Rattle.mdl_steps.specs.Plays.{Mine}
+use Rattle.mdl_steps.specs.WaitPlays.{wait_in}
+
+-- the state of a wait that is settled so
+abbrev pub state_of : Settled → ℕ
+state_of Granted = 2
+state_of Victim = 3
+state_of Timeout = 4
+state_of Killed = 5
+
+-- a step that met the word of a session's wait: it was the session's last wait, of this number, in this state
+pub record MeetsWait (slots session number state : ℕ) (e : Met) : Type 0 where
+  pub word : e.word ≡ wait_word slots session
+  pub found : e.found ≡ wait_in number state
+
+-- why a call on the session's own wait is refused
+abbrev pub wait_fault : Option Ask → Option SpaceError
+wait_fault None = Some NoWait
+wait_fault (Some a) = None
+
+-- the number of a session's wait, where it has one, by its word
+abbrev pub number_in : ℕ → Option ℕ
+number_in word = if word % 8 == 0 then None else Some (word / 8)
+
+-- and by what the session keeps of its own
+abbrev pub own_number : ℕ → Option Ask → Option ℕ
+own_number waits asks = option_map (λ (a : Ask). waits) asks
+
+-- a step that met this in the word of a session's wait
+pub record MeetsWord (slots session word : ℕ) (e : Met) : Type 0 where
+  pub word_is : e.word ≡ wait_word slots session
+  pub found : e.found ≡ word
+
+-- a step that met the word of a session's wait, by which it had one of this number, or none
+pub record MeetsNumber (slots session : ℕ) (number : Option ℕ) (e : Met) : Type 0 where
+  pub word : e.word ≡ wait_word slots session
+  pub told : number ≡ number_in e.found
+
+-- no wait was settled between the two
+abbrev pub SettlesNothing : Mine → Mine → Type 0
+SettlesNothing m m′ = m′.0.settles ≡ m.0.settles
