@@ -12,12 +12,13 @@ use Rattle.mdl_steps.specs.declared.view.Held.{Held}
 use Rattle.mdl_steps.specs.declared.view.Met.{Met}
 use Rattle.mdl_steps.specs.declared.view.Settlement.{Settlement}
 use Rattle.mdl_steps.specs.Deeds.{all_booked, all_done}
+use Rattle.mdl_steps.specs.Cells.{held_at}
 use Rattle.mdl_steps.specs.Layout.{latch_word, lock_word}
 use Rattle.mdl_steps.specs.Plays.{Mine, changed, noting, settled, stepped, unlatched}
 use Rattle.mdl_steps.specs.Rule.{TellsLists}
 use Rattle.mdl_steps.specs.Seats.{Holds, elsewhere, rest, written}
 use Rattle.mdl_steps.proofs.Hands.{elsewhere-settled, elsewhere-stepped}
-use Rattle.mdl_shared.specs.Grantings.{AreGranted, ForgetsNobody, IsLookedThrough, IsLowered, LeavesWay, MadeWay, MakesWay, MayServe, MeetsGranted, MeetsServed, StandsOnce, VisitsForWay}
+use Rattle.mdl_shared.specs.Grantings.{AreGranted, ForgetsNobody, IsLookedThrough, IsLowered, LeavesWay, MadeWay, MakesWay, MayServe, MeetsGranted, MeetsServed, StandsOnce, VisitsForWay, WaitsOnce}
 use Rattle.mdl_shared.specs.Visits.{GoesOn, IsInside, IsStepOf}
 use Rattle.mdl_shared.proofs.Steps.{each_map, goes_on, step_after, step_before}
 use Rattle.mdl_shared.proofs.Way.{settled_after, settled_before, steps_of}
@@ -230,3 +231,14 @@ way_before_write id place ds book m b c is left = shown (subst (λ (x : Mine). L
 pub nobody_waits : (ts : List Ticket) → nat_lt 0 (length ts) ≡ false → ts ≡ []
 nobody_waits [] e = refl
 nobody_waits (t ∷ ts) e = absurd (let some : nat_lt 0 (length (t ∷ ts)) ≡ true = lt-ltb 0 (length (t ∷ ts)) (omega arith) in cc)
+
+-- the record of a latch is the only one of its place
+pub waits_once : (place : ℕ) (h : Held) (m : Mine) → held_at place m.0.latches ≡ Some h → StandsOnce h.book.waiting → WaitsOnce place m
+waits_once place h m recorded once g also = subst (λ (x : Held). StandsOnce x.book.waiting) (same h g (sym recorded ∙ also)) once
+  where
+    same : (h g : Held) → Some h ≡ Some g → h ≡ g
+    same h g e = cc
+
+-- it is so still after a write
+pub waits_written : (place : ℕ) (book : BookView) (m b : Mine) → b ≡ written place book m → WaitsOnce place m → WaitsOnce place b
+waits_written place book m b is once = subst (λ (x : Mine). WaitsOnce place x) (sym is) once

@@ -61,6 +61,7 @@ mod places;
 mod reads;
 mod redefining;
 mod releasing;
+mod reschedules;
 mod resolve_error;
 mod rounds;
 mod schemas;

@@ -6,7 +6,7 @@ ghost use Rattle.mdl_steps.specs.Deeds.{all_booked};
 ghost use Rattle.mdl_steps.specs.Layout.{lock_word};
 ghost use Rattle.mdl_steps.specs.Rule.{Flagged};
 ghost use Rattle.mdl_steps.specs.Seats.{IsSized, IsPlace, IsRising, HasDone, Holds};
-ghost use Rattle.mdl_shared.specs.Grantings.{IsLowered, IsOrderly, LeavesWay, StandsOnce, VisitsForWay};
+ghost use Rattle.mdl_shared.specs.Grantings.{IsLowered, IsOrderly, LeavesWay, VisitsForWay, WaitsOnce};
 ghost use Rattle.mdl_shared.specs.Visits.{IsStepOf};
 
 use crate::granting::grant_waiters;
@@ -42,7 +42,8 @@ pub(crate) fn settle_for_way(
     requires table { (worker.old.seat.table_id ≡ table.now.shared.table_id) × IsSized table.now.shared.table_id }
     requires place { IsPlace table.now.shared.table_id latch.place }
     requires done { (h : Held) × HasDone latch.place deeds.now h worker.old.seat.me
-        × Flagged (all_booked worker.old.seat.me.0.number deeds.now h.book) h.slow h.obtrusive × StandsOnce h.book.waiting }
+        × Flagged (all_booked worker.old.seat.me.0.number deeds.now h.book) h.slow h.obtrusive }
+    requires once { WaitsOnce latch.place worker.old.seat.me }
     ensures seat { (worker.new.seat.table_id ≡ worker.old.seat.table_id) × (worker.new.number ≡ worker.old.number) }
     ensures left { LeavesWay table.now.shared.table_id latch.place deeds.now worker.old.seat.me worker.new.seat.me }
     ensures step { (e : Met) × IsStepOf worker.old.seat.me worker.new.seat.me e × (e.word ≡ lock_word latch.place)
@@ -57,7 +58,8 @@ fn lower(worker: &mut Worker, table: &OwnedTable, latch: &Latched, deeds: &[Deed
     requires table { (worker.old.seat.table_id ≡ table.now.shared.table_id) × IsSized table.now.shared.table_id }
     requires place { IsPlace table.now.shared.table_id latch.now.place }
     requires done { (h : Held) × HasDone latch.now.place deeds.now h worker.old.seat.me
-        × Flagged (all_booked worker.old.seat.me.0.number deeds.now h.book) h.slow h.obtrusive × StandsOnce h.book.waiting }
+        × Flagged (all_booked worker.old.seat.me.0.number deeds.now h.book) h.slow h.obtrusive }
+    requires once { WaitsOnce latch.now.place worker.old.seat.me }
     ensures seat { (worker.new.seat.table_id ≡ worker.old.seat.table_id) × (worker.new.number ≡ worker.old.number) }
     ensures lowered { IsLowered latch.now.place deeds.now worker.old.seat.me worker.new.seat.me }
     ensures orderly { (h : Held) × Holds latch.now.place h h.book worker.new.seat.me × IsOrderly h }

@@ -1,14 +1,14 @@
-use Rattle.std.proofs.Common.{rules, ◌≡◌, [], ℕ, ◌+◌, ◌-◌, ◌*◌, ◌<◌, ◌≤◌, length, ◌/◌, ◌%◌, Bool, true, false, nat_eq, nat_lt, List, ◌∷◌, ◌++◌, slice_index_or, slice_set, bit_and, bit_or, Fits, w8, w32, w64, Bor, MutBor}
-use Rattle.mdl_steps.specs.declared.view.Held.{Held}
-use Rattle.mdl_steps.specs.declared.view.Met.{Met}
-use Rattle.mdl_steps.specs.Deeds.{all_booked}
-use Rattle.mdl_steps.specs.Layout.{lock_word}
-use Rattle.mdl_steps.specs.Rule.{Flagged}
-use Rattle.mdl_steps.specs.Seats.{IsSized, IsPlace, IsRising, HasDone, Holds}
-use Rattle.mdl_shared.specs.Grantings.{IsLowered, IsOrderly, LeavesWay, StandsOnce, VisitsForWay}
-use Rattle.mdl_shared.specs.Visits.{IsStepOf}
+-- The session came, made way and went.
+use Rattle.std.proofs.Common.{ℕ, [], subst}
+use Rattle.mdl_steps.specs.Plays.{Mine}
+use Rattle.mdl_shared.specs.Grantings.{LeavesWay}
+use Rattle.mdl_shared.proofs.WayOut.{visits_for_way}
 use Rattle.mdl_shared.proofs.making_way.serve_place.Goals as goal
 
--- src/making_way.rt:18:1
 pub returns-clause-served : goal.returns-clause-served
-returns-clause-served g c = ?
+returns-clause-served g c =
+    let id = c.args.table.now.shared.table_id in
+    let came : Mine = c.await_latch-latch.new.worker.seat.me in
+    let went : Mine = c.make_way.new.worker.seat.me in
+    visits_for_way id c.args.place [] c.args.worker.now.seat.me came went c.await_latch-latch.ensures.inside
+    (subst (λ (q : ℕ). LeavesWay id q [] came went) c.await_latch-latch.ensures.place c.make_way.ensures.left)

@@ -1,18 +1,11 @@
-use Rattle.std.proofs.Common.{rules, ◌≡◌, [], ℕ, ◌+◌, ◌-◌, ◌*◌, ◌<◌, ◌≤◌, length, ◌/◌, ◌%◌, Bool, true, false, nat_eq, nat_lt, List, ◌∷◌, ◌++◌, slice_index_or, slice_set, bit_and, bit_or, Fits, w8, w32, w64, Bor, MutBor}
-use Rattle.mdl_steps.specs.declared.view.Held.{Held}
-use Rattle.mdl_steps.specs.declared.view.Met.{Met}
-use Rattle.mdl_steps.specs.Deeds.{all_booked}
-use Rattle.mdl_steps.specs.Layout.{lock_word}
-use Rattle.mdl_steps.specs.Rule.{Flagged}
-use Rattle.mdl_steps.specs.Seats.{IsSized, IsPlace, IsRising, HasDone, Holds}
-use Rattle.mdl_shared.specs.Grantings.{IsLowered, IsOrderly, LeavesWay, StandsOnce, VisitsForWay}
-use Rattle.mdl_shared.specs.Visits.{IsStepOf}
+-- The flags are lowered with the deeds, and way is made with none.
+use Rattle.mdl_shared.proofs.WayOut.{leaves_lowered, step_lowered}
 use Rattle.mdl_shared.proofs.making_way.settle_for_way.Goals as goal
 
--- src/making_way.rt:36:1
 pub returns-clause-left : goal.returns-clause-left
-returns-clause-left c = ?
+returns-clause-left c =
+    leaves_lowered c.args.table.now.shared.table_id c.args.latch.place c.args.deeds.now c.args.worker.now.seat.me c.lower.new.worker.seat.me c.make_way.new.worker.seat.me c.lower.ensures.lowered c.make_way.ensures.left
 
--- src/making_way.rt:36:1
 pub returns-clause-step : goal.returns-clause-step
-returns-clause-step c = ?
+returns-clause-step c =
+    step_lowered c.args.table.now.shared.table_id c.args.latch.place c.args.deeds.now c.args.worker.now.seat.me c.lower.new.worker.seat.me c.make_way.new.worker.seat.me c.lower.ensures.lowered c.make_way.ensures.left
