@@ -6,6 +6,7 @@ pub mod Steps
 pub mod Way
 pub mod Waiting
 pub mod Serving
+pub mod WayOut
 pub mod Losing
 pub mod Covered
 pub mod Weaker

@@ -88,12 +88,17 @@ tells_admitted session number book t slow obtrusive found exact =
     )
 
 pub serves_on : (word session number : ℕ) (h : Held) (t : Ticket) → ticket_of session number h.book.waiting ≡ Some t → MayServe word h → MayServe word (with_admitted session number h)
-serves_on word session number h t found may = record {
-  once = once-without session number h.book.waiting may.once;
-  single = λ a i j x y first second. may.single a i j x y (found_before session number h.book.waiting may.once a i x first) (found_before session number h.book.waiting may.once a j y second);
-  exact = tells_admitted session number h.book t h.slow h.obtrusive found may.exact;
-  noted = may.noted;
-}
+serves_on word session number h t found may = (
+  (
+    record {
+      once = once-without session number h.book.waiting may.0.0.once;
+      single = λ a i j x y first second.
+          may.0.0.single a i j x y (found_before session number h.book.waiting may.0.0.once a i x first) (found_before session number h.book.waiting may.0.0.once a j y second);
+    },
+    tells_admitted session number h.book t h.slow h.obtrusive found may.0.1,
+  ),
+  may.1,
+)
 
 -- nobody else of its session waits
 pub none_of_session : (word session number : ℕ) (h : Held) (t : Ticket) → ticket_of session number h.book.waiting ≡ Some t → MayServe word h
@@ -101,8 +106,8 @@ pub none_of_session : (word session number : ℕ) (h : Held) (t : Ticket) → ti
 none_of_session word session number h t found may m =
     elim (ticket_of session m (without session number h.book.waiting)) as (λ o. ticket_of session m (without session number h.book.waiting) ≡ o → o ≡ None) [
       | Some x ↦ λ there.
-          let same : m ≡ number = may.single session m number x t (found_before session number h.book.waiting may.once session m x there) found in
-          let none : ticket_of session m (without session number h.book.waiting) ≡ None = ap (λ (k : ℕ). ticket_of session k (without session number h.book.waiting)) same ∙ of-without_own session number h.book.waiting may.once in
+          let same : m ≡ number = may.0.0.single session m number x t (found_before session number h.book.waiting may.0.0.once session m x there) found in
+          let none : ticket_of session m (without session number h.book.waiting) ≡ None = ap (λ (k : ℕ). ticket_of session k (without session number h.book.waiting)) same ∙ of-without_own session number h.book.waiting may.0.0.once in
           sym there ∙ none
       | None ↦ λ _. refl
     ] refl
@@ -136,9 +141,9 @@ may_join word h t may there stands = by_bool (is_obtrusive (lock_kind h.book) t.
     (λ obtrusive.
     let test : Ticket → Bool = λ x. is_obtrusive (lock_kind h.book) x.mode in
     let up : h.obtrusive ≡ true =
-        may.exact.1 ∙ ap (λ b. any_obtrusive (lock_kind h.book) h.book.granted || b) (any_split t.session t.number test h.book.waiting t there ∙ ap (λ b. b || any_obtrusive (lock_kind h.book) (without t.session t.number h.book.waiting)) obtrusive)
+        may.0.1.1 ∙ ap (λ b. any_obtrusive (lock_kind h.book) h.book.granted || b) (any_split t.session t.number test h.book.waiting t there ∙ ap (λ b. b || any_obtrusive (lock_kind h.book) (without t.session t.number h.book.waiting)) obtrusive)
             ∙ or_true (any_obtrusive (lock_kind h.book) h.book.granted) in
-    inr (inl (word, may.noted up, stands)))
+    inr (inl (word, may.1 up, stands)))
     (λ plain. inl (plain, (and_parts (is_compatible (lock_kind h.book) h.book.granted t.session t.mode) (not (blocks_by (counts_of word) (lock_kind h.book) t.mode)) stands).0))
   where
     or_true : (b : Bool) → (b || true) ≡ true
@@ -155,7 +160,7 @@ is_next word session number untried h may told =
           let ready : is_ready word untried h.book t ≡ true = find-passes (is_ready word untried h.book) h.book.waiting t found in
           let parts = and_parts (set.contains untried t.session) (can_be_granted (lock_kind h.book) h.book.granted h.book.waiting word t.session t.mode) ready in
           let can = and_parts (may_stand (lock_kind h.book) h.book.granted word t.session t.mode) (goes_first (lock_kind h.book) h.book.waiting t.session t.mode) parts.1 in
-          let there = found_by_id (is_ready word untried h.book) h.book.waiting t may.once found in
+          let there = found_by_id (is_ready word untried h.book) h.book.waiting t may.0.0.once found in
           subst (λ (who : ℕ × ℕ). IsReady who.0 who.1 h × (set.contains untried who.0 ≡ true)) id
           (record { wish = t; waits = there; beside = may_join word h t may there can.0; first = can.1 }, parts.0)
     ] refl told

@@ -1,5 +1,5 @@
 -- How a session makes way at a place whose latch it holds: it grants the waits there that can be granted, the first in order of arrival first.
-use Rattle.std.specs.Prelude.{◌≡◌, ◌≢◌, ℕ, ◌/◌, ◌==◌, not, nat_lt, ◌&&◌, Bool, true, false, List, ◌∷◌, ◌++◌, Contains, filter, Option, Some, None, ◌⊎◌}
+use Rattle.std.specs.Prelude.{◌≡◌, ◌≢◌, ℕ, ◌/◌, ◌==◌, not, nat_lt, ◌&&◌, Bool, true, false, List, [], ◌∷◌, ◌++◌, Contains, filter, Option, Some, None, ◌⊎◌}
 use Rattle.std.specs.FinSet as set
 use Rattle.std.specs.Ordering.{nat_cmp}
 use Rattle.atomic_table.specs.Seated.{TableId}
@@ -10,15 +10,16 @@ use Rattle.mdl_book.specs.FastTickets.{AreOfOthers, CountsFastTickets, can_be_gr
 use Rattle.mdl_book.specs.Granting.{goes_first, is_grantable}
 use Rattle.mdl_book.specs.SessionSets.{is_session}
 use Rattle.mdl_book.specs.Tickets.{ticket_of}
+use Rattle.mdl_steps.specs.declared.deed.Deed.{Deed}
 use Rattle.mdl_steps.specs.declared.slot.Slot.TheVariants as slot
 use Rattle.mdl_steps.specs.declared.view.Held.{Held}
 use Rattle.mdl_steps.specs.declared.view.Met.{Met}
 use Rattle.mdl_steps.specs.declared.view.Settlement.{Settlement}
 use Rattle.mdl_steps.specs.Cells.{held_at}
-use Rattle.mdl_steps.specs.Deeds.{MayJoin}
-use Rattle.mdl_steps.specs.Layout.{wait_word}
+use Rattle.mdl_steps.specs.Deeds.{MayJoin, all_done}
+use Rattle.mdl_steps.specs.Layout.{latch_word, lock_word, wait_word}
 use Rattle.mdl_steps.specs.Lists.{Each, Once}
-use Rattle.mdl_steps.specs.Plays.{Mine}
+use Rattle.mdl_steps.specs.Plays.{Mine, settled}
 use Rattle.mdl_steps.specs.Rule.{Lawful, NotedCounts, TellsLists}
 use Rattle.mdl_steps.specs.Seats.{Holds, elsewhere, rest}
 use Rattle.mdl_steps.specs.WaitPlays.{wait_in, with_admitted}
@@ -53,13 +54,22 @@ pub record WasSettled (slots session : ℕ) (m m′ : Mine) : Type 0 where
 
 -- ---- the record of the latch
 
--- each session waits at most once by the record of a latch, whose flags tell the lists, and this word of the lock is noted while the flag
--- OBTRUSIVE is up
-pub record MayServe (word : ℕ) (h : Held) : Type 0 where
-  pub once : Once h.book.waiting
-  pub single : (session first second : ℕ) (t u : Ticket) → ticket_of session first h.book.waiting ≡ Some t → ticket_of session second h.book.waiting ≡ Some u → first ≡ second
-  pub exact : TellsLists h.book h.slow h.obtrusive
-  pub noted : h.obtrusive ≡ true → h.noted ≡ Some word
+-- each session waits at most once
+pub record StandsOnce (waiting : List Ticket) : Type 0 where
+  pub once : Once waiting
+  pub single : (session first second : ℕ) (t u : Ticket) → ticket_of session first waiting ≡ Some t → ticket_of session second waiting ≡ Some u → first ≡ second
+
+-- it does so by the record of the latch of a place
+abbrev pub WaitsOnce : ℕ → Mine → Type 0
+WaitsOnce place m = (h : Held) → held_at place m.0.latches ≡ Some h → StandsOnce h.book.waiting
+
+-- or by a record whose flags tell the lists
+abbrev pub IsOrderly : Held → Type 0
+IsOrderly h = StandsOnce h.book.waiting × TellsLists h.book h.slow h.obtrusive
+
+-- and this word of the lock is noted while the flag OBTRUSIVE is up
+abbrev pub MayServe : ℕ → Held → Type 0
+MayServe word h = IsOrderly h × (h.obtrusive ≡ true → h.noted ≡ Some word)
 
 -- a session's ticket of this number waits there, and can be granted
 pub record IsReady (session number : ℕ) (h : Held) : Type 0 where
@@ -118,3 +128,73 @@ pub record MakesWay (slots place : ℕ) (m m′ : Mine) : Type 0 where
   pub others : filter (λ h. not (h.place == place)) latches ≡ elsewhere place m
   pub stays : StaysTold m.0.told told
   pub granted : AreGranted slots place grants m m′
+
+-- ---- and the latch is given back
+
+-- a step read the lock's word, which was noted while the flag OBTRUSIVE was up, and with it nobody is forgotten by the record of the latch
+pub record IsLookedThrough (id : TableId) (place : ℕ) (latch : Held) (m m′ : Mine) : Type 0 where
+  pub read : Met
+  pub read_then : IsStepOf m m′ read
+  pub of_lock : read.word ≡ lock_word place
+  pub noted : latch.obtrusive ≡ true → latch.noted ≡ Some read.found
+  pub none : ForgetsNobody id read.found latch m m′
+
+-- a step that gave the latch of a place back, by whose record nobody waits there, or nobody is forgotten
+pub record MeetsServed (id : TableId) (place who : ℕ) (m m′ : Mine) (e : Met) : Type 0 where
+  pub word : e.word ≡ latch_word place
+  pub freed : e.found ≡ who
+  pub latch : Held
+  pub held : held_at place e.held ≡ Some latch
+  pub served : (latch.book.waiting ≡ []) ⊎ IsLookedThrough id place latch m m′
+
+-- way was made at a place between the two: waits were granted by steps between them, nobody was forgotten as the latch was given back, and
+-- what was told of the session's own wait stays so
+pub record MadeWay (id : TableId) (place : ℕ) (m m′ : Mine) : Type 0 where
+  pub grants : List Settlement
+  pub settles : m′.0.settles ≡ m.0.settles ++ grants
+  pub granted : AreGranted id.slots place grants m m′
+  pub served : (e : Met) × IsStepOf m m′ e × MeetsServed id place m.0.number m m′ e
+  pub stays : StaysTold m.0.told m′.0.told
+
+-- the latch of a place, which the session held, and the slot that it took last were given back after these deeds and after way was made there,
+-- and nothing else changed
+pub record LeavesWay (id : TableId) (place : ℕ) (ds : List Deed) (m m′ : Mine) : Type 0 where
+  pub told : Option ℕ
+  pub settles : List Settlement
+  pub made : List Met
+  pub now : m′ ≡ (record (all_done place ds m.0) { latches = elsewhere place m; told = told; settles = settles; log = m.0.log ++ made }, rest m.1)
+  pub way : MadeWay id place m m′
+
+-- the session came to a place, did these deeds there, made way and went: it has the latches and the slots that it had, and nothing else changed
+pub record VisitsForWay (id : TableId) (place : ℕ) (ds : List Deed) (m m′ : Mine) : Type 0 where
+  pub told : Option ℕ
+  pub settles : List Settlement
+  pub made : List Met
+  pub now : m′ ≡ (record (all_done place ds m.0) { told = told; settles = settles; log = m.0.log ++ made }, m.1)
+  pub way : MadeWay id place m m′
+
+-- flags of a place were lowered after these deeds, and nothing else changed
+abbrev pub IsLowered : ℕ → List Deed → Mine → Mine → Type 0
+IsLowered place ds m m′ = (found : ℕ) × (book : BookView) × (slow : Bool) × (obtrusive : Bool) × (m′ ≡ settled place ds found book slow obtrusive m)
+
+-- ---- the laws of both
+
+-- a wait that was granted could be granted: whichever fast tickets there were by the rule of the table, no granted ticket of another session
+-- clashed with it, and it waited behind no waiting one
+abbrev pub GrantedWaitsWereGrantable : Type 0
+GrantedWaitsWereGrantable =
+    (slots place : ℕ) (g : Settlement) (e : Met) → MeetsGranted slots place g e →
+    (before : Held) × (wish : Ticket) × (held_at place e.held ≡ Some (with_admitted g.session wish.number before))
+    × (ticket_of g.session wish.number before.book.waiting ≡ Some wish)
+    × ((fast : List Ticket) → Lawful (lock_kind before.book) fast before.book.granted → NotedCounts (lock_kind before.book) fast before.obtrusive before.noted
+    → is_grantable (lock_kind before.book) (fast ++ before.book.granted) before.book.waiting g.session wish.mode ≡ true)
+
+-- a wait that was left unsettled couldn't: whichever fast tickets of other sessions the word counted, it clashed with a granted ticket or had
+-- to wait behind a waiting one
+abbrev pub WaitsLeftWerentGrantable : Type 0
+WaitsLeftWerentGrantable =
+    (id : TableId) (word : ℕ) (h : Held) (m m′ : Mine) → ForgetsNobody id word h m m′ →
+    (t : Ticket) → Contains h.book.waiting t → IsSession id t.session → is_session t.session ≡ true →
+    WasSettled id.slots t.session m m′
+    ⊎ ((fast : List Ticket) → CountsFastTickets (lock_kind h.book) word fast → AreOfOthers t.session fast
+    → is_grantable (lock_kind h.book) (fast ++ h.book.granted) h.book.waiting t.session t.mode ≡ false)

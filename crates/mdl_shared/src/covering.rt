@@ -10,53 +10,62 @@ ghost use Rattle.mdl_steps.specs.Deeds.{KnowsPlace, NotWaited};
 ghost use Rattle.mdl_steps.specs.Layout.{lock_word};
 ghost use Rattle.mdl_steps.specs.Seats.{IsSized, IsPlace, IsRising, Holds};
 ghost use Rattle.mdl_shared.specs.Coverings.{FitsAt, IsCovered};
+ghost use Rattle.mdl_shared.specs.Grantings.{LeavesWay, VisitsForWay, WaitsOnce};
 ghost use Rattle.mdl_shared.specs.Leavings.{Leaves, MeetsOwn};
 ghost use Rattle.mdl_shared.specs.Members.{numbered};
 ghost use Rattle.mdl_shared.specs.Visits.{IsStepOf, MeetsFull, Visits};
 ghost use Rattle.mdl_system.specs.Strength.{covers};
 
 use crate::latches::await_latch;
+use crate::making_way::settle_for_way;
 use crate::settling::settle;
 use mdl_book::BookError;
 use mdl_key::Mode;
-use mdl_steps::{Deed, Latched, LockTable, Own, Worker};
+use mdl_steps::{Deed, Latched, LockTable, Own, OwnedTable, Worker};
 use mdl_word::Word;
 use std::sync::Wait;
 
 // A word that counts nobody: the session's own ticket keeps fast tickets away that clash with the mode.
 const NO_FAST: Word = Word(0);
 
-/// Lets a ticket of the session have a mode that its own covers. It takes no memory.
-pub(crate) fn weaken<R: Wait>(rt: &R, worker: &mut Worker, top: &LockTable, held: Own, mode: Mode)
-    requires table { (worker.old.seat.table_id ≡ top.now.table_id) × IsSized top.now.table_id }
-    requires place { IsPlace top.now.table_id held.place }
+/// Lets a ticket of the session have a mode that its own covers, and makes way for those who wait at the place. It takes no memory.
+pub(crate) fn weaken<R: Wait>(
+    rt: &R,
+    worker: &mut Worker,
+    table: &OwnedTable,
+    held: Own,
+    mode: Mode,
+)
+    requires table { (worker.old.seat.table_id ≡ table.now.shared.table_id) × IsSized table.now.shared.table_id }
+    requires place { IsPlace table.now.shared.table_id held.place }
     requires rising { IsRising held.place worker.old.seat.me }
     requires unwaited { NotWaited worker.old.seat.me.0 held.number }
     requires held { numbered held.number worker.old.seat.me.0.slow ≡ Some held }
     requires fits { FitsAt worker.old.seat.me.0 held.place mode }
     requires covers { covers held.mode mode ≡ true }
     ensures seat { (worker.new.seat.table_id ≡ worker.old.seat.table_id) × (worker.new.number ≡ worker.old.number) }
-    ensures weakened { Visits held.place (Alter held.number mode ∷ []) worker.old.seat.me worker.new.seat.me }
+    ensures weakened { VisitsForWay table.now.shared.table_id held.place (Alter held.number mode ∷ []) worker.old.seat.me worker.new.seat.me }
     ensures step { (e : Met) × IsStepOf worker.old.seat.me worker.new.seat.me e × MeetsOwn held.place worker.old.number held.number e }
 {
-    let latch = await_latch(rt, worker, top, held.place);
-    rewrite(worker, top, latch, held.number, mode);
+    let latch = await_latch(rt, worker, &table.shared, held.place);
+    rewrite(worker, table, latch, held.number, mode);
 }
 
 // The same at the latched place, and the latch is given back.
-fn rewrite(worker: &mut Worker, top: &LockTable, latch: Latched, number: u64, mode: Mode)
-    requires table { (worker.old.seat.table_id ≡ top.now.table_id) × IsSized top.now.table_id }
-    requires place { IsPlace top.now.table_id latch.place }
+fn rewrite(worker: &mut Worker, table: &OwnedTable, latch: Latched, number: u64, mode: Mode)
+    requires table { (worker.old.seat.table_id ≡ table.now.shared.table_id) × IsSized table.now.shared.table_id }
+    requires place { IsPlace table.now.shared.table_id latch.place }
     requires covered { (h : Held) × Holds latch.place h h.book worker.old.seat.me × IsCovered worker.old.number mode h
         × (is_some (ticket_of worker.old.number number h.book.granted) ≡ true) }
+    requires once { WaitsOnce latch.place worker.old.seat.me }
     requires known { KnowsPlace worker.old.seat.me.0 latch.place }
     requires unwaited { NotWaited worker.old.seat.me.0 number }
     ensures seat { (worker.new.seat.table_id ≡ worker.old.seat.table_id) × (worker.new.number ≡ worker.old.number) }
-    ensures left { Leaves latch.place (Alter number mode ∷ []) worker.old.seat.me worker.new.seat.me }
+    ensures left { LeavesWay table.now.shared.table_id latch.place (Alter number mode ∷ []) worker.old.seat.me worker.new.seat.me }
     ensures step { (e : Met) × IsStepOf worker.old.seat.me worker.new.seat.me e × MeetsOwn latch.place worker.old.number number e }
 {
-    let _altered = worker.write_mode(top, &latch, number, mode, NO_FAST);
-    settle(worker, top, latch, &[Deed::Alter(number, mode)]);
+    let _altered = worker.write_mode(&table.shared, &latch, number, mode, NO_FAST);
+    settle_for_way(worker, table, latch, &[Deed::Alter(number, mode)]);
 }
 
 /// Makes a second ticket of one that the session has, of this number and in a mode that its own covers. It waits behind nobody.

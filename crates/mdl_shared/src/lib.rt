@@ -47,6 +47,7 @@ mod definitions;
 mod directories;
 mod downgrades;
 mod granting;
+mod making_way;
 mod holdings;
 mod latches;
 mod laws;
@@ -61,6 +62,7 @@ mod polls;
 mod reads;
 mod redefining;
 mod releasing;
+mod reschedules;
 mod resolve_error;
 mod rounds;
 mod schemas;
@@ -74,7 +76,10 @@ mod upgrades;
 mod wishes;
 
 pub use audited::Audited;
-pub use laws::{blocked_wishes_werent_grantable, granted_wishes_were_grantable};
+pub use laws::{
+    blocked_wishes_werent_grantable, granted_waits_were_grantable, granted_wishes_were_grantable,
+    waits_left_werent_grantable,
+};
 pub use manager::Manager;
 pub use new_error::NewError;
 pub use pass::Pass;

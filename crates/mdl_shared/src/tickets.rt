@@ -1,11 +1,13 @@
 //! What a session does with its tickets.
 ghost use Rattle.std.specs.Prelude.{◌≡◌, ℕ, Some, find, ◌==◌, OnOk, OnErr};
+ghost use Rattle.std.specs.Arc.{arc_value};
 ghost use Rattle.std.specs.Option.{option_map};
 ghost use Rattle.mdl_key.specs.Refusals.{RefusesJust};
 ghost use Rattle.mdl_steps.specs.declared.view.Met.{Met};
 ghost use Rattle.mdl_steps.specs.declared.view.Own.{Own};
 ghost use Rattle.mdl_steps.specs.Deeds.{is_own};
-ghost use Rattle.mdl_shared.specs.Keepings.{KeepsWait};
+ghost use Rattle.mdl_shared.specs.Grantings.{MadeWay};
+ghost use Rattle.mdl_shared.specs.Keepings.{SeesWait};
 ghost use Rattle.mdl_shared.specs.Leavings.{MeetsOwn};
 ghost use Rattle.mdl_shared.specs.Members.{numbered, without_at, holding_fault};
 ghost use Rattle.mdl_shared.specs.Readings.{ReadsNothing};
@@ -33,12 +35,13 @@ impl Member {
     fn release<R: Wait>(&mut self, rt: &R, place: usize, id: TicketId)
         requires held { option_map (λ (t : Own). t.place) (numbered id self.old.tickets.items) ≡ Some place }
         ensures same { (self.new.table ≡ self.old.table) × (self.new.worker.number ≡ self.old.worker.number) × (self.new.next ≡ self.old.next) × (self.new.known.items ≡ self.old.known.items) }
-        ensures wait { KeepsWait self.old self.new }
+        ensures wait { SeesWait self.old self.new }
         ensures reads { ReadsNothing self.old.worker.seat.me self.new.worker.seat.me }
         ensures released { self.new.tickets.items ≡ without_at place id self.old.tickets.items }
         ensures step { (e : Met) × IsStepOf self.old.worker.seat.me self.new.worker.seat.me e × MeetsOwn place self.old.worker.number id e }
+        ensures way { MadeWay (arc_value self.old.table).shared.table_id place self.old.worker.seat.me self.new.worker.seat.me }
     {
-        release(rt, &mut self.worker, &self.table.shared, place, id);
+        release(rt, &mut self.worker, &self.table, place, id);
         strike(&mut self.tickets, place, id);
     }
 }
@@ -58,15 +61,16 @@ pub(crate) fn is_at(ticket: &Own, place: usize, id: TicketId) -> bool
 }
 
 impl<R: Wait> Session<R> {
-    /// Gives up a ticket. It takes no memory.
+    /// Gives up a ticket, and grants the waits at its place that can be granted then. It takes no memory.
     pub fn release(&mut self, id: TicketId) -> Result<(), SpaceError>
         ensures session { (self.new.member.table ≡ self.old.member.table) × (self.new.member.worker.number ≡ self.old.member.worker.number)
             × (self.new.member.next ≡ self.old.member.next) × (self.new.member.known.items ≡ self.old.member.known.items) }
-        ensures wait { KeepsWait self.old.member self.new.member }
+        ensures wait { SeesWait self.old.member self.new.member }
         ensures reads { ReadsNothing self.old.member.worker.seat.me self.new.member.worker.seat.me }
         ensures released { OnOk result ((t : Own) × (numbered id self.old.member.tickets.items ≡ Some t)
             × (self.new.member.tickets.items ≡ without_at t.place id self.old.member.tickets.items)
-            × ((e : Met) × IsStepOf self.old.member.worker.seat.me self.new.member.worker.seat.me e × MeetsOwn t.place self.old.member.worker.number id e)) }
+            × ((e : Met) × IsStepOf self.old.member.worker.seat.me self.new.member.worker.seat.me e × MeetsOwn t.place self.old.member.worker.number id e)
+            × MadeWay (arc_value self.old.member.table).shared.table_id t.place self.old.member.worker.seat.me self.new.member.worker.seat.me) }
         ensures unchanged { OnErr result (self.new.member.tickets.items ≡ self.old.member.tickets.items) }
         ensures refused { RefusesJust (holding_fault id self.old.member.tickets.items) result }
     {

@@ -1,5 +1,5 @@
 //! The waiting list of the book in hand, read and written as plain memory, which is no step.
-ghost use Rattle.std.specs.Prelude.{◌≡◌, ◌∷◌, OnOk, OnErr};
+ghost use Rattle.std.specs.Prelude.{◌≡◌, ◌∷◌, nat_lt, length, OnOk, OnErr};
 ghost use Rattle.std.specs.Option.{ok_or, option_map};
 ghost use Rattle.mdl_key.specs.Refusals.{Refuses};
 ghost use Rattle.mdl_book.specs.Books.{full_fault, ticket_count, enqueueing, admitting, cancelling, next_grantable};
@@ -15,6 +15,22 @@ use mdl_key::Mode;
 use mdl_word::Word;
 
 impl Worker {
+    /// Whether a ticket waits by the book in hand. Nothing changes.
+    pub fn has_waiters(&mut self, top: &LockTable, latch: &Latched) -> bool
+        requires table { self.old.seat.table_id ≡ top.now.table_id }
+        requires carried { (book : BookView) × (self.old.seat.me.1 ≡ (latch.now.place, slot.Place book) ∷ rest self.old.seat.me.1) }
+        ensures seat { (self.new.seat.table_id ≡ self.old.seat.table_id) × (self.new.number ≡ self.old.number) }
+        ensures same { self.new.seat.me ≡ self.old.seat.me }
+        ensures told { (book : BookView) → self.old.seat.me.1 ≡ (latch.now.place, slot.Place book) ∷ rest self.old.seat.me.1
+            → result ≡ nat_lt 0 (length book.waiting) }
+    {
+        match self.seat.slot_mut(top, latch.place) {
+            Slot::Place(book) => !book.waiting().is_empty(),
+            // It is a place that is held.
+            Slot::Directory(_) => false,
+        }
+    }
+
     /// The session and number of the first waiting ticket that can be granted by the book in hand, of those whose sessions are
     /// `unsettled`, the place's word being `word`. Nothing changes.
     pub fn next_grantable(

@@ -5,9 +5,11 @@ use Rattle.mdl_steps.specs.declared.deed.Deed.TheVariants.{Alter}
 use Rattle.mdl_steps.specs.Deeds.{KnowsPlace, NotWaited}
 use Rattle.mdl_steps.specs.Plays.{Mine}
 use Rattle.mdl_steps.specs.Seats.{Holds, IsPlace}
-use Rattle.mdl_shared.specs.Leavings.{Leaves, MeetsOwn}
+use Rattle.mdl_shared.specs.Grantings.{LeavesWay, WaitsOnce}
+use Rattle.mdl_shared.specs.Leavings.{MeetsOwn}
 use Rattle.mdl_shared.proofs.Covered.{covered_by, fits_lock, own_there}
-use Rattle.mdl_shared.proofs.Leaving.{step_later, visits_left}
+use Rattle.mdl_shared.proofs.Leaving.{step_later}
+use Rattle.mdl_shared.proofs.WayOut.{visits_for_way, waits_once}
 use Rattle.mdl_shared.proofs.covering.weaken.Goals as goal
 
 pub rewrite-requires-clause-covered : goal.rewrite-requires-clause-covered
@@ -27,14 +29,15 @@ rewrite-requires-clause-covered g c =
     )
 
 pub rewrite-requires-clause-place : goal.rewrite-requires-clause-place
-rewrite-requires-clause-place g c = subst (IsPlace c.args.top.now.table_id) (sym c.await_latch-latch.ensures.place) c.requires.place
+rewrite-requires-clause-place g c = subst (IsPlace c.args.table.now.shared.table_id) (sym c.await_latch-latch.ensures.place) c.requires.place
 
 pub returns-clause-weakened : goal.returns-clause-weakened
 returns-clause-weakened g c =
     let came : Mine = c.await_latch-latch.new.worker.seat.me in
     let went : Mine = c.rewrite.new.worker.seat.me in
-    let left = subst (λ (q : ℕ). Leaves q (Alter c.args.held.number c.args.mode ∷ []) came went) c.await_latch-latch.ensures.place c.rewrite.ensures.left in
-    visits_left c.args.held.place c.args.worker.now.seat.me came went c.await_latch-latch.ensures.inside (Alter c.args.held.number c.args.mode ∷ []) left
+    let id = c.args.table.now.shared.table_id in
+    let left = subst (λ (q : ℕ). LeavesWay id q (Alter c.args.held.number c.args.mode ∷ []) came went) c.await_latch-latch.ensures.place c.rewrite.ensures.left in
+    visits_for_way id c.args.held.place (Alter c.args.held.number c.args.mode ∷ []) c.args.worker.now.seat.me came went c.await_latch-latch.ensures.inside left
 
 pub returns-clause-step : goal.returns-clause-step
 returns-clause-step g c =
@@ -57,3 +60,9 @@ rewrite-requires-clause-known g c =
     let fits = c.requires.fits in
     let known = subst (λ (x : Mine). KnowsPlace x.0 c.args.held.place) (sym c.await_latch-latch.ensures.inside.now) (fits.0, fits.1, fits.2, fits.3) in
     subst (KnowsPlace c.await_latch-latch.new.worker.seat.me.0) (sym c.await_latch-latch.ensures.place) known
+
+pub rewrite-requires-clause-once : goal.rewrite-requires-clause-once
+rewrite-requires-clause-once g c =
+    let taken = c.await_latch-latch.ensures.taken in
+    let m : Mine = c.await_latch-latch.new.worker.seat.me in
+    subst (λ (q : ℕ). WaitsOnce q m) (sym c.await_latch-latch.ensures.place) (waits_once c.args.held.place taken.0 m taken.2.recorded (record { once = taken.1.once; single = taken.1.single }))

@@ -6,8 +6,10 @@ use Rattle.mdl_steps.specs.declared.deed.Deed.TheVariants.{Lose}
 use Rattle.mdl_steps.specs.Deeds.{KnowsPlace, NotWaited}
 use Rattle.mdl_steps.specs.Plays.{Mine}
 use Rattle.mdl_steps.specs.Seats.{Holds, IsPlace}
-use Rattle.mdl_shared.specs.Leavings.{Leaves, MeetsOwn}
-use Rattle.mdl_shared.proofs.Leaving.{own_found, step_later, visits_left}
+use Rattle.mdl_shared.specs.Grantings.{LeavesWay, WaitsOnce}
+use Rattle.mdl_shared.specs.Leavings.{MeetsOwn}
+use Rattle.mdl_shared.proofs.Leaving.{own_found, step_later}
+use Rattle.mdl_shared.proofs.WayOut.{visits_for_way, waits_once}
 use Rattle.mdl_shared.proofs.releasing.release.Goals as goal
 
 pub give_up-requires-clause-held : goal.give_up-requires-clause-held
@@ -26,14 +28,15 @@ give_up-requires-clause-held g c =
     )
 
 pub give_up-requires-clause-place : goal.give_up-requires-clause-place
-give_up-requires-clause-place g c = subst (IsPlace c.args.top.now.table_id) (sym c.await_latch-latch.ensures.place) c.requires.place
+give_up-requires-clause-place g c = subst (IsPlace c.args.table.now.shared.table_id) (sym c.await_latch-latch.ensures.place) c.requires.place
 
 pub returns-clause-released : goal.returns-clause-released
 returns-clause-released g c =
     let came : Mine = c.await_latch-latch.new.worker.seat.me in
     let went : Mine = c.give_up.new.worker.seat.me in
-    let left = subst (λ (q : ℕ). Leaves q (Lose c.args.number ∷ []) came went) c.await_latch-latch.ensures.place c.give_up.ensures.left in
-    visits_left c.args.place c.args.worker.now.seat.me came went c.await_latch-latch.ensures.inside (Lose c.args.number ∷ []) left
+    let id = c.args.table.now.shared.table_id in
+    let left = subst (λ (q : ℕ). LeavesWay id q (Lose c.args.number ∷ []) came went) c.await_latch-latch.ensures.place c.give_up.ensures.left in
+    visits_for_way id c.args.place (Lose c.args.number ∷ []) c.args.worker.now.seat.me came went c.await_latch-latch.ensures.inside left
 
 pub returns-clause-step : goal.returns-clause-step
 returns-clause-step g c =
@@ -55,3 +58,9 @@ pub give_up-requires-clause-known : goal.give_up-requires-clause-known
 give_up-requires-clause-known g c =
     let known = subst (λ (x : Mine). KnowsPlace x.0 c.args.place) (sym c.await_latch-latch.ensures.inside.now) c.requires.known in
     subst (KnowsPlace c.await_latch-latch.new.worker.seat.me.0) (sym c.await_latch-latch.ensures.place) known
+
+pub give_up-requires-clause-once : goal.give_up-requires-clause-once
+give_up-requires-clause-once g c =
+    let taken = c.await_latch-latch.ensures.taken in
+    let m : Mine = c.await_latch-latch.new.worker.seat.me in
+    subst (λ (q : ℕ). WaitsOnce q m) (sym c.await_latch-latch.ensures.place) (waits_once c.args.place taken.0 m taken.2.recorded (record { once = taken.1.once; single = taken.1.single }))
