@@ -1,5 +1,5 @@
 -- A try to grant a waiting ticket, put together of its steps.
-use Rattle.std.proofs.Common.{◌≡◌, ◌≢◌, ℕ, ◌+◌, ◌-◌, ◌*◌, ◌%◌, ◌/◌, ◌<◌, ◌==◌, ◌&&◌, not, cond, Bool, true, false, None, List, [], ◌∷◌, ◌++◌, Some, refl, sym, ap, ◌∙◌, subst, inl, inr, append-nil, arith}
+use Rattle.std.proofs.Common.{◌≡◌, ◌≢◌, ℕ, ◌+◌, ◌-◌, ◌*◌, ◌%◌, ◌/◌, ◌<◌, ◌==◌, ◌&&◌, not, cond, true, false, None, List, [], ◌∷◌, ◌++◌, Some, refl, sym, ap, ◌∙◌, subst, inl, inr, append-nil, arith}
 use Rattle.std.specs.Prelude.{Result, OnOk, is_some, Option, ◌⊎◌}
 use Rattle.std.specs.Option.{ok_or, option_map}
 use Rattle.std.specs.FinSet as set
@@ -11,7 +11,7 @@ use Rattle.mdl_book.specs.declared.book_error.BookError.{BookError}
 use Rattle.mdl_book.specs.declared.book_error.BookError.TheVariants.{NotHere}
 use Rattle.mdl_book.specs.declared.ticket.Ticket.{Ticket}
 use Rattle.mdl_book.specs.Books.{admitting, next_grantable}
-use Rattle.mdl_book.specs.SessionSets.{IsEverySession, is_session}
+use Rattle.mdl_book.specs.SessionSets.{IsEverySession}
 use Rattle.mdl_book.specs.Tickets.{ticket_id, ticket_of}
 use Rattle.mdl_steps.specs.declared.view.Held.{Held}
 use Rattle.mdl_steps.specs.declared.view.Met.{Met}
@@ -19,7 +19,7 @@ use Rattle.mdl_steps.specs.Layout.{wait_word}
 use Rattle.mdl_steps.specs.Plays.{Mine}
 use Rattle.mdl_steps.specs.Seats.{Holds, written}
 use Rattle.mdl_steps.specs.WaitPlays.{met_wait, settled_granted, wait_in, with_admitted, TellsOwn}
-use Rattle.mdl_steps.specs.WaitSeats.{IsSession, MayGrant}
+use Rattle.mdl_steps.specs.WaitSeats.{IsSession}
 use Rattle.mdl_steps.proofs.Hands.{holds_written}
 use Rattle.mdl_steps.proofs.Views.{other}
 use Rattle.mdl_shared.specs.Grantings.{AreTried, ForgetsNobody, IsGrantedFrom, IsReady, IsServed, IsTried, MakesWay, MayServe, WasSettled}
@@ -27,7 +27,7 @@ use Rattle.mdl_shared.specs.Visits.{GoesOn, IsStepOf}
 use Rattle.mdl_shared.proofs.Losing.{taken_out}
 use Rattle.mdl_shared.proofs.Steps.{step_after, step_before}
 use Rattle.mdl_shared.proofs.Waiting.{found_number, none_next, none_of_session, none_still, serves_on, waits_there}
-use Rattle.mdl_shared.proofs.Way.{settled_after, settled_before, steps_of, way_granted, way_met, way_then, way_written}
+use Rattle.mdl_shared.proofs.Way.{settled_after, settled_before, steps_of, way_granted, way_then, way_written}
 
 -- a step that only met a wait's word, and what was met
 pub step_met : (slots session found : ℕ) (m m′ : Mine) → m′ ≡ met_wait slots session found m → (e : Met) × IsStepOf m m′ e × (e.word ≡ wait_word slots session) × (e.found ≡ found)
@@ -51,7 +51,7 @@ some_is o t e = ap is_some e
 
 -- ---- the exchange
 
-module _ (slots place session number wait count met : ℕ) (h : Held) (m a b : Mine) (has : Holds place h h.book m) (ready : IsReady session number h)
+module _ (slots place session number wait count : ℕ) (h : Held) (m a b : Mine) (has : Holds place h h.book m) (ready : IsReady session number h)
     (result : Result Ticket BookError) (made : a ≡ settled_granted slots place session number count m) (keeps : Holds place (with_admitted session number h) h.book a) (own : TellsOwn slots session (wait_in count 1) m.0)
     (refused : result ≡ ok_or (ticket_of session number h.book.waiting) NotHere) (done : OnOk result (b ≡ written place (admitting session number h.book) a)) where
   admitted : b ≡ written place (admitting session number h.book) a
@@ -162,23 +162,23 @@ module _ (id : TableId) (place session number word : ℕ) (h : Held) (m a b : Mi
   pub turn_done : (h′ : Held) × Holds place h′ h′.book b × MayServe word h′ × AreTried id (set.remove untried session) h′ m b
   turn_done = elim served [
     | inl left ↦ (
-        h,
-        left.1,
-        may,
-        λ who is out. elim (cases_eq who session) [
-          | inl same ↦ subst (λ (n : ℕ). IsTried id n h m b) (sym same) (it left.0)
-          | inr differs ↦ still who (tried who is (out_before untried session who differs out))
-        ],
-      )
+      h,
+      left.1,
+      may,
+      λ who is out. elim (cases_eq who session) [
+        | inl same ↦ subst (λ (n : ℕ). IsTried id n h m b) (sym same) (it left.0)
+        | inr differs ↦ still who (tried who is (out_before untried session who differs out))
+      ],
+    )
     | inr granted ↦ (
-        with_admitted session number h,
-        granted,
-        serves_on word session number h ready.wish ready.waits may,
-        λ who is out. elim (cases_eq who session) [
-          | inl same ↦ subst (λ (n : ℕ). IsTried id n (with_admitted session number h) m b) (sym same) (inr (inr (none_of_session word session number h ready.wish ready.waits may)))
-          | inr differs ↦ still_admitted who (tried who is (out_before untried session who differs out))
-        ],
-      )
+      with_admitted session number h,
+      granted,
+      serves_on word session number h ready.wish ready.waits may,
+      λ who is out. elim (cases_eq who session) [
+        | inl same ↦ subst (λ (n : ℕ). IsTried id n (with_admitted session number h) m b) (sym same) (inr (inr (none_of_session word session number h ready.wish ready.waits may)))
+        | inr differs ↦ still_admitted who (tried who is (out_before untried session who differs out))
+      ],
+    )
   ]
 
 -- where nobody is next, nobody is forgotten
@@ -192,7 +192,3 @@ forgets_nobody id word h m a untried tried none t among known is = elim (none_ne
   ]
   | inr cannot ↦ inr cannot
 ]
-
--- the table has no such session, and nothing was done
-pub is_unknown : (id : TableId) (place session number : ℕ) (m : Mine) → (IsSession id session → ⊥) → (g : Held) → Holds place g g.book m → IsServed id place session number g m m
-is_unknown id place session number m unknown g has = inl (inl unknown, has)

@@ -1,13 +1,12 @@
 -- What a record tells of those who wait, before and after one of them is granted.
-use Rattle.std.proofs.Common.{◌≡◌, ℕ, ◌+◌, ◌<◌, Bool, true, false, cond, ◌&&◌, ◌||◌, List, [], ◌∷◌, ◌++◌, length, Some, None, refl, sym, ap, ◌∙◌, subst, inl, inr, arith, length-append}
-use Rattle.std.specs.Prelude.{Option, ◌⊎◌, nat_lt, find, not}
+use Rattle.std.proofs.Common.{◌≡◌, ℕ, ◌+◌, ◌<◌, Bool, true, false, cond, ◌||◌, List, [], ◌∷◌, ◌++◌, length, Some, None, refl, sym, ap, ◌∙◌, subst, inl, inr, arith, length-append}
+use Rattle.std.specs.Prelude.{Option, ◌⊎◌, find, not}
 use Rattle.std.specs.List.{Contains, list_any}
 use Rattle.std.specs.Option.{option_map, option_to_list}
 use Rattle.std.specs.FinSet as set
 use Rattle.std.specs.Ordering.{nat_cmp}
 use Rattle.std.proofs.lemmas.Bool.{and_parts, and_from, lt-ltb, cases_eq}
 use Rattle.std.proofs.lemmas.List.Folds.{list_any-append}
-use Rattle.mdl_key.specs.declared.namespace.Kind.{Kind}
 use Rattle.mdl_key.specs.Words.{is_obtrusive}
 use Rattle.mdl_word.specs.Words.{blocks_by, counts_of}
 use Rattle.mdl_book.specs.declared.book_view.BookView.{BookView}
@@ -15,7 +14,6 @@ use Rattle.mdl_book.specs.declared.ticket.Ticket.{Ticket}
 use Rattle.mdl_book.specs.Books.{lock_kind, any_obtrusive, admitting, is_ready, next_grantable}
 use Rattle.mdl_book.specs.FastTickets.{can_be_granted, may_stand}
 use Rattle.mdl_book.specs.Granting.{goes_first, is_compatible}
-use Rattle.mdl_book.specs.SessionSets.{is_session}
 use Rattle.mdl_book.specs.Tickets.{is_ticket, ticket_id, ticket_of, without}
 use Rattle.mdl_book.proofs.MemberLemmas.{none-found}
 use Rattle.mdl_book.proofs.TicketLemmas.{find-passes}
@@ -141,8 +139,8 @@ may_join word h t may there stands = by_bool (is_obtrusive (lock_kind h.book) t.
     (λ obtrusive.
     let test : Ticket → Bool = λ x. is_obtrusive (lock_kind h.book) x.mode in
     let up : h.obtrusive ≡ true =
-        may.0.1.1 ∙ ap (λ b. any_obtrusive (lock_kind h.book) h.book.granted || b) (any_split t.session t.number test h.book.waiting t there ∙ ap (λ b. b || any_obtrusive (lock_kind h.book) (without t.session t.number h.book.waiting)) obtrusive)
-            ∙ or_true (any_obtrusive (lock_kind h.book) h.book.granted) in
+    may.0.1.1 ∙ ap (λ b. any_obtrusive (lock_kind h.book) h.book.granted || b) (any_split t.session t.number test h.book.waiting t there ∙ ap (λ b. b || any_obtrusive (lock_kind h.book) (without t.session t.number h.book.waiting)) obtrusive)
+    ∙ or_true (any_obtrusive (lock_kind h.book) h.book.granted) in
     inr (inl (word, may.1 up, stands)))
     (λ plain. inl (plain, (and_parts (is_compatible (lock_kind h.book) h.book.granted t.session t.mode) (not (blocks_by (counts_of word) (lock_kind h.book) t.mode)) stands).0))
   where

@@ -1,24 +1,20 @@
 -- Way is made step by step.
-use Rattle.std.proofs.Common.{◌≡◌, ◌≢◌, ℕ, ◌+◌, ◌*◌, ◌%◌, ◌/◌, ◌<◌, ◌==◌, ◌&&◌, nat_lt, Bool, true, false, cond, not, List, [], ◌∷◌, ◌++◌, filter, Some, None, refl, sym, ap, ◌∙◌, subst, inl, inr, append_assoc, append-nil, arith}
-use Rattle.std.specs.Prelude.{Option, ◌⊎◌}
-use Rattle.std.proofs.lemmas.Bool.{and_parts, eqb-true, ltb-true}
+use Rattle.std.proofs.Common.{◌≡◌, ℕ, ◌+◌, ◌*◌, ◌%◌, ◌<◌, ◌==◌, ◌&&◌, nat_lt, List, [], ◌∷◌, ◌++◌, Some, refl, sym, ap, ◌∙◌, subst, append_assoc, append-nil, arith}
+use Rattle.std.proofs.lemmas.Bool.{and_parts, eqb-true}
 use Rattle.mdl_book.specs.declared.book_view.BookView.{BookView}
-use Rattle.mdl_book.specs.declared.ticket.Ticket.{Ticket}
 use Rattle.mdl_steps.specs.declared.slot.Slot.TheVariants as slot
 use Rattle.mdl_steps.specs.declared.view.Held.{Held}
 use Rattle.mdl_steps.specs.declared.view.Met.{Met}
 use Rattle.mdl_steps.specs.declared.view.Settlement.{Settlement}
 use Rattle.mdl_steps.specs.declared.view.View.{View}
-use Rattle.mdl_steps.specs.Cells.{held_at, waiter_of}
+use Rattle.mdl_steps.specs.Cells.{held_at}
 use Rattle.mdl_steps.specs.Layout.{wait_word}
-use Rattle.mdl_steps.specs.Lists.{Each}
 use Rattle.mdl_steps.specs.Plays.{Mine, changed}
-use Rattle.mdl_steps.specs.Rule.{WaitOk}
 use Rattle.mdl_steps.specs.Seats.{Holds, elsewhere, rest, written}
 use Rattle.mdl_steps.specs.WaitPlays.{wait_in, met_wait, meeting, settled_granted, with_admitted, TellsOwn}
 use Rattle.mdl_steps.proofs.Hands.{elsewhere-stepped}
 use Rattle.mdl_steps.proofs.Views.{by_bool, held_at-changed}
-use Rattle.mdl_shared.specs.Grantings.{AreGranted, IsReady, MakesWay, MeetsGranted, StaysTold, WasSettled}
+use Rattle.mdl_shared.specs.Grantings.{IsReady, MakesWay, MeetsGranted, StaysTold, WasSettled}
 use Rattle.mdl_shared.specs.Visits.{GoesOn, IsStepOf}
 use Rattle.mdl_shared.proofs.Steps.{each_append, each_map, step_after, step_before}
 
@@ -149,9 +145,9 @@ module _ (slots place : ℕ) where
     stays = λ state e. y.stays state (ap (λ (w : Mine). w.0.told) x.now ∙ x.stays state e);
     granted = each_append (λ (g : Settlement). (e : Met) × IsStepOf a c e × MeetsGranted slots place g e) x.grants y.grants
         (each_map (λ (g : Settlement). (e : Met) × IsStepOf a b e × MeetsGranted slots place g e) (λ (g : Settlement). (e : Met) × IsStepOf a c e × MeetsGranted slots place g e)
-            (λ g met. (met.0, step_before a b c (steps_of b c y) met.0 met.1, met.2)) x.grants x.granted)
+        (λ g met. (met.0, step_before a b c (steps_of b c y) met.0 met.1, met.2)) x.grants x.granted)
         (each_map (λ (g : Settlement). (e : Met) × IsStepOf b c e × MeetsGranted slots place g e) (λ (g : Settlement). (e : Met) × IsStepOf a c e × MeetsGranted slots place g e)
-            (λ g met. (met.0, step_after a b c (steps_of a b x) met.0 met.1, met.2)) y.grants y.granted);
+        (λ g met. (met.0, step_after a b c (steps_of a b x) met.0 met.1, met.2)) y.grants y.granted);
   }
 
 -- ---- what was settled

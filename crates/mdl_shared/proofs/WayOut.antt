@@ -1,6 +1,6 @@
 -- Way is made, and the latch given back.
-use Rattle.std.proofs.Common.{◌≡◌, ℕ, ◌+◌, ◌<◌, ◌==◌, nat_lt, not, filter, length, arith, Bool, true, false, List, [], ◌∷◌, ◌++◌, Some, refl, sym, ap, ◌∙◌, subst, inl, inr, append_assoc, append-nil}
-use Rattle.std.specs.Prelude.{Option, ◌⊎◌}
+use Rattle.std.proofs.Common.{◌≡◌, ℕ, ◌==◌, nat_lt, not, filter, length, arith, true, false, List, [], ◌∷◌, ◌++◌, Some, refl, sym, ap, ◌∙◌, subst, inl, inr, append_assoc, append-nil}
+use Rattle.std.specs.Prelude.{◌⊎◌}
 use Rattle.std.proofs.lemmas.Bool.{lt-ltb}
 use Rattle.atomic_table.specs.Seated.{TableId}
 use Rattle.mdl_book.specs.declared.book_view.BookView.{BookView}
@@ -18,7 +18,7 @@ use Rattle.mdl_steps.specs.Plays.{Mine, changed, noting, settled, stepped, unlat
 use Rattle.mdl_steps.specs.Rule.{TellsLists}
 use Rattle.mdl_steps.specs.Seats.{Holds, elsewhere, rest, written}
 use Rattle.mdl_steps.proofs.Hands.{elsewhere-settled, elsewhere-stepped}
-use Rattle.mdl_shared.specs.Grantings.{AreGranted, ForgetsNobody, IsLookedThrough, IsLowered, LeavesWay, MadeWay, MakesWay, MayServe, MeetsGranted, MeetsServed, StandsOnce, VisitsForWay, WaitsOnce}
+use Rattle.mdl_shared.specs.Grantings.{AreGranted, ForgetsNobody, IsLookedThrough, IsLowered, LeavesWay, MadeWay, MakesWay, MayServe, MeetsGranted, StandsOnce, VisitsForWay, WaitsOnce}
 use Rattle.mdl_shared.specs.Visits.{GoesOn, IsInside, IsStepOf}
 use Rattle.mdl_shared.proofs.Steps.{each_map, goes_on, step_after, step_before}
 use Rattle.mdl_shared.proofs.Way.{settled_after, settled_before, steps_of}
@@ -182,12 +182,15 @@ module _ (id : TableId) (place : ℕ) (ds : List Deed) (m b c : Mine) (low : IsL
     made = lowers ∷ left.made;
     now = left.now
         ∙ ap (λ (x : Mine). (record (all_done place [] x.0) { latches = elsewhere place x; told = left.told; settles = left.settles; log = x.0.log ++ left.made }, rest x.1)) low.4
-        ∙ (λ i. (record (all_done place ds m.0) {
-          latches = elsewhere-settled place ds low.0 low.2 low.3 low.1 m i;
-          told = left.told;
-          settles = left.settles;
-          log = append_assoc m.0.log (lowers ∷ []) left.made i;
-        }, rest m.1));
+        ∙ (λ i. (
+          record (all_done place ds m.0) {
+            latches = elsewhere-settled place ds low.0 low.2 low.3 low.1 m i;
+            told = left.told;
+            settles = left.settles;
+            log = append_assoc m.0.log (lowers ∷ []) left.made i;
+          },
+          rest m.1,
+        ));
     way = way_after id place m b c m_low (ap (λ (x : Mine). x.0.settles) low.4) (ap (λ (x : Mine). x.0.told) low.4) (ap (λ (x : Mine). x.0.number) low.4) left.way;
   }
 

@@ -1,5 +1,5 @@
 -- How a session makes way at a place whose latch it holds: it grants the waits there that can be granted, the first in order of arrival first.
-use Rattle.std.specs.Prelude.{◌≡◌, ◌≢◌, ℕ, ◌/◌, ◌==◌, not, nat_lt, ◌&&◌, Bool, true, false, List, [], ◌∷◌, ◌++◌, Contains, filter, Option, Some, None, ◌⊎◌}
+use Rattle.std.specs.Prelude.{◌≡◌, ◌≢◌, ℕ, ◌/◌, ◌==◌, not, Bool, true, false, List, [], ◌∷◌, ◌++◌, Contains, filter, Option, Some, None, ◌⊎◌}
 use Rattle.std.specs.FinSet as set
 use Rattle.std.specs.Ordering.{nat_cmp}
 use Rattle.atomic_table.specs.Seated.{TableId}

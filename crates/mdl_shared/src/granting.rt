@@ -22,9 +22,12 @@ pub(crate) fn grant_waiters(worker: &mut Worker, table: &OwnedTable, latch: &Lat
     ensures way { MakesWay table.now.shared.table_id.slots latch.now.place worker.old.seat.me worker.new.seat.me }
 {
     let mut untried = Sessions::all();
-    while let Some((session, number)) =
-        worker.next_grantable(&table.shared, latch, word, &untried)
-    {
+    while let Some((session, number)) = worker.next_grantable(
+        &table.shared,
+        latch,
+        word,
+        &untried,
+    ) {
         serve(worker, table, latch, session, number);
         untried.remove(session);
     }

@@ -15,12 +15,7 @@ use mdl_steps::{Deed, Latched, OwnedTable, Worker};
 use std::sync::Wait;
 
 /// Comes to a place, grants the waits there that can be granted, and goes. It takes no memory.
-pub(crate) fn serve_place<R: Wait>(
-    rt: &R,
-    worker: &mut Worker,
-    table: &OwnedTable,
-    place: usize,
-)
+pub(crate) fn serve_place<R: Wait>(rt: &R, worker: &mut Worker, table: &OwnedTable, place: usize)
     requires table { (worker.old.seat.table_id ≡ table.now.shared.table_id) × IsSized table.now.shared.table_id }
     requires place { IsPlace table.now.shared.table_id place }
     requires rising { IsRising place worker.old.seat.me }

@@ -1,5 +1,5 @@
 -- Each turn tries one session, until nobody is next.
-use Rattle.std.proofs.Common.{◌≡◌, ◌<◌, refl, sym, ap, ◌∙◌, subst}
+use Rattle.std.proofs.Common.{◌≡◌, ◌<◌, refl, sym, ◌∙◌, subst}
 use Rattle.std.specs.FinSet as set
 use Rattle.std.specs.Ordering.{nat_cmp}
 use Rattle.mdl_steps.specs.declared.view.Held.{Held}
@@ -63,7 +63,7 @@ loop-session-preserved c =
     let tried = subst (λ (x : Mine). AreTried id c.loop-session.untried h m x) (sym same) held.3 in
     let ready = (is_next word c.in-Some.session c.in-Some.number c.loop-session.untried h held.2 (c.in-Some.ensures.told h.book held.1.carried)).0 in
     let done =
-        turn_done id place c.in-Some.session c.in-Some.number word h m a b c.loop-session.untried (steps_of id.slots place m a way) has held.2 ready c.serve.ensures.way (c.serve.ensures.served h has) tried in
+    turn_done id place c.in-Some.session c.in-Some.number word h m a b c.loop-session.untried (steps_of id.slots place m a way) has held.2 ready c.serve.ensures.way (c.serve.ensures.served h has) tried in
     record {
       seat = (c.serve.ensures.seat.0 ∙ c.next_grantable.ensures.seat.0 ∙ c.loop-session.invariant.seat.0, c.serve.ensures.seat.1 ∙ c.next_grantable.ensures.seat.1 ∙ c.loop-session.invariant.seat.1);
       held = (done.0, done.1, done.2, subst (λ (s : set.FinSet nat_cmp). AreTried id s done.0 m b) (sym c.remove.ensures) done.3);

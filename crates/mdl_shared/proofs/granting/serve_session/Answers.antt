@@ -1,5 +1,5 @@
 -- The wait was read unsettled and its grant tried, or it was read settled.
-use Rattle.std.proofs.Common.{◌≡◌, ◌≢◌, ◌%◌, ℕ, sym, ap, ◌∙◌, subst}
+use Rattle.std.proofs.Common.{◌≡◌, ℕ, sym, ap, ◌∙◌, subst}
 use Rattle.mdl_steps.specs.Plays.{Mine}
 use Rattle.mdl_steps.specs.WaitPlays.{met_wait, TellsOwn}
 use Rattle.mdl_shared.proofs.Serving.{is_settled, is_tried}

@@ -1,6 +1,5 @@
 -- By what a packed word's counts tell of the fast tickets.
 use Rattle.std.proofs.Common.{sym, ◌∙◌, inl, inr}
-use Rattle.std.specs.Prelude.{◌⊎◌}
 use Rattle.mdl_book.proofs.FastLemmas.{can_be_granted-fast}
 use Rattle.mdl_shared.proofs.laws.waits_left_werent_grantable.Goals as goal
 

@@ -1,6 +1,5 @@
 -- Nobody waits, or the word was read and waits were granted.
-use Rattle.std.proofs.Common.{◌≡◌, [], sym, ap, ◌∙◌, subst}
-use Rattle.mdl_steps.specs.declared.view.Held.{Held}
+use Rattle.std.proofs.Common.{[], sym, ap, ◌∙◌, subst}
 use Rattle.mdl_steps.specs.declared.worker.Worker.{Worker}
 use Rattle.mdl_steps.specs.Plays.{Mine, noting, stepped, unlatched}
 use Rattle.mdl_steps.specs.Seats.{Holds}
