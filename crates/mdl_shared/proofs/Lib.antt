@@ -20,3 +20,4 @@ pub mod Listing
 pub mod Telling
 pub mod Awaiting
 pub mod Polling
+pub mod WaitOpenings

@@ -1,4 +1,5 @@
 pub mod Audits
+pub mod Beginnings
 pub mod Coverings
 pub mod Idle
 pub mod Keepings

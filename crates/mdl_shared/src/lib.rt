@@ -40,6 +40,7 @@
 mod askings;
 mod audited;
 mod audits;
+mod beginnings;
 mod changes;
 mod clones;
 mod covering;
@@ -57,6 +58,7 @@ mod own_lists;
 mod pass;
 mod places;
 mod polls;
+mod queueing;
 mod reads;
 mod redefining;
 mod releasing;

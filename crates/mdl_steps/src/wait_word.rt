@@ -56,7 +56,7 @@ impl Loss {
 
 // The word of a wait in a state.
 pub(crate) fn word_in(wait: u64, state: u64) -> u64
-    requires { (wait < 2 ^ 60) × (state < 8) }
+    requires { (wait < 2 ^ 61) × (state < 8) }
     ensures { result ≡ wait_in wait state }
 {
     8 * wait + state

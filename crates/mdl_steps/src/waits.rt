@@ -89,7 +89,7 @@ impl Worker {
     ) -> WaitWord
         requires table { (self.old.seat.table_id ≡ top.now.table_id) × IsSized top.now.table_id }
         requires session { (slots ≡ top.now.table_id.slots) × IsSession top.now.table_id session }
-        requires wait { wait < 2 ^ 60 }
+        requires wait { wait < 2 ^ 61 }
         ensures seat { (self.new.seat.table_id ≡ self.old.seat.table_id) × (self.new.number ≡ self.old.number) }
         ensures settled { result.0 ≡ wait_in wait 1 → self.new.seat.me ≡ settled_lost slots session wait (lost_state how) self.old.seat.me }
         ensures missed { result.0 ≢ wait_in wait 1 → self.new.seat.me ≡ met_wait slots session result.0 self.old.seat.me }
