@@ -60,7 +60,7 @@ returns-then-not-can_grant-clause-waiting g c =
       opens slots place mode m came went entered.inside here,
       blocked place word asks m came went entered (goes_on slots place mode m came went entered.inside here) worker.number mode never,
       subst (λ (n : ℕ). (e : Met) × IsStepOf m went e × MeetsOpening slots place worker.number m.0.waits n mode e) (sym c.requires.number)
-      (subst (λ (s : ℕ). (e : Met) × IsStepOf m went e × MeetsOpening slots place s m.0.waits m.0.next mode e) worker.numbered.0 step),
+          (subst (λ (s : ℕ). (e : Met) × IsStepOf m went e × MeetsOpening slots place s m.0.waits m.0.next mode e) worker.numbered.0 step),
     )
 
 pub returns-then-not-can_grant-clause-refused : goal.returns-then-not-can_grant-clause-refused
