@@ -1,6 +1,7 @@
 pub mod Audits
 pub mod Beginnings
 pub mod Coverings
+pub mod Endings
 pub mod Idle
 pub mod Keepings
 pub mod Leavings
