@@ -25,3 +25,5 @@ pub mod Listing
 pub mod Telling
 pub mod Awaiting
 pub mod Polling
+pub mod WaitEndings
+pub mod WaitOpenings

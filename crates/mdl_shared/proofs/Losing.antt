@@ -26,7 +26,7 @@ use Rattle.mdl_shared.specs.Leavings.{Leaves, MeetsOwn}
 use Rattle.mdl_shared.specs.Visits.{IsStepOf}
 
 module _ (session number : ℕ) where
-  any_before : (p : Ticket → Bool) (ts : List Ticket) → list_any p (without session number ts) ≡ true → list_any p ts ≡ true
+  pub any_before : (p : Ticket → Bool) (ts : List Ticket) → list_any p (without session number ts) ≡ true → list_any p ts ≡ true
   any_before p [] e = e
   any_before p (t ∷ ts) e =
       by_bool (p t)
@@ -35,7 +35,7 @@ module _ (session number : ℕ) where
       (λ hit. rw no (sym (ap (list_any p) (without-hit session number t ts hit)) ∙ e))
       (λ miss. let rest = sym (ap (list_any p) (without-miss session number t ts miss)) ∙ e in let later = rw no at rest in rw no (any_before p ts later)))
 
-  no_longer : (ts : List Ticket) → length (without session number ts) ≤ length ts
+  pub no_longer : (ts : List Ticket) → length (without session number ts) ≤ length ts
   no_longer [] = omega arith
   no_longer (t ∷ ts) =
       by_bool (is_ticket session number t)

@@ -1,5 +1,7 @@
 pub mod Audits
+pub mod Beginnings
 pub mod Coverings
+pub mod Endings
 pub mod Grantings
 pub mod Idle
 pub mod Keepings

@@ -1,5 +1,5 @@
 -- What a session meets in the words of waits, its own and those of others.
-use Rattle.std.specs.Prelude.{◌≡◌, ℕ, ◌/◌, ◌%◌, ◌==◌, Option, Some, None, if◌then◌else◌}
+use Rattle.std.specs.Prelude.{◌≡◌, ◌≢◌, ℕ, ◌/◌, ◌%◌, ◌==◌, [], ◌∷◌, ◌++◌, Option, Some, None, if◌then◌else◌}
 use Rattle.std.specs.Option.{option_map}
 use Rattle.mdl_calls.specs.declared.answers.Settled.{Settled}
 use Rattle.mdl_calls.specs.declared.answers.Settled.TheVariants.{Granted, Victim, Timeout, Killed}
@@ -49,3 +49,11 @@ pub record MeetsNumber (slots session : ℕ) (number : Option ℕ) (e : Met) : T
 -- no wait was settled between the two
 abbrev pub SettlesNothing : Mine → Mine → Type 0
 SettlesNothing m m′ = m′.0.settles ≡ m.0.settles
+-- a step that met another word than this one of a session's wait
+pub record MeetsOther (slots session word : ℕ) (e : Met) : Type 0 where
+  pub word_is : e.word ≡ wait_word slots session
+  pub differs : e.found ≢ word
+
+-- just one wait was settled between the two, which is so told
+abbrev pub Settles : ℕ → ℕ → ℕ → Mine → Mine → Type 0
+Settles session wait state m m′ = m′.0.settles ≡ m.0.settles ++ record { session = session; wait = wait; state = state } ∷ []

@@ -1,5 +1,6 @@
 //! A session's own list of its tickets.
-ghost use Rattle.std.specs.Prelude.{◌≡◌, IfSome};
+ghost use Rattle.std.specs.Prelude.{◌≡◌, ◌≤◌, IfSome};
+ghost use Rattle.std.specs.Vec.{vec_capacity, vec_len};
 ghost use Rattle.mdl_shared.specs.Members.{numbered};
 ghost use Rattle.mdl_shared.specs.Modes.{in_mode_at, in_mode_if, is_fit};
 
@@ -34,7 +35,8 @@ impl Member {
 
 /// Writes another mode of the ticket of a number at a place into a list.
 pub(crate) fn set_mode(tickets: &mut Vec<Own>, place: usize, id: TicketId, mode: Mode)
-    ensures { tickets.new.items ≡ in_mode_at place id mode tickets.old.items }
+    ensures changed { tickets.new.items ≡ in_mode_at place id mode tickets.old.items }
+    ensures room { (vec_capacity tickets.new ≡ vec_capacity tickets.old) × (vec_len tickets.new ≤ vec_len tickets.old) }
 {
     change(tickets, place, id, mode);
 }

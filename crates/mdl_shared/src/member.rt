@@ -1,13 +1,14 @@
 //! What a session has of the space, whether it is open or not.
-ghost use Rattle.std.specs.Prelude.{◌≡◌, ◌<◌, ◌≤◌, ℕ, true, [], length, None};
+ghost use Rattle.std.specs.Prelude.{◌≡◌, ◌<◌, ◌≤◌, ℕ, true, [], length, is_some, None};
 ghost use Rattle.std.specs.Arc.{arc_value};
+ghost use Rattle.std.specs.Vec.{vec_capacity, vec_len};
 ghost use Rattle.mdl_steps.specs.Cells.{blank, no_numbers};
 ghost use Rattle.mdl_steps.specs.Layout.{word_count};
 ghost use Rattle.mdl_steps.specs.Plays.{logged};
 ghost use Rattle.mdl_steps.specs.Seats.{IsSized};
 ghost use Rattle.mdl_shared.specs.Idle.{IsIdle, HasSlowAlone};
-ghost use Rattle.mdl_shared.specs.Members.{are_placed, are_within};
-ghost use Rattle.mdl_shared.specs.Waitings.{is_ask_apart, is_ask_placed};
+ghost use Rattle.mdl_shared.specs.Members.{are_placed, are_within, most_numbers};
+ghost use Rattle.mdl_shared.specs.Waitings.{are_below, is_ask_apart, is_ask_placed};
 
 use mdl_steps::{Ask, Known, Own, OwnedTable, Worker};
 use std::alloc::Global;
@@ -44,8 +45,10 @@ pub(crate) struct Member {
     ghost placed: { are_placed known.items tickets.items ≡ true },
     ghost within: { are_within (arc_value table).shared.table_id.slots known.items ≡ true },
     ghost awaited: { is_ask_placed known.items asks ≡ true },
+    ghost below: { are_below next tickets.items ≡ true },
+    ghost room: { is_some asks ≡ true → vec_len tickets < vec_capacity tickets },
     ghost apart: { is_ask_apart next tickets.items asks ≡ true },
-    ghost fewer: { waits < next },
+    ghost fewer: { (waits < next) × (waits < most_numbers) },
     ghost enrolled: { worker.number ≤ sessions },
     ghost words: { (arc_value table).shared.table_id.words ≡ word_count (arc_value table).shared.table_id.slots sessions },
 }

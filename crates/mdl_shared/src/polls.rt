@@ -44,7 +44,7 @@ fn number_in(word: WaitWord) -> Option<u64>
 
 impl Member {
     // Reads the word of a session's wait. Where it is the session's own and settled, the session knows that from then on.
-    fn read_wait(&mut self, session: u16) -> WaitWord
+    pub(crate) fn read_wait(&mut self, session: u16) -> WaitWord
         requires session { (0 < session) × (session ≤ self.old.sessions) }
         ensures same { (self.new.table ≡ self.old.table) × (self.new.worker.number ≡ self.old.worker.number) × (self.new.next ≡ self.old.next)
             × (self.new.known.items ≡ self.old.known.items) × (self.new.tickets.items ≡ self.old.tickets.items) }
@@ -61,7 +61,7 @@ impl Member {
     }
 
     // How the session's wait stands.
-    fn poll(&mut self) -> Poll
+    pub(crate) fn poll(&mut self) -> Poll
         requires waiting { is_some self.old.asks ≡ true }
         ensures same { (self.new.table ≡ self.old.table) × (self.new.worker.number ≡ self.old.worker.number) × (self.new.next ≡ self.old.next)
             × (self.new.known.items ≡ self.old.known.items) × (self.new.tickets.items ≡ self.old.tickets.items) }

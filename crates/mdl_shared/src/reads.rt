@@ -1,6 +1,7 @@
 //! What a session reads under its tickets.
-ghost use Rattle.std.specs.Prelude.{◌≡◌, ℕ, Some, map, IfOk, IfErr, OnErr};
+ghost use Rattle.std.specs.Prelude.{◌≡◌, ◌≤◌, ℕ, Some, map, IfOk, IfErr, OnErr};
 ghost use Rattle.std.specs.Option.{option_map};
+ghost use Rattle.std.specs.Vec.{vec_capacity, vec_len};
 ghost use Rattle.mdl_key.specs.Refusals.{Refuses};
 ghost use Rattle.mdl_calls.specs.declared.space_error.SpaceError.TheVariants as cause;
 ghost use Rattle.mdl_defs.specs.declared.standing.Standing.{Standing};
@@ -41,7 +42,8 @@ impl Member {
 
 /// Notes a version under each ticket at a place.
 pub(crate) fn note_all(tickets: &mut Vec<Own>, place: usize, version: u64)
-    ensures { tickets.new.items ≡ noting_version place version tickets.old.items }
+    ensures noted { tickets.new.items ≡ noting_version place version tickets.old.items }
+    ensures room { (vec_capacity tickets.new ≡ vec_capacity tickets.old) × (vec_len tickets.new ≤ vec_len tickets.old) }
 {
     note(tickets, place, version);
 }

@@ -1,7 +1,8 @@
 //! What a session does with its tickets.
-ghost use Rattle.std.specs.Prelude.{◌≡◌, ℕ, Some, find, ◌==◌, OnOk, OnErr};
+ghost use Rattle.std.specs.Prelude.{◌≡◌, ◌≤◌, ℕ, Some, find, ◌==◌, OnOk, OnErr};
 ghost use Rattle.std.specs.Arc.{arc_value};
 ghost use Rattle.std.specs.Option.{option_map};
+ghost use Rattle.std.specs.Vec.{vec_capacity, vec_len};
 ghost use Rattle.mdl_key.specs.Refusals.{RefusesJust};
 ghost use Rattle.mdl_steps.specs.declared.view.Met.{Met};
 ghost use Rattle.mdl_steps.specs.declared.view.Own.{Own};
@@ -48,7 +49,8 @@ impl Member {
 
 /// Strikes the ticket of a number at a place from a list.
 pub(crate) fn strike(tickets: &mut Vec<Own>, place: usize, id: TicketId)
-    ensures { tickets.new.items ≡ without_at place id tickets.old.items }
+    ensures struck { tickets.new.items ≡ without_at place id tickets.old.items }
+    ensures room { (vec_capacity tickets.new ≡ vec_capacity tickets.old) × (vec_len tickets.new ≤ vec_len tickets.old) }
 {
     tickets.retain(|ticket| !is_at(ticket, place, id));
 }

@@ -3,5 +3,5 @@ use Rattle.std.proofs.lemmas.Fn.{filter_same}
 use Rattle.std.proofs.Common.{rules}
 use Rattle.mdl_shared.proofs.tickets.strike.Goals as goal
 
-pub returns : goal.returns
-returns c = filter_same _ _ _ (λ x b f' k. search rules) _ _ c.retain.ensures.filtered
+pub returns-clause-struck : goal.returns-clause-struck
+returns-clause-struck c = filter_same _ _ _ (λ x b f' k. search rules) _ _ c.retain.ensures.filtered

@@ -1,13 +1,14 @@
 -- The ticket is of a place whose key the session knows, and what is noted under its tickets its view has.
-use Rattle.std.proofs.Common.{ℕ, ◌<◌, Some, List, length, sym, ap, ◌∙◌, subst, ◌≤◌}
+use Rattle.std.specs.Prelude.{nat_lt}
+use Rattle.std.proofs.Common.{ℕ, ◌<◌, Some, List, length, sym, ap, ◌∙◌, subst, ◌≤◌, arith}
 use Rattle.std.specs.Option.{option_map}
 use Rattle.mdl_steps.specs.declared.view.Own.{Own}
 use Rattle.mdl_steps.specs.Plays.{Mine, noting_version}
 use Rattle.mdl_shared.specs.Idle.{IsIdle}
 use Rattle.mdl_shared.specs.Members.{are_placed}
 use Rattle.mdl_shared.specs.Redefinitions.{HasExclusiveAt}
-use Rattle.mdl_shared.specs.Waitings.{is_ask_apart}
-use Rattle.mdl_shared.proofs.Awaiting.{apart_noted, apart_seen}
+use Rattle.mdl_shared.specs.Waitings.{are_below, is_ask_apart}
+use Rattle.mdl_shared.proofs.Awaiting.{noted as still_below, apart_noted, apart_seen}
 use Rattle.mdl_shared.proofs.Membership.{has_numbered, known_within, placed_at, noted_placed, none_noted}
 use Rattle.mdl_shared.proofs.member.Member.change.Goals as goal
 
@@ -30,7 +31,7 @@ invariant_of-self-2 g c =
     let knows = c.in_ok-version.ensures.changed.1 in
     let standing = knows.0 in
     let now = knows.2.1 in
-    let noted = c.note_all.ensures ∙ ap (λ (n : ℕ). noting_version place n self.tickets.items) (sym knows.1) in record {
+    let noted = c.note_all.ensures.noted ∙ ap (λ (n : ℕ). noting_version place n self.tickets.items) (sym knows.1) in record {
       seated = c.redefine_at.ensures.seat.0 ∙ self.seated;
       sized = self.sized;
       narrow = self.narrow;
@@ -44,6 +45,8 @@ invariant_of-self-2 g c =
       placed = ap (are_placed self.known.items) noted ∙ noted_placed self.known.items self.tickets.items place standing.version self.placed;
       within = self.within;
       awaited = self.awaited;
+      below = ap (are_below self.next) noted ∙ still_below (λ n. nat_lt n self.next) place standing.version self.tickets.items self.below;
+      room = λ some. let before = self.room some in let after = c.note_all.ensures.room in omega arith;
       apart = ap (λ ts. is_ask_apart self.next ts self.asks) noted ∙ apart_noted self.next self.tickets.items place standing.version self.asks self.apart;
       fewer = self.fewer;
       enrolled = subst (λ (n : ℕ). n ≤ self.sessions) (sym c.redefine_at.ensures.seat.1) self.enrolled;

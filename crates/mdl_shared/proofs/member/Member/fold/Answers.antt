@@ -1,14 +1,14 @@
 -- The tickets are of a place whose key the session knows.
-use Rattle.std.specs.Prelude.{is_some}
-use Rattle.std.proofs.Common.{◌<◌, sym, ap, ◌∙◌, subst, ℕ, ◌≤◌}
+use Rattle.std.specs.Prelude.{is_some, nat_lt}
+use Rattle.std.proofs.Common.{◌<◌, sym, ap, ◌∙◌, subst, ℕ, ◌≤◌, arith}
 use Rattle.std.specs.Option.{option_map}
 use Rattle.mdl_steps.specs.declared.view.Own.{Own}
 use Rattle.mdl_steps.specs.Plays.{Mine}
 use Rattle.mdl_shared.specs.Idle.{IsIdle, HasSlowAlone}
 use Rattle.mdl_shared.specs.Members.{are_placed, is_known_place, without_at}
 use Rattle.mdl_shared.specs.Modes.{in_mode_at}
-use Rattle.mdl_shared.specs.Waitings.{is_ask_apart}
-use Rattle.mdl_shared.proofs.Awaiting.{apart_altered, apart_lost, waits_apart}
+use Rattle.mdl_shared.specs.Waitings.{are_below, is_ask_apart}
+use Rattle.mdl_shared.proofs.Awaiting.{altered, lost, apart_altered, apart_lost, waits_apart}
 use Rattle.mdl_shared.proofs.Fitting.{altered_placed}
 use Rattle.mdl_shared.proofs.Membership.{has_numbered, some_key, known_within, placed_at, still_placed}
 use Rattle.mdl_shared.proofs.member.Member.fold.Goals as goal
@@ -35,7 +35,7 @@ invariant_of-self g c =
     let kept = c.args.kept in
     let gone = c.args.gone in
     let now = c.fold.ensures.folded.now in
-    let tickets = c.strike.ensures ∙ ap (without_at kept.place gone.number) c.set_mode.ensures in record {
+    let tickets = c.strike.ensures.struck ∙ ap (without_at kept.place gone.number) c.set_mode.ensures.changed in record {
       seated = c.fold.ensures.seat.0 ∙ self.seated;
       sized = self.sized;
       narrow = self.narrow;
@@ -50,6 +50,10 @@ invariant_of-self g c =
           ∙ still_placed self.known.items (in_mode_at kept.place kept.number gone.mode self.tickets.items) kept.place gone.number (altered_placed self.known.items kept.place kept.number gone.mode self.tickets.items self.placed);
       within = self.within;
       awaited = self.awaited;
+      below = ap (are_below self.next) tickets
+          ∙ lost (λ n. nat_lt n self.next) kept.place gone.number (in_mode_at kept.place kept.number gone.mode self.tickets.items)
+          (altered (λ n. nat_lt n self.next) kept.place kept.number gone.mode self.tickets.items self.below);
+      room = λ some. let before = self.room some in let set = c.set_mode.ensures.room in let struck = c.strike.ensures.room in omega arith;
       apart = ap (λ ts. is_ask_apart self.next ts self.asks) tickets
           ∙ apart_lost self.next (in_mode_at kept.place kept.number gone.mode self.tickets.items) kept.place gone.number self.asks
           (apart_altered self.next self.tickets.items kept.place kept.number gone.mode self.asks self.apart);

@@ -1,10 +1,11 @@
 -- The ticket is of a place whose key the session knows, and what it noted under its tickets its view has.
-use Rattle.std.proofs.Common.{◌<◌, length, sym, ap, ◌∙◌, subst, ℕ, ◌≤◌}
+use Rattle.std.specs.Prelude.{nat_lt}
+use Rattle.std.proofs.Common.{◌<◌, length, sym, ap, ◌∙◌, subst, ℕ, ◌≤◌, arith}
 use Rattle.mdl_steps.specs.Plays.{Mine, noting_version}
 use Rattle.mdl_shared.specs.Idle.{IsIdle}
 use Rattle.mdl_shared.specs.Members.{are_placed}
-use Rattle.mdl_shared.specs.Waitings.{is_ask_apart}
-use Rattle.mdl_shared.proofs.Awaiting.{apart_noted}
+use Rattle.mdl_shared.specs.Waitings.{are_below, is_ask_apart}
+use Rattle.mdl_shared.proofs.Awaiting.{noted as still_below, apart_noted}
 use Rattle.mdl_shared.proofs.Membership.{has_numbered, known_within, placed_at, noted_placed, none_noted}
 use Rattle.mdl_shared.proofs.member.Member.read.Goals as goal
 
@@ -21,7 +22,7 @@ invariant_of-self-2 g c =
     let place = c.args.place in
     let learnt = c.in_ok-standing.ensures.learnt in
     let version = c.in_ok-standing.standing.version in
-    let noted = c.note_all.ensures in
+    let noted = c.note_all.ensures.noted in
     let now = learnt.0.1 in record {
       seated = c.read_at.ensures.seat.0 ∙ self.seated;
       sized = self.sized;
@@ -36,6 +37,8 @@ invariant_of-self-2 g c =
       placed = ap (are_placed self.known.items) noted ∙ noted_placed self.known.items self.tickets.items place version self.placed;
       within = self.within;
       awaited = self.awaited;
+      below = ap (are_below self.next) noted ∙ still_below (λ n. nat_lt n self.next) place version self.tickets.items self.below;
+      room = λ some. let before = self.room some in let after = c.note_all.ensures.room in omega arith;
       apart = ap (λ ts. is_ask_apart self.next ts self.asks) noted ∙ apart_noted self.next self.tickets.items place version self.asks self.apart;
       fewer = self.fewer;
       enrolled = subst (λ (n : ℕ). n ≤ self.sessions) (sym c.read_at.ensures.seat.1) self.enrolled;

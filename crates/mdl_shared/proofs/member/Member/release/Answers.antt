@@ -1,12 +1,13 @@
 -- The ticket is of a place whose key the session knows.
-use Rattle.std.proofs.Common.{◌<◌, List, sym, ap, ◌∙◌, subst, ℕ, ◌≤◌}
+use Rattle.std.specs.Prelude.{nat_lt}
+use Rattle.std.proofs.Common.{◌<◌, List, sym, ap, ◌∙◌, subst, ℕ, ◌≤◌, arith}
 use Rattle.mdl_steps.specs.declared.view.Own.{Own}
 use Rattle.mdl_steps.specs.Plays.{Mine}
 use Rattle.mdl_shared.specs.Idle.{IsIdle, HasSlowAlone}
 use Rattle.mdl_shared.specs.Leavings.{HasTicket}
 use Rattle.mdl_shared.specs.Members.{are_placed, is_known_place, without_at, numbered}
-use Rattle.mdl_shared.specs.Waitings.{is_ask_apart}
-use Rattle.mdl_shared.proofs.Awaiting.{apart_lost, some_there, waits_apart}
+use Rattle.mdl_shared.specs.Waitings.{are_below, is_ask_apart}
+use Rattle.mdl_shared.proofs.Awaiting.{lost, apart_lost, some_there, waits_apart}
 use Rattle.mdl_shared.proofs.Membership.{has_numbered, some_key, known_within, placed_at, still_placed}
 use Rattle.mdl_shared.proofs.member.Member.release.Goals as goal
 
@@ -38,15 +39,17 @@ invariant_of-self g c =
       narrow = self.narrow;
       idle = subst IsIdle (sym now) self.idle;
       slow = subst HasSlowAlone (sym now) self.slow;
-      listed = c.strike.ensures ∙ ap (without_at c.args.place c.args.id) self.listed ∙ sym (ap (λ (m : Mine). m.0.slow) now);
+      listed = c.strike.ensures.struck ∙ ap (without_at c.args.place c.args.id) self.listed ∙ sym (ap (λ (m : Mine). m.0.slow) now);
       known_is = self.known_is ∙ sym (ap (λ (m : Mine). m.0.known) now);
       next_is = self.next_is ∙ sym (ap (λ (m : Mine). m.0.next) now);
       asks_is = self.asks_is ∙ sym (ap (λ (m : Mine). m.0.asks) now);
       waits_is = self.waits_is ∙ sym (ap (λ (m : Mine). m.0.waits) now);
-      placed = ap (are_placed self.known.items) c.strike.ensures ∙ still_placed self.known.items self.tickets.items c.args.place c.args.id self.placed;
+      placed = ap (are_placed self.known.items) c.strike.ensures.struck ∙ still_placed self.known.items self.tickets.items c.args.place c.args.id self.placed;
       within = self.within;
       awaited = self.awaited;
-      apart = ap (λ (ts : List Own). is_ask_apart self.next ts self.asks) c.strike.ensures ∙ apart_lost self.next self.tickets.items c.args.place c.args.id self.asks self.apart;
+      below = ap (are_below self.next) c.strike.ensures.struck ∙ lost (λ n. nat_lt n self.next) c.args.place c.args.id self.tickets.items self.below;
+      room = λ some. let before = self.room some in let after = c.strike.ensures.room in omega arith;
+      apart = ap (λ (ts : List Own). is_ask_apart self.next ts self.asks) c.strike.ensures.struck ∙ apart_lost self.next self.tickets.items c.args.place c.args.id self.asks self.apart;
       fewer = self.fewer;
       enrolled = subst (λ (n : ℕ). n ≤ self.sessions) (sym c.release.ensures.seat.1) self.enrolled;
       words = self.words;

@@ -1,13 +1,14 @@
 -- The ticket is of a place whose key the session knows, and its mode is the same in the session's list and in its view.
-use Rattle.std.proofs.Common.{◌<◌, List, sym, ap, ◌∙◌, subst, ℕ, ◌≤◌}
+use Rattle.std.specs.Prelude.{nat_lt}
+use Rattle.std.proofs.Common.{◌<◌, List, sym, ap, ◌∙◌, subst, ℕ, ◌≤◌, arith}
 use Rattle.mdl_steps.specs.declared.view.Own.{Own}
 use Rattle.mdl_steps.specs.Plays.{Mine}
 use Rattle.mdl_shared.specs.Idle.{IsIdle, HasSlowAlone}
 use Rattle.mdl_shared.specs.Leavings.{HasTicket}
 use Rattle.mdl_shared.specs.Members.{are_placed, kind_known, numbered}
 use Rattle.mdl_shared.specs.Modes.{in_mode_at}
-use Rattle.mdl_shared.specs.Waitings.{is_ask_apart}
-use Rattle.mdl_shared.proofs.Awaiting.{apart_altered, some_there, waits_apart}
+use Rattle.mdl_shared.specs.Waitings.{are_below, is_ask_apart}
+use Rattle.mdl_shared.proofs.Awaiting.{altered, apart_altered, some_there, waits_apart}
 use Rattle.mdl_shared.proofs.Fitting.{altered_placed}
 use Rattle.mdl_shared.proofs.Membership.{has_numbered, kind_place, kind_there, known_within}
 use Rattle.mdl_shared.proofs.member.Member.strengthen.Goals as goal
@@ -38,15 +39,17 @@ invariant_of-self g c =
       narrow = self.narrow;
       idle = subst IsIdle (sym now) self.idle;
       slow = subst HasSlowAlone (sym now) self.slow;
-      listed = c.set_mode.ensures ∙ ap (in_mode_at c.args.place c.args.id c.args.mode) self.listed ∙ sym (ap (λ (m : Mine). m.0.slow) now);
+      listed = c.set_mode.ensures.changed ∙ ap (in_mode_at c.args.place c.args.id c.args.mode) self.listed ∙ sym (ap (λ (m : Mine). m.0.slow) now);
       known_is = self.known_is ∙ sym (ap (λ (m : Mine). m.0.known) now);
       next_is = self.next_is ∙ sym (ap (λ (m : Mine). m.0.next) now);
       asks_is = self.asks_is ∙ sym (ap (λ (m : Mine). m.0.asks) now);
       waits_is = self.waits_is ∙ sym (ap (λ (m : Mine). m.0.waits) now);
-      placed = ap (are_placed self.known.items) c.set_mode.ensures ∙ altered_placed self.known.items c.args.place c.args.id c.args.mode self.tickets.items self.placed;
+      placed = ap (are_placed self.known.items) c.set_mode.ensures.changed ∙ altered_placed self.known.items c.args.place c.args.id c.args.mode self.tickets.items self.placed;
       within = self.within;
       awaited = self.awaited;
-      apart = ap (λ (ts : List Own). is_ask_apart self.next ts self.asks) c.set_mode.ensures ∙ apart_altered self.next self.tickets.items c.args.place c.args.id c.args.mode self.asks self.apart;
+      below = ap (are_below self.next) c.set_mode.ensures.changed ∙ altered (λ n. nat_lt n self.next) c.args.place c.args.id c.args.mode self.tickets.items self.below;
+      room = λ some. let before = self.room some in let after = c.set_mode.ensures.room in omega arith;
+      apart = ap (λ (ts : List Own). is_ask_apart self.next ts self.asks) c.set_mode.ensures.changed ∙ apart_altered self.next self.tickets.items c.args.place c.args.id c.args.mode self.asks self.apart;
       fewer = self.fewer;
       enrolled = subst (λ (n : ℕ). n ≤ self.sessions) (sym c.try_strengthen.ensures.seat.1) self.enrolled;
       words = self.words;

@@ -43,6 +43,8 @@ invariant_of-self-2 g c =
       within = ap (are_within slots) learnt ∙ within_and slots self.known.items new self.within
           (All-filter (λ (k : Known). not (is_known self.known.items k.key)) (λ (x : Known). (0 < x.place) × (x.place < slots)) tables within);
       awaited = ap (λ (ks : List Known). is_ask_placed ks self.asks) learnt ∙ awaited_and self.known.items new self.asks self.awaited;
+      below = self.below;
+      room = self.room;
       apart = self.apart;
       fewer = self.fewer;
       enrolled = subst (λ (n : ℕ). n ≤ self.sessions) (sym (c.ask_all.ensures.seat.1 ∙ c.find_tables.ensures.seat.1)) self.enrolled;

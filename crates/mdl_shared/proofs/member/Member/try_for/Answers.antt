@@ -1,10 +1,12 @@
 -- The place is that of a key that the session knows; the ticket that it gets is the last of its own.
-use Rattle.std.proofs.Common.{◌+◌, ◌<◌, List, [], ◌∷◌, ◌++◌, Ok, None, sym, ap, ◌∙◌, subst, ℕ, ◌≤◌, arith}
+use Rattle.std.specs.Prelude.{is_some}
+use Rattle.std.proofs.Common.{◌+◌, ◌<◌, List, [], ◌∷◌, ◌++◌, Ok, None, sym, ap, ◌∙◌, subst, ℕ, ◌≤◌, arith, refl}
 use Rattle.mdl_steps.specs.declared.view.Own.{Own}
 use Rattle.mdl_steps.specs.Plays.{Mine}
 use Rattle.mdl_shared.specs.Idle.{IsIdle, HasSlowAlone}
 use Rattle.mdl_shared.specs.Members.{are_placed, kind_known}
-use Rattle.mdl_shared.proofs.Awaiting.{apart_none}
+use Rattle.mdl_shared.specs.Waitings.{are_below}
+use Rattle.mdl_shared.proofs.Awaiting.{below_gained, apart_none}
 use Rattle.mdl_shared.proofs.Membership.{kind_there, kind_place, known_within, one_placed}
 use Rattle.mdl_shared.proofs.member.Member.try_for.Goals as goal
 
@@ -38,8 +40,10 @@ invariant_of-self-in-Ok-Granted g c =
       placed = ap (are_placed self.known.items) pushed ∙ one_placed self.known.items self.tickets.items t self.placed (kind_place c.args.place c.args.kind self.known.items c.requires.known);
       within = self.within;
       awaited = self.awaited;
+      below = ap (are_below (self.next + 1)) pushed ∙ below_gained self.next self.tickets.items t refl self.below;
+      room = λ some. let none = sym (ap is_some c.requires.unwaited) ∙ some in absurd (cc);
       apart = apart_none _ _ self.asks c.requires.unwaited;
-      fewer = let less = self.fewer in omega arith;
+      fewer = (let less = self.fewer.0 in omega arith, self.fewer.1);
       enrolled = subst (λ (n : ℕ). n ≤ self.sessions) (sym c.try_grant.ensures.seat.1) self.enrolled;
       words = self.words;
     }

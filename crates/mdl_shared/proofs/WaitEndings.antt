@@ -1,0 +1,170 @@
+-- A session ends its lost wait under the latch, and gives the latch back.
+use Rattle.std.proofs.Common.{◌≡◌, ℕ, ◌+◌, ◌<◌, ◌≤◌, Bool, true, false, ◌||◌, List, [], ◌∷◌, ◌++◌, length, Some, None, Result, Ok, Err, refl, sym, ap, ◌∙◌, subst, inr, append_assoc, arith}
+use Rattle.std.specs.Prelude.{Option, OnErr, OnOk, is_some}
+use Rattle.std.specs.Option.{ok_or}
+use Rattle.std.proofs.lemmas.Bool.{ltb-true, lt-ltb}
+use Rattle.mdl_calls.specs.declared.answers.Ended.{Ended}
+use Rattle.mdl_calls.specs.declared.answers.Ended.TheVariants as ended_as
+use Rattle.mdl_calls.specs.declared.answers.Settled.{Settled}
+use Rattle.mdl_calls.specs.declared.answers.Settled.TheVariants as settled
+use Rattle.mdl_book.specs.declared.book_error.BookError.{BookError}
+use Rattle.mdl_book.specs.declared.book_view.BookView.{BookView}
+use Rattle.mdl_book.specs.declared.ticket.Ticket.{Ticket}
+use Rattle.mdl_book.specs.Books.{any_obtrusive, cancelling, lock_kind}
+use Rattle.mdl_book.specs.Tickets.{is_ticket, ticket_of, without}
+use Rattle.mdl_steps.specs.declared.slot.Slot.TheVariants as slot
+use Rattle.mdl_steps.specs.declared.view.Ask.{Ask}
+use Rattle.mdl_steps.specs.declared.view.Held.{Held}
+use Rattle.mdl_steps.specs.declared.view.Met.{Met}
+use Rattle.mdl_steps.specs.declared.view.Own.{Own}
+use Rattle.mdl_steps.specs.Deeds.{all_booked}
+use Rattle.mdl_steps.specs.Layout.{wait_word}
+use Rattle.mdl_steps.specs.Plays.{Mine, IsFresh}
+use Rattle.mdl_steps.specs.Rule.{Flagged}
+use Rattle.mdl_steps.specs.Seats.{HasDone, Holds, elsewhere, rest, written}
+use Rattle.mdl_steps.specs.WaitPlays.{ended_lost, wait_in, with_cancelled}
+use Rattle.mdl_steps.specs.WaitSeats.{MayCancel}
+use Rattle.mdl_steps.proofs.Hands.{holds_written}
+use Rattle.mdl_steps.proofs.Tickets.{without-miss}
+use Rattle.mdl_steps.proofs.Views.{by_bool}
+use Rattle.mdl_shared.specs.Endings.{EndsLost, EndsThere, MayEnd, end_of, idle, lost_end, ticket_asked, tickets_after}
+use Rattle.mdl_shared.specs.Leavings.{Leaves}
+use Rattle.mdl_shared.specs.Polls.{state_of}
+use Rattle.mdl_shared.specs.Visits.{GoesOn, IsInside, IsStepOf, and_made}
+use Rattle.mdl_shared.proofs.Losing.{any_before, no_longer}
+
+-- ---- the book
+
+module _ (session number : ℕ) where
+  -- flags that tell of each ticket in the lists do so still
+  still_flagged : (book : BookView) (slow obtrusive : Bool) → Flagged book slow obtrusive → Flagged (cancelling session number book) slow obtrusive
+  still_flagged book slow obtrusive flagged = (
+    λ e. (
+        let shorter = no_longer session number book.waiting in
+        let some = ltb-true 0 (length book.granted + length (without session number book.waiting)) e in
+        let more : 0 < length book.granted + length book.waiting = omega arith in
+        flagged.0 (lt-ltb 0 (length book.granted + length book.waiting) more)),
+    λ e. flagged.1
+        (by_bool (any_obtrusive (lock_kind book) book.granted)
+        (λ granted. rw granted refl)
+        (λ none. let waits = rw none at e in rw none (any_before session number _ book.waiting waits))),
+  )
+
+  -- a list without the ticket stays as it is
+  none_there : (ts : List Ticket) → ticket_of session number ts ≡ None → without session number ts ≡ ts
+  none_there [] e = refl
+  none_there (t ∷ ts) e =
+      by_bool (is_ticket session number t)
+      (λ hit. let found = rw hit at e in absurd (cc))
+      (λ miss. without-miss session number t ts miss ∙ ap (λ (xs : List Ticket). t ∷ xs) (none_there ts (rw miss at e)))
+
+  -- so the book in hand is without it, whether it was there or not
+  pub cancelled : (place : ℕ) (book : BookView) (m m′ : Mine) (fault : BookError) (result : Result Ticket BookError) → m.1 ≡ (place, slot.Place book) ∷ rest m.1
+      → result ≡ ok_or (ticket_of session number book.waiting) fault
+      → OnOk result (m′ ≡ written place (cancelling session number book) m) → OnErr result (m′ ≡ m) → m′ ≡ written place (cancelling session number book) m
+  cancelled place book m m′ fault (Ok t) carried is wrote same = wrote
+  cancelled place book m m′ fault (Err e) carried is wrote same = at (ticket_of session number book.waiting) refl is
+    where
+      at : (o : Option Ticket) → ticket_of session number book.waiting ≡ o → ◌≡◌ {A = Result Ticket BookError} (Err e) (ok_or o fault) → m′ ≡ written place (cancelling session number book) m
+      at (Some t) found told = absurd (cc)
+      at None none told =
+          let stays : cancelling session number book ≡ book = (λ i. record book { waiting = none_there book.waiting none i }) in
+          same ∙ (λ i. (m.0, carried i)) ∙ ap (λ (b : BookView). written place b m) (sym stays)
+
+-- ---- the steps
+
+module _ (place : ℕ) (h : Held) (m m₁ m₂ : Mine) (may : MayEnd place h m) (wrote : m₁ ≡ written place (cancelling m.0.number may.may.ask.number h.book) m) where
+  pub holds_less : Holds place h (cancelling m.0.number may.may.ask.number h.book) m₁
+  holds_less =
+      subst (Holds place h (cancelling m.0.number may.may.ask.number h.book)) (sym wrote)
+      (holds_written place h h.book (cancelling m.0.number may.may.ask.number h.book) m may.holds)
+
+  pub may_cancel : MayCancel place h m₁
+  may_cancel =
+      let o = may.may in
+      subst (MayCancel place h) (sym wrote) (record { recorded = o.recorded; state = o.state; told = o.told; lost = o.lost; ask = o.ask; asks = o.asks; here = o.here })
+
+  -- the latch may be given back
+  pub may_settle : Holds place (with_cancelled m₁.0.number may.may.ask.number h) (cancelling m.0.number may.may.ask.number h.book) m₂
+      → (g : Held) × HasDone place [] g m₂ × Flagged (all_booked m₂.0.number [] g.book) g.slow g.obtrusive
+  may_settle holds =
+      let same : m₁.0.number ≡ m.0.number = ap (λ (x : Mine). x.0.number) wrote in (
+        with_cancelled m.0.number may.may.ask.number h,
+        record {
+          holds = subst (λ (n : ℕ). Holds place (with_cancelled n may.may.ask.number h) (cancelling m.0.number may.may.ask.number h.book) m₂) same holds;
+          act = inr refl;
+          may = tt;
+        },
+        still_flagged m.0.number may.may.ask.number h.book h.slow h.obtrusive ((λ e. may.exact.0 ∙ e), λ e. may.exact.1 ∙ e),
+      )
+
+  pub ends_there : (slots state : ℕ) (m₃ : Mine) → m₂ ≡ ended_lost slots place may.may.ask.number state m₁ → elsewhere place m₂ ≡ elsewhere place m₁ → Leaves place [] m₂ m₃ → EndsThere place m m₃
+  ends_there slots state m₃ ended apart left =
+      let e : Met = record { word = wait_word slots m.0.number; found = wait_in m.0.waits state; held = m.0.latches } in
+      let others : elsewhere place m₂ ≡ elsewhere place m = apart ∙ ap (elsewhere place) wrote in
+      let same : m₂ ≡ ended_lost slots place may.may.ask.number state (written place (cancelling m.0.number may.may.ask.number h.book) m) =
+      ended ∙ ap (ended_lost slots place may.may.ask.number state) wrote in (
+        e ∷ left.0,
+        left.1
+            ∙ ap (λ (x : Mine). and_made left.0 (record x.0 { latches = elsewhere place m₂ }, rest x.1)) same
+            ∙ (λ i. (record (idle m.0) { latches = others i; log = append_assoc m.0.log (e ∷ []) left.0 i }, rest m.1)),
+      )
+
+-- ---- the visit
+
+module _ (place : ℕ) (m m′ : Mine) (inside : IsInside place m m′) where
+  pub may_end : (h : Held) (a : Ask) (state : ℕ) → IsFresh place h m → Holds place h h.book m′ → m.0.asks ≡ Some a → a.place ≡ place → m.0.told ≡ Some state → 2 < state
+      → (may : MayEnd place h m′) × (a.number ≡ may.may.ask.number)
+  may_end h a state fresh holds asks here told lost = (
+    record {
+      holds = holds;
+      may = record {
+        recorded = holds.recorded;
+        state = state;
+        told = ap (λ (x : Mine). x.0.told) inside.now ∙ told;
+        lost = lost;
+        ask = a;
+        asks = ap (λ (x : Mine). x.0.asks) inside.now ∙ asks;
+        here = here;
+      };
+      exact = fresh.exact;
+    },
+    refl,
+  )
+
+  pub ends : (m″ : Mine) → EndsThere place m′ m″ → EndsLost m m″
+  ends m″ ended = (
+    inside.made ++ ended.0,
+    ended.1
+        ∙ ap (λ (x : Mine). and_made ended.0 (record (idle x.0) { latches = elsewhere place x }, rest x.1)) inside.now
+        ∙ (λ i. (record (idle m.0) { latches = inside.others i; log = append_assoc m.0.log inside.made ended.0 i }, m.1)),
+  )
+
+-- ---- how it ended
+
+-- a step stays one of a call that goes on
+pub step_earlier : (e : Met) (m m′ m″ : Mine) → IsStepOf m m′ e → GoesOn m′ m″ → IsStepOf m m″ e
+step_earlier e m m′ m″ step goes = (
+  step.0,
+  step.1 ++ goes.0,
+  goes.1 ∙ ap (λ (log : List Met). log ++ goes.0) step.2 ∙ append_assoc (m.0.log ++ step.0) (e ∷ step.1) goes.0,
+)
+
+pub lost_over : (how : Settled) (ended : Ended) → lost_end how ≡ Some ended → 2 < state_of how
+lost_over settled.Granted ended is = absurd (cc)
+lost_over settled.Victim ended is = omega arith
+lost_over settled.Timeout ended is = omega arith
+lost_over settled.Killed ended is = omega arith
+
+pub lost_so : (a : Ask) (how : Settled) (ended : Ended) (tickets : List Own) → lost_end how ≡ Some ended → (ended ≡ end_of a.number how) × (tickets ≡ tickets_after a how tickets)
+lost_so a settled.Granted ended tickets is = absurd (cc)
+lost_so a settled.Victim ended tickets is = (cc, refl)
+lost_so a settled.Timeout ended tickets is = (cc, refl)
+lost_so a settled.Killed ended tickets is = (cc, refl)
+
+pub granted_so : (a : Ask) (how : Settled) (tickets : List Own) → lost_end how ≡ None
+    → (state_of how ≡ 2) × (ended_as.Granted a.number ≡ end_of a.number how) × (tickets ++ ticket_asked a ∷ [] ≡ tickets_after a how tickets)
+granted_so a settled.Granted tickets is = (refl, refl, refl)
+granted_so a settled.Victim tickets is = absurd (cc)
+granted_so a settled.Timeout tickets is = absurd (cc)
+granted_so a settled.Killed tickets is = absurd (cc)

@@ -1,0 +1,65 @@
+-- How a session's wait ends.
+use Rattle.std.specs.Prelude.{◌≡◌, ◌<◌, ℕ, List, [], ◌∷◌, ◌++◌, Option, Some, None}
+use Rattle.mdl_calls.specs.declared.answers.Ended.{Ended}
+use Rattle.mdl_calls.specs.declared.answers.Ended.TheVariants as ended
+use Rattle.mdl_calls.specs.declared.answers.Settled.{Settled}
+use Rattle.mdl_calls.specs.declared.answers.Settled.TheVariants as settled
+use Rattle.mdl_steps.specs.declared.view.Ask.{Ask}
+use Rattle.mdl_steps.specs.declared.view.Held.{Held}
+use Rattle.mdl_steps.specs.declared.view.Met.{Met}
+use Rattle.mdl_steps.specs.declared.view.Own.{Own}
+use Rattle.mdl_steps.specs.declared.view.View.{View}
+use Rattle.mdl_steps.specs.Plays.{Mine}
+use Rattle.mdl_steps.specs.Rule.{TellsLists}
+use Rattle.mdl_steps.specs.Seats.{Holds, elsewhere, rest}
+use Rattle.mdl_steps.specs.WaitSeats.{MayCancel}
+use Rattle.mdl_shared.specs.declared.member.Member.{Member}
+use Rattle.mdl_shared.specs.Visits.{and_made}
+
+-- a session that waits for nothing
+abbrev pub idle : View → View
+idle v = record v { asks = None; told = None }
+
+-- the ticket that was waited for, as the session has it
+abbrev pub ticket_asked : Ask → Own
+ticket_asked a = record { number = a.number; place = a.place; mode = a.mode; noted = None }
+
+-- under a latch with its book in hand, the session may end its lost wait there
+pub record MayEnd (place : ℕ) (h : Held) (m : Mine) : Type 0 where
+  pub holds : Holds place h h.book m
+  pub may : MayCancel place h m
+  pub exact : TellsLists h.book h.slow h.obtrusive
+
+-- the session ended its wait under the latch of a place, and gave the latch and the slot that it took last back; nothing else changed
+abbrev pub EndsThere : ℕ → Mine → Mine → Type 0
+EndsThere place m m′ = (made : List Met) × (m′ ≡ and_made made (record (idle m.0) { latches = elsewhere place m }, rest m.1))
+
+-- the session ended its wait, and nothing else changed
+abbrev pub EndsLost : Mine → Mine → Type 0
+EndsLost m m′ = (made : List Met) × (m′ ≡ and_made made (idle m.0, m.1))
+
+-- it has no wait from then on, and holds these tickets
+pub record EndsWith (tickets : List Own) (m m′ : Member) : Type 0 where
+  pub asks : m′.asks ≡ None
+  pub waits : m′.waits ≡ m.waits
+  pub held : m′.tickets.items ≡ tickets
+  pub unsettled : m′.worker.seat.me.0.told ≡ None
+
+-- how a wait has ended that was lost so
+abbrev pub lost_end : Settled → Option Ended
+lost_end settled.Granted = None
+lost_end settled.Victim = Some ended.Victim
+lost_end settled.Timeout = Some ended.Timeout
+lost_end settled.Killed = Some ended.Killed
+
+-- and one that was settled so, its ticket having this number
+abbrev pub end_of : ℕ → Settled → Ended
+end_of id settled.Granted = ended.Granted id
+end_of id settled.Victim = ended.Victim
+end_of id settled.Timeout = ended.Timeout
+end_of id settled.Killed = ended.Killed
+
+-- the tickets that are held once it has
+abbrev pub tickets_after : Ask → Settled → List Own → List Own
+tickets_after a settled.Granted tickets = tickets ++ ticket_asked a ∷ []
+tickets_after a _ tickets = tickets

@@ -1,0 +1,135 @@
+//! Waits begin.
+ghost use Rattle.std.specs.Prelude.{◌≡◌, ◌⊎◌, ℕ, ◌+◌, ◌∷◌, [], ◌++◌, ◌<◌, Ok, Some, None, true, OnErr, IfErr, IfSome, Err};
+ghost use Rattle.std.specs.Arc.{arc_value};
+ghost use Rattle.mdl_key.specs.Words.{is_mode_of};
+ghost use Rattle.mdl_calls.specs.declared.answers.Begun.TheVariants.{Granted, Waiting};
+ghost use Rattle.mdl_calls.specs.declared.space_error.SpaceError.TheVariants as cause;
+ghost use Rattle.mdl_steps.specs.declared.view.Met.{Met};
+ghost use Rattle.mdl_shared.specs.Beginnings.{Begins, MeetsOpening};
+ghost use Rattle.mdl_shared.specs.Keepings.{KeepsWait};
+ghost use Rattle.mdl_shared.specs.Members.{kind_known, most_numbers, wish_fault};
+ghost use Rattle.mdl_shared.specs.Polls.{SettlesNothing};
+ghost use Rattle.mdl_shared.specs.Readings.{ReadsNothing};
+ghost use Rattle.mdl_shared.specs.Visits.{IsStepOf, MeetsBlocked, MeetsFull, MeetsGrantable};
+
+use crate::Session;
+use crate::member::Member;
+use crate::queueing::{Queued, grant_or_wait};
+use crate::wishes::MOST_NUMBERS;
+use mdl_book::BookError;
+use mdl_calls::{Begun, Place, SpaceError};
+use mdl_key::{Kind, Mode};
+use mdl_steps::{Ask, Own};
+use std::sync::Wait;
+
+impl Member {
+    // Gets a ticket at a place whose key the session knows, in a mode of its kind, or begins to wait for it. All that takes memory of the
+    // session's own is done before, for the end of the wait, too.
+    fn begin<R: Wait>(
+        &mut self,
+        rt: &R,
+        place: usize,
+        kind: Kind,
+        mode: Mode,
+    ) -> Result<Begun, SpaceError>
+        requires known { kind_known place self.old.known.items ≡ Some kind }
+        requires mode { is_mode_of kind mode ≡ true }
+        requires unwaited { self.old.asks ≡ None }
+        requires room { self.old.next < most_numbers }
+        ensures same { (self.new.table ≡ self.old.table) × (self.new.worker.number ≡ self.old.worker.number) × (self.new.known.items ≡ self.old.known.items)
+            × (self.new.sessions ≡ self.old.sessions) }
+        ensures reads { ReadsNothing self.old.worker.seat.me self.new.worker.seat.me }
+        ensures settles { SettlesNothing self.old.worker.seat.me self.new.worker.seat.me }
+        ensures granted { (id : ℕ) → result ≡ Ok (Granted id) → KeepsWait self.old self.new × (id ≡ self.old.next)
+            × (self.new.tickets.items ≡ self.old.tickets.items ++ record { number = id; place = place; mode = mode; noted = None } ∷ [])
+            × ((e : Met) × IsStepOf self.old.worker.seat.me self.new.worker.seat.me e × MeetsGrantable place self.old.worker.number mode e) }
+        ensures next { (id : ℕ) → result ≡ Ok (Granted id) → self.new.next ≡ id + 1 }
+        ensures waiting { (number : ℕ) → result ≡ Ok (Waiting number) → (number ≡ self.old.waits + 1) × Begins place mode self.old self.new
+            × ((e : Met) × IsStepOf self.old.worker.seat.me self.new.worker.seat.me e × MeetsBlocked place self.old.worker.number mode e)
+            × ((e : Met) × IsStepOf self.old.worker.seat.me self.new.worker.seat.me e
+            × MeetsOpening (arc_value self.old.table).shared.table_id.slots place self.old.worker.number self.old.waits self.old.next mode e) }
+        ensures unchanged { OnErr result (KeepsWait self.old self.new × (self.new.tickets.items ≡ self.old.tickets.items) × (self.new.next ≡ self.old.next)) }
+        ensures refused { IfErr result (λ why. (why ≡ cause.OutOfMemory)
+            ⊎ ((why ≡ cause.Full) × ((e : Met) × IsStepOf self.old.worker.seat.me self.new.worker.seat.me e × MeetsFull place e))) }
+    {
+        if self.tickets.reserve(1).is_err() {
+            return Err(SpaceError::OutOfMemory);
+        }
+        let number = self.next;
+        let wait = self.waits + 1;
+        let slots = self.table.slot_count();
+        match grant_or_wait(
+            rt,
+            &mut self.worker,
+            &self.table.shared,
+            slots,
+            place,
+            kind,
+            number,
+            mode,
+            wait,
+        ) {
+            Ok(Queued::Granted) => {
+                self.tickets.push_reserved(Own {
+                    number,
+                    place,
+                    mode,
+                    noted: None,
+                });
+                self.next += 1;
+                Ok(Begun::Granted(number))
+            }
+            Ok(Queued::Waiting) => {
+                self.asks = Some(Ask {
+                    number,
+                    place,
+                    mode,
+                });
+                self.next += 1;
+                self.waits = wait;
+                Ok(Begun::Waiting(wait))
+            }
+            Err(BookError::Full) => Err(SpaceError::Full),
+            Err(_) => Err(SpaceError::OutOfMemory),
+        }
+    }
+}
+
+impl<R: Wait> Session<R> {
+    /// Asks for a lock, and begins to wait for it where it can't be had now. Nobody is waited for here but those who hold the latch of the
+    /// place.
+    pub fn begin_wait(&mut self, place: Place, mode: Mode) -> Result<Begun, SpaceError>
+        ensures session { (self.new.member.table ≡ self.old.member.table) × (self.new.member.worker.number ≡ self.old.member.worker.number)
+            × (self.new.member.known.items ≡ self.old.member.known.items) × (self.new.member.sessions ≡ self.old.member.sessions) }
+        ensures reads { ReadsNothing self.old.member.worker.seat.me self.new.member.worker.seat.me }
+        ensures settles { SettlesNothing self.old.member.worker.seat.me self.new.member.worker.seat.me }
+        ensures granted { (id : ℕ) → result ≡ Ok (Granted id) → KeepsWait self.old.member self.new.member × (id ≡ self.old.member.next)
+            × (self.new.member.tickets.items ≡ self.old.member.tickets.items ++ record { number = id; place = place; mode = mode; noted = None } ∷ [])
+            × ((e : Met) × IsStepOf self.old.member.worker.seat.me self.new.member.worker.seat.me e × MeetsGrantable place self.old.member.worker.number mode e) }
+        ensures next { (id : ℕ) → result ≡ Ok (Granted id) → self.new.member.next ≡ id + 1 }
+        ensures waiting { (number : ℕ) → result ≡ Ok (Waiting number) → (number ≡ self.old.member.waits + 1) × Begins place mode self.old.member self.new.member
+            × ((e : Met) × IsStepOf self.old.member.worker.seat.me self.new.member.worker.seat.me e × MeetsBlocked place self.old.member.worker.number mode e)
+            × ((e : Met) × IsStepOf self.old.member.worker.seat.me self.new.member.worker.seat.me e
+            × MeetsOpening (arc_value self.old.member.table).shared.table_id.slots place self.old.member.worker.number self.old.member.waits self.old.member.next mode e) }
+        ensures unchanged { OnErr result (KeepsWait self.old.member self.new.member × (self.new.member.tickets.items ≡ self.old.member.tickets.items)
+            × (self.new.member.next ≡ self.old.member.next)) }
+        ensures unfit { IfSome (wish_fault (kind_known place self.old.member.known.items) self.old.member.asks mode self.old.member.next) (λ why. result ≡ Err why) }
+        ensures refused { IfErr result (λ why. (wish_fault (kind_known place self.old.member.known.items) self.old.member.asks mode self.old.member.next ≡ Some why)
+            ⊎ ((why ≡ cause.OutOfMemory) ⊎ ((why ≡ cause.Full) × ((e : Met) × IsStepOf self.old.member.worker.seat.me self.new.member.worker.seat.me e × MeetsFull place e)))) }
+    {
+        let place = place as usize;
+        let Some(kind) = self.member.kind_at(place) else {
+            return Err(SpaceError::NoPlace);
+        };
+        if self.member.asks.is_some() {
+            return Err(SpaceError::AlreadyWaiting);
+        }
+        if !kind.has_mode(mode) {
+            return Err(SpaceError::BadMode);
+        }
+        if self.member.next > MOST_NUMBERS {
+            return Err(SpaceError::CounterFull);
+        }
+        self.member.begin(&self.rt, place, kind, mode)
+    }
+}

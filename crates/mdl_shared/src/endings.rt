@@ -1,0 +1,133 @@
+//! Waits end.
+ghost use Rattle.std.specs.Prelude.{◌≡◌, ◌⊎◌, ℕ, ◌<◌, ◌∷◌, [], ◌++◌, Ok, Err, Some, IfOk, IfErr, IfSome, OnErr};
+ghost use Rattle.std.specs.Arc.{arc_value};
+ghost use Rattle.mdl_calls.specs.declared.answers.Settled.{Settled};
+ghost use Rattle.mdl_calls.specs.declared.space_error.SpaceError.TheVariants as cause;
+ghost use Rattle.mdl_steps.specs.declared.view.Ask.{Ask};
+ghost use Rattle.mdl_steps.specs.declared.view.Met.{Met};
+ghost use Rattle.mdl_shared.specs.Endings.{EndsWith, end_of, lost_end, ticket_asked, tickets_after};
+ghost use Rattle.mdl_shared.specs.Keepings.{SeesWait};
+ghost use Rattle.mdl_shared.specs.Polls.{MeetsWait, SettlesNothing, state_of, wait_fault};
+ghost use Rattle.mdl_shared.specs.Readings.{ReadsNothing};
+ghost use Rattle.mdl_shared.specs.Visits.{GoesOn, IsStepOf};
+
+use crate::Session;
+use crate::member::Member;
+use crate::withdrawing::withdraw;
+use mdl_calls::{Ended, Poll, Settled, SpaceError};
+use mdl_steps::{Ask, Own};
+use std::sync::Wait;
+
+// How a wait has ended that was lost so.
+fn lost_end(how: Settled) -> Option<Ended>
+    ensures { result ≡ lost_end how }
+{
+    match how {
+        Settled::Granted => None,
+        Settled::Victim => Some(Ended::Victim),
+        Settled::Timeout => Some(Ended::Timeout),
+        Settled::Killed => Some(Ended::Killed),
+    }
+}
+
+impl Member {
+    // Takes the ticket of the session's granted wait over.
+    fn take_over(&mut self, ask: Ask)
+        requires asks { self.old.asks ≡ Some ask }
+        requires granted { self.old.worker.seat.me.0.told ≡ Some 2 }
+        ensures same { (self.new.table ≡ self.old.table) × (self.new.worker.number ≡ self.old.worker.number) × (self.new.next ≡ self.old.next)
+            × (self.new.known.items ≡ self.old.known.items) × (self.new.sessions ≡ self.old.sessions) }
+        ensures reads { ReadsNothing self.old.worker.seat.me self.new.worker.seat.me }
+        ensures settles { SettlesNothing self.old.worker.seat.me self.new.worker.seat.me }
+        ensures goes { GoesOn self.old.worker.seat.me self.new.worker.seat.me }
+        ensures ended { EndsWith (self.old.tickets.items ++ ticket_asked ask ∷ []) self.old self.new }
+    {
+        let slots = self.table.slot_count();
+        self.worker
+            .end_granted(&self.table.shared, slots, self.waits);
+        self.tickets.push_reserved(Own {
+            number: ask.number,
+            place: ask.place,
+            mode: ask.mode,
+            noted: None,
+        });
+        self.asks = None;
+    }
+
+    // Gives the session's lost wait up, with its ticket.
+    fn withdraw<R: Wait>(&mut self, rt: &R, ask: Ask)
+        requires asks { self.old.asks ≡ Some ask }
+        requires lost { (state : ℕ) × (self.old.worker.seat.me.0.told ≡ Some state) × (2 < state) }
+        ensures same { (self.new.table ≡ self.old.table) × (self.new.worker.number ≡ self.old.worker.number) × (self.new.next ≡ self.old.next)
+            × (self.new.known.items ≡ self.old.known.items) × (self.new.sessions ≡ self.old.sessions) }
+        ensures reads { ReadsNothing self.old.worker.seat.me self.new.worker.seat.me }
+        ensures settles { SettlesNothing self.old.worker.seat.me self.new.worker.seat.me }
+        ensures goes { GoesOn self.old.worker.seat.me self.new.worker.seat.me }
+        ensures ended { EndsWith self.old.tickets.items self.old self.new }
+    {
+        let slots = self.table.slot_count();
+        withdraw(
+            rt,
+            &mut self.worker,
+            &self.table.shared,
+            slots,
+            ask,
+            self.waits,
+        );
+        self.asks = None;
+    }
+
+    // Ends the session's wait for this ticket, where it is settled.
+    fn end<R: Wait>(&mut self, rt: &R, ask: Ask) -> Result<Ended, SpaceError>
+        requires asks { self.old.asks ≡ Some ask }
+        ensures same { (self.new.table ≡ self.old.table) × (self.new.worker.number ≡ self.old.worker.number) × (self.new.next ≡ self.old.next)
+            × (self.new.known.items ≡ self.old.known.items) × (self.new.sessions ≡ self.old.sessions) }
+        ensures reads { ReadsNothing self.old.worker.seat.me self.new.worker.seat.me }
+        ensures settles { SettlesNothing self.old.worker.seat.me self.new.worker.seat.me }
+        ensures ended { IfOk result (λ ended. (how : Settled) × (ended ≡ end_of ask.number how)
+            × EndsWith (tickets_after ask how self.old.tickets.items) self.old self.new
+            × ((e : Met) × IsStepOf self.old.worker.seat.me self.new.worker.seat.me e
+            × MeetsWait (arc_value self.old.table).shared.table_id.slots self.old.worker.number self.old.waits (state_of how) e)) }
+        ensures stays { (state : ℕ) → self.old.worker.seat.me.0.told ≡ Some state → (how : Settled) × (result ≡ Ok (end_of ask.number how)) × (state_of how ≡ state) }
+        ensures unchanged { OnErr result ((self.new.tickets.items ≡ self.old.tickets.items) × SeesWait self.old self.new) }
+        ensures refused { IfErr result (λ why. (why ≡ cause.Unsettled) × ((e : Met) × IsStepOf self.old.worker.seat.me self.new.worker.seat.me e
+            × MeetsWait (arc_value self.old.table).shared.table_id.slots self.old.worker.number self.old.waits 1 e)) }
+    {
+        let Poll::Settled(how) = self.poll() else {
+            return Err(SpaceError::Unsettled);
+        };
+        if let Some(ended) = lost_end(how) {
+            self.withdraw(rt, ask);
+            return Ok(ended);
+        }
+        self.take_over(ask);
+        Ok(Ended::Granted(ask.number))
+    }
+}
+
+impl<R: Wait> Session<R> {
+    /// Ends the session's wait, which is settled: with the ticket if it was granted, else without. It takes no memory.
+    pub fn end_wait(&mut self) -> Result<Ended, SpaceError>
+        ensures session { (self.new.member.table ≡ self.old.member.table) × (self.new.member.worker.number ≡ self.old.member.worker.number)
+            × (self.new.member.next ≡ self.old.member.next) × (self.new.member.known.items ≡ self.old.member.known.items)
+            × (self.new.member.sessions ≡ self.old.member.sessions) }
+        ensures reads { ReadsNothing self.old.member.worker.seat.me self.new.member.worker.seat.me }
+        ensures settles { SettlesNothing self.old.member.worker.seat.me self.new.member.worker.seat.me }
+        ensures ended { IfOk result (λ ended. (a : Ask) × (how : Settled) × (self.old.member.asks ≡ Some a) × (ended ≡ end_of a.number how)
+            × EndsWith (tickets_after a how self.old.member.tickets.items) self.old.member self.new.member
+            × ((e : Met) × IsStepOf self.old.member.worker.seat.me self.new.member.worker.seat.me e
+            × MeetsWait (arc_value self.old.member.table).shared.table_id.slots self.old.member.worker.number self.old.member.waits (state_of how) e)) }
+        ensures stays { (a : Ask) (state : ℕ) → self.old.member.asks ≡ Some a → self.old.member.worker.seat.me.0.told ≡ Some state
+            → (how : Settled) × (result ≡ Ok (end_of a.number how)) × (state_of how ≡ state) }
+        ensures unchanged { OnErr result ((self.new.member.tickets.items ≡ self.old.member.tickets.items) × SeesWait self.old.member self.new.member) }
+        ensures unfit { IfSome (wait_fault self.old.member.asks) (λ why. result ≡ Err why) }
+        ensures refused { IfErr result (λ why. (wait_fault self.old.member.asks ≡ Some why)
+            ⊎ ((why ≡ cause.Unsettled) × ((e : Met) × IsStepOf self.old.member.worker.seat.me self.new.member.worker.seat.me e
+            × MeetsWait (arc_value self.old.member.table).shared.table_id.slots self.old.member.worker.number self.old.member.waits 1 e))) }
+    {
+        let Some(ask) = self.member.asks else {
+            return Err(SpaceError::NoWait);
+        };
+        self.member.end(&self.rt, ask)
+    }
+}
