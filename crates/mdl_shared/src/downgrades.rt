@@ -51,7 +51,8 @@ impl<R: Wait> Session<R> {
         ensures reads { ReadsNothing self.old.member.worker.seat.me self.new.member.worker.seat.me }
         ensures downgraded { OnOk result ((t : Own) × (numbered id self.old.member.tickets.items ≡ Some t)
             × (self.new.member.tickets.items ≡ in_mode_at t.place id mode self.old.member.tickets.items)
-            × ((e : Met) × IsStepOf self.old.member.worker.seat.me self.new.member.worker.seat.me e × MeetsOwn t.place self.old.member.worker.number id e)
+            × ((e : Met) × IsStepOf self.old.member.worker.seat.me self.new.member.worker.seat.me e × MeetsOwn t.place self.old.member.worker.number id e)) }
+        ensures way { OnOk result ((t : Own) × (numbered id self.old.member.tickets.items ≡ Some t)
             × MadeWay (arc_value self.old.member.table).shared.table_id t.place self.old.member.worker.seat.me self.new.member.worker.seat.me) }
         ensures unchanged { OnErr result (self.new.member.tickets.items ≡ self.old.member.tickets.items) }
         ensures refused { RefusesJust (downgrade_fault (numbered id self.old.member.tickets.items) mode self.old.member.known.items) result }
