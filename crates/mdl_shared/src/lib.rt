@@ -74,8 +74,8 @@ mod tables;
 mod tickets;
 mod tries;
 mod upgrades;
-mod withdrawing;
 mod wishes;
+mod withdrawing;
 
 pub use audited::Audited;
 pub use laws::{blocked_wishes_werent_grantable, granted_wishes_were_grantable};
