@@ -1,6 +1,6 @@
 -- A session ends its lost wait under the latch, and gives the latch back.
-use Rattle.std.proofs.Common.{◌≡◌, ℕ, ◌+◌, ◌<◌, ◌≤◌, Bool, true, false, ◌||◌, List, [], ◌∷◌, ◌++◌, length, Some, None, Result, Ok, Err, refl, sym, ap, ◌∙◌, subst, inr, append_assoc, arith}
-use Rattle.std.specs.Prelude.{Option, OnErr, OnOk, is_some}
+use Rattle.std.proofs.Common.{◌≡◌, ℕ, ◌+◌, ◌<◌, Bool, List, [], ◌∷◌, ◌++◌, length, Some, None, Result, Ok, Err, refl, sym, ap, ◌∙◌, subst, inr, append_assoc, arith}
+use Rattle.std.specs.Prelude.{Option, OnErr, OnOk}
 use Rattle.std.specs.Option.{ok_or}
 use Rattle.std.proofs.lemmas.Bool.{ltb-true, lt-ltb}
 use Rattle.mdl_calls.specs.declared.answers.Ended.{Ended}

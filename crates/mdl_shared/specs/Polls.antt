@@ -49,6 +49,7 @@ pub record MeetsNumber (slots session : ℕ) (number : Option ℕ) (e : Met) : T
 -- no wait was settled between the two
 abbrev pub SettlesNothing : Mine → Mine → Type 0
 SettlesNothing m m′ = m′.0.settles ≡ m.0.settles
+
 -- a step that met another word than this one of a session's wait
 pub record MeetsOther (slots session word : ℕ) (e : Met) : Type 0 where
   pub word_is : e.word ≡ wait_word slots session

@@ -77,8 +77,8 @@ mod tables;
 mod tickets;
 mod tries;
 mod upgrades;
-mod withdrawing;
 mod wishes;
+mod withdrawing;
 
 pub use audited::Audited;
 pub use laws::{

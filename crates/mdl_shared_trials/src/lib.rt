@@ -36,5 +36,7 @@ mod taking;
 mod threads;
 #[cfg(test)]
 mod upgrades;
+#[cfg(test)]
+mod waits;
 
 pub use taking::{takings, takings_of_two};

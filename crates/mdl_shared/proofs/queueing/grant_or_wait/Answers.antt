@@ -1,5 +1,5 @@
 -- A wish, by the record of the latch as it was entered.
-use Rattle.std.proofs.Common.{◌≡◌, ℕ, true, false, [], ◌∷◌, Ok, sym, ◌∙◌, ap, subst}
+use Rattle.std.proofs.Common.{◌≡◌, ℕ, true, false, [], ◌∷◌, sym, ◌∙◌, ap, subst}
 use Rattle.mdl_book.specs.declared.book_view.BookView.{BookView}
 use Rattle.mdl_book.specs.Books.{lock_kind}
 use Rattle.mdl_book.specs.FastTickets.{can_be_granted}
@@ -10,7 +10,6 @@ use Rattle.mdl_steps.specs.Deeds.{booked}
 use Rattle.mdl_steps.specs.Plays.{Mine, noting, raised, unlatched}
 use Rattle.mdl_steps.specs.Seats.{Holds, MayPut, written}
 use Rattle.mdl_steps.specs.WaitPlays.{opened}
-use Rattle.mdl_shared.specs.declared.queueing.Queued.{Queued}
 use Rattle.mdl_shared.specs.declared.queueing.Queued.TheVariants.{Granted, Waiting}
 use Rattle.mdl_shared.specs.Beginnings.{MayQueue, MeetsOpening}
 use Rattle.mdl_shared.specs.Visits.{GoesOn, IsStepOf, MayLeave}

@@ -1,5 +1,4 @@
 -- One step met the word.
-use Rattle.std.specs.Arc.{arc_value}
 use Rattle.std.proofs.Common.{ℕ, ◌∙◌, ap, subst}
 use Rattle.mdl_steps.specs.declared.view.Met.{Met}
 use Rattle.mdl_steps.specs.Plays.{Mine}
