@@ -80,7 +80,9 @@ pub(crate) enum Act {
     Tables,
     // Whether its tickets are these.
     Holds(&'static [Held]),
-    // Whether the key of a place is this lock's.
+    // It asks for the key of a place.
+    KeyOf(Place),
+    // Whether that is this lock's.
     Names(Place, Lock),
     // Whether an audit tells just these books.
     Audit(&'static [Shown]),
@@ -99,8 +101,8 @@ pub(crate) enum Reply {
     New,
     // What stands is a schema, of this version.
     Schema(u64),
-    // What stands is something else.
-    Other,
+    // What stands is something else, of this version.
+    Other(u64),
     Count(usize),
     Is(bool),
     Refused(SpaceError),
@@ -121,6 +123,7 @@ pub(crate) fn make<R: Wait>(alloc: Global, session: &mut Session<R>, act: Act) -
         Act::PutOften(id, times) => put_often(session, id, times),
         Act::Tables => count_tables(session),
         Act::Holds(tickets) => holds(session, tickets),
+        Act::KeyOf(place) => key_of(session, place),
         Act::Names(place, lock) => names(alloc, session, place, lock),
         Act::Audit(books) => audit(alloc, session, books),
     }
@@ -138,15 +141,17 @@ pub(crate) fn make_at_last<R: Wait>(alloc: Global, session: &mut Session<R>, act
 
 const NO_MEMORY: Reply = Reply::Refused(SpaceError::OutOfMemory);
 
-// A release, a merge, an upgrade and a downgrade take none, nor does it to drop what stands, or to read.
+// A release, a merge, an upgrade and a downgrade take none, nor does it to put a schema or to drop what stands.
 fn may_take_memory(act: Act) -> bool {
     match act {
         Act::Resolve(_)
         | Act::Try(_, _)
         | Act::Clone(_, _)
+        | Act::Read(_)
         | Act::Change(_, Edit::CreateTable)
         | Act::Tables
         | Act::Holds(_)
+        | Act::KeyOf(_)
         | Act::Names(_, _)
         | Act::Audit(_) => true,
         _ => false,
@@ -183,7 +188,8 @@ fn done(outcome: Result<(), SpaceError>) -> Reply {
     }
 }
 
-fn changed(outcome: Result<u64, SpaceError>) -> Reply {
+/// What comes of a change.
+pub(crate) fn changed(outcome: Result<u64, SpaceError>) -> Reply {
     match outcome {
         Ok(version) => Reply::Version(version),
         Err(why) => Reply::Refused(why),
@@ -217,7 +223,7 @@ fn standing_reply(standing: &Standing) -> Reply {
             version,
             definition: Some(Definition::Schema),
         } => Reply::Schema(*version),
-        _ => Reply::Other,
+        _ => Reply::Other(standing.version),
     }
 }
 
@@ -247,6 +253,13 @@ fn count_tables<R: Wait>(session: &mut Session<R>) -> Reply {
 fn holds<R>(session: &Session<R>, tickets: &[Held]) -> Reply {
     match session.held() {
         Ok(held) => Reply::Is(held.as_slice() == tickets),
+        Err(why) => Reply::Refused(why),
+    }
+}
+
+fn key_of<R>(session: &mut Session<R>, place: Place) -> Reply {
+    match session.key_of(place) {
+        Ok(_key) => Reply::Done,
         Err(why) => Reply::Refused(why),
     }
 }
