@@ -1,50 +1,95 @@
 //! An audit tells the books of all places that have a key.
-use crate::sessions::closed;
-use mdl_calls::Attempt;
+use crate::acts::{Act, Lock, Reply};
+use crate::rows::{RowOfTwo, are_right_of_two};
+use mdl_calls::{Place, SpaceError};
 use mdl_defs::Standing;
 use mdl_key::{Key, Mode};
-use mdl_shared::{Manager, Session};
+use mdl_shared::Audited;
+use std::alloc::Global;
 use std::test::Fail;
+
+/// A book in which nobody waits, and under whose key nothing was ever defined.
+#[derive(Clone, Copy)]
+pub(crate) struct Shown {
+    pub(crate) place: Place,
+    pub(crate) lock: Lock,
+    /// The granted tickets: the session, its number for the ticket, and the mode.
+    pub(crate) granted: &'static [(u16, u64, Mode)],
+}
+
+/// Whether books are just these, in this order.
+pub(crate) fn are_shown(alloc: Global, books: &[Audited], shown: &[Shown]) -> Reply {
+    if books.len() != shown.len() {
+        return Reply::Is(false);
+    }
+    for (book, shown) in books.iter().zip(shown) {
+        let Ok(key) = shown.lock.key(alloc) else {
+            return Reply::Refused(SpaceError::OutOfMemory);
+        };
+        if !is_shown(book, &key, shown) {
+            return Reply::Is(false);
+        }
+    }
+    Reply::Is(true)
+}
+
+// Whether a book is this one, of a key.
+fn is_shown(book: &Audited, key: &Key, shown: &Shown) -> bool {
+    book.place == shown.place
+        && book.book.key == *key
+        && are_granted(book, shown.granted)
+        && book.book.waiting.is_empty()
+        && book.book.standing == Standing::new()
+}
+
+// Whether just these tickets are granted, in this order.
+fn are_granted(book: &Audited, granted: &[(u16, u64, Mode)]) -> bool {
+    book.book.granted.len() == granted.len()
+        && book.book.granted.iter().zip(granted).all(|(ticket, granted)| (
+            ticket.session,
+            ticket.number,
+            ticket.mode,
+        ) == *granted)
+}
+
+const BOOKS: &[Shown] = &[
+    Shown {
+        place: 1,
+        lock: Lock::Shop,
+        granted: &[],
+    },
+    Shown {
+        place: 2,
+        lock: Lock::Sales,
+        granted: &[(2, 1, Mode::SNW)],
+    },
+];
+
+const FREE_BOOKS: &[Shown] = &[
+    Shown {
+        place: 1,
+        lock: Lock::Shop,
+        granted: &[],
+    },
+    Shown {
+        place: 2,
+        lock: Lock::Sales,
+        granted: &[],
+    },
+];
+
+const AUDITS: &[RowOfTwo] = &[
+    (1, Act::Audit(&[]), Reply::Is(true)),
+    (1, Act::Resolve(Lock::Shop), Reply::Place(1)),
+    (2, Act::Resolve(Lock::Sales), Reply::Place(2)),
+    (2, Act::Try(2, Mode::SNW), Reply::Granted(1)),
+    (1, Act::Audit(BOOKS), Reply::Is(true)),
+    (2, Act::Release(1), Reply::Done),
+    (2, Act::Audit(FREE_BOOKS), Reply::Is(true)),
+];
 
 // A place whose key nobody has looked up isn't told. Of the others each book is, in the order of the places, and it may be told again.
 #[test]
 fn an_audit_tells_each_book(rt: HostRuntime) -> Result<(), Fail> {
-    let (manager, mut passes) = Manager::new(rt.alloc(), 3, 2)?;
-    let shop = Key::schema(rt.alloc(), "shop")?;
-    let sales = Key::table(rt.alloc(), "shop", "sales")?;
-    let mut two = Session::open(&rt, &manager, passes.remove(1));
-    let mut one = Session::open(&rt, &manager, passes.remove(0));
-    let Ok(nothing) = one.audit() else {
-        panic!(rt; "there is memory");
-    };
-    assert!(rt; nothing.is_empty());
-    assert_eq!(rt; one.resolve(&shop), Ok(1));
-    assert_eq!(rt; two.resolve(&sales), Ok(2));
-    assert_eq!(rt; two.try_now(2, Mode::SNW), Ok(Attempt::Granted(1)));
-    let Ok(audited) = one.audit() else {
-        panic!(rt; "there is memory");
-    };
-    let [first, second] = audited.as_slice() else {
-        panic!(rt; "two places have a key");
-    };
-    assert_eq!(rt; (first.place, second.place), (1, 2));
-    assert!(rt; first.book.key == shop && second.book.key == sales);
-    assert!(rt; first.book.granted.is_empty());
-    let [ticket] = second.book.granted.as_slice() else {
-        panic!(rt; "one ticket is granted");
-    };
-    assert_eq!(rt;
-        (ticket.session, ticket.number, ticket.mode),
-        (2, 1, Mode::SNW)
-    );
-    assert!(rt; first.book.waiting.is_empty() && second.book.waiting.is_empty());
-    assert!(rt; second.book.standing == Standing::new());
-    assert_eq!(rt; two.release(1), Ok(()));
-    let Ok(again) = two.audit() else {
-        panic!(rt; "there is memory");
-    };
-    assert_eq!(rt; again.len(), 2);
-    closed(&rt, one);
-    closed(&rt, two);
-    Ok(())
+    are_right_of_two(&rt, 3, AUDITS)
 }

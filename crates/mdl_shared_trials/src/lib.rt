@@ -6,6 +6,8 @@
 #![tactic(auto)]
 
 #[cfg(test)]
+mod acts;
+#[cfg(test)]
 mod audits;
 #[cfg(test)]
 mod chance;
@@ -25,6 +27,8 @@ mod own_lists;
 mod passes;
 #[cfg(test)]
 mod places;
+#[cfg(test)]
+mod rows;
 #[cfg(test)]
 mod sessions;
 #[cfg(test)]

@@ -3,10 +3,11 @@
 ghost use Rattle.std.specs.Prelude.{◌≡◌};
 ghost use Rattle.mdl_shared.specs.Passes.{table_of, pass_table};
 
+use crate::acts::{Act, Reply, changed, make};
 use crate::chance::Chance;
 use crate::counting::putting;
 use crate::sessions::closed;
-use mdl_calls::{Held, Place, SpaceError};
+use mdl_calls::{Held, Place, SpaceError, TicketId};
 use mdl_defs::Change;
 use mdl_key::{Key, Kind, conflicts_granted};
 use mdl_shared::{Audited, HoldsTickets, Manager, Pass, Session};
@@ -41,6 +42,7 @@ impl From<SpaceError> for Wrong {
 // A session's row of chances, the change that it makes, and of each table how often it changed that, and the last version that it saw.
 #[derive(Drop)]
 struct Player<'a> {
+    alloc: Global,
     chance: Chance,
     change: &'a Change,
     changes: [u64; 8],
@@ -69,13 +71,13 @@ impl Player<'_> {
 }
 
 // Whether a call was made, or refused for what it asked.
-fn was_answered<T: Drop>(outcome: Result<T, SpaceError>) -> Result<(), Wrong> {
-    match outcome {
-        Ok(_)
-        | Err(SpaceError::NotUpgradable)
-        | Err(SpaceError::NotExclusive)
-        | Err(SpaceError::BadMode) => Ok(()),
-        Err(_) => Err(Wrong),
+fn was_answered(reply: Reply) -> Result<(), Wrong> {
+    match reply {
+        Reply::Refused(
+            SpaceError::NotUpgradable | SpaceError::NotExclusive | SpaceError::BadMode,
+        ) => Ok(()),
+        Reply::Refused(_) => Err(Wrong),
+        _ => Ok(()),
     }
 }
 
@@ -94,11 +96,12 @@ fn make_call<R: Wait>(session: &mut Session<R>, player: &mut Player<'_>) -> Resu
 fn ask<R: Wait>(session: &mut Session<R>, player: &mut Player<'_>) -> Result<(), Wrong> {
     let drawn = player.chance.below(TABLES.len());
     let place = u16::try_from(drawn).unwrap_or(0).saturating_add(1);
-    match player.chance.below(40) {
-        0 => was_answered(session.key_of(place)),
-        1 => was_answered(session.tables_of("shop")),
-        _ => was_answered(session.try_now(place, player.chance.mode())),
-    }
+    let act = match player.chance.below(40) {
+        0 => Act::KeyOf(place),
+        1 => Act::Tables,
+        _ => Act::Try(place, player.chance.mode()),
+    };
+    was_answered(make(player.alloc, session, act))
 }
 
 // Something is done with a ticket.
@@ -110,23 +113,40 @@ fn use_ticket<R: Wait>(
 ) -> Result<(), Wrong> {
     let Held { id, place, .. } = ticket;
     let mode = player.chance.mode();
-    match player.chance.below(8) {
-        0 => was_answered(session.clone_ticket(id, mode)),
-        1 => was_answered(session.upgrade_now(id, mode)),
-        2 => was_answered(session.downgrade(id, mode)),
-        3 => match player.chance.ticket(held) {
-            Some(other) => was_answered(session.merge(id, other.id)),
-            None => Err(Wrong),
-        },
-        4 => {
-            let standing = session.read_definition(id)?;
-            player.see(place, standing.version)
-        }
-        5 => match session.change_definition(id, player.change) {
-            Ok(version) => player.count(place, version),
-            outcome => was_answered(outcome),
-        },
-        _ => was_answered(session.release(id)),
+    let act = match player.chance.below(8) {
+        0 => Act::Clone(id, mode),
+        1 => Act::Upgrade(id, mode),
+        2 => Act::Downgrade(id, mode),
+        3 => merge_with(id, player.chance.ticket(held))?,
+        4 => Act::Read(id),
+        5 => return put(session, player, id, place),
+        _ => Act::Release(id),
+    };
+    match make(player.alloc, session, act) {
+        Reply::New => player.see(place, 0),
+        Reply::Other(version) => player.see(place, version),
+        reply => was_answered(reply),
+    }
+}
+
+// A ticket is merged with another one.
+fn merge_with(id: TicketId, other: Option<Held>) -> Result<Act, Wrong> {
+    match other {
+        Some(other) => Ok(Act::Merge(id, other.id)),
+        None => Err(Wrong),
+    }
+}
+
+// What stands at the place of a ticket is changed.
+fn put<R: Wait>(
+    session: &mut Session<R>,
+    player: &mut Player<'_>,
+    id: TicketId,
+    place: Place,
+) -> Result<(), Wrong> {
+    match changed(session.change_definition(id, player.change)) {
+        Reply::Version(version) => player.count(place, version),
+        reply => was_answered(reply),
     }
 }
 
@@ -179,6 +199,7 @@ fn play<R: Wait + Abort>(
     requires { pass_table pass ≡ table_of manager.now }
 {
     let mut player = Player {
+        alloc,
         chance: Chance::new(pass.number()),
         change,
         changes: [0; 8],

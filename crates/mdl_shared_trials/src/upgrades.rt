@@ -1,62 +1,56 @@
 //! Sessions ask for stronger modes of their tickets, on one thread.
-use crate::sessions::closed;
-use mdl_calls::{Attempt, SpaceError, Upgrade};
-use mdl_key::{Key, Mode};
-use mdl_shared::{Manager, Session};
+use crate::acts::{Act, Lock, Reply};
+use crate::rows::{Row, RowOfTwo, are_right, are_right_of_two};
+use mdl_calls::SpaceError;
+use mdl_key::Mode;
 use std::test::Fail;
+
+const NOT_HELD: Reply = Reply::Refused(SpaceError::NotHeld);
+
+const NOT_UPGRADABLE: Reply = Reply::Refused(SpaceError::NotUpgradable);
+
+const AT_ONCE: &[RowOfTwo] = &[
+    (1, Act::Resolve(Lock::Sales), Reply::Place(1)),
+    (2, Act::Resolve(Lock::Sales), Reply::Place(1)),
+    (1, Act::Try(1, Mode::SU), Reply::Granted(1)),
+    (1, Act::Try(1, Mode::SR), Reply::Granted(2)),
+    (2, Act::Try(1, Mode::SR), Reply::Granted(1)),
+    (1, Act::Upgrade(1, Mode::X), Reply::WouldWait),
+    (1, Act::Upgrade(1, Mode::SNW), Reply::Upgraded),
+    (2, Act::Try(1, Mode::SW), Reply::WouldWait),
+    (1, Act::Upgrade(1, Mode::SNRW), Reply::WouldWait),
+    (2, Act::Release(1), Reply::Done),
+    (1, Act::Upgrade(1, Mode::X), Reply::Upgraded),
+    (2, Act::Try(1, Mode::S), Reply::WouldWait),
+    (1, Act::Release(1), Reply::Done),
+    (2, Act::Try(1, Mode::S), Reply::Granted(2)),
+    (1, Act::Release(2), Reply::Done),
+    (2, Act::Release(2), Reply::Done),
+];
 
 // A stronger mode is had at once where no other session stands in the way, and then stands in theirs. Nobody stands in the way of
 // itself.
 #[test]
 fn an_upgrade_is_had_at_once_or_not_at_all(rt: HostRuntime) -> Result<(), Fail> {
-    let (manager, mut passes) = Manager::new(rt.alloc(), 1, 2)?;
-    let sales = Key::table(rt.alloc(), "shop", "sales")?;
-    let mut two = Session::open(&rt, &manager, passes.remove(1));
-    let mut one = Session::open(&rt, &manager, passes.remove(0));
-    assert_eq!(rt; one.resolve(&sales), Ok(1));
-    assert_eq!(rt; two.resolve(&sales), Ok(1));
-    assert_eq!(rt; one.try_now(1, Mode::SU), Ok(Attempt::Granted(1)));
-    assert_eq!(rt; one.try_now(1, Mode::SR), Ok(Attempt::Granted(2)));
-    assert_eq!(rt; two.try_now(1, Mode::SR), Ok(Attempt::Granted(1)));
-    assert_eq!(rt; one.upgrade_now(1, Mode::X), Ok(Upgrade::WouldWait));
-    assert_eq!(rt; one.upgrade_now(1, Mode::SNW), Ok(Upgrade::Upgraded));
-    assert_eq!(rt; two.try_now(1, Mode::SW), Ok(Attempt::WouldWait));
-    assert_eq!(rt; one.upgrade_now(1, Mode::SNRW), Ok(Upgrade::WouldWait));
-    assert_eq!(rt; two.release(1), Ok(()));
-    assert_eq!(rt; one.upgrade_now(1, Mode::X), Ok(Upgrade::Upgraded));
-    assert_eq!(rt; two.try_now(1, Mode::S), Ok(Attempt::WouldWait));
-    assert_eq!(rt; one.release(1), Ok(()));
-    assert_eq!(rt; two.try_now(1, Mode::S), Ok(Attempt::Granted(2)));
-    assert_eq!(rt; one.release(2), Ok(()));
-    assert_eq!(rt; two.release(2), Ok(()));
-    closed(&rt, one);
-    closed(&rt, two);
-    Ok(())
+    are_right_of_two(&rt, 1, AT_ONCE)
 }
+
+const REFUSED: &[Row] = &[
+    (Act::Resolve(Lock::Sales), Reply::Place(1)),
+    (Act::Upgrade(1, Mode::X), NOT_HELD),
+    (Act::Try(1, Mode::SR), Reply::Granted(1)),
+    (Act::Upgrade(1, Mode::X), NOT_UPGRADABLE),
+    (Act::Upgrade(1, Mode::S), Reply::Upgraded),
+    (Act::Try(1, Mode::X), Reply::Granted(2)),
+    (Act::Upgrade(2, Mode::SNW), Reply::Upgraded),
+    (Act::Upgrade(2, Mode::IX), NOT_UPGRADABLE),
+    (Act::Release(2), Reply::Done),
+    (Act::Upgrade(2, Mode::X), NOT_HELD),
+    (Act::Release(1), Reply::Done),
+];
 
 // A reader's ticket is for readers. What the held mode covers is there already.
 #[test]
 fn an_upgrade_that_cannot_be_asked_for_is_refused(rt: HostRuntime) -> Result<(), Fail> {
-    let (manager, mut passes) = Manager::new(rt.alloc(), 1, 1)?;
-    let sales = Key::table(rt.alloc(), "shop", "sales")?;
-    let mut session = Session::open(&rt, &manager, passes.remove(0));
-    assert_eq!(rt; session.resolve(&sales), Ok(1));
-    assert_eq!(rt; session.upgrade_now(1, Mode::X), Err(SpaceError::NotHeld));
-    assert_eq!(rt; session.try_now(1, Mode::SR), Ok(Attempt::Granted(1)));
-    assert_eq!(rt;
-        session.upgrade_now(1, Mode::X),
-        Err(SpaceError::NotUpgradable)
-    );
-    assert_eq!(rt; session.upgrade_now(1, Mode::S), Ok(Upgrade::Upgraded));
-    assert_eq!(rt; session.try_now(1, Mode::X), Ok(Attempt::Granted(2)));
-    assert_eq!(rt; session.upgrade_now(2, Mode::SNW), Ok(Upgrade::Upgraded));
-    assert_eq!(rt;
-        session.upgrade_now(2, Mode::IX),
-        Err(SpaceError::NotUpgradable)
-    );
-    assert_eq!(rt; session.release(2), Ok(()));
-    assert_eq!(rt; session.upgrade_now(2, Mode::X), Err(SpaceError::NotHeld));
-    assert_eq!(rt; session.release(1), Ok(()));
-    closed(&rt, session);
-    Ok(())
+    are_right(&rt, 1, REFUSED)
 }

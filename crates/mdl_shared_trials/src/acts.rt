@@ -1,0 +1,287 @@
+//! Calls of a session and what comes of them, as the rows of tests have them.
+use crate::audits::{Shown, are_shown};
+use mdl_calls::{Attempt, Held, Place, SpaceError, TicketId, Upgrade};
+use mdl_defs::{Change, Column, Columns, Definition, Standing};
+use mdl_key::{Key, KeyError, Mode};
+use mdl_shared::Session;
+use std::alloc::Global;
+use std::sync::Wait;
+
+/// A lock: the global one, the schema `shop`, some of its tables, or a table of another schema.
+#[derive(Clone, Copy)]
+pub(crate) enum Lock {
+    Global,
+    Shop,
+    Sales,
+    Orders,
+    Goods,
+    Games,
+}
+
+impl Lock {
+    /// Its key.
+    pub(crate) fn key(self, alloc: Global) -> Result<Key, KeyError> {
+        match self {
+            Lock::Global => Ok(Key::global(alloc)),
+            Lock::Shop => Key::schema(alloc, "shop"),
+            Lock::Sales => Key::table(alloc, "shop", "sales"),
+            Lock::Orders => Key::table(alloc, "shop", "orders"),
+            Lock::Goods => Key::table(alloc, "shop", "goods"),
+            Lock::Games => Key::table(alloc, "toys", "games"),
+        }
+    }
+}
+
+/// A change of what stands under a key.
+#[derive(Clone, Copy)]
+pub(crate) enum Edit {
+    CreateSchema,
+    PutSchema,
+    // Of one column.
+    CreateTable,
+    Drop,
+}
+
+impl Edit {
+    // The change, unless no memory is found.
+    fn change(self, alloc: Global) -> Option<Change> {
+        match self {
+            Edit::CreateSchema => Some(Change::Create(Definition::Schema)),
+            Edit::PutSchema => Some(Change::Put(Definition::Schema)),
+            Edit::CreateTable => Some(Change::Create(table(alloc)?)),
+            Edit::Drop => Some(Change::Drop),
+        }
+    }
+}
+
+// A table of one column.
+fn table(alloc: Global) -> Option<Definition> {
+    let column = Column::new(alloc, "id").ok()?;
+    let mut columns = Columns::new(alloc);
+    columns.push(column).ok()?;
+    Some(Definition::Table(columns))
+}
+
+/// What a session may do.
+#[derive(Clone, Copy)]
+pub(crate) enum Act {
+    Resolve(Lock),
+    Try(Place, Mode),
+    Upgrade(TicketId, Mode),
+    Downgrade(TicketId, Mode),
+    Clone(TicketId, Mode),
+    Merge(TicketId, TicketId),
+    Release(TicketId),
+    Read(TicketId),
+    Change(TicketId, Edit),
+    // It puts a schema as often, and tells what comes of the last time.
+    PutOften(TicketId, u32),
+    // It asks for the tables of `shop`, and counts them.
+    Tables,
+    // Whether its tickets are these.
+    Holds(&'static [Held]),
+    // It asks for the key of a place.
+    KeyOf(Place),
+    // Whether that is this lock's.
+    Names(Place, Lock),
+    // Whether an audit tells just these books.
+    Audit(&'static [Shown]),
+}
+
+/// What comes of it.
+#[derive(Clone, Copy, PartialEq, Eq)]
+pub(crate) enum Reply {
+    Place(Place),
+    Granted(TicketId),
+    WouldWait,
+    Upgraded,
+    Done,
+    Version(u64),
+    // What stands is nothing, and never was anything else.
+    New,
+    // What stands is a schema, of this version.
+    Schema(u64),
+    // What stands is something else, of this version.
+    Other(u64),
+    Count(usize),
+    Is(bool),
+    Refused(SpaceError),
+}
+
+/// Does it.
+pub(crate) fn make<R: Wait>(alloc: Global, session: &mut Session<R>, act: Act) -> Reply {
+    match act {
+        Act::Resolve(lock) => resolve(alloc, session, lock),
+        Act::Try(place, mode) => attempted(session.try_now(place, mode)),
+        Act::Upgrade(id, mode) => upgraded(session.upgrade_now(id, mode)),
+        Act::Downgrade(id, mode) => done(session.downgrade(id, mode)),
+        Act::Clone(id, mode) => cloned(session.clone_ticket(id, mode)),
+        Act::Merge(old, new) => done(session.merge(old, new)),
+        Act::Release(id) => done(session.release(id)),
+        Act::Read(id) => read(session, id),
+        Act::Change(id, edit) => change(alloc, session, id, edit),
+        Act::PutOften(id, times) => put_often(session, id, times),
+        Act::Tables => count_tables(session),
+        Act::Holds(tickets) => holds(session, tickets),
+        Act::KeyOf(place) => key_of(session, place),
+        Act::Names(place, lock) => names(alloc, session, place, lock),
+        Act::Audit(books) => audit(alloc, session, books),
+    }
+}
+
+/// Does it, and does it again where memory was refused to what may take some.
+pub(crate) fn make_at_last<R: Wait>(alloc: Global, session: &mut Session<R>, act: Act) -> Reply {
+    let reply = make(alloc, session, act);
+    if reply == NO_MEMORY && may_take_memory(act) {
+        make(alloc, session, act)
+    } else {
+        reply
+    }
+}
+
+const NO_MEMORY: Reply = Reply::Refused(SpaceError::OutOfMemory);
+
+// A release, a merge, an upgrade and a downgrade take none, nor does it to put a schema or to drop what stands.
+fn may_take_memory(act: Act) -> bool {
+    match act {
+        Act::Resolve(_)
+        | Act::Try(_, _)
+        | Act::Clone(_, _)
+        | Act::Read(_)
+        | Act::Change(_, Edit::CreateTable)
+        | Act::Tables
+        | Act::Holds(_)
+        | Act::KeyOf(_)
+        | Act::Names(_, _)
+        | Act::Audit(_) => true,
+        _ => false,
+    }
+}
+
+fn attempted(outcome: Result<Attempt, SpaceError>) -> Reply {
+    match outcome {
+        Ok(Attempt::Granted(id)) => Reply::Granted(id),
+        Ok(Attempt::WouldWait) => Reply::WouldWait,
+        Err(why) => Reply::Refused(why),
+    }
+}
+
+fn upgraded(outcome: Result<Upgrade, SpaceError>) -> Reply {
+    match outcome {
+        Ok(Upgrade::Upgraded) => Reply::Upgraded,
+        Ok(Upgrade::WouldWait) => Reply::WouldWait,
+        Err(why) => Reply::Refused(why),
+    }
+}
+
+fn cloned(outcome: Result<TicketId, SpaceError>) -> Reply {
+    match outcome {
+        Ok(id) => Reply::Granted(id),
+        Err(why) => Reply::Refused(why),
+    }
+}
+
+fn done(outcome: Result<(), SpaceError>) -> Reply {
+    match outcome {
+        Ok(()) => Reply::Done,
+        Err(why) => Reply::Refused(why),
+    }
+}
+
+/// What comes of a change.
+pub(crate) fn changed(outcome: Result<u64, SpaceError>) -> Reply {
+    match outcome {
+        Ok(version) => Reply::Version(version),
+        Err(why) => Reply::Refused(why),
+    }
+}
+
+fn resolve<R: Wait>(alloc: Global, session: &mut Session<R>, lock: Lock) -> Reply {
+    let Ok(key) = lock.key(alloc) else {
+        return NO_MEMORY;
+    };
+    match session.resolve(&key) {
+        Ok(place) => Reply::Place(place),
+        Err(why) => Reply::Refused(why),
+    }
+}
+
+fn read<R: Wait>(session: &mut Session<R>, id: TicketId) -> Reply {
+    match session.read_definition(id) {
+        Ok(standing) => standing_reply(&standing),
+        Err(why) => Reply::Refused(why),
+    }
+}
+
+fn standing_reply(standing: &Standing) -> Reply {
+    match standing {
+        Standing {
+            version: 0,
+            definition: None,
+        } => Reply::New,
+        Standing {
+            version,
+            definition: Some(Definition::Schema),
+        } => Reply::Schema(*version),
+        _ => Reply::Other(standing.version),
+    }
+}
+
+fn change<R: Wait>(alloc: Global, session: &mut Session<R>, id: TicketId, edit: Edit) -> Reply {
+    match edit.change(alloc) {
+        Some(change) => changed(session.change_definition(id, &change)),
+        None => NO_MEMORY,
+    }
+}
+
+fn put_often<R: Wait>(session: &mut Session<R>, id: TicketId, times: u32) -> Reply {
+    let put = Change::Put(Definition::Schema);
+    let mut last = Reply::Done;
+    for _ in 0..times {
+        last = changed(session.change_definition(id, &put));
+    }
+    last
+}
+
+fn count_tables<R: Wait>(session: &mut Session<R>) -> Reply {
+    match session.tables_of("shop") {
+        Ok(places) => Reply::Count(places.len()),
+        Err(why) => Reply::Refused(why),
+    }
+}
+
+fn holds<R>(session: &Session<R>, tickets: &[Held]) -> Reply {
+    match session.held() {
+        Ok(held) => Reply::Is(held.as_slice() == tickets),
+        Err(why) => Reply::Refused(why),
+    }
+}
+
+fn key_of<R>(session: &mut Session<R>, place: Place) -> Reply {
+    match session.key_of(place) {
+        Ok(_key) => Reply::Done,
+        Err(why) => Reply::Refused(why),
+    }
+}
+
+fn names<R>(alloc: Global, session: &mut Session<R>, place: Place, lock: Lock) -> Reply {
+    match session.key_of(place) {
+        Ok(named) => is_key(alloc, lock, &named),
+        Err(why) => Reply::Refused(why),
+    }
+}
+
+// Whether a key is a lock's.
+fn is_key(alloc: Global, lock: Lock, named: &Key) -> Reply {
+    match lock.key(alloc) {
+        Ok(key) => Reply::Is(key == *named),
+        Err(_) => NO_MEMORY,
+    }
+}
+
+fn audit<R: Wait>(alloc: Global, session: &mut Session<R>, books: &[Shown]) -> Reply {
+    match session.audit() {
+        Ok(audited) => are_shown(alloc, &audited, books),
+        Err(why) => Reply::Refused(why),
+    }
+}
