@@ -118,14 +118,24 @@ fn use_ticket<R: Wait>(
         1 => Act::Upgrade(id, mode),
         2 => Act::Downgrade(id, mode),
         3 => merge_with(id, player.chance.ticket(held))?,
-        4 => Act::Read(id),
+        4 => return look(session, player, id, place),
         5 => return put(session, player, id, place),
         _ => Act::Release(id),
     };
-    match make(player.alloc, session, act) {
+    was_answered(make(player.alloc, session, act))
+}
+
+// What stands at the place of a ticket is read, which is never refused.
+fn look<R: Wait>(
+    session: &mut Session<R>,
+    player: &mut Player<'_>,
+    id: TicketId,
+    place: Place,
+) -> Result<(), Wrong> {
+    match make(player.alloc, session, Act::Read(id)) {
         Reply::New => player.see(place, 0),
         Reply::Other(version) => player.see(place, version),
-        reply => was_answered(reply),
+        _ => Err(Wrong),
     }
 }
 
