@@ -1,6 +1,8 @@
 //! Calls of a session and what comes of them, as the rows of tests have them.
 use crate::audits::{Shown, are_shown};
-use mdl_calls::{Attempt, Held, Place, SpaceError, TicketId, Upgrade};
+use mdl_calls::{
+    Attempt, Begun, Ended, Held, Place, Poll, Settled, SpaceError, TicketId, TimedOut, Upgrade,
+};
 use mdl_defs::{Change, Column, Columns, Definition, Standing};
 use mdl_key::{Key, KeyError, Mode};
 use mdl_shared::Session;
@@ -86,6 +88,15 @@ pub(crate) enum Act {
     Names(Place, Lock),
     // Whether an audit tells just these books.
     Audit(&'static [Shown]),
+    Begin(Place, Mode),
+    Poll,
+    TimeOut,
+    End,
+    // It kills the wait of a session that has this number.
+    Kill(u16, u64),
+    WaitOf(u16),
+    // It makes way at a place whose key it knows.
+    Reschedule(Place),
 }
 
 /// What comes of it.
@@ -105,6 +116,11 @@ pub(crate) enum Reply {
     Other(u64),
     Count(usize),
     Is(bool),
+    Waiting(u64),
+    Pending,
+    Settled(Settled),
+    Ended(Ended),
+    Wait(Option<u64>),
     Refused(SpaceError),
 }
 
@@ -126,6 +142,13 @@ pub(crate) fn make<R: Wait>(alloc: Global, session: &mut Session<R>, act: Act) -
         Act::KeyOf(place) => key_of(session, place),
         Act::Names(place, lock) => names(alloc, session, place, lock),
         Act::Audit(books) => audit(alloc, session, books),
+        Act::Begin(place, mode) => begun(session.begin_wait(place, mode)),
+        Act::Poll => polled(session.poll_wait()),
+        Act::TimeOut => timed_out(session.settle_timeout()),
+        Act::End => ended(session.end_wait()),
+        Act::Kill(target, wait) => Reply::Is(session.kill(target, wait)),
+        Act::WaitOf(target) => Reply::Wait(session.wait_of(target)),
+        Act::Reschedule(place) => reschedule(session, place),
     }
 }
 
@@ -141,7 +164,8 @@ pub(crate) fn make_at_last<R: Wait>(alloc: Global, session: &mut Session<R>, act
 
 const NO_MEMORY: Reply = Reply::Refused(SpaceError::OutOfMemory);
 
-// A release, a merge, an upgrade and a downgrade take none, nor does it to put a schema or to drop what stands.
+// A release, a merge, an upgrade and a downgrade take none, nor what is done with a wait once it has begun, nor does it to put a schema or to
+// drop what stands. Before it makes way, a session asks for the place's key, which takes some.
 fn may_take_memory(act: Act) -> bool {
     match act {
         Act::Resolve(_)
@@ -153,7 +177,9 @@ fn may_take_memory(act: Act) -> bool {
         | Act::Holds(_)
         | Act::KeyOf(_)
         | Act::Names(_, _)
-        | Act::Audit(_) => true,
+        | Act::Audit(_)
+        | Act::Begin(_, _)
+        | Act::Reschedule(_) => true,
         _ => false,
     }
 }
@@ -192,6 +218,48 @@ fn done(outcome: Result<(), SpaceError>) -> Reply {
 pub(crate) fn changed(outcome: Result<u64, SpaceError>) -> Reply {
     match outcome {
         Ok(version) => Reply::Version(version),
+        Err(why) => Reply::Refused(why),
+    }
+}
+
+fn begun(outcome: Result<Begun, SpaceError>) -> Reply {
+    match outcome {
+        Ok(Begun::Granted(id)) => Reply::Granted(id),
+        Ok(Begun::Waiting(wait)) => Reply::Waiting(wait),
+        Err(why) => Reply::Refused(why),
+    }
+}
+
+fn polled(outcome: Result<Poll, SpaceError>) -> Reply {
+    match outcome {
+        Ok(Poll::Pending) => Reply::Pending,
+        Ok(Poll::Settled(how)) => Reply::Settled(how),
+        Err(why) => Reply::Refused(why),
+    }
+}
+
+fn timed_out(outcome: Result<TimedOut, SpaceError>) -> Reply {
+    match outcome {
+        Ok(TimedOut::ByThisCall) => Reply::Done,
+        Ok(TimedOut::Already(how)) => Reply::Settled(how),
+        Err(why) => Reply::Refused(why),
+    }
+}
+
+fn ended(outcome: Result<Ended, SpaceError>) -> Reply {
+    match outcome {
+        Ok(how) => Reply::Ended(how),
+        Err(why) => Reply::Refused(why),
+    }
+}
+
+// A place whose key is told is one that the session knows.
+fn reschedule<R: Wait>(session: &mut Session<R>, place: Place) -> Reply {
+    match session.key_of(place) {
+        Ok(_key) => {
+            session.reschedule(place);
+            Reply::Done
+        }
         Err(why) => Reply::Refused(why),
     }
 }

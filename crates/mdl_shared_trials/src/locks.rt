@@ -66,8 +66,8 @@ const SECOND: &[Row] = &[
 
 const THIRD: &[Row] = &[(Act::Release(2), Reply::Done)];
 
-// The session, for which the rows are right.
-fn led<'a, R: Wait + Abort + AllocGlobal>(
+/// The session, for which the rows are right.
+pub(crate) fn led<'a, R: Wait + Abort + AllocGlobal>(
     rt: &R,
     mut session: Session<&'a R>,
     rows: &[Row],
@@ -76,8 +76,8 @@ fn led<'a, R: Wait + Abort + AllocGlobal>(
     session
 }
 
-// The session that wasn't closed.
-fn kept_open<R: Drop>(rt: &impl Abort, session: Session<R>) -> Session<R> {
+/// The session that wasn't closed.
+pub(crate) fn kept_open<R: Drop>(rt: &impl Abort, session: Session<R>) -> Session<R> {
     match session.close() {
         Ok(_) => panic!(rt; "the session holds a ticket"),
         Err(HoldsTickets(session)) => session,

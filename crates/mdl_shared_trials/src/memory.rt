@@ -7,7 +7,7 @@ ghost use Rattle.mdl_shared.specs.Passes.{ArePasses, table_of};
 use crate::acts::{Act, Edit, Lock, Reply};
 use crate::audits::Shown;
 use crate::rows::{Row, RowOfTwo, are_right_at_last, are_right_of_two_at_last};
-use mdl_calls::Held;
+use mdl_calls::{Ended, Held, Settled};
 use mdl_key::Mode;
 use mdl_shared::{Manager, NewError, Pass};
 use std::alloc::Global;
@@ -35,6 +35,25 @@ const CALLS: &[RowOfTwo] = &[
     (1, Act::Release(2), Reply::Done),
     (2, Act::Release(1), Reply::Done),
 ];
+
+const WAITS: &[RowOfTwo] = &[
+    (1, Act::Resolve(Lock::Sales), Reply::Place(1)),
+    (2, Act::Resolve(Lock::Sales), Reply::Place(1)),
+    (1, Act::Try(1, Mode::SW), Reply::Granted(1)),
+    (2, Act::Begin(1, Mode::X), Reply::Waiting(1)),
+    (1, Act::Release(1), Reply::Done),
+    (2, Act::Poll, Reply::Settled(Settled::Granted)),
+    (2, Act::End, Reply::Ended(Ended::Granted(1))),
+    (1, Act::Begin(1, Mode::S), Reply::Waiting(1)),
+    (2, Act::Kill(1, 1), Reply::Is(true)),
+    (1, Act::End, Reply::Ended(Ended::Killed)),
+    (2, Act::Release(1), Reply::Done),
+];
+
+#[test]
+fn waits_outlive_want_of_memory(rt: HostRuntime) -> Result<(), Fail> {
+    are_right_of_two_at_last(&rt, WAITS)
+}
 
 #[test]
 fn outlives_want_of_memory(rt: HostRuntime) -> Result<(), Fail> {

@@ -1,5 +1,5 @@
-//! Four sessions on four threads make calls of every kind by chance, over the locks of eight tables. From time to time, and in the end, all
-//! is looked at from under all latches.
+//! Four sessions on four threads make calls of every kind by chance, over the locks of eight tables, wait with short patience, and kill each
+//! other's waits. From time to time, and in the end, all is looked at from under all latches.
 ghost use Rattle.std.specs.Prelude.{◌≡◌};
 ghost use Rattle.mdl_shared.specs.Passes.{table_of, pass_table};
 
@@ -99,9 +99,50 @@ fn ask<R: Wait>(session: &mut Session<R>, player: &mut Player<'_>) -> Result<(),
     let act = match player.chance.below(40) {
         0 => Act::KeyOf(place),
         1 => Act::Tables,
+        2 => return kill(session, player),
+        3..=9 => return wait_for(session, player, place),
         _ => Act::Try(place, player.chance.mode()),
     };
     was_answered(make(player.alloc, session, act))
+}
+
+// The wait of some session is killed, if it has one.
+fn kill<R: Wait>(session: &mut Session<R>, player: &mut Player<'_>) -> Result<(), Wrong> {
+    let target = u16::try_from(player.chance.below(5)).unwrap_or(0);
+    match make(player.alloc, session, Act::WaitOf(target)) {
+        Reply::Wait(Some(wait)) => {
+            was_answered(make(player.alloc, session, Act::Kill(target, wait)))
+        }
+        Reply::Wait(None) => Ok(()),
+        _ => Err(Wrong),
+    }
+}
+
+// A lock is asked for, and waited for with some patience.
+fn wait_for<R: Wait>(
+    session: &mut Session<R>,
+    player: &mut Player<'_>,
+    place: Place,
+) -> Result<(), Wrong> {
+    let mode = player.chance.mode();
+    match make(player.alloc, session, Act::Begin(place, mode)) {
+        Reply::Waiting(_) => end_wait(session, player),
+        reply => was_answered(reply),
+    }
+}
+
+// The wait is looked at until it is settled or patience is lost, and ended.
+fn end_wait<R: Wait>(session: &mut Session<R>, player: &mut Player<'_>) -> Result<(), Wrong> {
+    for _ in 0..player.chance.below(100) {
+        if make(player.alloc, session, Act::Poll) != Reply::Pending {
+            break;
+        }
+    }
+    was_answered(make(player.alloc, session, Act::TimeOut))?;
+    match make(player.alloc, session, Act::End) {
+        Reply::Ended(_) => Ok(()),
+        _ => Err(Wrong),
+    }
 }
 
 // Something is done with a ticket.

@@ -1,164 +1,203 @@
-//! Sessions wait for locks, and lose their waits, on one thread.
+//! Sessions wait for locks, are granted them, and lose their waits, on one thread.
+use crate::acts::{Act, Lock, Reply};
+use crate::locks::{kept_open, led};
+use crate::rows::{Row, RowOfTwo, are_right, are_right_of_two};
 use crate::sessions::closed;
-use mdl_calls::{Attempt, Begun, Ended, Poll, Settled, SpaceError, TimedOut};
-use mdl_key::{Key, Mode};
-use mdl_shared::{HoldsTickets, Manager, Session};
-use std::sync::Wait;
+use mdl_calls::{Ended, Settled, SpaceError};
+use mdl_key::Mode;
+use mdl_shared::{Manager, Session};
 use std::test::Fail;
 
-// Gets the lock of the only place for the session alone.
-fn takes<R: Wait>(session: &mut Session<R>, key: &Key) -> bool {
-    session.resolve(key) == Ok(1) && session.try_now(1, Mode::X) == Ok(Attempt::Granted(1))
-}
+const NO_WAIT: Reply = Reply::Refused(SpaceError::NoWait);
 
-// Begins to wait for a look at the only place.
-fn waits<R: Wait>(session: &mut Session<R>, key: &Key) -> Result<Begun, SpaceError> {
-    session.resolve(key)?;
-    session.begin_wait(1, Mode::S)
-}
+const WAITS_ALREADY: Reply = Reply::Refused(SpaceError::AlreadyWaiting);
 
-// Loses patience, and ends the wait.
-fn gives_up<R: Wait>(session: &mut Session<R>) -> Result<Ended, SpaceError> {
-    session.settle_timeout()?;
-    session.end_wait()
-}
+const BAD_MODE: Reply = Reply::Refused(SpaceError::BadMode);
 
-// What the calls on a wait answer where there is none.
-fn without_wait<R: Wait>(session: &mut Session<R>) -> bool {
-    session.poll_wait() == Err(SpaceError::NoWait)
-        && session.settle_timeout() == Err(SpaceError::NoWait)
-        && session.end_wait() == Err(SpaceError::NoWait)
-}
-
-// What the calls that need a session without a wait answer where there is one. The session has ticket 1.
-fn refused_while_waiting<R: Wait>(session: &mut Session<R>) -> bool {
-    session.clone_ticket(1, Mode::SU) == Err(SpaceError::AlreadyWaiting)
-        && session.upgrade_now(1, Mode::X) == Err(SpaceError::AlreadyWaiting)
-        && session.merge(1, 1) == Err(SpaceError::AlreadyWaiting)
-}
-
-// The two that ask for a lock, likewise. What has a cause of a lesser number tells that.
-fn wishes_refused_while_waiting<R: Wait>(session: &mut Session<R>) -> bool {
-    session.try_now(1, Mode::IX) == Err(SpaceError::AlreadyWaiting)
-        && session.begin_wait(1, Mode::S) == Err(SpaceError::AlreadyWaiting)
-        && session.begin_wait(2, Mode::S) == Err(SpaceError::NoPlace)
-        && session.end_wait() == Err(SpaceError::Unsettled)
-}
+const CLASHING: &[RowOfTwo] = &[
+    (1, Act::Resolve(Lock::Sales), Reply::Place(1)),
+    (2, Act::Resolve(Lock::Sales), Reply::Place(1)),
+    (1, Act::Try(1, Mode::X), Reply::Granted(1)),
+    (2, Act::Begin(1, Mode::S), Reply::Waiting(1)),
+    (2, Act::Poll, Reply::Pending),
+    (1, Act::WaitOf(2), Reply::Wait(Some(1))),
+    (2, Act::WaitOf(1), Reply::Wait(None)),
+    (2, Act::TimeOut, Reply::Done),
+    (2, Act::TimeOut, Reply::Settled(Settled::Timeout)),
+    (2, Act::End, Reply::Ended(Ended::Timeout)),
+    (1, Act::WaitOf(2), Reply::Wait(None)),
+    (1, Act::Release(1), Reply::Done),
+];
 
 // What cannot be had now is waited for, and all sessions see the wait's number.
 #[test]
 fn a_wish_that_clashes_waits(rt: HostRuntime) -> Result<(), Fail> {
-    let (manager, mut passes) = Manager::new(rt.alloc(), 1, 2)?;
-    let sales = Key::table(rt.alloc(), "shop", "sales")?;
-    let mut two = Session::open(&rt, &manager, passes.remove(1));
-    let mut one = Session::open(&rt, &manager, passes.remove(0));
-    assert!(rt; takes(&mut one, &sales));
-    assert_eq!(rt; waits(&mut two, &sales), Ok(Begun::Waiting(1)));
-    assert_eq!(rt; two.poll_wait(), Ok(Poll::Pending));
-    assert_eq!(rt; one.wait_of(2), Some(1));
-    assert_eq!(rt; two.wait_of(1), None);
-    assert_eq!(rt; gives_up(&mut two), Ok(Ended::Timeout));
-    assert_eq!(rt; one.wait_of(2), None);
-    assert_eq!(rt; one.release(1), Ok(()));
-    closed(&rt, one);
-    closed(&rt, two);
-    Ok(())
+    are_right_of_two(&rt, 1, CLASHING)
 }
 
-// A kill hits the wait of its number once, and its session learns of it.
+const MAKING_WAY: &[RowOfTwo] = &[
+    (1, Act::Resolve(Lock::Sales), Reply::Place(1)),
+    (2, Act::Resolve(Lock::Sales), Reply::Place(1)),
+    (1, Act::Try(1, Mode::SR), Reply::Granted(1)),
+    (2, Act::Begin(1, Mode::X), Reply::Waiting(1)),
+    (1, Act::Reschedule(1), Reply::Done),
+    (2, Act::Poll, Reply::Pending),
+    (1, Act::Try(1, Mode::SR), Reply::WouldWait),
+    (1, Act::Release(1), Reply::Done),
+    (1, Act::Kill(2, 1), Reply::Is(false)),
+    (2, Act::Poll, Reply::Settled(Settled::Granted)),
+    (2, Act::TimeOut, Reply::Settled(Settled::Granted)),
+    (2, Act::End, Reply::Ended(Ended::Granted(1))),
+    (2, Act::Upgrade(1, Mode::X), Reply::Upgraded),
+    (1, Act::Try(1, Mode::S), Reply::WouldWait),
+    (2, Act::Release(1), Reply::Done),
+];
+
+// Whoever gives a ticket up grants the wait that stood against it alone. A kill comes too late then.
+#[test]
+fn a_release_grants_who_waits(rt: HostRuntime) -> Result<(), Fail> {
+    are_right_of_two(&rt, 1, MAKING_WAY)
+}
+
+const DOWNGRADED: &[RowOfTwo] = &[
+    (1, Act::Resolve(Lock::Sales), Reply::Place(1)),
+    (2, Act::Resolve(Lock::Sales), Reply::Place(1)),
+    (1, Act::Try(1, Mode::X), Reply::Granted(1)),
+    (2, Act::Begin(1, Mode::SW), Reply::Waiting(1)),
+    (1, Act::Downgrade(1, Mode::SU), Reply::Done),
+    (2, Act::Poll, Reply::Settled(Settled::Granted)),
+    (2, Act::End, Reply::Ended(Ended::Granted(1))),
+    (2, Act::Release(1), Reply::Done),
+    (1, Act::Release(1), Reply::Done),
+];
+
+// So does whoever weakens one.
+#[test]
+fn a_downgrade_grants_who_waits(rt: HostRuntime) -> Result<(), Fail> {
+    are_right_of_two(&rt, 1, DOWNGRADED)
+}
+
+const KILLED: &[RowOfTwo] = &[
+    (1, Act::Resolve(Lock::Sales), Reply::Place(1)),
+    (2, Act::Resolve(Lock::Sales), Reply::Place(1)),
+    (1, Act::Try(1, Mode::X), Reply::Granted(1)),
+    (2, Act::Begin(1, Mode::S), Reply::Waiting(1)),
+    (1, Act::Kill(2, 2), Reply::Is(false)),
+    (1, Act::Kill(2, 1), Reply::Is(true)),
+    (1, Act::Kill(2, 1), Reply::Is(false)),
+    (1, Act::Release(1), Reply::Done),
+    (2, Act::Poll, Reply::Settled(Settled::Killed)),
+    (2, Act::TimeOut, Reply::Settled(Settled::Killed)),
+    (2, Act::End, Reply::Ended(Ended::Killed)),
+    (2, Act::Try(1, Mode::X), Reply::Granted(2)),
+    (2, Act::Release(2), Reply::Done),
+];
+
+// A kill hits the wait of its number once, and its session learns of it. A wait that was killed isn't granted.
 #[test]
 fn a_kill_settles_a_wait(rt: HostRuntime) -> Result<(), Fail> {
-    let (manager, mut passes) = Manager::new(rt.alloc(), 1, 2)?;
-    let sales = Key::table(rt.alloc(), "shop", "sales")?;
-    let mut two = Session::open(&rt, &manager, passes.remove(1));
-    let mut one = Session::open(&rt, &manager, passes.remove(0));
-    assert!(rt; takes(&mut one, &sales));
-    assert_eq!(rt; waits(&mut two, &sales), Ok(Begun::Waiting(1)));
-    assert!(rt; !one.kill(2, 2) && one.kill(2, 1) && !one.kill(2, 1));
-    assert_eq!(rt; two.poll_wait(), Ok(Poll::Settled(Settled::Killed)));
-    assert_eq!(rt;
-        two.settle_timeout(),
-        Ok(TimedOut::Already(Settled::Killed))
-    );
-    assert_eq!(rt; two.end_wait(), Ok(Ended::Killed));
-    assert_eq!(rt; one.release(1), Ok(()));
-    closed(&rt, one);
-    closed(&rt, two);
-    Ok(())
+    are_right_of_two(&rt, 1, KILLED)
 }
+
+const KILLED_LATE: &[RowOfTwo] = &[
+    (1, Act::Resolve(Lock::Sales), Reply::Place(1)),
+    (2, Act::Resolve(Lock::Sales), Reply::Place(1)),
+    (1, Act::Try(1, Mode::X), Reply::Granted(1)),
+    (2, Act::Begin(1, Mode::S), Reply::Waiting(1)),
+    (2, Act::TimeOut, Reply::Done),
+    (2, Act::End, Reply::Ended(Ended::Timeout)),
+    (2, Act::Begin(1, Mode::S), Reply::Waiting(2)),
+    (1, Act::Kill(2, 1), Reply::Is(false)),
+    (2, Act::Poll, Reply::Pending),
+    (2, Act::TimeOut, Reply::Done),
+    (2, Act::End, Reply::Ended(Ended::Timeout)),
+    (1, Act::Release(1), Reply::Done),
+];
 
 // A kill that comes late doesn't hit the session's next wait.
 #[test]
 fn a_late_kill_misses(rt: HostRuntime) -> Result<(), Fail> {
-    let (manager, mut passes) = Manager::new(rt.alloc(), 1, 2)?;
-    let sales = Key::table(rt.alloc(), "shop", "sales")?;
-    let mut two = Session::open(&rt, &manager, passes.remove(1));
-    let mut one = Session::open(&rt, &manager, passes.remove(0));
-    assert!(rt; takes(&mut one, &sales));
-    assert_eq!(rt; waits(&mut two, &sales), Ok(Begun::Waiting(1)));
-    assert_eq!(rt; gives_up(&mut two), Ok(Ended::Timeout));
-    assert_eq!(rt; waits(&mut two, &sales), Ok(Begun::Waiting(2)));
-    assert!(rt; !one.kill(2, 1) && two.poll_wait() == Ok(Poll::Pending));
-    assert_eq!(rt; gives_up(&mut two), Ok(Ended::Timeout));
-    assert_eq!(rt; one.release(1), Ok(()));
-    closed(&rt, one);
-    closed(&rt, two);
-    Ok(())
+    are_right_of_two(&rt, 1, KILLED_LATE)
 }
+
+const ALONE: &[Row] = &[
+    (Act::Begin(1, Mode::S), Reply::Refused(SpaceError::NoPlace)),
+    (Act::Reschedule(1), Reply::Refused(SpaceError::NoPlace)),
+    (Act::Resolve(Lock::Sales), Reply::Place(1)),
+    (Act::Begin(1, Mode::S), Reply::Granted(1)),
+    (Act::Poll, NO_WAIT),
+    (Act::TimeOut, NO_WAIT),
+    (Act::End, NO_WAIT),
+    (Act::Begin(1, Mode::IX), BAD_MODE),
+    (Act::Kill(0, 1), Reply::Is(false)),
+    (Act::Kill(1, 1), Reply::Is(false)),
+    (Act::Kill(1, u64::MAX), Reply::Is(false)),
+    (Act::Kill(2, 1), Reply::Is(false)),
+    (Act::WaitOf(2), Reply::Wait(None)),
+    (Act::Release(1), Reply::Done),
+];
 
 // What can be had now isn't waited for, and what isn't there is refused.
 #[test]
 fn a_wish_that_clashes_with_nothing_is_granted(rt: HostRuntime) -> Result<(), Fail> {
-    let (manager, mut passes) = Manager::new(rt.alloc(), 1, 1)?;
-    let sales = Key::table(rt.alloc(), "shop", "sales")?;
-    let mut session = Session::open(&rt, &manager, passes.remove(0));
-    assert_eq!(rt; waits(&mut session, &sales), Ok(Begun::Granted(1)));
-    assert!(rt; without_wait(&mut session));
-    assert_eq!(rt; session.begin_wait(1, Mode::IX), Err(SpaceError::BadMode));
-    assert!(rt; !session.kill(0, 1) && !session.kill(2, 1) && !session.kill(1, 1));
-    assert!(rt; !session.kill(1, u64::MAX));
-    assert_eq!(rt; session.wait_of(2), None);
-    assert_eq!(rt; session.release(1), Ok(()));
-    closed(&rt, session);
-    Ok(())
+    are_right(&rt, 1, ALONE)
 }
 
-// A session that waits isn't closed, and asks for nothing more.
+const ASKING_MORE: &[RowOfTwo] = &[
+    (1, Act::Resolve(Lock::Sales), Reply::Place(1)),
+    (2, Act::Resolve(Lock::Sales), Reply::Place(1)),
+    (1, Act::Try(1, Mode::S), Reply::Granted(1)),
+    (2, Act::Try(1, Mode::SU), Reply::Granted(1)),
+    (2, Act::Begin(1, Mode::X), Reply::Waiting(1)),
+    (2, Act::Try(1, Mode::IX), WAITS_ALREADY),
+    (2, Act::Begin(1, Mode::S), WAITS_ALREADY),
+    (
+        2,
+        Act::Begin(2, Mode::S),
+        Reply::Refused(SpaceError::NoPlace),
+    ),
+    (2, Act::Clone(1, Mode::SU), WAITS_ALREADY),
+    (2, Act::Upgrade(1, Mode::X), WAITS_ALREADY),
+    (2, Act::Merge(1, 1), WAITS_ALREADY),
+    (2, Act::End, Reply::Refused(SpaceError::Unsettled)),
+    (2, Act::Release(1), Reply::Done),
+    (2, Act::TimeOut, Reply::Done),
+    (2, Act::End, Reply::Ended(Ended::Timeout)),
+    (1, Act::Release(1), Reply::Done),
+];
+
+// A session that waits asks for nothing more, but keeps its tickets, and may give them up. A cause of a lesser number is told first.
+#[test]
+fn a_session_that_waits_has_its_tickets(rt: HostRuntime) -> Result<(), Fail> {
+    are_right_of_two(&rt, 1, ASKING_MORE)
+}
+
+const HOLDS: &[Row] = &[
+    (Act::Resolve(Lock::Sales), Reply::Place(1)),
+    (Act::Try(1, Mode::X), Reply::Granted(1)),
+];
+
+const WAITS: &[Row] = &[
+    (Act::Resolve(Lock::Sales), Reply::Place(1)),
+    (Act::Begin(1, Mode::S), Reply::Waiting(1)),
+];
+
+const GIVES_UP: &[Row] = &[
+    (Act::TimeOut, Reply::Done),
+    (Act::End, Reply::Ended(Ended::Timeout)),
+];
+
+const RELEASES: &[Row] = &[(Act::Release(1), Reply::Done)];
+
+// A session that waits isn't closed.
 #[test]
 fn a_session_that_waits_stays_open(rt: HostRuntime) -> Result<(), Fail> {
     let (manager, mut passes) = Manager::new(rt.alloc(), 1, 2)?;
-    let sales = Key::table(rt.alloc(), "shop", "sales")?;
-    let mut two = Session::open(&rt, &manager, passes.remove(1));
-    let mut one = Session::open(&rt, &manager, passes.remove(0));
-    assert!(rt; takes(&mut one, &sales));
-    assert_eq!(rt; waits(&mut two, &sales), Ok(Begun::Waiting(1)));
-    assert!(rt; wishes_refused_while_waiting(&mut two));
-    let Err(HoldsTickets(mut two)) = two.close() else {
-        panic!(rt; "the session has a wait");
-    };
-    assert_eq!(rt; gives_up(&mut two), Ok(Ended::Timeout));
-    assert_eq!(rt; one.release(1), Ok(()));
-    closed(&rt, one);
-    closed(&rt, two);
-    Ok(())
-}
-
-// A session that waits keeps its tickets, and may give them up.
-#[test]
-fn a_session_that_waits_has_its_tickets(rt: HostRuntime) -> Result<(), Fail> {
-    let (manager, mut passes) = Manager::new(rt.alloc(), 1, 2)?;
-    let sales = Key::table(rt.alloc(), "shop", "sales")?;
-    let mut two = Session::open(&rt, &manager, passes.remove(1));
-    let mut one = Session::open(&rt, &manager, passes.remove(0));
-    assert_eq!(rt; waits(&mut one, &sales), Ok(Begun::Granted(1)));
-    assert_eq!(rt; two.resolve(&sales), Ok(1));
-    assert_eq!(rt; two.try_now(1, Mode::SU), Ok(Attempt::Granted(1)));
-    assert_eq!(rt; two.begin_wait(1, Mode::X), Ok(Begun::Waiting(1)));
-    assert!(rt; refused_while_waiting(&mut two));
-    assert_eq!(rt; two.release(1), Ok(()));
-    assert_eq!(rt; gives_up(&mut two), Ok(Ended::Timeout));
-    assert_eq!(rt; one.release(1), Ok(()));
-    closed(&rt, one);
-    closed(&rt, two);
+    let two = Session::open(&rt, &manager, passes.remove(1));
+    let one = Session::open(&rt, &manager, passes.remove(0));
+    let one = led(&rt, one, HOLDS);
+    let two = kept_open(&rt, led(&rt, two, WAITS));
+    closed(&rt, led(&rt, two, GIVES_UP));
+    closed(&rt, led(&rt, one, RELEASES));
     Ok(())
 }
