@@ -3,6 +3,7 @@ use Rattle.std.proofs.Common.{◌≡◌, ℕ, ◌+◌, ◌<◌, Bool, List, [], 
 use Rattle.std.specs.Prelude.{Option, OnErr, OnOk}
 use Rattle.std.specs.Option.{ok_or}
 use Rattle.std.proofs.lemmas.Bool.{ltb-true, lt-ltb}
+use Rattle.atomic_table.specs.Seated.{TableId}
 use Rattle.mdl_calls.specs.declared.answers.Ended.{Ended}
 use Rattle.mdl_calls.specs.declared.answers.Ended.TheVariants as ended_as
 use Rattle.mdl_calls.specs.declared.answers.Settled.{Settled}
@@ -25,13 +26,15 @@ use Rattle.mdl_steps.specs.Seats.{HasDone, Holds, elsewhere, rest, written}
 use Rattle.mdl_steps.specs.WaitPlays.{ended_lost, wait_in, with_cancelled}
 use Rattle.mdl_steps.specs.WaitSeats.{MayCancel}
 use Rattle.mdl_steps.proofs.Hands.{holds_written}
-use Rattle.mdl_steps.proofs.Tickets.{without-miss}
+use Rattle.mdl_steps.proofs.Tickets.{once-without, without-miss}
 use Rattle.mdl_steps.proofs.Views.{by_bool}
-use Rattle.mdl_shared.specs.Endings.{EndsLost, EndsThere, MayEnd, end_of, idle, lost_end, ticket_asked, tickets_after}
-use Rattle.mdl_shared.specs.Leavings.{Leaves}
+use Rattle.mdl_shared.specs.Endings.{EndMakesWay, EndsLost, EndsThere, MayEnd, end_of, idle, lost_end, ticket_asked, tickets_after, without_wait}
+use Rattle.mdl_shared.specs.Grantings.{LeavesWay, MadeWay, StandsOnce, WaitsOnce}
 use Rattle.mdl_shared.specs.Polls.{state_of}
-use Rattle.mdl_shared.specs.Visits.{GoesOn, IsInside, IsStepOf, and_made}
+use Rattle.mdl_shared.specs.Visits.{GoesOn, IsInside, IsStepOf}
 use Rattle.mdl_shared.proofs.Losing.{any_before, no_longer}
+use Rattle.mdl_shared.proofs.Waiting.{found_before}
+use Rattle.mdl_shared.proofs.WayOut.{visits_for_way, waits_once, way_after}
 
 -- ---- the book
 
@@ -71,6 +74,16 @@ module _ (session number : ℕ) where
           let stays : cancelling session number book ≡ book = (λ i. record book { waiting = none_there book.waiting none i }) in
           same ∙ (λ i. (m.0, carried i)) ∙ ap (λ (b : BookView). written place b m) (sym stays)
 
+-- ---- who waits
+
+-- a list without one of its tickets has each session at most once still
+stands_less : (session number : ℕ) (ts : List Ticket) → StandsOnce ts → StandsOnce (without session number ts)
+stands_less session number ts stands = record {
+  once = once-without session number ts stands.once;
+  single = λ who i j t u first second.
+      stands.single who i j t u (found_before session number ts stands.once who i t first) (found_before session number ts stands.once who j u second);
+}
+
 -- ---- the steps
 
 module _ (place : ℕ) (h : Held) (m m₁ m₂ : Mine) (may : MayEnd place h m) (wrote : m₁ ≡ written place (cancelling m.0.number may.may.ask.number h.book) m) where
@@ -98,17 +111,28 @@ module _ (place : ℕ) (h : Held) (m m₁ m₂ : Mine) (may : MayEnd place h m) 
         still_flagged m.0.number may.may.ask.number h.book h.slow h.obtrusive ((λ e. may.exact.0 ∙ e), λ e. may.exact.1 ∙ e),
       )
 
-  pub ends_there : (slots state : ℕ) (m₃ : Mine) → m₂ ≡ ended_lost slots place may.may.ask.number state m₁ → elsewhere place m₂ ≡ elsewhere place m₁ → Leaves place [] m₂ m₃ → EndsThere place m m₃
-  ends_there slots state m₃ ended apart left =
+  -- and each session waits there at most once
+  pub waits_less : Holds place (with_cancelled m₁.0.number may.may.ask.number h) (cancelling m.0.number may.may.ask.number h.book) m₂ → StandsOnce h.book.waiting → WaitsOnce place m₂
+  waits_less holds once =
+      waits_once place (with_cancelled m₁.0.number may.may.ask.number h) m₂ holds.recorded (stands_less m₁.0.number may.may.ask.number h.book.waiting once)
+
+  pub ends_there : (id : TableId) (slots state : ℕ) (m₃ : Mine) → m₂ ≡ ended_lost slots place may.may.ask.number state m₁ → elsewhere place m₂ ≡ elsewhere place m₁ → LeavesWay id place [] m₂ m₃
+      → EndsThere id place m m₃
+  ends_there id slots state m₃ ended apart left =
       let e : Met = record { word = wait_word slots m.0.number; found = wait_in m.0.waits state; held = m.0.latches } in
       let others : elsewhere place m₂ ≡ elsewhere place m = apart ∙ ap (elsewhere place) wrote in
       let same : m₂ ≡ ended_lost slots place may.may.ask.number state (written place (cancelling m.0.number may.may.ask.number h.book) m) =
-      ended ∙ ap (ended_lost slots place may.may.ask.number state) wrote in (
-        e ∷ left.0,
-        left.1
-            ∙ ap (λ (x : Mine). and_made left.0 (record x.0 { latches = elsewhere place m₂ }, rest x.1)) same
-            ∙ (λ i. (record (idle m.0) { latches = others i; log = append_assoc m.0.log (e ∷ []) left.0 i }, rest m.1)),
-      )
+      ended ∙ ap (ended_lost slots place may.may.ask.number state) wrote in
+      record {
+        told = left.told;
+        settles = left.settles;
+        made = e ∷ left.made;
+        now = left.now
+            ∙ ap (λ (x : Mine). (record x.0 { latches = elsewhere place m₂; told = left.told; settles = left.settles; log = x.0.log ++ left.made }, rest x.1)) same
+            ∙ (λ i. (record (idle m.0) { latches = others i; told = left.told; settles = left.settles; log = append_assoc m.0.log (e ∷ []) left.made i }, rest m.1));
+        way = way_after id place (without_wait m) m₂ m₃ (e ∷ [], ap (λ (x : Mine). x.0.log) same) (ap (λ (x : Mine). x.0.settles) same) (ap (λ (x : Mine). x.0.told) same)
+            (ap (λ (x : Mine). x.0.number) same) (ap (λ (x : Mine). x.0.asks) same) left.way;
+      }
 
 -- ---- the visit
 
@@ -132,13 +156,11 @@ module _ (place : ℕ) (m m′ : Mine) (inside : IsInside place m m′) where
     refl,
   )
 
-  pub ends : (m″ : Mine) → EndsThere place m′ m″ → EndsLost m m″
-  ends m″ ended = (
-    inside.made ++ ended.0,
-    ended.1
-        ∙ ap (λ (x : Mine). and_made ended.0 (record (idle x.0) { latches = elsewhere place x }, rest x.1)) inside.now
-        ∙ (λ i. (record (idle m.0) { latches = inside.others i; log = append_assoc m.0.log inside.made ended.0 i }, m.1)),
-  )
+  pub ends : (id : TableId) (m″ : Mine) → EndsThere id place m′ m″ → EndsLost id place m m″
+  ends id m″ ended =
+      visits_for_way id place [] (without_wait m) (without_wait m′) m″
+      (record { latches = inside.latches; made = inside.made; book = inside.book; now = ap without_wait inside.now; others = inside.others })
+      ended
 
 -- ---- how it ended
 
@@ -168,3 +190,22 @@ granted_so a settled.Granted tickets is = (refl, refl, refl)
 granted_so a settled.Victim tickets is = absurd (cc)
 granted_so a settled.Timeout tickets is = absurd (cc)
 granted_so a settled.Killed tickets is = absurd (cc)
+
+-- a wait that was lost made way
+pub lost_way : (id : TableId) (place : ℕ) (m m′ : Mine) (how : Settled) (ended : Ended) → lost_end how ≡ Some ended → MadeWay id place (without_wait m) m′ → EndMakesWay id place ended m m′
+lost_way id place m m′ how (ended_as.Granted number) is way = absurd (never how is)
+  where
+    never : (how : Settled) → lost_end how ≡ Some (ended_as.Granted number) → ⊥
+    never settled.Granted is = absurd (cc)
+    never settled.Victim is = absurd (cc)
+    never settled.Timeout is = absurd (cc)
+    never settled.Killed is = absurd (cc)
+lost_way id place m m′ how ended_as.Victim is way = way
+lost_way id place m m′ how ended_as.Timeout is way = way
+lost_way id place m m′ how ended_as.Killed is way = way
+
+-- as it did where the wait was only met before
+pub way_met_before : (id : TableId) (place : ℕ) (m m′ m″ : Mine) (e : Met) → IsStepOf m m′ e → m′.0.settles ≡ m.0.settles → m′.0.number ≡ m.0.number → MadeWay id place (without_wait m′) m″
+    → MadeWay id place (without_wait m) m″
+way_met_before id place m m′ m″ e step settles number way =
+    way_after id place (without_wait m) (without_wait m′) m″ (step.0 ++ e ∷ step.1, step.2 ∙ append_assoc m.0.log step.0 (e ∷ step.1)) settles refl number refl way

@@ -48,7 +48,7 @@ module _ (session number : ℕ) where
   some_there (x ∷ xs) t found = omega arith
 
   -- who is found after that was found before
-  found_before : (ts : List Ticket) → Once ts → (a m : ℕ) (t : Ticket) → ticket_of a m (without session number ts) ≡ Some t → ticket_of a m ts ≡ Some t
+  pub found_before : (ts : List Ticket) → Once ts → (a m : ℕ) (t : Ticket) → ticket_of a m (without session number ts) ≡ Some t → ticket_of a m ts ≡ Some t
   found_before ts once a m t found = elim (cases_eq a session) [
     | inl who ↦ elim (cases_eq m number) [
       | inl same ↦ let none : ticket_of a m (without session number ts) ≡ None =

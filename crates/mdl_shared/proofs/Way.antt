@@ -1,6 +1,6 @@
 -- Way is made step by step.
-use Rattle.std.proofs.Common.{◌≡◌, ℕ, ◌+◌, ◌*◌, ◌%◌, ◌<◌, ◌==◌, ◌&&◌, nat_lt, List, [], ◌∷◌, ◌++◌, Some, refl, sym, ap, ◌∙◌, subst, append_assoc, append-nil, arith}
-use Rattle.std.proofs.lemmas.Bool.{and_parts, eqb-true}
+use Rattle.std.proofs.Common.{◌≡◌, ℕ, ◌+◌, ◌*◌, ◌%◌, ◌<◌, ◌==◌, ◌&&◌, nat_lt, List, [], ◌∷◌, ◌++◌, Some, None, refl, sym, ap, ◌∙◌, subst, append_assoc, append-nil, arith}
+use Rattle.std.proofs.lemmas.Bool.{and_parts, eqb-true, ltb-true}
 use Rattle.mdl_book.specs.declared.book_view.BookView.{BookView}
 use Rattle.mdl_steps.specs.declared.slot.Slot.TheVariants as slot
 use Rattle.mdl_steps.specs.declared.view.Held.{Held}
@@ -41,6 +41,26 @@ stays_granted slots session number v own state told =
     absurd (omega arith))
     (λ other. rw other told)
 
+-- and a session without a wait meets none of its own that is settled, or was just now
+pub unasked_met : (slots session word : ℕ) (v : View) → TellsOwn slots session word v → v.asks ≡ None → (meeting session word v).told ≡ v.told
+unasked_met slots session word v own none =
+    by_bool (session == v.number && nat_lt 1 (word % 8))
+    (λ mine.
+    let parts = and_parts (session == v.number) (nat_lt 1 (word % 8)) mine in
+    let idle : word % 8 ≡ 0 = (own (eqb-true session v.number parts.0)).idle none in
+    let over : 1 < word % 8 = ltb-true 1 (word % 8) parts.1 in
+    absurd (omega arith))
+    (λ other. rw other refl)
+
+pub unasked_granted : (slots session number : ℕ) (v : View) → TellsOwn slots session (wait_in number 1) v → v.asks ≡ None → (meeting session (wait_in number 2) v).told ≡ v.told
+unasked_granted slots session number v own none =
+    by_bool (session == v.number && nat_lt 1 (wait_in number 2 % 8))
+    (λ mine.
+    let who = eqb-true session v.number (and_parts (session == v.number) (nat_lt 1 (wait_in number 2 % 8)) mine).0 in
+    let idle : (8 * number + 1) % 8 ≡ 0 = (own who).idle none in
+    absurd (omega arith))
+    (λ other. rw other refl)
+
 module _ (slots place : ℕ) where
   -- ---- nothing yet
 
@@ -54,6 +74,7 @@ module _ (slots place : ℕ) where
     now = λ i. (record m.0 { settles = sym (append-nil m.0.settles) i; log = sym (append-nil m.0.log) i }, carried i);
     others = refl;
     stays = λ state e. e;
+    unasked = λ none. refl;
     granted = tt;
   }
 
@@ -70,6 +91,7 @@ module _ (slots place : ℕ) where
     now = is ∙ (λ i. (record (met_wait slots session found m).0 { settles = sym (append-nil m.0.settles) i }, carried i));
     others = refl;
     stays = stays_met slots session found m.0 own;
+    unasked = unasked_met slots session found m.0 own;
     granted = tt;
   }
 
@@ -106,6 +128,7 @@ module _ (slots place : ℕ) where
       now = is ∙ (λ i. ((settled_granted slots place session ticket number m).0, has.carried i));
       others = elsewhere-stepped place 0 (with_admitted session ticket) m (λ x. refl);
       stays = stays_granted slots session number m.0 own;
+      unasked = unasked_granted slots session number m.0 own;
       granted = (
         (grants_it, ([], [], ap (λ (x : Mine). x.0.log) is ∙ ap (λ (log : List Met). log ++ grants_it ∷ []) (sym (append-nil m.0.log))), meets wish_number),
         tt,
@@ -123,6 +146,7 @@ module _ (slots place : ℕ) where
     now = is ∙ (λ i. (record m.0 { settles = sym (append-nil m.0.settles) i; log = sym (append-nil m.0.log) i }, (place, slot.Place next) ∷ rest m.1));
     others = refl;
     stays = λ state e. e;
+    unasked = λ none. refl;
     granted = tt;
   }
 
@@ -143,6 +167,7 @@ module _ (slots place : ℕ) where
         ∙ (λ i. (record a.0 { latches = y.latches; told = y.told; settles = append_assoc a.0.settles x.grants y.grants i; log = append_assoc a.0.log x.made y.made i }, (place, slot.Place y.book) ∷ rest a.1));
     others = y.others ∙ ap (elsewhere place) x.now ∙ x.others;
     stays = λ state e. y.stays state (ap (λ (w : Mine). w.0.told) x.now ∙ x.stays state e);
+    unasked = λ none. y.unasked (ap (λ (w : Mine). w.0.asks) x.now ∙ none) ∙ ap (λ (w : Mine). w.0.told) x.now ∙ x.unasked none;
     granted = each_append (λ (g : Settlement). (e : Met) × IsStepOf a c e × MeetsGranted slots place g e) x.grants y.grants
         (each_map (λ (g : Settlement). (e : Met) × IsStepOf a b e × MeetsGranted slots place g e) (λ (g : Settlement). (e : Met) × IsStepOf a c e × MeetsGranted slots place g e)
         (λ g met. (met.0, step_before a b c (steps_of b c y) met.0 met.1, met.2)) x.grants x.granted)

@@ -57,8 +57,8 @@ module _ (id : TableId) (place : ℕ) (a b c : Mine) (more : GoesOn a b) where
   served_after latch (inr looked) = inr (looked_after latch looked)
 
   -- where nothing of waits changed before, way was made from there on
-  pub way_after : b.0.settles ≡ a.0.settles → b.0.told ≡ a.0.told → b.0.number ≡ a.0.number → MadeWay id place b c → MadeWay id place a c
-  way_after settles told number way =
+  pub way_after : b.0.settles ≡ a.0.settles → b.0.told ≡ a.0.told → b.0.number ≡ a.0.number → b.0.asks ≡ a.0.asks → MadeWay id place b c → MadeWay id place a c
+  way_after settles told number asks way =
       let s = way.served in
       let m = s.2 in
       record {
@@ -67,6 +67,7 @@ module _ (id : TableId) (place : ℕ) (a b c : Mine) (more : GoesOn a b) where
         granted = granted_after way.grants way.granted;
         served = (s.0, step_after a b c more s.0 s.1, record { word = m.word; freed = m.freed ∙ number; latch = m.latch; held = m.held; served = served_after m.latch m.served });
         stays = λ state e. way.stays state (told ∙ e);
+        unasked = λ none. way.unasked (asks ∙ none) ∙ told;
       }
 
 -- ---- nobody waits
@@ -91,6 +92,7 @@ module _ (id : TableId) (place : ℕ) (h : Held) (m c : Mine) (has : Holds place
         record { word = refl; freed = refl; latch = h; held = has.recorded; served = inl nobody },
       );
       stays = λ state e. ap (λ (x : Mine). x.0.told) put ∙ e;
+      unasked = λ none. ap (λ (x : Mine). x.0.told) put;
     };
   }
 
@@ -159,6 +161,7 @@ module _ (id : TableId) (place word : ℕ) (g : Held) (m a b c : Mine) (read : a
         },
       );
       stays = λ state e. ap (λ (x : Mine). x.0.told) put ∙ ap (λ (x : Mine). x.0.told) way.now ∙ way.stays state (ap (λ (x : Mine). x.0.told) read ∙ e);
+      unasked = λ none. ap (λ (x : Mine). x.0.told) put ∙ ap (λ (x : Mine). x.0.told) way.now ∙ way.unasked (ap (λ (x : Mine). x.0.asks) read ∙ none) ∙ ap (λ (x : Mine). x.0.told) read;
     };
   }
 
@@ -191,7 +194,7 @@ module _ (id : TableId) (place : ℕ) (ds : List Deed) (m b c : Mine) (low : IsL
           },
           rest m.1,
         ));
-    way = way_after id place m b c m_low (ap (λ (x : Mine). x.0.settles) low.4) (ap (λ (x : Mine). x.0.told) low.4) (ap (λ (x : Mine). x.0.number) low.4) left.way;
+    way = way_after id place m b c m_low (ap (λ (x : Mine). x.0.settles) low.4) (ap (λ (x : Mine). x.0.told) low.4) (ap (λ (x : Mine). x.0.number) low.4) (ap (λ (x : Mine). x.0.asks) low.4) left.way;
   }
 
   pub step_lowered : (e : Met) × IsStepOf m c e × (e.word ≡ lock_word place) × (e.held ≡ m.0.latches)
@@ -220,7 +223,7 @@ visits_for_way id place ds m a c inside left = record {
       ∙ ap (λ (x : Mine). (record (all_done place ds x.0) { latches = elsewhere place x; told = left.told; settles = left.settles; log = x.0.log ++ left.made }, rest x.1)) inside.now
       ∙ (λ i. (record (all_done place ds m.0) { latches = inside.others i; told = left.told; settles = left.settles; log = append_assoc m.0.log inside.made left.made i }, m.1));
   way = way_after id place m a c (inside.made, ap (λ (x : Mine). x.0.log) inside.now) (ap (λ (x : Mine). x.0.settles) inside.now) (ap (λ (x : Mine). x.0.told) inside.now)
-      (ap (λ (x : Mine). x.0.number) inside.now) left.way;
+      (ap (λ (x : Mine). x.0.number) inside.now) (ap (λ (x : Mine). x.0.asks) inside.now) left.way;
 }
 
 -- what was left after a write was left before it
@@ -228,7 +231,7 @@ pub way_before_write : (id : TableId) (place : ℕ) (ds : List Deed) (book : Boo
 way_before_write id place ds book m b c is left = shown (subst (λ (x : Mine). LeavesWay id place ds x c) is left)
   where
     shown : LeavesWay id place ds (written place book m) c → LeavesWay id place ds m c
-    shown l = record { told = l.told; settles = l.settles; made = l.made; now = l.now; way = way_after id place m (written place book m) c ([], sym (append-nil m.0.log)) refl refl refl l.way }
+    shown l = record { told = l.told; settles = l.settles; made = l.made; now = l.now; way = way_after id place m (written place book m) c ([], sym (append-nil m.0.log)) refl refl refl refl l.way }
 
 -- a list with no element
 pub nobody_waits : (ts : List Ticket) → nat_lt 0 (length ts) ≡ false → ts ≡ []

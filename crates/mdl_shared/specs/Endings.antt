@@ -1,24 +1,28 @@
 -- How a session's wait ends.
 use Rattle.std.specs.Prelude.{◌≡◌, ℕ, List, [], ◌∷◌, ◌++◌, Option, Some, None}
+use Rattle.atomic_table.specs.Seated.{TableId}
 use Rattle.mdl_calls.specs.declared.answers.Ended.{Ended}
 use Rattle.mdl_calls.specs.declared.answers.Ended.TheVariants as ended
 use Rattle.mdl_calls.specs.declared.answers.Settled.{Settled}
 use Rattle.mdl_calls.specs.declared.answers.Settled.TheVariants as settled
 use Rattle.mdl_steps.specs.declared.view.Ask.{Ask}
 use Rattle.mdl_steps.specs.declared.view.Held.{Held}
-use Rattle.mdl_steps.specs.declared.view.Met.{Met}
 use Rattle.mdl_steps.specs.declared.view.Own.{Own}
 use Rattle.mdl_steps.specs.declared.view.View.{View}
 use Rattle.mdl_steps.specs.Plays.{Mine}
 use Rattle.mdl_steps.specs.Rule.{TellsLists}
-use Rattle.mdl_steps.specs.Seats.{Holds, elsewhere, rest}
+use Rattle.mdl_steps.specs.Seats.{Holds}
 use Rattle.mdl_steps.specs.WaitSeats.{MayCancel}
 use Rattle.mdl_shared.specs.declared.member.Member.{Member}
-use Rattle.mdl_shared.specs.Visits.{and_made}
+use Rattle.mdl_shared.specs.Grantings.{LeavesWay, MadeWay, VisitsForWay}
+use Rattle.mdl_shared.specs.Polls.{SettlesNothing}
 
 -- a session that waits for nothing
 abbrev pub idle : View → View
 idle v = record v { asks = None; told = None }
+
+abbrev pub without_wait : Mine → Mine
+without_wait m = (idle m.0, m.1)
 
 -- the ticket that was waited for, as the session has it
 abbrev pub ticket_asked : Ask → Own
@@ -30,13 +34,14 @@ pub record MayEnd (place : ℕ) (h : Held) (m : Mine) : Type 0 where
   pub may : MayCancel place h m
   pub exact : TellsLists h.book h.slow h.obtrusive
 
--- the session ended its wait under the latch of a place, and gave the latch and the slot that it took last back; nothing else changed
-abbrev pub EndsThere : ℕ → Mine → Mine → Type 0
-EndsThere place m m′ = (made : List Met) × (m′ ≡ and_made made (record (idle m.0) { latches = elsewhere place m }, rest m.1))
+-- the session ended its wait under the latch of a place, made way there without it, and gave the latch and the slot that it took last back;
+-- nothing else changed
+abbrev pub EndsThere : TableId → ℕ → Mine → Mine → Type 0
+EndsThere id place m m′ = LeavesWay id place [] (without_wait m) m′
 
--- the session ended its wait, and nothing else changed
-abbrev pub EndsLost : Mine → Mine → Type 0
-EndsLost m m′ = (made : List Met) × (m′ ≡ and_made made (idle m.0, m.1))
+-- the session ended its wait at a place, made way there without it, and nothing else changed
+abbrev pub EndsLost : TableId → ℕ → Mine → Mine → Type 0
+EndsLost id place m m′ = VisitsForWay id place [] (without_wait m) m′
 
 -- it has no wait from then on, and holds these tickets
 pub record EndsWith (tickets : List Own) (m m′ : Member) : Type 0 where
@@ -63,3 +68,8 @@ end_of id settled.Killed = ended.Killed
 abbrev pub tickets_after : Ask → Settled → List Own → List Own
 tickets_after a settled.Granted tickets = tickets ++ ticket_asked a ∷ []
 tickets_after a _ tickets = tickets
+
+-- the end of a wait at a place settled no wait where it was granted. Where it was lost, way was made there without it
+abbrev pub EndMakesWay : TableId → ℕ → Ended → Mine → Mine → Type 0
+EndMakesWay id place (ended.Granted number) m m′ = SettlesNothing m m′
+EndMakesWay id place _ m m′ = MadeWay id place (without_wait m) m′

@@ -127,6 +127,7 @@ pub record MakesWay (slots place : ℕ) (m m′ : Mine) : Type 0 where
   pub now : m′ ≡ (record m.0 { latches = latches; told = told; settles = m.0.settles ++ grants; log = m.0.log ++ made }, (place, slot.Place book) ∷ rest m.1)
   pub others : filter (λ h. not (h.place == place)) latches ≡ elsewhere place m
   pub stays : StaysTold m.0.told told
+  pub unasked : m.0.asks ≡ None → told ≡ m.0.told
   pub granted : AreGranted slots place grants m m′
 
 -- ---- and the latch is given back
@@ -148,13 +149,14 @@ pub record MeetsServed (id : TableId) (place who : ℕ) (m m′ : Mine) (e : Met
   pub served : (latch.book.waiting ≡ []) ⊎ IsLookedThrough id place latch m m′
 
 -- way was made at a place between the two: waits were granted by steps between them, nobody was forgotten as the latch was given back, and
--- what was told of the session's own wait stays so
+-- what was told of the session's own wait stays so. A session without a wait is told of none
 pub record MadeWay (id : TableId) (place : ℕ) (m m′ : Mine) : Type 0 where
   pub grants : List Settlement
   pub settles : m′.0.settles ≡ m.0.settles ++ grants
   pub granted : AreGranted id.slots place grants m m′
   pub served : (e : Met) × IsStepOf m m′ e × MeetsServed id place m.0.number m m′ e
   pub stays : StaysTold m.0.told m′.0.told
+  pub unasked : m.0.asks ≡ None → m′.0.told ≡ m.0.told
 
 -- the latch of a place, which the session held, and the slot that it took last were given back after these deeds and after way was made there,
 -- and nothing else changed

@@ -5,7 +5,8 @@ ghost use Rattle.mdl_calls.specs.declared.answers.Settled.{Settled};
 ghost use Rattle.mdl_calls.specs.declared.space_error.SpaceError.TheVariants as cause;
 ghost use Rattle.mdl_steps.specs.declared.view.Ask.{Ask};
 ghost use Rattle.mdl_steps.specs.declared.view.Met.{Met};
-ghost use Rattle.mdl_shared.specs.Endings.{EndsWith, end_of, lost_end, ticket_asked, tickets_after};
+ghost use Rattle.mdl_shared.specs.Endings.{EndMakesWay, EndsWith, end_of, lost_end, ticket_asked, tickets_after, without_wait};
+ghost use Rattle.mdl_shared.specs.Grantings.{MadeWay};
 ghost use Rattle.mdl_shared.specs.Keepings.{SeesWait};
 ghost use Rattle.mdl_shared.specs.Polls.{MeetsWait, SettlesNothing, state_of, wait_fault};
 ghost use Rattle.mdl_shared.specs.Readings.{ReadsNothing};
@@ -54,26 +55,18 @@ impl Member {
         self.asks = None;
     }
 
-    // Gives the session's lost wait up, with its ticket.
+    // Gives the session's lost wait up, with its ticket, and makes way for those who wait at its place.
     fn withdraw<R: Wait>(&mut self, rt: &R, ask: Ask)
         requires asks { self.old.asks ≡ Some ask }
         requires lost { (state : ℕ) × (self.old.worker.seat.me.0.told ≡ Some state) × (2 < state) }
         ensures same { (self.new.table ≡ self.old.table) × (self.new.worker.number ≡ self.old.worker.number) × (self.new.next ≡ self.old.next)
             × (self.new.known.items ≡ self.old.known.items) × (self.new.sessions ≡ self.old.sessions) }
         ensures reads { ReadsNothing self.old.worker.seat.me self.new.worker.seat.me }
-        ensures settles { SettlesNothing self.old.worker.seat.me self.new.worker.seat.me }
+        ensures way { MadeWay (arc_value self.old.table).shared.table_id ask.place (without_wait self.old.worker.seat.me) self.new.worker.seat.me }
         ensures goes { GoesOn self.old.worker.seat.me self.new.worker.seat.me }
         ensures ended { EndsWith self.old.tickets.items self.old self.new }
     {
-        let slots = self.table.slot_count();
-        withdraw(
-            rt,
-            &mut self.worker,
-            &self.table.shared,
-            slots,
-            ask,
-            self.waits,
-        );
+        withdraw(rt, &mut self.worker, &self.table, ask, self.waits);
         self.asks = None;
     }
 
@@ -83,7 +76,8 @@ impl Member {
         ensures same { (self.new.table ≡ self.old.table) × (self.new.worker.number ≡ self.old.worker.number) × (self.new.next ≡ self.old.next)
             × (self.new.known.items ≡ self.old.known.items) × (self.new.sessions ≡ self.old.sessions) }
         ensures reads { ReadsNothing self.old.worker.seat.me self.new.worker.seat.me }
-        ensures settles { SettlesNothing self.old.worker.seat.me self.new.worker.seat.me }
+        ensures settles { OnErr result (SettlesNothing self.old.worker.seat.me self.new.worker.seat.me) }
+        ensures way { IfOk result (λ ended. EndMakesWay (arc_value self.old.table).shared.table_id ask.place ended self.old.worker.seat.me self.new.worker.seat.me) }
         ensures ended { IfOk result (λ ended. (how : Settled) × (ended ≡ end_of ask.number how)
             × EndsWith (tickets_after ask how self.old.tickets.items) self.old self.new
             × ((e : Met) × IsStepOf self.old.worker.seat.me self.new.worker.seat.me e
@@ -106,13 +100,16 @@ impl Member {
 }
 
 impl<R: Wait> Session<R> {
-    /// Ends the session's wait, which is settled: with the ticket if it was granted, else without. It takes no memory.
+    /// Ends the session's wait, which is settled: with the ticket if it was granted, else without, and the waits at its place that can be
+    /// granted then are granted. It takes no memory.
     pub fn end_wait(&mut self) -> Result<Ended, SpaceError>
         ensures session { (self.new.member.table ≡ self.old.member.table) × (self.new.member.worker.number ≡ self.old.member.worker.number)
             × (self.new.member.next ≡ self.old.member.next) × (self.new.member.known.items ≡ self.old.member.known.items)
             × (self.new.member.sessions ≡ self.old.member.sessions) }
         ensures reads { ReadsNothing self.old.member.worker.seat.me self.new.member.worker.seat.me }
-        ensures settles { SettlesNothing self.old.member.worker.seat.me self.new.member.worker.seat.me }
+        ensures settles { OnErr result (SettlesNothing self.old.member.worker.seat.me self.new.member.worker.seat.me) }
+        ensures way { IfOk result (λ ended. (a : Ask) × (self.old.member.asks ≡ Some a)
+            × EndMakesWay (arc_value self.old.member.table).shared.table_id a.place ended self.old.member.worker.seat.me self.new.member.worker.seat.me) }
         ensures ended { IfOk result (λ ended. (a : Ask) × (how : Settled) × (self.old.member.asks ≡ Some a) × (ended ≡ end_of a.number how)
             × EndsWith (tickets_after a how self.old.member.tickets.items) self.old.member self.new.member
             × ((e : Met) × IsStepOf self.old.member.worker.seat.me self.new.member.worker.seat.me e

@@ -3,7 +3,9 @@ use Rattle.std.proofs.Common.{◌≡◌, ℕ, refl, sym, subst}
 use Rattle.mdl_steps.specs.declared.view.Held.{Held}
 use Rattle.mdl_steps.specs.Plays.{Mine}
 use Rattle.mdl_shared.specs.Endings.{EndsThere, MayEnd}
+use Rattle.mdl_shared.specs.Grantings.{WaitsOnce}
 use Rattle.mdl_shared.proofs.WaitEndings.{ends, may_end}
+use Rattle.mdl_shared.proofs.WayOut.{waits_once}
 use Rattle.mdl_shared.proofs.withdrawing.withdraw.Goals as goal
 
 pub end_there-requires-clause-end : goal.end_there-requires-clause-end
@@ -24,4 +26,11 @@ returns-clause-ended g c =
     let latch = c.await_latch-latch in
     let came : Mine = latch.new.worker.seat.me in
     let went : Mine = c.end_there.new.worker.seat.me in
-    ends place c.args.worker.now.seat.me came latch.ensures.inside went (subst (λ (p : ℕ). EndsThere p came went) latch.ensures.place c.end_there.ensures.ended)
+    let id = c.args.table.now.shared.table_id in
+    ends place c.args.worker.now.seat.me came latch.ensures.inside id went (subst (λ (p : ℕ). EndsThere id p came went) latch.ensures.place c.end_there.ensures.ended)
+
+pub end_there-requires-clause-once : goal.end_there-requires-clause-once
+end_there-requires-clause-once g c =
+    let taken = c.await_latch-latch.ensures.taken in
+    let m : Mine = c.await_latch-latch.new.worker.seat.me in
+    subst (λ (q : ℕ). WaitsOnce q m) (sym c.await_latch-latch.ensures.place) (waits_once c.args.ask.place taken.0 m taken.2.recorded (record { once = taken.1.once; single = taken.1.single }))
