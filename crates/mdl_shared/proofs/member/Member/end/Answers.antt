@@ -1,6 +1,7 @@
 -- The wait was met settled, and what became of it follows from how.
-use Rattle.std.proofs.Common.{List, [], ◌∷◌, ◌++◌, Some, sym, ap, ◌∙◌, subst}
+use Rattle.std.proofs.Common.{List, [], ◌∷◌, ◌++◌, Some, sym, ap, ◌∙◌, ◌≡◌, subst}
 use Rattle.std.specs.Arc.{arc_value}
+use Rattle.atomic_table.specs.Seated.{TableId}
 use Rattle.mdl_calls.specs.declared.answers.Settled.{Settled}
 use Rattle.mdl_steps.specs.declared.view.Own.{Own}
 use Rattle.mdl_steps.specs.Plays.{Mine}
@@ -60,6 +61,7 @@ returns-in-Some-clause-way g c =
     let went : Mine = c.withdraw.new.self.worker.seat.me in
     let id = (arc_value self.table).shared.table_id in
     let number = c.poll.new.self.worker.numbered.0 ∙ c.poll.ensures.same.1 ∙ sym self.worker.numbered.0 in
-    let way = subst (λ table. MadeWay (arc_value table).shared.table_id c.args.ask.place (without_wait polled) went) c.poll.ensures.same.0 c.withdraw.ensures.way in
+    let same : (arc_value c.poll.new.self.table).shared.table_id ≡ (arc_value self.table).shared.table_id = λ i. (arc_value (c.poll.ensures.same.0 i)).shared.table_id in
+    let way = subst (λ (x : TableId). MadeWay x c.args.ask.place (without_wait polled) went) same c.withdraw.ensures.way in
     lost_way id c.args.ask.place m went how c.in-Some.ended (sym c.lost_end.ensures ∙ c.in-Some.is)
     (way_met_before id c.args.ask.place m polled went met.0 met.1 c.poll.ensures.settles number way)
