@@ -18,8 +18,7 @@ withdraw-requires-clause-place g c =
 pub invariant_of-self : goal.invariant_of-self
 invariant_of-self g c =
     let self = c.args.self.now in
-    let ended = c.withdraw.ensures.ended in
-    let now = ended.now in record {
+    let now = c.withdraw.ensures.ended.now in record {
       seated = c.withdraw.ensures.seat.0 ∙ self.seated;
       sized = self.sized;
       narrow = self.narrow;
