@@ -16,6 +16,8 @@ mod changes;
 #[cfg(test)]
 mod counting;
 #[cfg(test)]
+mod ending;
+#[cfg(test)]
 mod locks;
 #[cfg(test)]
 mod memory;

@@ -1,11 +1,14 @@
 -- The wait was met settled, and what became of it follows from how.
-use Rattle.std.proofs.Common.{List, [], ◌∷◌, ◌++◌, Some, sym, ap, ◌∙◌}
+use Rattle.std.proofs.Common.{List, [], ◌∷◌, ◌++◌, Some, sym, ap, ◌∙◌, ◌≡◌, subst}
+use Rattle.std.specs.Arc.{arc_value}
+use Rattle.atomic_table.specs.Seated.{TableId}
 use Rattle.mdl_calls.specs.declared.answers.Settled.{Settled}
 use Rattle.mdl_steps.specs.declared.view.Own.{Own}
 use Rattle.mdl_steps.specs.Plays.{Mine}
-use Rattle.mdl_shared.specs.Endings.{ticket_asked}
+use Rattle.mdl_shared.specs.Endings.{ticket_asked, without_wait}
+use Rattle.mdl_shared.specs.Grantings.{MadeWay}
 use Rattle.mdl_shared.specs.Polls.{state_of}
-use Rattle.mdl_shared.proofs.WaitEndings.{granted_so, lost_over, lost_so, step_earlier}
+use Rattle.mdl_shared.proofs.WaitEndings.{granted_so, lost_over, lost_so, lost_way, step_earlier, way_met_before}
 use Rattle.mdl_shared.proofs.member.Member.end.Goals as goal
 
 pub withdraw-requires-clause-lost : goal.withdraw-requires-clause-lost
@@ -47,3 +50,18 @@ returns-clause-ended g c =
       record { asks = e.asks; waits = e.waits ∙ c.poll.ensures.wait.1; held = e.held ∙ ap (λ (ts : List Own). ts ++ ticket_asked c.args.ask ∷ []) c.poll.ensures.same.4 ∙ so.2; unsettled = e.unsettled },
       (met.0, step_earlier met.0 m c.poll.new.self.worker.seat.me c.take_over.new.self.worker.seat.me met.1 c.take_over.ensures.goes, met.2),
     )
+
+pub returns-in-Some-clause-way : goal.returns-in-Some-clause-way
+returns-in-Some-clause-way g c =
+    let self = c.args.self.now in
+    let how : Settled = c.in-Settled.how in
+    let met = (c.poll.ensures.settled how c.in-Settled.is).1 in
+    let m : Mine = self.worker.seat.me in
+    let polled : Mine = c.poll.new.self.worker.seat.me in
+    let went : Mine = c.withdraw.new.self.worker.seat.me in
+    let id = (arc_value self.table).shared.table_id in
+    let number = c.poll.new.self.worker.numbered.0 ∙ c.poll.ensures.same.1 ∙ sym self.worker.numbered.0 in
+    let same : (arc_value c.poll.new.self.table).shared.table_id ≡ (arc_value self.table).shared.table_id = λ i. (arc_value (c.poll.ensures.same.0 i)).shared.table_id in
+    let way = subst (λ (x : TableId). MadeWay x c.args.ask.place (without_wait polled) went) same c.withdraw.ensures.way in
+    lost_way id c.args.ask.place m went how c.in-Some.ended (sym c.lost_end.ensures ∙ c.in-Some.is)
+    (way_met_before id c.args.ask.place m polled went met.0 met.1 c.poll.ensures.settles number way)
