@@ -10,6 +10,22 @@ and_true : (b : Bool) → (b && true) ≡ b
 and_true true = refl
 and_true false = refl
 
+pub lower_flags-requires-clause-lowered : goal.lower_flags-requires-clause-lowered
+lower_flags-requires-clause-lowered c =
+    let place = c.in_ok-latch.latch.place in
+    let taken = c.in_ok-latch.ensures.taken in
+    let h = taken.1.0 in
+    let needs = c.needs-needs.result in
+    let has = subst (λ (q : ℕ). Holds q h h.book c.take_latch.new.self.seat.me) (sym taken.0) taken.1.2 in
+    let told = c.needs-needs.ensures.told h.book has.carried in
+    let same = subst (λ (m : Mine). Holds place h h.book m) (sym c.needs-needs.ensures.same) has in
+    let up = c.raise_flags.ensures.keeps h h.book same in
+    let noted = c.read_word-raised.ensures.keeps (raised true true h) h.book up in (
+      noting c.read_word-raised.result.0 (raised true true h),
+      record { holds = noted; act = inr refl; may = tt },
+      (λ some. and_true needs.slow ∙ told.1 ∙ some, λ some. and_true needs.obtrusive ∙ told.0 ∙ some),
+    )
+
 pub read_word-lowered-requires-clause-held : goal.read_word-lowered-requires-clause-held
 read_word-lowered-requires-clause-held c =
     let place = c.in_ok-latch.latch.place in
