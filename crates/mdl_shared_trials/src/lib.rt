@@ -18,6 +18,8 @@ mod counting;
 #[cfg(test)]
 mod ending;
 #[cfg(test)]
+mod full;
+#[cfg(test)]
 mod locks;
 #[cfg(test)]
 mod memory;
