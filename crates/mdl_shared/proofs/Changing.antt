@@ -10,7 +10,7 @@ use Rattle.mdl_defs.specs.declared.change.Change.TheVariants.{Drop}
 use Rattle.mdl_defs.specs.declared.change_error.ChangeError.{ChangeError}
 use Rattle.mdl_defs.specs.declared.change_error.ChangeError.TheVariants.{OutOfMemory}
 use Rattle.mdl_defs.specs.declared.standing.Standing.{Standing}
-use Rattle.mdl_defs.specs.Standings.{standing_fault, standing_after}
+use Rattle.mdl_defs.specs.Standings.{standing_fault, standing_after, MayStand}
 use Rattle.mdl_book.specs.declared.book_view.BookView.{BookView}
 use Rattle.mdl_book.specs.Books.{redefining}
 use Rattle.mdl_book.specs.Tickets.{is_ticket, ticket_of}
@@ -40,10 +40,12 @@ one_record has too = let a = has.recorded in let b = too.recorded in cc
 -- ---- in hand
 
 module _ (place : ℕ) (change : Change) (h : Held) (m m′ : Mine) (is : m′ ≡ written place (redefining change h.book) m) where
-  pub has_redefined : Holds place h h.book m → HasExclusive h m → HasRedefined place h (standing_after change h.book.standing) m′
-  has_redefined has exclusive = subst (λ (x : Mine). HasRedefined place h (standing_after change h.book.standing) x) (sym is) (record {
+  pub has_redefined : Holds place h h.book m → HasExclusive h m → MayStand h.book.key.namespace (standing_after change h.book.standing)
+      → HasRedefined place h (standing_after change h.book.standing) m′
+  has_redefined has exclusive may = subst (λ (x : Mine). HasRedefined place h (standing_after change h.book.standing) x) (sym is) (record {
     holds = holds_written place h h.book (redefining change h.book) m has;
     newer = refl;
+    may = may;
     exclusive = exclusive;
   })
 
@@ -111,7 +113,7 @@ module _ (place : ℕ) (standing : Standing) (m m′ m″ : Mine) (put : m″ �
       )
 
 -- where nothing is told but memory, there is no fault
-no_fault : {T : Type 0} (fault : Option ChangeError) (done : T) → Refuses fault OutOfMemory (Ok done) → fault ≡ None
+pub no_fault : {T : Type 0} (fault : Option ChangeError) (done : T) → Refuses fault OutOfMemory (Ok done) → fault ≡ None
 no_fault None done told = refl
 no_fault (Some why) done told = absurd (cc)
 

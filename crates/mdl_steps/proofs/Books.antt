@@ -88,6 +88,7 @@ module _ (key : Option KeyName) (version : ℕ) (parts : List Part) (book : Book
         ];
         waiting = waiting_kept parts id (part_at f place v) new at number_is (lock_kind book) book.waiting (ap (λ (x : Part). pending x.asks) part) ok.waiting;
         version_is = ok.version_is;
+        stands = ok.stands;
         named = record { key_is = ok.named.key_is; vacant = λ none. let k = some_key.1 in absurd (cc) };
         each = λ j x there. elim (at_set parts id j new x there) [
           | inl same ↦ subst (λ (y : Part). PartOk (record book { granted = granted }) y) (sym part ∙ same.1) (record {

@@ -77,6 +77,7 @@ joined key c n ok fresh =
           ];
         };
         version_is = ok.book_ok.version_is;
+        stands = ok.book_ok.stands;
         named = record { key_is = ok.book_ok.named.key_is; vacant = λ none. (let v = ok.book_ok.named.vacant none in (v.0, fast ∙ v.1)) };
         each = λ j x there. elim (at_snoc c.parts (nothing n) x j there) [
           | inl old ↦ ok.book_ok.each j x old

@@ -136,6 +136,9 @@ module _ (slots id place : ℕ) (me : Mine) (some_number : 0 < me.0.number) (fir
           ok.book_ok.waiting.same id mine (at_map (part_at (waits s) place) s.views id me.0 seat) a.number
           ∙ ap (λ (x : Option Ask). ticket_of me.0.number a.number (option_to_list (pending (asking_at place me.0.number (waits s me.0.number) x)))) asks
           ∙ rw (eq-eqb a.place place here, other (waits s me.0.number % 8) 2 (λ e. omega arith)) (found_itself me.0.number a.number a.mode);
+      stands = ok.book_ok.stands;
+      reads = (ok.book_ok.each id (part_at (waits s) place me.0) (at_map (part_at (waits s) place) s.views id me.0 seat)).versions_agree.reads;
+      noted = (ok.book_ok.each id (part_at (waits s) place me.0) (at_map (part_at (waits s) place) s.views id me.0 seat)).versions_agree.slow;
     }
 
     numbered : (w : View) → w.next ≡ me.0.next → w.fast ≡ me.0.fast → w.slow ≡ me.0.slow → w.asks ≡ me.0.asks → Numbered w

@@ -7,6 +7,7 @@ use Rattle.atomic_table.specs.Table.{Allows, step, gives, rest, put_back}
 use Rattle.atomic_table.proofs.Lists.{at_map, at_set, set_else, set_here}
 use Rattle.mdl_key.specs.Words.{KeyName}
 use Rattle.mdl_defs.specs.declared.standing.Standing.{Standing}
+use Rattle.mdl_defs.proofs.StandingLemmas.{nothing-stands}
 use Rattle.mdl_book.specs.declared.book_view.BookView.{BookView}
 use Rattle.mdl_book.specs.declared.ticket.Ticket.{Ticket}
 use Rattle.mdl_book.specs.Books.{empty_book}
@@ -88,6 +89,7 @@ exchanged_book version parts book key unused no_fast ok = record {
     same = λ j x there m. ap (ticket_of x.number m) (sym unused.1) ∙ ok.waiting.same j x there m;
   };
   version_is = ok.version_is ∙ ap (λ (standing : Standing). standing.version) unused.2;
+  stands = nothing-stands key.namespace;
   named = record { key_is = λ k is. cc; vacant = λ none. absurd (cc) };
   each = λ j x there. exchanged_part book key x unused (ok.each j x there);
 }

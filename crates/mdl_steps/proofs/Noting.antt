@@ -8,7 +8,7 @@ use lib.ListN.{get_elem?}
 use Rattle.atomic_table.proofs.Lists.{at_set, set_here, set_else}
 use Rattle.mdl_key.specs.Words.{KeyName}
 use Rattle.mdl_defs.specs.declared.standing.Standing.{Standing}
-use Rattle.mdl_defs.specs.Standings.{nothing_yet}
+use Rattle.mdl_defs.specs.Standings.{nothing_yet, MayStand}
 use Rattle.mdl_book.specs.declared.book_view.BookView.{BookView}
 use Rattle.mdl_book.specs.Books.{lock_kind}
 use Rattle.mdl_book.specs.Tickets.{ticket_of}
@@ -91,9 +91,9 @@ module _ (key : Option KeyName) (version : ℕ) (parts : List Part) (book : Book
         };
       }
 
-  pub noted_ok : (key ≡ None → standing ≡ nothing_yet) → Each (ReadAgrees new_book) mine.reads → ((j : ℕ) (x : Part) → j ≢ id → get_elem? parts j ≡ some x → PartOk new_book x)
+  pub noted_ok : (key ≡ None → standing ≡ nothing_yet) → MayStand book.key.namespace standing → Each (ReadAgrees new_book) mine.reads → ((j : ℕ) (x : Part) → j ≢ id → get_elem? parts j ≡ some x → PartOk new_book x)
       → BookOk key standing.version (set parts id new) new_book
-  noted_ok unchanged earlier others = record {
+  noted_ok unchanged may earlier others = record {
     lawful = rw fast_same ok.lawful;
     once = ok.once;
     owned = λ session number u found.
@@ -106,6 +106,7 @@ module _ (key : Option KeyName) (version : ℕ) (parts : List Part) (book : Book
         ];
     waiting = waiting_kept parts id mine new at refl (lock_kind book) book.waiting refl ok.waiting;
     version_is = refl;
+    stands = may;
     named = record { key_is = ok.named.key_is; vacant = λ none. let was = ok.named.vacant none in ((was.0.0, was.0.1, unchanged none), fast_same ∙ was.1) };
     each = λ j x here. elim (at_set parts id j new x here) [
       | inl same ↦ subst (λ (y : Part). PartOk new_book y) same.1 (own_part earlier)

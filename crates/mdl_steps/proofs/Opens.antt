@@ -7,6 +7,7 @@ use Rattle.atomic_table.specs.Table.{opening}
 use Rattle.atomic_table.proofs.Lists.{at_map}
 use Rattle.mdl_key.specs.Words.{KeyName}
 use Rattle.std.specs.Option.{option_to_list}
+use Rattle.mdl_defs.proofs.StandingLemmas.{nothing-stands}
 use Rattle.mdl_book.specs.Books.{empty_book}
 use Rattle.mdl_book.specs.Tickets.{ticket_of}
 use Rattle.mdl_steps.specs.declared.slot.Slot.{Slot}
@@ -52,6 +53,7 @@ module _ (sessions : ℕ) (words : List ℕ) (slots : List Slot) (open_ : IsOpen
             subst (λ (y : Rattle.mdl_steps.specs.Cells.Part). ticket_of y.number m [] ≡ ticket_of y.number m (option_to_list (pending y.asks))) it.1 refl);
       };
       version_is = open_.zeros (version_word p) (λ e. omega arith);
+      stands = nothing-stands key.namespace;
       named = record { key_is = λ k none. absurd (cc); vacant = λ _. ((refl, refl, refl), refl) };
       each = λ j x at.
           let it = only (part_at (waits (opening words slots start)) p start) x j at in

@@ -65,7 +65,7 @@ module _ (slots id place : ℕ) (me : Mine) (some_number : 0 < me.0.number) (fir
           flagged = u.flagged;
           noted = rw fast u.noted;
           book_ok = rw u.book_ok.version_is
-              (noted_ok key (cell s place).version parts h.book place id own part u.book_ok h.book.standing (λ none. (u.book_ok.named.vacant none).0.2)
+              (noted_ok key (cell s place).version parts h.book place id own part u.book_ok h.book.standing (λ none. (u.book_ok.named.vacant none).0.2) u.book_ok.stands
               (u.book_ok.each id own part).versions_agree.reads (λ j x else here. u.book_ok.each j x here));
         }) exact))
 

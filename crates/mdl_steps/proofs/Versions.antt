@@ -99,6 +99,7 @@ module _ (slots id place : ℕ) (me : Mine) (some_number : 0 < me.0.number) (fir
           noted = rw fast u.noted;
           book_ok = noted_ok key (cell s place).version parts h.book place id own part u.book_ok standing
               (λ none. let empty = ap length (u.book_ok.named.vacant none).0.0 in let some = ticket.1.1 in absurd (omega arith))
+              has.may
               (reads_older h.book standing newer own.reads (u.book_ok.each id own part).versions_agree.reads)
               (other_part key (cell s place).version parts h.book id me.0.number standing by_itself u.book_ok newer ticket.0 ticket.1 ticket.2 ticket.3);
         })))

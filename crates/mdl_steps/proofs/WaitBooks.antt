@@ -87,6 +87,7 @@ module _ (key : Option KeyName) (version : ℕ) (parts : List Part) (book : Book
         owned = owned_set parts id x y at number book.granted granted else ok.owned;
         waiting = waits;
         version_is = ok.version_is;
+        stands = ok.stands;
         named = record {
           key_is = ok.named.key_is;
           vacant = λ none. (let was = ok.named.vacant none in let empty = vacant none in ((empty.0, empty.1, was.0.2), same ∙ was.1));

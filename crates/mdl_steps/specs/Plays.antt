@@ -9,6 +9,7 @@ use Rattle.std.specs.Option.{option_map}
 use Rattle.mdl_key.specs.Words.{KeyName, is_mode_of}
 use Rattle.mdl_word.specs.Words.{flags_alone, all_but_flags}
 use Rattle.mdl_defs.specs.declared.standing.Standing.{Standing}
+use Rattle.mdl_defs.specs.Standings.{MayStand}
 use Rattle.mdl_book.specs.declared.book_view.BookView.{BookView}
 use Rattle.mdl_book.specs.declared.ticket.Ticket.{Ticket}
 use Rattle.mdl_book.specs.Tickets.{ticket_of}
@@ -23,11 +24,11 @@ use Rattle.mdl_steps.specs.declared.view.Keys.{Keys}
 use Rattle.mdl_steps.specs.declared.view.Known.{Known}
 use Rattle.mdl_steps.specs.declared.view.Own.{Own}
 use Rattle.mdl_steps.specs.declared.view.View.{View}
-use Rattle.mdl_steps.specs.Cells.{own_at, ticket_by}
+use Rattle.mdl_steps.specs.Cells.{own_at, reads_at, ticket_by}
 use Rattle.mdl_steps.specs.Deeds.{all_done, NotWaited}
 use Rattle.mdl_steps.specs.Layout.{latch_word, lock_word, version_word}
-use Rattle.mdl_steps.specs.Lists.{Distinct, Once}
-use Rattle.mdl_steps.specs.Rule.{TellsLists, KnowsKeys, IsUnused, key_at}
+use Rattle.mdl_steps.specs.Lists.{Distinct, Each, Once}
+use Rattle.mdl_steps.specs.Rule.{TellsLists, KnowsKeys, IsUnused, NoteAgrees, ReadAgrees, key_at}
 
 -- a session's seat: its view, and the slots that it took
 abbrev pub Mine : Type 0
@@ -41,7 +42,8 @@ logged word found held v = record v { log = v.log ++ record { word = word; found
 
 -- as the latch is taken: the word's flags tell the lists exactly then, granted tickets are compatible and in modes of the kind, the book has
 -- of the session just the tickets that it has (but for one that it waits for), and it is the book of each key that is known to be here.
--- Each session waits at most once, for a mode of the kind, and so does the session itself where it met its wait lost
+-- Each session waits at most once, for a mode of the kind, and so does the session itself where it met its wait lost. What stands may
+-- stand under the key: no version that the session read is newer, what it read of this one is just that, and this is the version that it noted
 pub record IsFresh (place : ℕ) (h : Held) (m : Mine) : Type 0 where
   pub here : h.place ≡ place
   pub exact : TellsLists h.book h.slow h.obtrusive
@@ -57,6 +59,9 @@ pub record IsFresh (place : ℕ) (h : Held) (m : Mine) : Type 0 where
   pub wished : list_all (λ t. is_mode_of (lock_kind h.book) t.mode) h.book.waiting ≡ true
   pub lost : (a : Ask) (state : ℕ) → m.0.asks ≡ Some a → a.place ≡ place → m.0.told ≡ Some state → 2 < state →
       ticket_of m.0.number a.number h.book.waiting ≡ Some (record { session = m.0.number; number = a.number; mode = a.mode })
+  pub stands : MayStand h.book.key.namespace h.book.standing
+  pub reads : Each (ReadAgrees h.book) (reads_at place m.0.reads)
+  pub noted : Each (NoteAgrees h.book) (own_at place m.0.slow)
 
 -- with a flag or both raised
 abbrev pub raised : Bool → Bool → Held → Held

@@ -3,7 +3,8 @@
 -- Of each place: granted tickets of different sessions are compatible, fast and slow ones together (`lawful`); the word counts
 -- just the fast tickets (`counted`); its flags tell whether the lists hold any ticket, and any obtrusive one, exactly while
 -- the latch is free, and at least so while it is taken (`free`, `flagged`); each session's slow tickets are those of it in the
--- granted list (`slow_held`); the version's word, the book, and what sessions read and noted agree (`versions_agree`); a noted
+-- granted list (`slow_held`); the version's word, the book, and what sessions read and noted agree (`versions_agree`); what stands
+-- may stand under the key (`stands`); a noted
 -- word counts at least the fast tickets (`noted_counts`); just the tickets of waits that weren't granted stand in the waiting list
 -- (`waiting`). Of the table: different keys have different places, and the book of a place is that of its key
 -- (`directory_agrees`); a session's wait word is eight times the number of its last wait and a state, which is 0 exactly where it
@@ -17,7 +18,7 @@ use Rattle.atomic_table.specs.Table.{State}
 use Rattle.mdl_key.specs.declared.namespace.Kind.{Kind}
 use Rattle.mdl_key.specs.Words.{is_mode_of, is_obtrusive, KeyName}
 use Rattle.mdl_word.specs.Words.{Encodes}
-use Rattle.mdl_defs.specs.Standings.{nothing_yet}
+use Rattle.mdl_defs.specs.Standings.{nothing_yet, MayStand}
 use Rattle.mdl_book.specs.declared.book_view.BookView.{BookView}
 use Rattle.mdl_book.specs.declared.ticket.Ticket.{Ticket}
 use Rattle.mdl_book.specs.Books.{lock_kind, has_obtrusive, has_tickets}
@@ -115,6 +116,7 @@ pub record BookOk (key : Option KeyName) (version : ℕ) (parts : List Part) (bo
   pub owned : Owned parts book.granted
   pub waiting : WaitingOk (lock_kind book) parts book.waiting
   pub version_is : version ≡ book.standing.version
+  pub stands : MayStand book.key.namespace book.standing
   pub named : Named key book parts
   pub each : (j : ℕ) (x : Part) → get_elem? parts j ≡ some x → PartOk book x
 

@@ -6,6 +6,7 @@ use Rattle.std.specs.Option.{option_map, option_to_list}
 use Rattle.mdl_key.specs.Words.{KeyName, key_eq}
 use Rattle.mdl_key.specs.declared.mode.Mode.TheVariants.{X}
 use Rattle.mdl_defs.specs.declared.standing.Standing.{Standing}
+use Rattle.mdl_defs.specs.Standings.{MayStand}
 use Rattle.mdl_book.specs.declared.book_view.BookView.{BookView}
 use Rattle.mdl_book.specs.declared.ticket.Ticket.{Ticket}
 use Rattle.mdl_book.specs.Books.{empty_book}
@@ -52,10 +53,12 @@ MayLower place ds slow obtrusive m =
 abbrev pub HasExclusive : Held → Mine → Type 0
 HasExclusive h m = (t : Ticket) × Contains h.book.granted t × (t.session ≡ m.0.number) × (t.mode ≡ X)
 
--- the seat holds the latch of the place, and has changed in the book what stands there, which only the holder of an exclusive ticket may
+-- the seat holds the latch of the place, and has changed in the book what stands there, which only the holder of an exclusive ticket may, to
+-- what may stand under the key
 pub record HasRedefined (place : ℕ) (h : Held) (standing : Standing) (m : Mine) : Type 0 where
   pub holds : Holds place h (record h.book { standing = standing }) m
   pub newer : standing.version ≡ h.book.standing.version + 1
+  pub may : MayStand h.book.key.namespace standing
   pub exclusive : HasExclusive h m
 
 -- it may write the version
