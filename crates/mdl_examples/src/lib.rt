@@ -41,4 +41,6 @@ mod syntax;
 #[cfg(test)]
 mod system;
 #[cfg(test)]
+mod visits;
+#[cfg(test)]
 mod word;

@@ -11,7 +11,8 @@ use Rattle.mdl_steps.specs.declared.view.Known.{Known}
 use Rattle.mdl_steps.specs.declared.view.Own.{Own}
 use Rattle.mdl_steps.specs.Deeds.{is_own}
 use Rattle.mdl_steps.proofs.Views.{by_bool}
-use Rattle.mdl_shared.specs.Members.{are_placed, is_known_place, numbered}
+use Rattle.mdl_shared.specs.Members.{are_placed, is_known_place}
+use Rattle.mdl_visits.specs.Numbers.{numbered}
 use Rattle.mdl_shared.specs.Modes.{in_mode_at, is_fit}
 use Rattle.mdl_system.specs.Strength.{covers, may_downgrade}
 use Rattle.mdl_system.proofs.LawfulLemmas.{implied}

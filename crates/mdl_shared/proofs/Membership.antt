@@ -14,9 +14,10 @@ use Rattle.mdl_key.specs.declared.mode.Mode.TheVariants.{IX}
 use Rattle.mdl_steps.specs.Deeds.{is_own}
 use Rattle.mdl_steps.specs.Plays.{noting_version}
 use Rattle.mdl_steps.proofs.Views.{by_bool}
-use Rattle.mdl_shared.specs.Leavings.{HasTicket}
-use Rattle.mdl_shared.specs.Members.{is_known_place, are_placed, are_within, kind_known, numbered, place_known, without_at}
-use Rattle.mdl_shared.specs.Tables.{AreWithin}
+use Rattle.mdl_visits.specs.Leavings.{HasTicket}
+use Rattle.mdl_shared.specs.Members.{is_known_place, are_placed, are_within, kind_known, place_known, without_at}
+use Rattle.mdl_visits.specs.Numbers.{numbered}
+use Rattle.mdl_visits.specs.Tables.{AreWithin}
 
 -- the ticket of a number stands in the list
 pub has_numbered : (place number : ℕ) (tickets : List Own) → option_map (λ (t : Own). t.place) (numbered number tickets) ≡ Some place → HasTicket place number tickets

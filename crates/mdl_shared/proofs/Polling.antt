@@ -6,8 +6,8 @@ use Rattle.mdl_steps.specs.Layout.{wait_word}
 use Rattle.mdl_steps.specs.Plays.{Mine}
 use Rattle.mdl_steps.specs.WaitPlays.{met_wait, settled_lost, wait_in}
 use Rattle.mdl_steps.proofs.Views.{by_bool}
-use Rattle.mdl_shared.specs.Polls.{MeetsWord}
-use Rattle.mdl_shared.specs.Visits.{IsStepOf}
+use Rattle.mdl_visits.specs.Polls.{MeetsWord}
+use Rattle.mdl_visits.specs.Visits.{IsStepOf}
 
 pub met_word : (slots session found : ℕ) (m m′ : Mine) → m′ ≡ met_wait slots session found m → (e : Met) × IsStepOf m m′ e × MeetsWord slots session found e
 met_word slots session found m m′ is =

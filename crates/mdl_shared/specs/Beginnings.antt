@@ -1,47 +1,7 @@
--- How a session begins to wait.
-use Rattle.std.specs.Prelude.{◌≡◌, ℕ, ◌+◌, ◌*◌, true, List, [], ◌∷◌, ◌++◌, Some, None}
+-- What a session has once it has begun to wait.
+use Rattle.std.specs.Prelude.{◌≡◌, ℕ, ◌+◌, Some, None}
 use Rattle.mdl_key.specs.declared.mode.Mode.{Mode}
-use Rattle.mdl_book.specs.declared.ticket.Ticket.{Ticket}
-use Rattle.mdl_book.specs.Books.{enqueueing}
-use Rattle.mdl_steps.specs.declared.view.Held.{Held}
-use Rattle.mdl_steps.specs.declared.view.Met.{Met}
-use Rattle.mdl_steps.specs.declared.view.View.{View}
-use Rattle.mdl_steps.specs.Cells.{held_at}
-use Rattle.mdl_steps.specs.Layout.{wait_word}
-use Rattle.mdl_steps.specs.Plays.{Mine}
-use Rattle.mdl_steps.specs.Rule.{Flagged, TellsLists}
-use Rattle.mdl_steps.specs.Seats.{Holds}
-use Rattle.mdl_steps.specs.WaitPlays.{asked_ticket, asking}
-use Rattle.mdl_steps.specs.WaitSeats.{MayOpen}
 use Rattle.mdl_shared.specs.declared.member.Member.{Member}
-use Rattle.mdl_shared.specs.Visits.{and_made}
-
--- a session that waits from then on for a mode at a place, and has yet to search for a deadlock
-abbrev pub awaiting : ℕ → Mode → View → View
-awaiting place mode v = record v { asks = Some (asking place mode v); next = v.next + 1; waits = v.waits + 1; told = None; searches = true }
-
--- the session came to a place, began to wait for a mode there and went: nothing else changed
-pub record Opens (place : ℕ) (mode : Mode) (m m′ : Mine) : Type 0 where
-  pub made : List Met
-  pub now : m′ ≡ and_made made (awaiting place mode m.0, m.1)
-
--- the step that opened a wait after so many others of its session: the wait's word was idle, and by the record of the latch the ticket of this number
--- is the last that waits
-pub record MeetsOpening (slots place session waits number : ℕ) (mode : Mode) (e : Met) : Type 0 where
-  pub word : e.word ≡ wait_word slots session
-  pub idle : e.found ≡ 8 * waits
-  pub latch : Held
-  pub held : held_at place e.held ≡ Some latch
-  pub before : List Ticket
-  pub last : latch.book.waiting ≡ before ++ record { session = session; number = number; mode = mode } ∷ []
-
--- under a latch with its book in hand, the session may open a wait for a mode, and the flags tell the lists exactly once it has. Until then
--- they tell of each ticket
-pub record MayQueue (place : ℕ) (mode : Mode) (h : Held) (m : Mine) : Type 0 where
-  pub holds : Holds place h h.book m
-  pub may : MayOpen place mode h m
-  pub exact : TellsLists (enqueueing (asked_ticket mode m.0) h.book) h.slow h.obtrusive
-  pub flagged : Flagged h.book h.slow h.obtrusive
 
 -- the session waits from then on for a mode at a place, by its next numbers, and holds what it held
 pub record Begins (place : ℕ) (mode : Mode) (m m′ : Member) : Type 0 where

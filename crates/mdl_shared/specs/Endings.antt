@@ -6,42 +6,16 @@ use Rattle.mdl_calls.specs.declared.answers.Ended.TheVariants as ended
 use Rattle.mdl_calls.specs.declared.answers.Settled.{Settled}
 use Rattle.mdl_calls.specs.declared.answers.Settled.TheVariants as settled
 use Rattle.mdl_steps.specs.declared.view.Ask.{Ask}
-use Rattle.mdl_steps.specs.declared.view.Held.{Held}
 use Rattle.mdl_steps.specs.declared.view.Own.{Own}
-use Rattle.mdl_steps.specs.declared.view.View.{View}
 use Rattle.mdl_steps.specs.Plays.{Mine}
-use Rattle.mdl_steps.specs.Rule.{TellsLists}
-use Rattle.mdl_steps.specs.Seats.{Holds}
-use Rattle.mdl_steps.specs.WaitSeats.{MayCancel}
 use Rattle.mdl_shared.specs.declared.member.Member.{Member}
-use Rattle.mdl_shared.specs.Grantings.{LeavesWay, MadeWay, VisitsForWay}
-use Rattle.mdl_shared.specs.Polls.{SettlesNothing}
-
--- a session that waits for nothing
-abbrev pub idle : View → View
-idle v = record v { asks = None; told = None }
-
-abbrev pub without_wait : Mine → Mine
-without_wait m = (idle m.0, m.1)
+use Rattle.mdl_visits.specs.Grantings.{MadeWay}
+use Rattle.mdl_visits.specs.Polls.{SettlesNothing}
+use Rattle.mdl_visits.specs.WaitEndings.{without_wait}
 
 -- the ticket that was waited for, as the session has it
 abbrev pub ticket_asked : Ask → Own
 ticket_asked a = record { number = a.number; place = a.place; mode = a.mode; noted = None }
-
--- under a latch with its book in hand, the session may end its lost wait there
-pub record MayEnd (place : ℕ) (h : Held) (m : Mine) : Type 0 where
-  pub holds : Holds place h h.book m
-  pub may : MayCancel place h m
-  pub exact : TellsLists h.book h.slow h.obtrusive
-
--- the session ended its wait under the latch of a place, made way there without it, and gave the latch and the slot that it took last back;
--- nothing else changed
-abbrev pub EndsThere : TableId → ℕ → Mine → Mine → Type 0
-EndsThere id place m m′ = LeavesWay id place [] (without_wait m) m′
-
--- the session ended its wait at a place, made way there without it, and nothing else changed
-abbrev pub EndsLost : TableId → ℕ → Mine → Mine → Type 0
-EndsLost id place m m′ = VisitsForWay id place [] (without_wait m) m′
 
 -- it has no wait from then on, and holds these tickets
 pub record EndsWith (tickets : List Own) (m m′ : Member) : Type 0 where

@@ -11,6 +11,7 @@ use Rattle.mdl_steps.specs.declared.view.Ask.{Ask}
 use Rattle.mdl_steps.specs.declared.view.Known.{Known}
 use Rattle.mdl_steps.specs.declared.view.Own.{Own}
 use Rattle.mdl_steps.specs.Deeds.{is_own}
+use Rattle.mdl_visits.specs.Numbers.{numbered}
 
 -- a session's tickets have numbers below this
 abbrev pub most_numbers : ℕ
@@ -27,10 +28,6 @@ are_placed known tickets = list_all (λ t. is_known_place known t.place) tickets
 -- each place that it has looked up is one of the table's
 abbrev pub are_within : ℕ → List Known → Bool
 are_within slots known = list_all (λ k. nat_lt 0 k.place && nat_lt k.place slots) known
-
--- the ticket of a number
-abbrev pub numbered : ℕ → List Own → Option Own
-numbered number tickets = find (λ t. t.number == number) tickets
 
 -- the tickets without that of a number at a place
 abbrev pub without_at : ℕ → ℕ → List Own → List Own

@@ -3,15 +3,15 @@ ghost use Rattle.std.specs.Prelude.{◌≡◌, length, IfOk, IfErr};
 ghost use Rattle.std.specs.Arc.{arc_value};
 ghost use Rattle.mdl_calls.specs.declared.space_error.SpaceError.TheVariants as cause;
 ghost use Rattle.mdl_steps.specs.declared.view.Keys.{Keys};
-ghost use Rattle.mdl_shared.specs.Audits.{Audits};
+ghost use Rattle.mdl_visits.specs.Audits.{Audits};
 ghost use Rattle.mdl_shared.specs.Keepings.{KeepsWait};
-ghost use Rattle.mdl_shared.specs.Lookups.{TookDirectory};
-ghost use Rattle.mdl_shared.specs.Readings.{ReadsNothing};
+ghost use Rattle.mdl_visits.specs.Lookups.{TookDirectory};
+ghost use Rattle.mdl_visits.specs.Readings.{ReadsNothing};
 
+use crate::Session;
 use crate::member::Member;
-use crate::rounds::go_round;
-use crate::{Audited, Session};
 use mdl_calls::SpaceError;
+use mdl_visits::{Audited, go_round};
 use std::alloc::AllocError;
 use std::sync::Wait;
 

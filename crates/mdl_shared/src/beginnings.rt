@@ -5,21 +5,22 @@ ghost use Rattle.mdl_key.specs.Words.{is_mode_of};
 ghost use Rattle.mdl_calls.specs.declared.answers.Begun.TheVariants.{Granted, Waiting};
 ghost use Rattle.mdl_calls.specs.declared.space_error.SpaceError.TheVariants as cause;
 ghost use Rattle.mdl_steps.specs.declared.view.Met.{Met};
-ghost use Rattle.mdl_shared.specs.Beginnings.{Begins, MeetsOpening};
+ghost use Rattle.mdl_shared.specs.Beginnings.{Begins};
+ghost use Rattle.mdl_visits.specs.WaitOpenings.{MeetsOpening};
 ghost use Rattle.mdl_shared.specs.Keepings.{KeepsWait};
 ghost use Rattle.mdl_shared.specs.Members.{kind_known, most_numbers, wish_fault};
-ghost use Rattle.mdl_shared.specs.Polls.{SettlesNothing};
-ghost use Rattle.mdl_shared.specs.Readings.{ReadsNothing};
-ghost use Rattle.mdl_shared.specs.Visits.{IsStepOf, MeetsBlocked, MeetsFull, MeetsGrantable};
+ghost use Rattle.mdl_visits.specs.Polls.{SettlesNothing};
+ghost use Rattle.mdl_visits.specs.Readings.{ReadsNothing};
+ghost use Rattle.mdl_visits.specs.Visits.{IsStepOf, MeetsBlocked, MeetsFull, MeetsGrantable};
 
 use crate::Session;
 use crate::member::Member;
-use crate::queueing::{Queued, grant_or_wait};
 use crate::wishes::MOST_NUMBERS;
 use mdl_book::BookError;
 use mdl_calls::{Begun, Place, SpaceError};
 use mdl_key::{Kind, Mode};
 use mdl_steps::{Ask, Own};
+use mdl_visits::{Queued, grant_or_wait};
 use std::sync::Wait;
 
 impl Member {

@@ -5,17 +5,17 @@ ghost use Rattle.mdl_key.specs.declared.mode.Mode.TheVariants.{X};
 ghost use Rattle.mdl_steps.specs.declared.view.Own.{Own};
 ghost use Rattle.mdl_steps.specs.Plays.{noting_version};
 ghost use Rattle.mdl_shared.specs.Keepings.{KeepsWait};
-ghost use Rattle.mdl_shared.specs.Members.{numbered};
-ghost use Rattle.mdl_shared.specs.Readings.{ReadsNothing};
-ghost use Rattle.mdl_shared.specs.Redefinitions.{HasExclusiveAt, IsRefusedAs, IsRefusedFor, Redefines, exclusive_fault};
+ghost use Rattle.mdl_visits.specs.Numbers.{numbered};
+ghost use Rattle.mdl_visits.specs.Readings.{ReadsNothing};
+ghost use Rattle.mdl_visits.specs.Redefinitions.{HasExclusiveAt, IsRefusedAs, IsRefusedFor, Redefines, exclusive_fault};
 
 use crate::Session;
 use crate::member::Member;
 use crate::reads::note_all;
-use crate::redefining::redefine_at;
 use mdl_calls::{SpaceError, TicketId};
 use mdl_defs::{Change, ChangeError};
 use mdl_key::Mode;
+use mdl_visits::redefine_at;
 use std::sync::Wait;
 
 impl Member {

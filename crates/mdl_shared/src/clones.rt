@@ -4,15 +4,15 @@ ghost use Rattle.mdl_calls.specs.declared.space_error.SpaceError.TheVariants as 
 ghost use Rattle.mdl_steps.specs.declared.view.Met.{Met};
 ghost use Rattle.mdl_steps.specs.declared.view.Own.{Own};
 ghost use Rattle.mdl_shared.specs.Keepings.{KeepsWait};
-ghost use Rattle.mdl_shared.specs.Leavings.{MeetsOwn};
-ghost use Rattle.mdl_shared.specs.Members.{most_numbers, numbered};
+ghost use Rattle.mdl_visits.specs.Leavings.{MeetsOwn};
+ghost use Rattle.mdl_shared.specs.Members.{most_numbers};
+ghost use Rattle.mdl_visits.specs.Numbers.{numbered};
 ghost use Rattle.mdl_shared.specs.Modes.{clone_fault, is_fit};
-ghost use Rattle.mdl_shared.specs.Readings.{ReadsNothing};
-ghost use Rattle.mdl_shared.specs.Visits.{IsStepOf, MeetsFull};
+ghost use Rattle.mdl_visits.specs.Readings.{ReadsNothing};
+ghost use Rattle.mdl_visits.specs.Visits.{IsStepOf, MeetsFull};
 ghost use Rattle.mdl_system.specs.Strength.{covers};
 
 use crate::Session;
-use crate::covering::double;
 use crate::member::Member;
 use crate::wishes::MOST_NUMBERS;
 use mdl_book::BookError;
@@ -20,6 +20,7 @@ use mdl_calls::{SpaceError, TicketId};
 use mdl_key::Mode;
 use mdl_steps::Own;
 use mdl_system::covers;
+use mdl_visits::double;
 use std::sync::Wait;
 
 impl Member {

@@ -4,23 +4,23 @@ ghost use Rattle.std.specs.Arc.{arc_value};
 ghost use Rattle.mdl_key.specs.Refusals.{RefusesJust};
 ghost use Rattle.mdl_steps.specs.declared.view.Met.{Met};
 ghost use Rattle.mdl_steps.specs.declared.view.Own.{Own};
-ghost use Rattle.mdl_shared.specs.Grantings.{MadeWay};
+ghost use Rattle.mdl_visits.specs.Grantings.{MadeWay};
 ghost use Rattle.mdl_shared.specs.Keepings.{SeesWait};
-ghost use Rattle.mdl_shared.specs.Leavings.{MeetsOwn};
-ghost use Rattle.mdl_shared.specs.Members.{numbered};
+ghost use Rattle.mdl_visits.specs.Leavings.{MeetsOwn};
+ghost use Rattle.mdl_visits.specs.Numbers.{numbered};
 ghost use Rattle.mdl_shared.specs.Modes.{downgrade_fault, in_mode_at, is_fit};
-ghost use Rattle.mdl_shared.specs.Readings.{ReadsNothing};
-ghost use Rattle.mdl_shared.specs.Visits.{IsStepOf};
+ghost use Rattle.mdl_visits.specs.Readings.{ReadsNothing};
+ghost use Rattle.mdl_visits.specs.Visits.{IsStepOf};
 ghost use Rattle.mdl_system.specs.Strength.{covers};
 
 use crate::Session;
-use crate::covering::weaken;
 use crate::holdings::set_mode;
 use crate::member::Member;
 use mdl_calls::{SpaceError, TicketId};
 use mdl_key::Mode;
 use mdl_steps::Own;
 use mdl_system::may_downgrade;
+use mdl_visits::weaken;
 use std::sync::Wait;
 
 impl Member {

@@ -5,18 +5,20 @@ ghost use Rattle.mdl_calls.specs.declared.answers.Settled.{Settled};
 ghost use Rattle.mdl_calls.specs.declared.space_error.SpaceError.TheVariants as cause;
 ghost use Rattle.mdl_steps.specs.declared.view.Ask.{Ask};
 ghost use Rattle.mdl_steps.specs.declared.view.Met.{Met};
-ghost use Rattle.mdl_shared.specs.Endings.{EndMakesWay, EndsWith, end_of, lost_end, ticket_asked, tickets_after, without_wait};
-ghost use Rattle.mdl_shared.specs.Grantings.{MadeWay};
+ghost use Rattle.mdl_shared.specs.Endings.{EndMakesWay, EndsWith, end_of, lost_end, ticket_asked, tickets_after};
+ghost use Rattle.mdl_visits.specs.WaitEndings.{without_wait};
+ghost use Rattle.mdl_visits.specs.Grantings.{MadeWay};
 ghost use Rattle.mdl_shared.specs.Keepings.{SeesWait};
-ghost use Rattle.mdl_shared.specs.Polls.{MeetsWait, SettlesNothing, state_of, wait_fault};
-ghost use Rattle.mdl_shared.specs.Readings.{ReadsNothing};
-ghost use Rattle.mdl_shared.specs.Visits.{GoesOn, IsStepOf};
+ghost use Rattle.mdl_visits.specs.Polls.{MeetsWait, SettlesNothing, state_of};
+ghost use Rattle.mdl_shared.specs.Waitings.{wait_fault};
+ghost use Rattle.mdl_visits.specs.Readings.{ReadsNothing};
+ghost use Rattle.mdl_visits.specs.Visits.{GoesOn, IsStepOf};
 
 use crate::Session;
 use crate::member::Member;
-use crate::withdrawing::withdraw;
 use mdl_calls::{Ended, Poll, Settled, SpaceError};
 use mdl_steps::{Ask, Own};
+use mdl_visits::withdraw;
 use std::sync::Wait;
 
 // How a wait has ended that was lost so.

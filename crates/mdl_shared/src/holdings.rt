@@ -1,7 +1,7 @@
 //! A session's own list of its tickets.
 ghost use Rattle.std.specs.Prelude.{◌≡◌, ◌≤◌, IfSome};
 ghost use Rattle.std.specs.Vec.{vec_capacity, vec_len};
-ghost use Rattle.mdl_shared.specs.Members.{numbered};
+ghost use Rattle.mdl_visits.specs.Numbers.{numbered};
 ghost use Rattle.mdl_shared.specs.Modes.{in_mode_at, in_mode_if, is_fit};
 
 use crate::member::Member;

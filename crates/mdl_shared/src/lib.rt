@@ -37,22 +37,13 @@
 //! ```
 #![tactic(auto)]
 
-mod askings;
-mod audited;
 mod audits;
 mod beginnings;
 mod changes;
 mod clones;
-mod covering;
-mod definitions;
-mod directories;
 mod downgrades;
 mod endings;
-mod granting;
 mod holdings;
-mod latches;
-mod laws;
-mod making_way;
 mod manager;
 mod member;
 mod merges;
@@ -61,31 +52,20 @@ mod own_lists;
 mod pass;
 mod places;
 mod polls;
-mod queueing;
 mod reads;
-mod redefining;
-mod releasing;
 mod reschedules;
-mod resolve_error;
-mod rounds;
-mod schemas;
 mod session;
 mod settlements;
-mod settling;
-mod strengthening;
 mod tables;
 mod tickets;
-mod tries;
 mod upgrades;
 mod wishes;
-mod withdrawing;
 
-pub use audited::Audited;
-pub use laws::{
-    blocked_wishes_werent_grantable, granted_waits_were_grantable, granted_wishes_were_grantable,
-    waits_left_werent_grantable,
-};
 pub use manager::Manager;
+pub use mdl_visits::{
+    Audited, blocked_wishes_werent_grantable, granted_waits_were_grantable,
+    granted_wishes_were_grantable, waits_left_werent_grantable,
+};
 pub use new_error::NewError;
 pub use pass::Pass;
 pub use session::{HoldsTickets, Session};

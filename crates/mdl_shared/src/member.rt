@@ -6,9 +6,10 @@ ghost use Rattle.mdl_steps.specs.Cells.{blank, no_numbers};
 ghost use Rattle.mdl_steps.specs.Layout.{word_count};
 ghost use Rattle.mdl_steps.specs.Plays.{logged};
 ghost use Rattle.mdl_steps.specs.Seats.{IsSized};
-ghost use Rattle.mdl_shared.specs.Idle.{IsIdle, HasSlowAlone};
+ghost use Rattle.mdl_visits.specs.Idle.{IsIdle, HasSlowAlone};
 ghost use Rattle.mdl_shared.specs.Members.{are_placed, are_within, most_numbers};
-ghost use Rattle.mdl_shared.specs.Waitings.{are_below, is_ask_apart, is_ask_placed};
+ghost use Rattle.mdl_shared.specs.Waitings.{are_below, is_ask_placed};
+ghost use Rattle.mdl_visits.specs.Numbers.{is_ask_apart};
 
 use mdl_steps::{Ask, Known, Own, OwnedTable, Worker};
 use std::alloc::Global;

@@ -4,20 +4,21 @@ ghost use Rattle.mdl_key.specs.Refusals.{RefusesJust};
 ghost use Rattle.mdl_steps.specs.declared.view.Met.{Met};
 ghost use Rattle.mdl_steps.specs.declared.view.Own.{Own};
 ghost use Rattle.mdl_shared.specs.Keepings.{KeepsWait};
-ghost use Rattle.mdl_shared.specs.Leavings.{MeetsOwn};
-ghost use Rattle.mdl_shared.specs.Members.{numbered, without_at};
+ghost use Rattle.mdl_visits.specs.Leavings.{MeetsOwn};
+ghost use Rattle.mdl_visits.specs.Numbers.{numbered};
+ghost use Rattle.mdl_shared.specs.Members.{without_at};
 ghost use Rattle.mdl_shared.specs.Modes.{in_mode_at, may_merge, merge_fault};
-ghost use Rattle.mdl_shared.specs.Readings.{ReadsNothing};
-ghost use Rattle.mdl_shared.specs.Visits.{IsStepOf};
+ghost use Rattle.mdl_visits.specs.Readings.{ReadsNothing};
+ghost use Rattle.mdl_visits.specs.Visits.{IsStepOf};
 
 use crate::Session;
-use crate::covering::fold;
 use crate::holdings::set_mode;
 use crate::member::Member;
 use crate::tickets::strike;
 use mdl_calls::{SpaceError, TicketId};
 use mdl_steps::Own;
 use mdl_system::covers;
+use mdl_visits::fold;
 use std::sync::Wait;
 
 impl Member {

@@ -3,19 +3,18 @@ ghost use Rattle.std.specs.Prelude.{◌≡◌, ◌⊎◌, ℕ, ◌<◌, ◌++◌
 ghost use Rattle.std.specs.Arc.{arc_value};
 ghost use Rattle.mdl_calls.specs.declared.space_error.SpaceError.TheVariants as cause;
 ghost use Rattle.mdl_steps.specs.declared.view.Keys.{Keys};
-ghost use Rattle.mdl_shared.specs.declared.resolve_error.ResolveError.TheVariants.{NoPlace};
+ghost use Rattle.mdl_visits.specs.declared.resolve_error.ResolveError.TheVariants.{NoPlace};
 ghost use Rattle.mdl_shared.specs.Keepings.{KeepsWait};
-ghost use Rattle.mdl_shared.specs.Lookups.{TookDirectory, IsAnswer};
+ghost use Rattle.mdl_visits.specs.Lookups.{TookDirectory, IsAnswer};
 ghost use Rattle.mdl_shared.specs.Members.{LearnsPlace, place_known};
-ghost use Rattle.mdl_shared.specs.Readings.{ReadsNothing};
+ghost use Rattle.mdl_visits.specs.Readings.{ReadsNothing};
 
 use crate::Session;
-use crate::directories::resolve;
 use crate::member::Member;
-use crate::resolve_error::ResolveError;
 use mdl_calls::{Place, SpaceError};
 use mdl_key::Key;
 use mdl_steps::Known;
+use mdl_visits::{ResolveError, resolve};
 use std::sync::Wait;
 
 impl Member {

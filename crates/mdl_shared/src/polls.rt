@@ -8,9 +8,10 @@ ghost use Rattle.mdl_steps.specs.declared.view.Met.{Met};
 ghost use Rattle.mdl_steps.specs.WaitPlays.{TellsOwn};
 ghost use Rattle.mdl_shared.specs.Keepings.{SeesWait};
 ghost use Rattle.mdl_shared.specs.Limits.{is_within};
-ghost use Rattle.mdl_shared.specs.Polls.{MeetsNumber, MeetsWait, MeetsWord, SettlesNothing, number_in, own_number, state_of, wait_fault};
-ghost use Rattle.mdl_shared.specs.Readings.{ReadsNothing};
-ghost use Rattle.mdl_shared.specs.Visits.{IsStepOf};
+ghost use Rattle.mdl_visits.specs.Polls.{MeetsNumber, MeetsWait, MeetsWord, SettlesNothing, number_in, state_of};
+ghost use Rattle.mdl_shared.specs.Waitings.{own_number, wait_fault};
+ghost use Rattle.mdl_visits.specs.Readings.{ReadsNothing};
+ghost use Rattle.mdl_visits.specs.Visits.{IsStepOf};
 
 use crate::Session;
 use crate::member::Member;

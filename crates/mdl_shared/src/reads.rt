@@ -9,17 +9,18 @@ ghost use Rattle.mdl_steps.specs.declared.view.Met.{Met};
 ghost use Rattle.mdl_steps.specs.declared.view.Own.{Own};
 ghost use Rattle.mdl_steps.specs.Plays.{noting_version};
 ghost use Rattle.mdl_shared.specs.Keepings.{KeepsWait};
-ghost use Rattle.mdl_shared.specs.Leavings.{MeetsStanding};
-ghost use Rattle.mdl_shared.specs.Members.{noting_at, numbered, holding_fault};
-ghost use Rattle.mdl_shared.specs.Readings.{ReadsNothing, ReadsThere};
-ghost use Rattle.mdl_shared.specs.Visits.{IsStepOf};
+ghost use Rattle.mdl_visits.specs.Leavings.{MeetsStanding};
+ghost use Rattle.mdl_shared.specs.Members.{noting_at, holding_fault};
+ghost use Rattle.mdl_visits.specs.Numbers.{numbered};
+ghost use Rattle.mdl_visits.specs.Readings.{ReadsNothing, ReadsThere};
+ghost use Rattle.mdl_visits.specs.Visits.{IsStepOf};
 
 use crate::Session;
-use crate::definitions::read_at;
 use crate::member::Member;
 use mdl_calls::{SpaceError, TicketId};
 use mdl_defs::Standing;
 use mdl_steps::Own;
+use mdl_visits::read_at;
 use std::alloc::AllocError;
 use std::sync::Wait;
 

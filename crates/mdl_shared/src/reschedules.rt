@@ -1,15 +1,15 @@
 //! A session makes way at a place where it gives up nothing.
 ghost use Rattle.std.specs.Prelude.{◌≡◌, true};
 ghost use Rattle.std.specs.Arc.{arc_value};
-ghost use Rattle.mdl_shared.specs.Grantings.{MadeWay};
+ghost use Rattle.mdl_visits.specs.Grantings.{MadeWay};
 ghost use Rattle.mdl_shared.specs.Keepings.{SeesWait};
 ghost use Rattle.mdl_shared.specs.Members.{is_known_place};
-ghost use Rattle.mdl_shared.specs.Readings.{ReadsNothing};
+ghost use Rattle.mdl_visits.specs.Readings.{ReadsNothing};
 
 use crate::Session;
-use crate::making_way::serve_place;
 use crate::member::Member;
 use mdl_calls::Place;
+use mdl_visits::serve_place;
 use std::sync::Wait;
 
 impl Member {

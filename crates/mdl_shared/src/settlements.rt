@@ -9,9 +9,10 @@ ghost use Rattle.mdl_steps.specs.WaitPlays.{TellsOwn, wait_in};
 ghost use Rattle.mdl_steps.specs.WaitStates.{lost_state};
 ghost use Rattle.mdl_shared.specs.Keepings.{SeesWait};
 ghost use Rattle.mdl_shared.specs.Limits.{is_within};
-ghost use Rattle.mdl_shared.specs.Polls.{MeetsOther, MeetsWait, MeetsWord, Settles, SettlesNothing, state_of, wait_fault};
-ghost use Rattle.mdl_shared.specs.Readings.{ReadsNothing};
-ghost use Rattle.mdl_shared.specs.Visits.{IsStepOf};
+ghost use Rattle.mdl_visits.specs.Polls.{MeetsOther, MeetsWait, MeetsWord, Settles, SettlesNothing, state_of};
+ghost use Rattle.mdl_shared.specs.Waitings.{wait_fault};
+ghost use Rattle.mdl_visits.specs.Readings.{ReadsNothing};
+ghost use Rattle.mdl_visits.specs.Visits.{IsStepOf};
 
 use crate::Session;
 use crate::member::Member;

@@ -8,17 +8,16 @@ ghost use Rattle.mdl_steps.specs.declared.view.Keys.{Keys};
 ghost use Rattle.mdl_steps.specs.declared.view.Known.{Known};
 ghost use Rattle.mdl_steps.specs.Schemas.{is_known, unknown};
 ghost use Rattle.mdl_shared.specs.Keepings.{KeepsWait};
-ghost use Rattle.mdl_shared.specs.Lookups.{TookDirectory};
-ghost use Rattle.mdl_shared.specs.Readings.{ReadsNothing};
-ghost use Rattle.mdl_shared.specs.Tables.{AreTables, HasAsked};
+ghost use Rattle.mdl_visits.specs.Lookups.{TookDirectory};
+ghost use Rattle.mdl_visits.specs.Readings.{ReadsNothing};
+ghost use Rattle.mdl_visits.specs.Tables.{AreTables, HasAsked};
 
 use crate::Session;
-use crate::askings::ask_all;
 use crate::member::Member;
-use crate::schemas::find_tables;
 use mdl_calls::{Place, SpaceError};
 use mdl_key::Key;
 use mdl_steps::Known;
+use mdl_visits::{ask_all, find_tables};
 use std::alloc::AllocError;
 use std::sync::Wait;
 

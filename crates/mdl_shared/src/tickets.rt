@@ -7,18 +7,19 @@ ghost use Rattle.mdl_key.specs.Refusals.{RefusesJust};
 ghost use Rattle.mdl_steps.specs.declared.view.Met.{Met};
 ghost use Rattle.mdl_steps.specs.declared.view.Own.{Own};
 ghost use Rattle.mdl_steps.specs.Deeds.{is_own};
-ghost use Rattle.mdl_shared.specs.Grantings.{MadeWay};
+ghost use Rattle.mdl_visits.specs.Grantings.{MadeWay};
 ghost use Rattle.mdl_shared.specs.Keepings.{SeesWait};
-ghost use Rattle.mdl_shared.specs.Leavings.{MeetsOwn};
-ghost use Rattle.mdl_shared.specs.Members.{numbered, without_at, holding_fault};
-ghost use Rattle.mdl_shared.specs.Readings.{ReadsNothing};
-ghost use Rattle.mdl_shared.specs.Visits.{IsStepOf};
+ghost use Rattle.mdl_visits.specs.Leavings.{MeetsOwn};
+ghost use Rattle.mdl_visits.specs.Numbers.{numbered};
+ghost use Rattle.mdl_shared.specs.Members.{without_at, holding_fault};
+ghost use Rattle.mdl_visits.specs.Readings.{ReadsNothing};
+ghost use Rattle.mdl_visits.specs.Visits.{IsStepOf};
 
 use crate::Session;
 use crate::member::Member;
-use crate::releasing::release;
 use mdl_calls::{SpaceError, TicketId};
 use mdl_steps::Own;
+use mdl_visits::release;
 use std::sync::Wait;
 
 impl Member {

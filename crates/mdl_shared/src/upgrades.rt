@@ -8,20 +8,20 @@ ghost use Rattle.mdl_calls.specs.declared.answers.Upgrade.TheVariants.{Upgraded,
 ghost use Rattle.mdl_steps.specs.declared.view.Met.{Met};
 ghost use Rattle.mdl_steps.specs.declared.view.Own.{Own};
 ghost use Rattle.mdl_shared.specs.Keepings.{KeepsWait};
-ghost use Rattle.mdl_shared.specs.Members.{kind_known, numbered};
+ghost use Rattle.mdl_shared.specs.Members.{kind_known};
+ghost use Rattle.mdl_visits.specs.Numbers.{numbered};
 ghost use Rattle.mdl_shared.specs.Modes.{in_mode_at};
-ghost use Rattle.mdl_shared.specs.Readings.{ReadsNothing};
+ghost use Rattle.mdl_visits.specs.Readings.{ReadsNothing};
 ghost use Rattle.mdl_shared.specs.Upgrades.{upgrade_fault};
-ghost use Rattle.mdl_shared.specs.Visits.{IsStepOf, MeetsBlocked, MeetsGrantable};
+ghost use Rattle.mdl_visits.specs.Visits.{IsStepOf, MeetsBlocked, MeetsGrantable};
 
 use crate::Session;
 use crate::holdings::set_mode;
 use crate::member::Member;
-use crate::strengthening::try_strengthen;
-use crate::tries::Tried;
 use mdl_calls::{SpaceError, TicketId, Upgrade};
 use mdl_key::{Kind, Mode};
 use mdl_system::{covers, may_upgrade};
+use mdl_visits::{Tried, try_strengthen};
 use std::sync::Wait;
 
 impl Member {

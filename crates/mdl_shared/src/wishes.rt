@@ -8,16 +8,16 @@ ghost use Rattle.mdl_steps.specs.declared.view.Met.{Met};
 ghost use Rattle.mdl_steps.specs.declared.view.Own.{Own};
 ghost use Rattle.mdl_shared.specs.Keepings.{KeepsWait};
 ghost use Rattle.mdl_shared.specs.Members.{kind_known, most_numbers, wish_fault};
-ghost use Rattle.mdl_shared.specs.Readings.{ReadsNothing};
-ghost use Rattle.mdl_shared.specs.Visits.{IsStepOf, MeetsBlocked, MeetsFull, MeetsGrantable};
+ghost use Rattle.mdl_visits.specs.Readings.{ReadsNothing};
+ghost use Rattle.mdl_visits.specs.Visits.{IsStepOf, MeetsBlocked, MeetsFull, MeetsGrantable};
 
 use crate::Session;
 use crate::member::Member;
-use crate::tries::{Tried, try_grant};
 use mdl_book::BookError;
 use mdl_calls::{Attempt, Place, SpaceError};
 use mdl_key::{Kind, Mode};
 use mdl_steps::Own;
+use mdl_visits::{Tried, try_grant};
 use std::sync::Wait;
 
 // The greatest number of a ticket.

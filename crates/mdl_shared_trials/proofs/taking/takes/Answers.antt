@@ -5,7 +5,8 @@ use Rattle.std.proofs.lemmas.Bool.{eq-eqb, false≢true}
 use Rattle.mdl_key.specs.Refusals.{RefusesJust}
 use Rattle.mdl_calls.specs.declared.space_error.SpaceError.{SpaceError}
 use Rattle.mdl_steps.specs.declared.view.Own.{Own}
-use Rattle.mdl_shared.specs.Members.{numbered, without_at, holding_fault}
+use Rattle.mdl_shared.specs.Members.{without_at, holding_fault}
+use Rattle.mdl_shared.specs.Numbers.{numbered}
 use Rattle.mdl_shared_trials.proofs.taking.takes.Goals as goal
 
 found_alone : (t : Own) → numbered t.number (t ∷ []) ≡ Some t

@@ -1,7 +1,7 @@
 -- Only steps were made, so that all is as it was between two calls.
 use Rattle.std.proofs.Common.{sym, ap, ◌∙◌, subst, ℕ, ◌≤◌}
 use Rattle.mdl_steps.specs.Plays.{Mine}
-use Rattle.mdl_shared.specs.Idle.{IsIdle, HasSlowAlone}
+use Rattle.mdl_visits.specs.Idle.{IsIdle, HasSlowAlone}
 use Rattle.mdl_shared.proofs.member.Member.audit.Goals as goal
 
 pub invariant_of-self : goal.invariant_of-self

@@ -4,10 +4,11 @@ use Rattle.std.proofs.Common.{ℕ, ◌<◌, Some, List, length, sym, ap, ◌∙�
 use Rattle.std.specs.Option.{option_map}
 use Rattle.mdl_steps.specs.declared.view.Own.{Own}
 use Rattle.mdl_steps.specs.Plays.{Mine, noting_version}
-use Rattle.mdl_shared.specs.Idle.{IsIdle}
+use Rattle.mdl_visits.specs.Idle.{IsIdle}
 use Rattle.mdl_shared.specs.Members.{are_placed}
-use Rattle.mdl_shared.specs.Redefinitions.{HasExclusiveAt}
-use Rattle.mdl_shared.specs.Waitings.{are_below, is_ask_apart}
+use Rattle.mdl_visits.specs.Redefinitions.{HasExclusiveAt}
+use Rattle.mdl_shared.specs.Waitings.{are_below}
+use Rattle.mdl_visits.specs.Numbers.{is_ask_apart}
 use Rattle.mdl_shared.proofs.Awaiting.{noted as still_below, apart_noted, apart_seen}
 use Rattle.mdl_shared.proofs.Membership.{has_numbered, known_within, placed_at, noted_placed, none_noted}
 use Rattle.mdl_shared.proofs.member.Member.change.Goals as goal

@@ -5,10 +5,11 @@ use Rattle.atomic_table.specs.Seated.{TableId}
 use Rattle.mdl_calls.specs.declared.answers.Settled.{Settled}
 use Rattle.mdl_steps.specs.declared.view.Own.{Own}
 use Rattle.mdl_steps.specs.Plays.{Mine}
-use Rattle.mdl_shared.specs.Endings.{ticket_asked, without_wait}
-use Rattle.mdl_shared.specs.Grantings.{MadeWay}
-use Rattle.mdl_shared.specs.Polls.{state_of}
-use Rattle.mdl_shared.proofs.WaitEndings.{granted_so, lost_over, lost_so, lost_way, step_earlier, way_met_before}
+use Rattle.mdl_shared.specs.Endings.{ticket_asked}
+use Rattle.mdl_visits.specs.WaitEndings.{without_wait}
+use Rattle.mdl_visits.specs.Grantings.{MadeWay}
+use Rattle.mdl_visits.specs.Polls.{state_of}
+use Rattle.mdl_shared.proofs.Ends.{granted_so, lost_over, lost_so, lost_way, step_earlier, way_met_before}
 use Rattle.mdl_shared.proofs.member.Member.end.Goals as goal
 
 pub withdraw-requires-clause-lost : goal.withdraw-requires-clause-lost

@@ -4,10 +4,11 @@ use Rattle.std.proofs.Common.{◌<◌, sym, ap, ◌∙◌, subst, ℕ, ◌≤◌
 use Rattle.std.specs.Option.{option_map}
 use Rattle.mdl_steps.specs.declared.view.Own.{Own}
 use Rattle.mdl_steps.specs.Plays.{Mine}
-use Rattle.mdl_shared.specs.Idle.{IsIdle, HasSlowAlone}
+use Rattle.mdl_visits.specs.Idle.{IsIdle, HasSlowAlone}
 use Rattle.mdl_shared.specs.Members.{are_placed, is_known_place, without_at}
 use Rattle.mdl_shared.specs.Modes.{in_mode_at}
-use Rattle.mdl_shared.specs.Waitings.{are_below, is_ask_apart}
+use Rattle.mdl_shared.specs.Waitings.{are_below}
+use Rattle.mdl_visits.specs.Numbers.{is_ask_apart}
 use Rattle.mdl_shared.proofs.Awaiting.{altered, lost, apart_altered, apart_lost, waits_apart}
 use Rattle.mdl_shared.proofs.Fitting.{altered_placed}
 use Rattle.mdl_shared.proofs.Membership.{has_numbered, some_key, known_within, placed_at, still_placed}

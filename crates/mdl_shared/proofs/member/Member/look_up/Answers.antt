@@ -3,7 +3,7 @@ use Rattle.std.proofs.Common.{◌≡◌, ℕ, ◌<◌, List, [], ◌∷◌, ◌+
 use Rattle.mdl_key.specs.Words.{KeyName}
 use Rattle.mdl_steps.specs.declared.view.Known.{Known}
 use Rattle.mdl_steps.specs.Plays.{Mine}
-use Rattle.mdl_shared.specs.Idle.{HasSlowAlone}
+use Rattle.mdl_visits.specs.Idle.{HasSlowAlone}
 use Rattle.mdl_shared.specs.Members.{are_placed, are_within}
 use Rattle.mdl_shared.specs.Waitings.{is_ask_placed}
 use Rattle.mdl_shared.proofs.Awaiting.{awaited_more}

@@ -2,9 +2,10 @@
 use Rattle.std.specs.Prelude.{nat_lt}
 use Rattle.std.proofs.Common.{◌<◌, length, sym, ap, ◌∙◌, subst, ℕ, ◌≤◌, arith}
 use Rattle.mdl_steps.specs.Plays.{Mine, noting_version}
-use Rattle.mdl_shared.specs.Idle.{IsIdle}
+use Rattle.mdl_visits.specs.Idle.{IsIdle}
 use Rattle.mdl_shared.specs.Members.{are_placed}
-use Rattle.mdl_shared.specs.Waitings.{are_below, is_ask_apart}
+use Rattle.mdl_shared.specs.Waitings.{are_below}
+use Rattle.mdl_visits.specs.Numbers.{is_ask_apart}
 use Rattle.mdl_shared.proofs.Awaiting.{noted as still_below, apart_noted}
 use Rattle.mdl_shared.proofs.Membership.{has_numbered, known_within, placed_at, noted_placed, none_noted}
 use Rattle.mdl_shared.proofs.member.Member.read.Goals as goal

@@ -1,7 +1,7 @@
 -- The place is one of the table's, and nothing of the session's own changes.
 use Rattle.std.proofs.Common.{◌<◌, ◌≤◌, ℕ, sym, ap, ◌∙◌, subst}
 use Rattle.mdl_steps.specs.Plays.{Mine}
-use Rattle.mdl_shared.specs.Idle.{IsIdle, HasSlowAlone}
+use Rattle.mdl_visits.specs.Idle.{IsIdle, HasSlowAlone}
 use Rattle.mdl_shared.proofs.Membership.{known_within}
 use Rattle.mdl_shared.proofs.member.Member.serve.Goals as goal
 

@@ -3,8 +3,8 @@ use Rattle.std.proofs.Common.{ℕ, ◌∙◌, ap, subst}
 use Rattle.mdl_steps.specs.declared.view.Met.{Met}
 use Rattle.mdl_steps.specs.Plays.{Mine}
 use Rattle.mdl_steps.specs.WaitStates.{lost_state}
-use Rattle.mdl_shared.specs.Polls.{MeetsWord}
-use Rattle.mdl_shared.specs.Visits.{IsStepOf}
+use Rattle.mdl_visits.specs.Polls.{MeetsWord}
+use Rattle.mdl_visits.specs.Visits.{IsStepOf}
 use Rattle.mdl_shared.proofs.Polling.{settled_word}
 use Rattle.mdl_shared.proofs.member.Member.settle.Goals as goal
 

@@ -3,11 +3,12 @@ use Rattle.std.specs.Prelude.{nat_lt}
 use Rattle.std.proofs.Common.{◌<◌, List, sym, ap, ◌∙◌, subst, ℕ, ◌≤◌, arith}
 use Rattle.mdl_steps.specs.declared.view.Own.{Own}
 use Rattle.mdl_steps.specs.Plays.{Mine}
-use Rattle.mdl_shared.specs.Idle.{IsIdle, HasSlowAlone}
-use Rattle.mdl_shared.specs.Leavings.{HasTicket}
-use Rattle.mdl_shared.specs.Members.{are_placed, kind_known, numbered}
+use Rattle.mdl_visits.specs.Idle.{IsIdle, HasSlowAlone}
+use Rattle.mdl_visits.specs.Leavings.{HasTicket}
+use Rattle.mdl_shared.specs.Members.{are_placed, kind_known}
+use Rattle.mdl_visits.specs.Numbers.{numbered, is_ask_apart}
 use Rattle.mdl_shared.specs.Modes.{in_mode_at}
-use Rattle.mdl_shared.specs.Waitings.{are_below, is_ask_apart}
+use Rattle.mdl_shared.specs.Waitings.{are_below}
 use Rattle.mdl_shared.proofs.Awaiting.{altered, apart_altered, some_there, waits_apart}
 use Rattle.mdl_shared.proofs.Fitting.{altered_placed}
 use Rattle.mdl_shared.proofs.Membership.{has_numbered, kind_place, kind_there, known_within}

@@ -5,15 +5,15 @@ use Rattle.std.proofs.lemmas.List.Elements.{All-filter}
 use Rattle.mdl_steps.specs.declared.view.Known.{Known}
 use Rattle.mdl_steps.specs.Plays.{Mine}
 use Rattle.mdl_steps.specs.Schemas.{is_known, unknown}
-use Rattle.mdl_shared.specs.Idle.{IsIdle, HasSlowAlone}
-use Rattle.mdl_shared.specs.Lookups.{TookDirectory}
+use Rattle.mdl_visits.specs.Idle.{IsIdle, HasSlowAlone}
+use Rattle.mdl_visits.specs.Lookups.{TookDirectory}
 use Rattle.mdl_shared.specs.Members.{are_placed, are_within}
-use Rattle.mdl_shared.specs.Tables.{AreWithin, HasAsked, knowing_all}
-use Rattle.mdl_shared.specs.Visits.{and_made}
+use Rattle.mdl_visits.specs.Tables.{AreWithin, HasAsked, knowing_all}
+use Rattle.mdl_visits.specs.Visits.{and_made}
 use Rattle.mdl_shared.specs.Waitings.{is_ask_placed}
 use Rattle.mdl_shared.proofs.Awaiting.{awaited_and}
-use Rattle.mdl_shared.proofs.Asking.{asked_after, goes_on}
-use Rattle.mdl_shared.proofs.Listing.{took_earlier}
+use Rattle.mdl_visits.proofs.Asking.{asked_after, goes_on}
+use Rattle.mdl_visits.proofs.Listing.{took_earlier}
 use Rattle.mdl_shared.proofs.Membership.{known_and, within_and}
 use Rattle.mdl_shared.proofs.member.Member.tables_of.Goals as goal
 

@@ -4,10 +4,11 @@ use Rattle.std.proofs.Common.{◌≡◌, ◌<◌, List, Some, true, sym, ap, ◌
 use Rattle.mdl_steps.specs.declared.view.Known.{Known}
 use Rattle.mdl_steps.specs.declared.view.Own.{Own}
 use Rattle.mdl_steps.specs.Plays.{Mine}
-use Rattle.mdl_shared.specs.Idle.{IsIdle, HasSlowAlone}
-use Rattle.mdl_shared.specs.Members.{are_placed, numbered}
+use Rattle.mdl_visits.specs.Idle.{IsIdle, HasSlowAlone}
+use Rattle.mdl_shared.specs.Members.{are_placed}
+use Rattle.mdl_visits.specs.Numbers.{numbered, is_ask_apart}
 use Rattle.mdl_shared.specs.Modes.{in_mode_at, is_fit}
-use Rattle.mdl_shared.specs.Waitings.{are_below, is_ask_apart}
+use Rattle.mdl_shared.specs.Waitings.{are_below}
 use Rattle.mdl_shared.proofs.Awaiting.{altered, apart_altered, waits_apart}
 use Rattle.mdl_shared.proofs.Membership.{known_within}
 use Rattle.mdl_shared.proofs.Fitting.{altered_placed, fit_place, fit_there}

@@ -3,7 +3,7 @@ use Rattle.std.proofs.Common.{◌≡◌, ◌<◌, ◌≤◌, ℕ, true, refl, sy
 use Rattle.std.specs.Prelude.{Option}
 use Rattle.mdl_steps.specs.declared.view.Ask.{Ask}
 use Rattle.mdl_steps.specs.Plays.{Mine}
-use Rattle.mdl_shared.specs.Idle.{IsIdle, HasSlowAlone}
+use Rattle.mdl_visits.specs.Idle.{IsIdle, HasSlowAlone}
 use Rattle.mdl_shared.specs.Waitings.{is_ask_placed}
 use Rattle.mdl_shared.proofs.Membership.{known_within}
 use Rattle.mdl_shared.proofs.member.Member.withdraw.Goals as goal

@@ -1,8 +1,8 @@
 -- What was met stands at the ticket's place.
 use Rattle.std.proofs.Common.{ℕ, sym, ◌∙◌, subst, inr}
-use Rattle.mdl_shared.specs.Members.{numbered}
-use Rattle.mdl_shared.specs.Redefinitions.{IsRefusedFor}
-use Rattle.mdl_shared.proofs.Changing.{held_so}
+use Rattle.mdl_visits.specs.Numbers.{numbered}
+use Rattle.mdl_visits.specs.Redefinitions.{IsRefusedFor}
+use Rattle.mdl_visits.proofs.Changing.{held_so}
 use Rattle.mdl_shared.proofs.session.Session.change_definition.Goals as goal
 
 pub returns-in-Err-clause-refused : goal.returns-in-Err-clause-refused

@@ -1,9 +1,0 @@
--- By what a packed word's counts tell of the fast tickets.
-use Rattle.std.proofs.Common.{sym, ◌∙◌}
-use Rattle.mdl_book.proofs.FastLemmas.{can_be_granted-fast}
-use Rattle.mdl_shared.proofs.laws.blocked_wishes_werent_grantable.Goals as goal
-
-pub returns : goal.returns
-returns c = λ place who mode e meets.
-    let book = meets.latch.book in
-    (meets.latch, meets.word, meets.held, λ fast counts others. sym (can_be_granted-fast counts book.granted book.waiting who mode others) ∙ meets.blocked)

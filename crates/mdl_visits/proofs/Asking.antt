@@ -1,0 +1,104 @@
+-- A session asks whether tables have a definition, one after the other.
+use Rattle.std.proofs.Common.{◌≡◌, ℕ, Bool, true, false, cond, List, [], ◌∷◌, ◌++◌, map, Some, refl, sym, ap, ◌∙◌, append_assoc, append-nil}
+use Rattle.std.specs.Prelude.{filter, is_some}
+use Rattle.std.proofs.lemmas.List.{map-append}
+use Rattle.std.proofs.lemmas.List.Elements.{All-nil, All-push, All-weaker, filter-append}
+use Rattle.mdl_steps.specs.declared.view.Held.{Held}
+use Rattle.mdl_steps.specs.declared.view.Known.{Known}
+use Rattle.mdl_steps.specs.declared.view.Met.{Met}
+use Rattle.mdl_steps.specs.Cells.{held_at}
+use Rattle.mdl_steps.specs.Layout.{latch_word}
+use Rattle.mdl_steps.specs.Plays.{Mine, unlatched}
+use Rattle.mdl_visits.specs.Tables.{Asked, HasAsked, MeetsDefinition, WasAsked, told}
+use Rattle.mdl_visits.specs.Visits.{GoesOn, IsInside, IsStepOf, MakesSteps, and_made}
+use Rattle.mdl_visits.proofs.Visiting.{visits_put}
+
+-- ---- steps of a call's parts are steps of the call
+
+pub steps_then : (m m′ m″ : Mine) → MakesSteps m m′ → MakesSteps m′ m″ → MakesSteps m m″
+steps_then m m′ m″ first second = (
+  first.0 ++ second.0,
+  second.1 ∙ ap (and_made second.0) first.1 ∙ (λ i. (record m.0 { log = append_assoc m.0.log first.0 second.0 i }, m.1)),
+)
+
+pub goes_on : (m m′ : Mine) → MakesSteps m m′ → GoesOn m m′
+goes_on m m′ steps = (steps.0, ap (λ (x : Mine). x.0.log) steps.1)
+
+pub goes_nowhere : (m : Mine) → GoesOn m m
+goes_nowhere m = ([], sym (append-nil m.0.log))
+
+pub step_within : (a b c d : Mine) (e : Met) → GoesOn a b → IsStepOf b c e → GoesOn c d → IsStepOf a d e
+step_within a b c d e before step after = (
+  before.0 ++ step.0,
+  step.1 ++ after.0,
+  after.1
+      ∙ ap (λ (log : List Met). log ++ after.0) (step.2 ∙ ap (λ (log : List Met). (log ++ step.0) ++ e ∷ step.1) before.1)
+      ∙ append_assoc ((a.0.log ++ before.0) ++ step.0) (e ∷ step.1) after.0
+      ∙ ap (λ (log : List Met). log ++ e ∷ (step.1 ++ after.0)) (append_assoc a.0.log before.0 step.0),
+)
+
+asked_within : (who : ℕ) (a b c d : Mine) (x : Asked) → GoesOn a b → WasAsked who b c x → GoesOn c d → WasAsked who a d x
+asked_within who a b c d x before was after = (was.0, step_within a b c d was.0 before was.1 after, was.2)
+
+-- ---- one place is looked at
+
+module _ (place : ℕ) (m m′ m″ : Mine) (inside : IsInside place m m′) (put : m″ ≡ unlatched place [] m′) where
+  puts : Met
+  puts = record { word = latch_word place; found = m.0.number; held = inside.latches }
+
+  pub looked : MakesSteps m m″
+  looked = let visit = visits_put place [] m m′ m″ inside put in (visit.made, visit.now)
+
+  pub meets_definition : (h : Held) (who : ℕ) (defined : Bool) → m.0.number ≡ who → held_at place m′.0.latches ≡ Some h → defined ≡ is_some h.book.standing.definition
+      → (e : Met) × IsStepOf m m″ e × MeetsDefinition place who defined e
+  unfolding puts
+  meets_definition h who defined mine recorded stands = (
+    puts,
+    (inside.made, [], ap (λ (x : Mine). x.0.log) (put ∙ ap (unlatched place []) inside.now)),
+    record {
+      word = refl;
+      freed = mine;
+      latch = h;
+      held = ap (λ (x : Mine). held_at place x.0.latches) (sym inside.now) ∙ recorded;
+      stands = sym stands;
+    },
+  )
+
+-- ---- one more table was asked
+
+told_one : (t : Known) (defined : Bool) → told (record { table = t; defined = defined } ∷ []) ≡ cond defined (t.place ∷ []) []
+told_one t true = refl
+told_one t false = refl
+
+told_more : (asked : List Asked) (t : Known) (defined : Bool) → told (asked ++ record { table = t; defined = defined } ∷ []) ≡ told asked ++ cond defined (t.place ∷ []) []
+told_more asked t defined =
+    let one : Asked = record { table = t; defined = defined } in
+    ap (map (λ (a : Asked). a.table.place)) (filter-append (λ (a : Asked). a.defined) asked (one ∷ []))
+    ∙ map-append (λ (a : Asked). a.table.place) (filter (λ (a : Asked). a.defined) asked) (filter (λ (a : Asked). a.defined) (one ∷ []))
+    ∙ ap (λ (rest : List ℕ). told asked ++ rest) (told_one t defined)
+
+pub asked_none : (who : ℕ) (m m′ : Mine) (places : List ℕ) → places ≡ [] → HasAsked who [] places m m′
+asked_none who m m′ places none = record { asked = []; each = All-nil (WasAsked who m m′); same = refl; those = none }
+
+pub asked_more : (who : ℕ) (tables : List Known) (t : Known) (places more : List ℕ) (defined : Bool) (old mid new : Mine) → HasAsked who tables places old mid → MakesSteps old mid → MakesSteps mid new
+    → WasAsked who mid new (record { table = t; defined = defined }) → more ≡ places ++ cond defined (t.place ∷ []) []
+    → HasAsked who (tables ++ t ∷ []) more old new
+asked_more who tables t places more defined old mid new has before after was e =
+    let one : Asked = record { table = t; defined = defined } in
+    record {
+      asked = has.asked ++ one ∷ [];
+      each = All-push (WasAsked who old new) has.asked one
+          (All-weaker (WasAsked who old mid) (WasAsked who old new) (λ x earlier. asked_within who old old mid new x (goes_nowhere old) earlier (goes_on mid new after)) has.asked has.each)
+          (asked_within who old mid new new one (goes_on old mid before) was (goes_nowhere new));
+      same = map-append (λ (a : Asked). a.table) has.asked (one ∷ []) ∙ ap (λ (ts : List Known). ts ++ t ∷ []) has.same;
+      those = e ∙ ap (λ (ps : List ℕ). ps ++ cond defined (t.place ∷ []) []) has.those ∙ sym (told_more has.asked t defined);
+    }
+
+-- of a call that did something before
+pub asked_after : (who : ℕ) (tables : List Known) (places : List ℕ) (old mid new : Mine) → GoesOn old mid → HasAsked who tables places mid new → HasAsked who tables places old new
+asked_after who tables places old mid new before has = record {
+  asked = has.asked;
+  each = All-weaker (WasAsked who mid new) (WasAsked who old new) (λ x was. asked_within who old mid new new x before was (goes_nowhere new)) has.asked has.each;
+  same = has.same;
+  those = has.those;
+}

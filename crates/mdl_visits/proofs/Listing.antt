@@ -1,0 +1,77 @@
+-- What a session has after it asked the directory for the tables of a schema.
+use Rattle.std.proofs.Common.{◌≡◌, ℕ, ◌-◌, ◌<◌, List, [], ◌∷◌, ◌++◌, length, None, Some, ap, ◌∙◌, arith, append_assoc, append-nil}
+use Rattle.std.specs.Prelude.{Option}
+use Rattle.std.proofs.lemmas.List.Elements.{All-weaker}
+use Rattle.mdl_steps.specs.declared.view.Keys.{Keys}
+use Rattle.mdl_steps.specs.declared.view.Known.{Known}
+use Rattle.mdl_steps.specs.declared.view.Met.{Met}
+use Rattle.mdl_steps.specs.Layout.{latch_word}
+use Rattle.mdl_steps.specs.Plays.{Mine, IsDirectory, consulted, informed}
+use Rattle.mdl_steps.specs.Rule.{key_at}
+use Rattle.mdl_steps.specs.Schemas.{StandThere, unknown}
+use Rattle.mdl_visits.specs.Idle.{IsIdle}
+use Rattle.mdl_visits.specs.Lookups.{TookDirectory}
+use Rattle.mdl_visits.specs.Tables.{AreTables, AreWithin, knowing_all}
+use Rattle.mdl_visits.specs.Visits.{GoesOn, MakesSteps, and_made}
+use Rattle.mdl_visits.proofs.Lookups.{no_record, some_there}
+
+-- ---- the tables stand where the directory says
+
+pub all_stand : (schema : List ℕ) (k : Keys) (tables : List Known) → AreTables schema k tables → StandThere k tables
+all_stand schema k tables are = λ i d short. ((are.each i d short).0, (are.each i d short).1)
+
+pub all_within : (slots : ℕ) (k : Keys) (tables : List Known) → length k.keys < slots → StandThere k tables → AreWithin slots tables
+all_within slots k tables fit stand =
+    All-weaker (λ (x : Known). (0 < x.place) × (key_at k.keys x.place ≡ Some x.key)) (λ (x : Known). (0 < x.place) × (x.place < slots))
+    (λ x stands. let some = stands.0 in let inside = some_there k.keys (x.place - 1) x.key stands.1 in (some, omega arith))
+    tables stand
+
+-- ---- the directory's latch is given back
+
+module _ (slots : ℕ) (k : Keys) (made : List Met) (old : Mine) (idle : IsIdle old) (is : IsDirectory slots k (and_made made old))
+    (more : List Known) (new : Mine) (e : new ≡ informed more (consulted k (and_made made old))) where
+  abbrev took : Met
+  took = record { word = latch_word 0; found = 0; held = old.0.latches }
+
+  abbrev gave : Met
+  gave = record { word = latch_word 0; found = old.0.number; held = old.0.latches }
+
+  abbrev all : List Met
+  all = made ++ (took ∷ gave ∷ [])
+
+  joined : ((old.0.log ++ made) ++ took ∷ []) ++ gave ∷ [] ≡ old.0.log ++ all
+  joined = simp append_assoc
+
+  informed_is : new ≡ (record old.0 { log = old.0.log ++ all; known = old.0.known ++ more }, old.1)
+  informed_is = e
+      ∙ ap (λ (log : List Met). (record old.0 { log = log; directory = None; known = old.0.known ++ more }, old.1)) joined
+      ∙ ap (λ (d : Option Keys). (record old.0 { log = old.0.log ++ all; directory = d; known = old.0.known ++ more }, old.1)) (no_record old.0.directory idle.1)
+
+  pub took_directory : TookDirectory slots k old new
+  took_directory = record { before = made; after = gave ∷ []; recorded = is; listed = ap (λ (m : Mine). m.0.log) e }
+
+  pub knows_tables : (tables : List Known) → more ≡ unknown old.0.known tables → MakesSteps (knowing_all tables old) new
+  knows_tables tables those = (
+    all,
+    informed_is ∙ ap (λ (known : List Known). (record old.0 { log = old.0.log ++ all; known = old.0.known ++ known }, old.1)) those,
+  )
+
+  pub knows_no_more : more ≡ [] → MakesSteps old new
+  knows_no_more none = (
+    all,
+    informed_is ∙ ap (λ (known : List Known). (record old.0 { log = old.0.log ++ all; known = known }, old.1)) (ap (λ (ks : List Known). old.0.known ++ ks) none ∙ append-nil old.0.known),
+  )
+
+-- the calls one after the other
+pub told_after : (k : Keys) (made : List Met) (tables : List Known) (old taken listed new : Mine) → taken ≡ consulted k (and_made made old) → listed ≡ taken → new ≡ informed (unknown listed.0.known tables) listed
+    → new ≡ informed (unknown old.0.known tables) (consulted k (and_made made old))
+told_after k made tables old taken listed new first second third = third ∙ ap (λ (m : Mine). informed (unknown m.0.known tables) m) (second ∙ first)
+
+-- the directory was asked in a call that went on
+pub took_earlier : (slots : ℕ) (k : Keys) (old mid new : Mine) → TookDirectory slots k old mid → GoesOn mid new → TookDirectory slots k old new
+took_earlier slots k old mid new took goes = record {
+  before = took.before;
+  after = took.after ++ goes.0;
+  recorded = took.recorded;
+  listed = goes.1 ∙ ap (λ (log : List Met). log ++ goes.0) took.listed ∙ append_assoc (consulted k (and_made took.before old)).0.log took.after goes.0;
+}

@@ -1,0 +1,101 @@
+-- The next place gets a new key: what the seat may do then, and what it has afterwards.
+use Rattle.std.proofs.Common.{◌≡◌, ℕ, ◌+◌, ◌-◌, ◌==◌, not, false, List, [], ◌∷◌, ◌++◌, length, Some, None, refl, sym, ap, ◌∙◌, subst, arith, append_assoc}
+use Rattle.std.specs.Prelude.{Option, slice_get}
+use Rattle.std.specs.List.{filter}
+use Rattle.std.specs.Option.{option_map}
+use Rattle.mdl_key.specs.Words.{KeyName}
+use Rattle.mdl_book.specs.declared.book_view.BookView.{BookView}
+use Rattle.mdl_book.specs.Books.{empty_book, has_obtrusive, has_tickets}
+use Rattle.mdl_steps.specs.declared.slot.Slot.{Slot}
+use Rattle.mdl_steps.specs.declared.slot.Slot.TheVariants as slot
+use Rattle.mdl_steps.specs.declared.view.Held.{Held}
+use Rattle.mdl_steps.specs.declared.view.Keys.{Keys}
+use Rattle.mdl_steps.specs.declared.view.Met.{Met}
+use Rattle.mdl_steps.specs.Layout.{latch_word}
+use Rattle.mdl_steps.specs.Plays.{Mine, IsFresh, latched, listing, named}
+use Rattle.mdl_steps.specs.Rule.{key_at, IsUnused}
+use Rattle.mdl_steps.specs.Seats.{HasDirectory, Holds, MayName, place_among, rest, written}
+use Rattle.mdl_steps.proofs.Hands.{elsewhere-taken, holds_taken, holds_written}
+use Rattle.mdl_visits.specs.Lookups.{IsListed, relisted}
+use Rattle.mdl_steps.proofs.NewKeys.{none_after}
+use Rattle.mdl_visits.specs.Visits.{and_made}
+
+-- a book that nobody uses has nothing to tell
+unused_tells : (book : BookView) → IsUnused book → (has_tickets book ≡ false) × (has_obtrusive book ≡ false)
+unused_tells book unused = (rw (unused.0, unused.1) refl, rw (unused.0, unused.1) refl)
+
+-- one seat has one record of the directory
+pub same_record : (k other : Keys) (m : Mine) → m.0.directory ≡ Some k → m.0.directory ≡ Some other → k ≡ other
+same_record k other m this that = cc
+
+-- the latch that was just taken may be given back with the empty book of the new key
+pub may_name : (place : ℕ) (key : KeyName) (k : Keys) (h : Held) (m : Mine) → IsFresh place h m → IsListed place key k m
+    → MayName place key k h (written place (empty_book key) (latched place h m))
+may_name place key k h m fresh is =
+    let next = is.next in
+    let at : place - 1 ≡ length k.keys = omega arith in
+    let none : key_at k.keys place ≡ None = ap (slice_get k.keys) at ∙ none_after k.keys in
+    let nothing = unused_tells h.book (fresh.vacant k is.recorded none) in
+    record {
+      key_is = record { recorded = is.recorded; new = is.new };
+      next = is.next;
+      holds = holds_written place h h.book (empty_book key) (latched place h m) (holds_taken place h m fresh.here);
+      exact = (fresh.exact.0 ∙ nothing.0, fresh.exact.1 ∙ nothing.1);
+    }
+
+-- once it was given back, the key stands in the directory's record, too
+pub named_is : (place : ℕ) (key : KeyName) (k : Keys) (h : Held) (made : List Met) (old new : Mine) → h.place ≡ place → old.0.latches ≡ [] → IsListed place key k old
+    → new ≡ named place key (written place (empty_book key) (latched place h (and_made made old)))
+    → (more : List Met) × (new ≡ relisted more (listing key k) old)
+named_is place key k h made old new here alone is e =
+    let took : Met = record { word = latch_word place; found = 0; held = h ∷ old.0.latches } in
+    let gave : Met = record { word = latch_word place; found = old.0.number; held = h ∷ old.0.latches } in
+    let log : ((old.0.log ++ made) ++ took ∷ []) ++ gave ∷ [] ≡ old.0.log ++ ((made ++ took ∷ []) ++ gave ∷ []) =
+    ap (λ (l : List Met). l ++ gave ∷ []) (append_assoc old.0.log made (took ∷ [])) ∙ append_assoc old.0.log (made ++ took ∷ []) (gave ∷ []) in
+    let left : List Held = filter (λ x. not (x.place == place)) (h ∷ old.0.latches) in
+    let none : filter (λ (x : Held). not (x.place == place)) old.0.latches ≡ old.0.latches = rw alone refl in
+    let latches : left ≡ old.0.latches = elsewhere-taken place h (and_made made old) here ∙ none in
+    let directory : option_map (listing key) old.0.directory ≡ Some (listing key k) = ap (option_map (listing key)) is.recorded in
+    let all : List Met = (made ++ took ∷ []) ++ gave ∷ [] in (
+      all,
+      e
+          ∙ ap (λ (l : List Met). (record old.0 { log = l; latches = left; directory = option_map (listing key) old.0.directory }, old.1)) log
+          ∙ ap (λ (hs : List Held). (record old.0 { log = old.0.log ++ all; latches = hs; directory = option_map (listing key) old.0.directory }, old.1)) latches
+          ∙ ap (λ (d : Option Keys). (record old.0 { log = old.0.log ++ all; directory = d }, old.1)) directory
+          ∙ ap (λ (hand : List (ℕ × Slot)). (record old.0 { log = old.0.log ++ all; directory = Some (listing key k) }, hand)) is.carried,
+    )
+
+-- a copy of the key was added to the directory in hand, and there is another copy
+pub listed_at : (place : ℕ) (asked listed key : KeyName) (k : Keys) (old new : Mine) → HasDirectory k old → place_among asked k.keys ≡ None → place ≡ length k.keys + 1
+    → listed ≡ asked → key ≡ asked → new ≡ (old.0, (0, slot.Directory (listing listed k)) ∷ rest old.1) → IsListed place key k new
+listed_at place asked listed key k old new has none next first second e =
+    subst (λ (x : KeyName). IsListed place x k new) (sym second) (subst (λ (m : Mine). IsListed place asked k m) (sym e) (record {
+      recorded = has.recorded;
+      carried = ap (λ (x : KeyName). (0, slot.Directory (listing x k)) ∷ rest old.1) first;
+      new = none;
+      next = next;
+    }))
+
+-- what a record tells of a seat doesn't hang on its list of steps
+fresh_then : (place : ℕ) (h : Held) (made : List Met) (m : Mine) → IsFresh place h m → IsFresh place h (and_made made m)
+fresh_then place h made m f = record { here = f.here; exact = f.exact; unnoted = f.unnoted; lawful = f.lawful; modes = f.modes; own = f.own; named = f.named; vacant = f.vacant; once = f.once; single = f.single; wished = f.wished; lost = f.lost; stands = f.stands; reads = f.reads; noted = f.noted }
+
+-- ---- the same along the calls, the held latch being that of the place
+
+pub holds_at : (place here : ℕ) (h : Held) (m new : Mine) → here ≡ place → h.place ≡ place → new ≡ latched place h m → Holds here h h.book new
+holds_at place here h m new at is e = subst (λ (p : ℕ). Holds p h h.book new) (sym at) (subst (λ (x : Mine). Holds place h h.book x) (sym e) (holds_taken place h m is))
+
+module _ (place here : ℕ) (key : KeyName) (k : Keys) (h : Held) (made : List Met) (old mid next : Mine) (at : here ≡ place) (fresh : IsFresh place h old)
+    (is : IsListed place key k old) (taken : mid ≡ latched place h (and_made made old)) (named_book : next ≡ written here (empty_book key) mid) where
+  next_is : next ≡ written place (empty_book key) (latched place h (and_made made old))
+  next_is = named_book ∙ ap (λ (x : Mine). written here (empty_book key) x) taken ∙ ap (λ (p : ℕ). written p (empty_book key) (latched place h (and_made made old))) at
+
+  pub may_name_at : MayName here key k h next
+  may_name_at =
+      let listed : IsListed place key k (and_made made old) = record { recorded = is.recorded; carried = is.carried; new = is.new; next = is.next } in
+      subst (λ (p : ℕ). MayName p key k h next) (sym at) (subst (λ (m : Mine). MayName place key k h m) (sym next_is) (may_name place key k h (and_made made old) (fresh_then place h made old fresh) listed))
+
+  pub named_at : (new : Mine) → old.0.latches ≡ [] → new ≡ named here key next → (more : List Met) × (new ≡ relisted more (listing key k) old)
+  named_at new alone e =
+      named_is place key k h made old new fresh.here alone is
+      (e ∙ ap (λ (x : Mine). named here key x) next_is ∙ ap (λ (p : ℕ). named p key (written place (empty_book key) (latched place h (and_made made old)))) at)

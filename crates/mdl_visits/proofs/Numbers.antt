@@ -1,0 +1,26 @@
+-- No ticket that a session has is the one that it waits for.
+use Rattle.std.proofs.Common.{◌≡◌, ℕ, ◌==◌, true, List, [], ◌∷◌, Option, sym, ◌∙◌, subst}
+use Rattle.std.specs.Prelude.{is_some, not}
+use Rattle.std.proofs.lemmas.Bool.{and_parts, eqb-true, eq-eqb}
+use Rattle.mdl_steps.specs.declared.view.Ask.{Ask}
+use Rattle.mdl_steps.specs.declared.view.Own.{Own}
+use Rattle.mdl_steps.specs.declared.view.View.{View}
+use Rattle.mdl_steps.specs.Deeds.{NotWaited}
+use Rattle.mdl_steps.proofs.Views.{by_bool}
+use Rattle.mdl_visits.specs.Numbers.{is_ask_apart, is_no_number, numbered}
+
+other_number : (wanted number : ℕ) (tickets : List Own) → is_some (numbered number tickets) ≡ true → is_no_number wanted tickets ≡ true → wanted ≡ number → ⊥
+other_number wanted number [] there none same = absurd (cc)
+other_number wanted number (t ∷ ts) there none same =
+    let parts = and_parts (not (t.number == wanted)) (is_no_number wanted ts) none in
+    by_bool (t.number == number)
+    (λ hit.
+    let is : (t.number == wanted) ≡ true = eq-eqb t.number wanted (eqb-true t.number number hit ∙ sym same) in
+    let first = parts.0 in
+    absurd (cc))
+    (λ miss. other_number wanted number ts (rw miss at there) parts.1 same)
+
+pub not_waited : (v : View) (number : ℕ) → is_some (numbered number v.slow) ≡ true → is_ask_apart v.next v.slow v.asks ≡ true → NotWaited v number
+not_waited v number there apart = λ a asks same.
+    let here = subst (λ (o : Option Ask). is_ask_apart v.next v.slow o ≡ true) asks apart in
+    other_number a.number number v.slow there (and_parts _ (is_no_number a.number v.slow) here).1 same

@@ -1,0 +1,45 @@
+-- A visit to read what stands at a place.
+use Rattle.std.proofs.Common.{◌≡◌, ℕ, [], ◌∷◌, ◌++◌, Ok, Err, Some, ap, ◌∙◌, refl, sym, append_assoc}
+use Rattle.std.specs.Prelude.{IfOk, Result}
+use Rattle.mdl_defs.specs.declared.standing.Standing.{Standing}
+use Rattle.mdl_steps.specs.declared.view.Held.{Held}
+use Rattle.mdl_steps.specs.declared.view.Met.{Met}
+use Rattle.mdl_steps.specs.Cells.{held_at}
+use Rattle.mdl_steps.specs.Layout.{latch_word}
+use Rattle.mdl_steps.specs.Plays.{Mine, read_and_put}
+use Rattle.mdl_visits.specs.Leavings.{Learns, MeetsStanding, knowing}
+use Rattle.mdl_visits.specs.Visits.{IsInside, IsStepOf}
+
+-- what is told of a result tells what follows from it
+pub ok_told : {A E : Type 0} {P Q : A → Type 0} (result : Result A E) → ((a : A) → P a → Q a) → IfOk result P → IfOk result Q
+ok_told (Ok a) follows told = follows a told
+ok_told (Err e) follows told = tt
+
+-- ---- a visit to read
+
+module _ (place : ℕ) (standing : Standing) (m m′ m″ : Mine) (inside : IsInside place m m′) (read : m″ ≡ read_and_put place standing m′) where
+  puts : Met
+  puts = record { word = latch_word place; found = m.0.number; held = inside.latches }
+
+  pub learns : Learns place standing m m″
+  unfolding puts
+  learns = (
+    inside.made ++ puts ∷ [],
+    read ∙ ap (read_and_put place standing) inside.now
+        ∙ (λ i. (record (knowing place standing m.0) { latches = inside.others i; log = append_assoc m.0.log inside.made (puts ∷ []) i }, m.1)),
+  )
+
+  pub meets_standing : (h : Held) (who : ℕ) → m.0.number ≡ who → held_at place m′.0.latches ≡ Some h → standing ≡ h.book.standing
+      → (e : Met) × IsStepOf m m″ e × MeetsStanding place who standing e
+  unfolding puts
+  meets_standing h who mine recorded stands = (
+    puts,
+    (inside.made, [], ap (λ (x : Mine). x.0.log) (read ∙ ap (read_and_put place standing) inside.now)),
+    record {
+      word = refl;
+      freed = mine;
+      latch = h;
+      held = ap (λ (x : Mine). held_at place x.0.latches) (sym inside.now) ∙ recorded;
+      stands = sym stands;
+    },
+  )

@@ -1,0 +1,108 @@
+-- A visit to a place, put together of its steps.
+use Rattle.std.proofs.Common.{◌≡◌, ℕ, ◌==◌, Bool, true, cond, List, [], ◌∷◌, ◌++◌, map, refl, sym, ap, ◌∙◌, subst, append_assoc, append-nil}
+use Rattle.std.proofs.lemmas.Bool.{eq-eqb}
+use Rattle.mdl_book.specs.declared.book_view.BookView.{BookView}
+use Rattle.mdl_steps.specs.declared.deed.Deed.{Deed}
+use Rattle.mdl_steps.specs.declared.slot.Slot.TheVariants as slot
+use Rattle.mdl_steps.specs.declared.view.Held.{Held}
+use Rattle.mdl_steps.specs.declared.view.Met.{Met}
+use Rattle.mdl_steps.specs.Deeds.{all_done}
+use Rattle.mdl_steps.specs.Layout.{latch_word, lock_word}
+use Rattle.mdl_steps.specs.Plays.{Mine, IsFresh, latched, unlatched, logged, stepped, raised, noting, changed}
+use Rattle.mdl_steps.specs.Seats.{Holds, IsRising, written}
+use Rattle.mdl_steps.proofs.Hands.{elsewhere-stepped, elsewhere-rising}
+use Rattle.mdl_visits.specs.Visits.{and_made, MakesSteps, IsInside, Visits, Enters}
+
+-- ---- steps
+
+pub makes_none : (m : Mine) → MakesSteps m m
+makes_none m = ([], λ i. and_log (sym (append-nil m.0.log) i))
+  where
+    and_log : List Met → Mine
+    and_log log = (record m.0 { log = log }, m.1)
+
+-- one that only met something
+pub makes_one : (word found : ℕ) (m m′ m″ : Mine) → MakesSteps m m′ → m″ ≡ (logged word found m′.0.latches m′.0, m′.1) → MakesSteps m m″
+makes_one word found m m′ m″ steps met =
+    let e : Met = record { word = word; found = found; held = m.0.latches } in (
+      steps.0 ++ e ∷ [],
+      met ∙ ap (λ (x : Mine). (logged word found x.0.latches x.0, x.1)) steps.1
+          ∙ (λ i. (record m.0 { log = append_assoc m.0.log steps.0 (e ∷ []) i }, m.1)),
+    )
+
+-- ---- inside
+
+-- a book of a place in hand, other records of latches and other steps
+abbrev pub inside_at : ℕ → List Held → BookView → Mine → List Met → Mine
+inside_at place latches book m log = (record m.0 { latches = latches; log = log }, (place, slot.Place book) ∷ m.1)
+
+-- what a latch's record tells as it is taken doesn't hang on the steps before
+pub fresh_before : (place : ℕ) (h : Held) (m m′ : Mine) → MakesSteps m m′ → IsFresh place h m′ → IsFresh place h m
+fresh_before place h m m′ steps fresh =
+    let f : IsFresh place h (and_made steps.0 m) = subst (IsFresh place h) steps.1 fresh in
+    record { here = f.here; exact = f.exact; unnoted = f.unnoted; lawful = f.lawful; modes = f.modes; own = f.own; named = f.named; vacant = f.vacant; once = f.once; single = f.single; wished = f.wished; lost = f.lost; stands = f.stands; reads = f.reads; noted = f.noted }
+
+pub inside_taken : (place : ℕ) (h : Held) (m m′ : Mine) (made : List Met) → IsRising place m → h.place ≡ place → m′ ≡ latched place h (and_made made m) → IsInside place m m′
+inside_taken place h m m′ made rising here taken =
+    let e : Met = record { word = latch_word place; found = 0; held = h ∷ m.0.latches } in
+    record {
+      latches = h ∷ m.0.latches;
+      made = made ++ e ∷ [];
+      book = h.book;
+      now = taken ∙ (λ i. inside_at place (h ∷ m.0.latches) h.book m (append_assoc m.0.log made (e ∷ []) i));
+      others = rw (eq-eqb h.place place here) (elsewhere-rising place m.0.latches rising);
+    }
+
+pub inside_stepped : (place found : ℕ) (f : Held → Held) (m m′ m″ : Mine) → ((h : Held) → (f h).place ≡ h.place) → IsInside place m m′ → m″ ≡ stepped place found f m′ → IsInside place m m″
+inside_stepped place found f m m′ m″ stays inside made =
+    let latches = map (λ (h : Held). cond (h.place == place) (f h) h) inside.latches in
+    let e : Met = record { word = lock_word place; found = found; held = latches } in
+    let log = m.0.log ++ inside.made in
+    record {
+      latches = latches;
+      made = inside.made ++ e ∷ [];
+      book = inside.book;
+      now = made ∙ ap (stepped place found f) inside.now ∙ (λ i. inside_at place latches inside.book m (append_assoc m.0.log inside.made (e ∷ []) i));
+      others = elsewhere-stepped place found f (inside_at place inside.latches inside.book m log) stays ∙ inside.others;
+    }
+
+-- another book was written
+pub inside_written : (place : ℕ) (book : BookView) (m m′ m″ : Mine) → IsInside place m m′ → m″ ≡ written place book m′ → IsInside place m m″
+inside_written place book m m′ m″ inside made = record {
+  latches = inside.latches;
+  made = inside.made;
+  book = book;
+  now = made ∙ ap (written place book) inside.now;
+  others = inside.others;
+}
+
+-- ---- out again
+
+pub visits_put : (place : ℕ) (ds : List Deed) (m m′ m″ : Mine) → IsInside place m m′ → m″ ≡ unlatched place ds m′ → Visits place ds m m″
+visits_put place ds m m′ m″ inside put =
+    let e : Met = record { word = latch_word place; found = m.0.number; held = inside.latches } in
+    record {
+      made = inside.made ++ e ∷ [];
+      now = put ∙ ap (unlatched place ds) inside.now
+          ∙ (λ i. (record (all_done place ds m.0) { latches = inside.others i; log = append_assoc m.0.log inside.made (e ∷ []) i }, m.1));
+    }
+
+-- ---- as it was entered
+
+pub enters : (place found word : ℕ) (obtrusive : Bool) (h : Held) (m a b c : Mine) → IsFresh place h m → IsInside place m a → b ≡ stepped place found (raised true obtrusive) a
+    → c ≡ stepped place word (noting word) b → Holds place (noting word (raised true obtrusive h)) h.book c → Enters place obtrusive word m c
+enters place found word obtrusive h m a b c fresh inside raise read holds =
+    let up = inside_stepped place found (raised true obtrusive) m a b (λ x. refl) inside raise in
+    let latches : (changed place (noting word) b.0).latches ≡ c.0.latches = sym (ap (λ (x : Mine). x.0.latches) read) in
+    record {
+      found = h;
+      fresh = fresh;
+      holds = holds;
+      inside = inside_stepped place word (noting word) m b c (λ x. refl) up read;
+      read = (
+        up.made,
+        ap (λ (x : Mine). x.0.log) read
+            ∙ ap (λ (log : List Met). log ++ record { word = lock_word place; found = word; held = (changed place (noting word) b.0).latches } ∷ []) (ap (λ (x : Mine). x.0.log) up.now)
+            ∙ ap (λ (held : List Held). (m.0.log ++ up.made) ++ record { word = lock_word place; found = word; held = held } ∷ []) latches,
+      );
+    }

@@ -1,0 +1,189 @@
+-- What a record tells of those who wait, before and after one of them is granted.
+use Rattle.std.proofs.Common.{◌≡◌, ℕ, ◌+◌, ◌<◌, Bool, true, false, cond, ◌||◌, List, [], ◌∷◌, ◌++◌, length, Some, None, refl, sym, ap, ◌∙◌, subst, inl, inr, arith, length-append}
+use Rattle.std.specs.Prelude.{Option, ◌⊎◌, find, not}
+use Rattle.std.specs.List.{Contains, list_any}
+use Rattle.std.specs.Option.{option_map, option_to_list}
+use Rattle.std.specs.FinSet as set
+use Rattle.std.specs.Ordering.{nat_cmp}
+use Rattle.std.proofs.lemmas.Bool.{and_parts, and_from, lt-ltb, cases_eq}
+use Rattle.std.proofs.lemmas.List.Folds.{list_any-append}
+use Rattle.mdl_key.specs.Words.{is_obtrusive}
+use Rattle.mdl_word.specs.Words.{blocks_by, counts_of}
+use Rattle.mdl_book.specs.declared.book_view.BookView.{BookView}
+use Rattle.mdl_book.specs.declared.ticket.Ticket.{Ticket}
+use Rattle.mdl_book.specs.Books.{lock_kind, any_obtrusive, admitting, is_ready, next_grantable}
+use Rattle.mdl_book.specs.FastTickets.{can_be_granted, may_stand}
+use Rattle.mdl_book.specs.Granting.{goes_first, is_compatible}
+use Rattle.mdl_book.specs.Tickets.{is_ticket, ticket_id, ticket_of, without}
+use Rattle.mdl_book.proofs.MemberLemmas.{none-found}
+use Rattle.mdl_book.proofs.TicketLemmas.{find-passes}
+use Rattle.mdl_steps.specs.declared.view.Held.{Held}
+use Rattle.mdl_steps.specs.Deeds.{MayJoin}
+use Rattle.mdl_steps.specs.Lists.{Once}
+use Rattle.mdl_steps.specs.Rule.{TellsLists}
+use Rattle.mdl_steps.specs.WaitPlays.{with_admitted}
+use Rattle.mdl_steps.proofs.Tickets.{is_itself, is_passed, without-hit, without-miss, of-without_other, of-without_own, none-without, once-without}
+use Rattle.mdl_steps.proofs.Views.{by_bool}
+use Rattle.mdl_visits.specs.Grantings.{IsReady, MayServe}
+
+-- ---- one of the list is taken out
+
+module _ (session number : ℕ) where
+  -- it is one of those that are asked, or another is
+  any_split : (p : Ticket → Bool) (ts : List Ticket) (t : Ticket) → ticket_of session number ts ≡ Some t → list_any p ts ≡ (p t || list_any p (without session number ts))
+  any_split p [] t found = absurd (cc)
+  any_split p (x ∷ xs) t found = by_bool (is_ticket session number x)
+      (λ hit. let is : x ≡ t = (let first : cond (is_ticket session number x) (Some x) (ticket_of session number xs) ≡ Some x = ap (λ b. cond b (Some x) (ticket_of session number xs)) hit in cc) in
+      ap (λ (y : Ticket). p y || list_any p xs) is ∙ ap (λ ys. p t || list_any p ys) (sym (without-hit session number x xs hit)))
+      (λ miss. ap (λ b. p x || b) (any_split p xs t (sym (ap (λ b. cond b (Some x) (ticket_of session number xs)) miss) ∙ found)) ∙ swap (p x) (p t) (list_any p (without session number xs))
+      ∙ ap (λ ys. p t || list_any p ys) (sym (without-miss session number x xs miss)))
+    where
+      swap : (a b c : Bool) → (a || (b || c)) ≡ (b || (a || c))
+      swap true true c = refl
+      swap true false c = refl
+      swap false b c = refl
+
+  some_there : (ts : List Ticket) (t : Ticket) → ticket_of session number ts ≡ Some t → 0 < length ts
+  some_there [] t found = absurd (cc)
+  some_there (x ∷ xs) t found = omega arith
+
+  -- who is found after that was found before
+  pub found_before : (ts : List Ticket) → Once ts → (a m : ℕ) (t : Ticket) → ticket_of a m (without session number ts) ≡ Some t → ticket_of a m ts ≡ Some t
+  found_before ts once a m t found = elim (cases_eq a session) [
+    | inl who ↦ elim (cases_eq m number) [
+      | inl same ↦ let none : ticket_of a m (without session number ts) ≡ None =
+          ap (λ (k : ℕ). ticket_of k m (without session number ts)) who ∙ ap (λ (k : ℕ). ticket_of session k (without session number ts)) same ∙ of-without_own session number ts once in
+          absurd (cc)
+      | inr other ↦ kept (λ _ e. other e)
+    ]
+    | inr other ↦ kept (λ e _. other e)
+  ]
+    where
+      kept : (a ≡ session → m ≡ number → ⊥) → ticket_of a m ts ≡ Some t
+      kept apart =
+          sym (of-without_other session number a m (λ x hit. by_bool (is_ticket a m x)
+          (λ also. let is = is_passed session number x hit in let that = is_passed a m x also in absurd (apart (sym that.0 ∙ is.0) (sym that.1 ∙ is.1)))
+          (λ no. no)) ts)
+          ∙ found
+
+-- ---- after a waiting ticket is granted
+
+admitted_flags : (g o w : Bool) → (g || (o || w)) ≡ ((g || (o || false)) || w)
+admitted_flags true o w = refl
+admitted_flags false true w = refl
+admitted_flags false false w = refl
+
+tells_admitted : (session number : ℕ) (book : BookView) (t : Ticket) (slow obtrusive : Bool) → ticket_of session number book.waiting ≡ Some t → TellsLists book slow obtrusive
+    → TellsLists (admitting session number book) slow obtrusive
+tells_admitted session number book t slow obtrusive found exact =
+    let test : Ticket → Bool = λ x. is_obtrusive (lock_kind book) x.mode in
+    subst (λ (o : Option Ticket). TellsLists (record (admitting session number book) { granted = book.granted ++ option_to_list o }) slow obtrusive) (sym found) (
+      exact.0 ∙ (let more = some_there session number book.waiting t found in lt-ltb 0 (length book.granted + length book.waiting) (omega arith))
+          ∙ sym (let longer = length-append book.granted (t ∷ []) in lt-ltb 0 (length (book.granted ++ t ∷ []) + length (without session number book.waiting)) (omega arith)),
+      exact.1 ∙ ap (λ b. any_obtrusive (lock_kind book) book.granted || b) (any_split session number test book.waiting t found)
+          ∙ admitted_flags (any_obtrusive (lock_kind book) book.granted) (is_obtrusive (lock_kind book) t.mode) (any_obtrusive (lock_kind book) (without session number book.waiting))
+          ∙ ap (λ b. b || any_obtrusive (lock_kind book) (without session number book.waiting)) (sym (list_any-append test book.granted (t ∷ []))),
+    )
+
+pub serves_on : (word session number : ℕ) (h : Held) (t : Ticket) → ticket_of session number h.book.waiting ≡ Some t → MayServe word h → MayServe word (with_admitted session number h)
+serves_on word session number h t found may = (
+  (
+    record {
+      once = once-without session number h.book.waiting may.0.0.once;
+      single = λ a i j x y first second.
+          may.0.0.single a i j x y (found_before session number h.book.waiting may.0.0.once a i x first) (found_before session number h.book.waiting may.0.0.once a j y second);
+    },
+    tells_admitted session number h.book t h.slow h.obtrusive found may.0.1,
+  ),
+  may.1,
+)
+
+-- nobody else of its session waits
+pub none_of_session : (word session number : ℕ) (h : Held) (t : Ticket) → ticket_of session number h.book.waiting ≡ Some t → MayServe word h
+    → (m : ℕ) → ticket_of session m (with_admitted session number h).book.waiting ≡ None
+none_of_session word session number h t found may m =
+    elim (ticket_of session m (without session number h.book.waiting)) as (λ o. ticket_of session m (without session number h.book.waiting) ≡ o → o ≡ None) [
+      | Some x ↦ λ there.
+          let same : m ≡ number = may.0.0.single session m number x t (found_before session number h.book.waiting may.0.0.once session m x there) found in
+          let none : ticket_of session m (without session number h.book.waiting) ≡ None = ap (λ (k : ℕ). ticket_of session k (without session number h.book.waiting)) same ∙ of-without_own session number h.book.waiting may.0.0.once in
+          sym there ∙ none
+      | None ↦ λ _. refl
+    ] refl
+
+-- who doesn't wait goes on not to
+pub none_still : (session number who : ℕ) (h : Held) → ((m : ℕ) → ticket_of who m h.book.waiting ≡ None) → (m : ℕ) → ticket_of who m (with_admitted session number h).book.waiting ≡ None
+none_still session number who h none m = none-without session number who m h.book.waiting (none m)
+
+-- ---- the next one
+
+-- the first that passes a test is found by its session and number
+found_by_id : (p : Ticket → Bool) (ts : List Ticket) (t : Ticket) → Once ts → find p ts ≡ Some t → ticket_of t.session t.number ts ≡ Some t
+found_by_id p [] t once found = absurd (cc)
+found_by_id p (x ∷ xs) t once found = by_bool (p x)
+    (λ hit. let is : x ≡ t = (let first : cond (p x) (Some x) (find p xs) ≡ Some x = ap (λ b. cond b (Some x) (find p xs)) hit in cc) in
+    subst (λ (y : Ticket). cond (is_ticket t.session t.number y) (Some y) (ticket_of t.session t.number xs) ≡ Some t) (sym is) (rw (is_itself t) refl))
+    (λ miss.
+    let later : find p xs ≡ Some t = sym (ap (λ b. cond b (Some x) (find p xs)) miss) ∙ found in
+    let there = found_by_id p xs t once.1 later in
+    by_bool (is_ticket t.session t.number x)
+    (λ same.
+    let is = is_passed t.session t.number x same in
+    let none : ticket_of t.session t.number xs ≡ None = subst (λ (a : ℕ). ticket_of a t.number xs ≡ None) is.0 (subst (λ (m : ℕ). ticket_of x.session m xs ≡ None) is.1 once.0) in
+    absurd (cc))
+    (λ other. rw other there))
+
+-- it may join
+may_join : (word : ℕ) (h : Held) (t : Ticket) → MayServe word h → ticket_of t.session t.number h.book.waiting ≡ Some t → may_stand (lock_kind h.book) h.book.granted word t.session t.mode ≡ true
+    → MayJoin t.session h.book h.noted t.mode
+may_join word h t may there stands = by_bool (is_obtrusive (lock_kind h.book) t.mode)
+    (λ obtrusive.
+    let test : Ticket → Bool = λ x. is_obtrusive (lock_kind h.book) x.mode in
+    let up : h.obtrusive ≡ true =
+    may.0.1.1 ∙ ap (λ b. any_obtrusive (lock_kind h.book) h.book.granted || b) (any_split t.session t.number test h.book.waiting t there ∙ ap (λ b. b || any_obtrusive (lock_kind h.book) (without t.session t.number h.book.waiting)) obtrusive)
+    ∙ or_true (any_obtrusive (lock_kind h.book) h.book.granted) in
+    inr (inl (word, may.1 up, stands)))
+    (λ plain. inl (plain, (and_parts (is_compatible (lock_kind h.book) h.book.granted t.session t.mode) (not (blocks_by (counts_of word) (lock_kind h.book) t.mode)) stands).0))
+  where
+    or_true : (b : Bool) → (b || true) ≡ true
+    or_true true = refl
+    or_true false = refl
+
+pub is_next : (word session number : ℕ) (untried : set.FinSet nat_cmp) (h : Held) → MayServe word h → Some (session, number) ≡ option_map ticket_id (next_grantable word untried h.book)
+    → IsReady session number h × (set.contains untried session ≡ true)
+is_next word session number untried h may told =
+    elim (next_grantable word untried h.book) as (λ o. next_grantable word untried h.book ≡ o → Some (session, number) ≡ option_map ticket_id o → IsReady session number h × (set.contains untried session ≡ true)) [
+      | None ↦ λ _ none. absurd (cc)
+      | Some t ↦ λ found same.
+          let id : (t.session, t.number) ≡ (session, number) = cc in
+          let ready : is_ready word untried h.book t ≡ true = find-passes (is_ready word untried h.book) h.book.waiting t found in
+          let parts = and_parts (set.contains untried t.session) (can_be_granted (lock_kind h.book) h.book.granted h.book.waiting word t.session t.mode) ready in
+          let can = and_parts (may_stand (lock_kind h.book) h.book.granted word t.session t.mode) (goes_first (lock_kind h.book) h.book.waiting t.session t.mode) parts.1 in
+          let there = found_by_id (is_ready word untried h.book) h.book.waiting t may.0.0.once found in
+          subst (λ (who : ℕ × ℕ). IsReady who.0 who.1 h × (set.contains untried who.0 ≡ true)) id
+          (record { wish = t; waits = there; beside = may_join word h t may there can.0; first = can.1 }, parts.0)
+    ] refl told
+
+-- and where there is none, each that waits was taken out or can't be granted
+pub none_next : (word : ℕ) (untried : set.FinSet nat_cmp) (h : Held) → None ≡ option_map ticket_id (next_grantable word untried h.book)
+    → (t : Ticket) → Contains h.book.waiting t
+    → (set.contains untried t.session ≡ false) ⊎ (can_be_granted (lock_kind h.book) h.book.granted h.book.waiting word t.session t.mode ≡ false)
+none_next word untried h told t among =
+    let none = nothing (next_grantable word untried h.book) told in
+    let fails = (none-found (is_ready word untried h.book) h.book.waiting).0 none t among in
+    by_bool (set.contains untried t.session)
+    (λ left. by_bool (can_be_granted (lock_kind h.book) h.book.granted h.book.waiting word t.session t.mode)
+    (λ can. absurd (fails (and_from _ _ left can)))
+    (λ cannot. inr cannot))
+    (λ tried. inl tried)
+  where
+    nothing : (o : Option Ticket) → None ≡ option_map ticket_id o → o ≡ None
+    nothing None e = refl
+    nothing (Some x) e = absurd (cc)
+
+-- a ticket that waits is found
+pub waits_there : (ts : List Ticket) (t : Ticket) → Contains ts t → ((m : ℕ) → ticket_of t.session m ts ≡ None) → ⊥
+waits_there ts t among none = (none-found (is_ticket t.session t.number) ts).0 (none t.number) t among (is_itself t)
+
+-- a ticket that is found has the number that it was looked up by
+pub found_number : (session number : ℕ) (ts : List Ticket) (t : Ticket) → ticket_of session number ts ≡ Some t → t.number ≡ number
+found_number session number ts t found = (is_passed session number t (find-passes (is_ticket session number) ts t found)).1

@@ -1,0 +1,200 @@
+-- Way is made step by step.
+use Rattle.std.proofs.Common.{◌≡◌, ℕ, ◌+◌, ◌*◌, ◌%◌, ◌<◌, ◌==◌, ◌&&◌, nat_lt, List, [], ◌∷◌, ◌++◌, Some, None, refl, sym, ap, ◌∙◌, subst, append_assoc, append-nil, arith}
+use Rattle.std.proofs.lemmas.Bool.{and_parts, eqb-true, ltb-true}
+use Rattle.mdl_book.specs.declared.book_view.BookView.{BookView}
+use Rattle.mdl_steps.specs.declared.slot.Slot.TheVariants as slot
+use Rattle.mdl_steps.specs.declared.view.Held.{Held}
+use Rattle.mdl_steps.specs.declared.view.Met.{Met}
+use Rattle.mdl_steps.specs.declared.view.Settlement.{Settlement}
+use Rattle.mdl_steps.specs.declared.view.View.{View}
+use Rattle.mdl_steps.specs.Cells.{held_at}
+use Rattle.mdl_steps.specs.Layout.{wait_word}
+use Rattle.mdl_steps.specs.Plays.{Mine, changed}
+use Rattle.mdl_steps.specs.Seats.{Holds, elsewhere, rest, written}
+use Rattle.mdl_steps.specs.WaitPlays.{wait_in, met_wait, meeting, settled_granted, with_admitted, TellsOwn}
+use Rattle.mdl_steps.proofs.Hands.{elsewhere-stepped}
+use Rattle.mdl_steps.proofs.Views.{by_bool, held_at-changed}
+use Rattle.mdl_visits.specs.Grantings.{IsReady, MakesWay, MeetsGranted, StaysTold, WasSettled}
+use Rattle.mdl_visits.specs.Visits.{GoesOn, IsStepOf}
+use Rattle.mdl_visits.proofs.Steps.{each_append, each_map, step_after, step_before}
+
+-- ---- what is told of one's own wait
+
+-- what a session meets of its own wait agrees with what it was told
+pub stays_met : (slots session word : ℕ) (v : View) → TellsOwn slots session word v → StaysTold v.told (meeting session word v).told
+stays_met slots session word v own state told =
+    by_bool (session == v.number && nat_lt 1 (word % 8))
+    (λ mine.
+    let who = eqb-true session v.number (and_parts (session == v.number) (nat_lt 1 (word % 8)) mine).0 in
+    rw mine (ap (λ (n : ℕ). Some n) ((own who).told state told).1))
+    (λ other. rw other told)
+
+-- an unsettled wait of its own was told as settled nowhere
+pub stays_granted : (slots session number : ℕ) (v : View) → TellsOwn slots session (wait_in number 1) v → StaysTold v.told (meeting session (wait_in number 2) v).told
+stays_granted slots session number v own state told =
+    by_bool (session == v.number && nat_lt 1 (wait_in number 2 % 8))
+    (λ mine.
+    let who = eqb-true session v.number (and_parts (session == v.number) (nat_lt 1 (wait_in number 2 % 8)) mine).0 in
+    let was : (1 < state) × (wait_in number 1 % 8 ≡ state) = (own who).told state told in
+    let more = was.0 in
+    let same : (8 * number + 1) % 8 ≡ state = was.1 in
+    absurd (omega arith))
+    (λ other. rw other told)
+
+-- and a session without a wait meets none of its own that is settled, or was just now
+pub unasked_met : (slots session word : ℕ) (v : View) → TellsOwn slots session word v → v.asks ≡ None → (meeting session word v).told ≡ v.told
+unasked_met slots session word v own none =
+    by_bool (session == v.number && nat_lt 1 (word % 8))
+    (λ mine.
+    let parts = and_parts (session == v.number) (nat_lt 1 (word % 8)) mine in
+    let idle : word % 8 ≡ 0 = (own (eqb-true session v.number parts.0)).idle none in
+    let over : 1 < word % 8 = ltb-true 1 (word % 8) parts.1 in
+    absurd (omega arith))
+    (λ other. rw other refl)
+
+pub unasked_granted : (slots session number : ℕ) (v : View) → TellsOwn slots session (wait_in number 1) v → v.asks ≡ None → (meeting session (wait_in number 2) v).told ≡ v.told
+unasked_granted slots session number v own none =
+    by_bool (session == v.number && nat_lt 1 (wait_in number 2 % 8))
+    (λ mine.
+    let who = eqb-true session v.number (and_parts (session == v.number) (nat_lt 1 (wait_in number 2 % 8)) mine).0 in
+    let idle : (8 * number + 1) % 8 ≡ 0 = (own who).idle none in
+    absurd (omega arith))
+    (λ other. rw other refl)
+
+module _ (slots place : ℕ) where
+  -- ---- nothing yet
+
+  pub way_none : (book : BookView) (m : Mine) → m.1 ≡ (place, slot.Place book) ∷ rest m.1 → MakesWay slots place m m
+  way_none book m carried = record {
+    latches = m.0.latches;
+    told = m.0.told;
+    grants = [];
+    made = [];
+    book = book;
+    now = λ i. (record m.0 { settles = sym (append-nil m.0.settles) i; log = sym (append-nil m.0.log) i }, carried i);
+    others = refl;
+    stays = λ state e. e;
+    unasked = λ none. refl;
+    granted = tt;
+  }
+
+  -- ---- one step
+
+  pub way_met : (session found : ℕ) (book : BookView) (m m′ : Mine) → m.1 ≡ (place, slot.Place book) ∷ rest m.1 → TellsOwn slots session found m.0 → m′ ≡ met_wait slots session found m
+      → MakesWay slots place m m′
+  way_met session found book m m′ carried own is = record {
+    latches = m.0.latches;
+    told = (meeting session found m.0).told;
+    grants = [];
+    made = record { word = wait_word slots session; found = found; held = m.0.latches } ∷ [];
+    book = book;
+    now = is ∙ (λ i. (record (met_wait slots session found m).0 { settles = sym (append-nil m.0.settles) i }, carried i));
+    others = refl;
+    stays = stays_met slots session found m.0 own;
+    unasked = unasked_met slots session found m.0 own;
+    granted = tt;
+  }
+
+  module _ (session ticket number : ℕ) (h : Held) (book : BookView) (m m′ : Mine) (has : Holds place h book m) (ready : IsReady session ticket h) (is : m′ ≡ settled_granted slots place session ticket number m) where
+    latches_then : List Held
+    latches_then = (changed place (with_admitted session ticket) m.0).latches
+
+    grants_it : Met
+    grants_it = record { word = wait_word slots session; found = wait_in number 1; held = latches_then }
+
+    meets : (wish_number : ready.wish.number ≡ ticket) → MeetsGranted slots place (record { session = session; wait = number; state = 2 }) grants_it
+    unfolding grants_it latches_then
+    meets wish_number = record {
+      state = refl;
+      word = refl;
+      unsettled = refl;
+      before = h;
+      wish = ready.wish;
+      held = subst (λ (n : ℕ). held_at place latches_then ≡ Some (with_admitted session n h)) (sym wish_number)
+          (held_at-changed place (with_admitted session ticket) (λ x. refl) m.0.latches h has.recorded);
+      waits = subst (λ (n : ℕ). Rattle.mdl_book.specs.Tickets.ticket_of session n h.book.waiting ≡ Some ready.wish) (sym wish_number) ready.waits;
+      beside = ready.beside;
+      first = ready.first;
+    }
+
+    pub way_granted : ready.wish.number ≡ ticket → TellsOwn slots session (wait_in number 1) m.0 → MakesWay slots place m m′
+    unfolding grants_it latches_then
+    way_granted wish_number own = record {
+      latches = latches_then;
+      told = (meeting session (wait_in number 2) m.0).told;
+      grants = record { session = session; wait = number; state = 2 } ∷ [];
+      made = grants_it ∷ [];
+      book = book;
+      now = is ∙ (λ i. ((settled_granted slots place session ticket number m).0, has.carried i));
+      others = elsewhere-stepped place 0 (with_admitted session ticket) m (λ x. refl);
+      stays = stays_granted slots session number m.0 own;
+      unasked = unasked_granted slots session number m.0 own;
+      granted = (
+        (grants_it, ([], [], ap (λ (x : Mine). x.0.log) is ∙ ap (λ (log : List Met). log ++ grants_it ∷ []) (sym (append-nil m.0.log))), meets wish_number),
+        tt,
+      );
+    }
+
+  -- the book in hand was written
+  pub way_written : (book next : BookView) (m m′ : Mine) → m.1 ≡ (place, slot.Place book) ∷ rest m.1 → m′ ≡ written place next m → MakesWay slots place m m′
+  way_written book next m m′ carried is = record {
+    latches = m.0.latches;
+    told = m.0.told;
+    grants = [];
+    made = [];
+    book = next;
+    now = is ∙ (λ i. (record m.0 { settles = sym (append-nil m.0.settles) i; log = sym (append-nil m.0.log) i }, (place, slot.Place next) ∷ rest m.1));
+    others = refl;
+    stays = λ state e. e;
+    unasked = λ none. refl;
+    granted = tt;
+  }
+
+  -- ---- one after another
+
+  pub steps_of : (m m′ : Mine) → MakesWay slots place m m′ → GoesOn m m′
+  steps_of m m′ way = (way.made, ap (λ (x : Mine). x.0.log) way.now)
+
+  pub way_then : (a b c : Mine) → MakesWay slots place a b → MakesWay slots place b c → MakesWay slots place a c
+  way_then a b c x y = record {
+    latches = y.latches;
+    told = y.told;
+    grants = x.grants ++ y.grants;
+    made = x.made ++ y.made;
+    book = y.book;
+    now = y.now
+        ∙ ap (λ (w : Mine). (record w.0 { latches = y.latches; told = y.told; settles = w.0.settles ++ y.grants; log = w.0.log ++ y.made }, (place, slot.Place y.book) ∷ rest w.1)) x.now
+        ∙ (λ i. (record a.0 { latches = y.latches; told = y.told; settles = append_assoc a.0.settles x.grants y.grants i; log = append_assoc a.0.log x.made y.made i }, (place, slot.Place y.book) ∷ rest a.1));
+    others = y.others ∙ ap (elsewhere place) x.now ∙ x.others;
+    stays = λ state e. y.stays state (ap (λ (w : Mine). w.0.told) x.now ∙ x.stays state e);
+    unasked = λ none. y.unasked (ap (λ (w : Mine). w.0.asks) x.now ∙ none) ∙ ap (λ (w : Mine). w.0.told) x.now ∙ x.unasked none;
+    granted = each_append (λ (g : Settlement). (e : Met) × IsStepOf a c e × MeetsGranted slots place g e) x.grants y.grants
+        (each_map (λ (g : Settlement). (e : Met) × IsStepOf a b e × MeetsGranted slots place g e) (λ (g : Settlement). (e : Met) × IsStepOf a c e × MeetsGranted slots place g e)
+        (λ g met. (met.0, step_before a b c (steps_of b c y) met.0 met.1, met.2)) x.grants x.granted)
+        (each_map (λ (g : Settlement). (e : Met) × IsStepOf b c e × MeetsGranted slots place g e) (λ (g : Settlement). (e : Met) × IsStepOf a c e × MeetsGranted slots place g e)
+        (λ g met. (met.0, step_after a b c (steps_of a b x) met.0 met.1, met.2)) y.grants y.granted);
+  }
+
+-- ---- what was settled
+
+pub settled_before : (slots session : ℕ) (a b c : Mine) → GoesOn b c → WasSettled slots session a b → WasSettled slots session a c
+settled_before slots session a b c more was = record {
+  read = was.read;
+  read_then = step_before a b c more was.read was.read_then;
+  of_wait = was.of_wait;
+  met = was.met;
+  met_then = step_before a b c more was.met was.met_then;
+  of_same = was.of_same;
+  settled = was.settled;
+}
+
+pub settled_after : (slots session : ℕ) (a b c : Mine) → GoesOn a b → WasSettled slots session b c → WasSettled slots session a c
+settled_after slots session a b c more was = record {
+  read = was.read;
+  read_then = step_after a b c more was.read was.read_then;
+  of_wait = was.of_wait;
+  met = was.met;
+  met_then = step_after a b c more was.met was.met_then;
+  of_same = was.of_same;
+  settled = was.settled;
+}

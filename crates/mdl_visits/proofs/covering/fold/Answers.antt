@@ -1,0 +1,26 @@
+-- The book that is met under the latch has both tickets.
+use Rattle.std.proofs.Common.{ℕ, sym, ap, ◌∙◌, subst}
+use Rattle.std.specs.Prelude.{is_some}
+use Rattle.mdl_steps.specs.Plays.{IsFresh}
+use Rattle.mdl_steps.specs.Seats.{Holds}
+use Rattle.mdl_visits.proofs.Covered.{covered_by_own, own_there}
+use Rattle.mdl_visits.proofs.covering.fold.Goals as goal
+
+pub unite-requires-clause-covered : goal.unite-requires-clause-covered
+unite-requires-clause-covered g c =
+    let worker = c.args.worker.now in
+    let kept = c.args.kept in
+    let gone = c.args.gone in
+    let taken = c.await_latch-latch.ensures.taken in
+    let h = taken.0 in
+    let who = c.await_latch-latch.new.worker.number in
+    let mine = worker.numbered.0 ∙ sym c.await_latch-latch.ensures.seat.1 in
+    let fresh_there = subst (λ (q : ℕ). IsFresh q h worker.seat.me) c.requires.here taken.1 in
+    let first = own_there who kept.number kept h worker.seat.me mine taken.1 c.requires.unwaited.0 c.requires.held.0 in
+    let second = own_there who gone.number gone h worker.seat.me mine fresh_there c.requires.unwaited.1 c.requires.held.1 in (
+      h,
+      subst (λ (q : ℕ). Holds q h h.book c.await_latch-latch.new.worker.seat.me) (sym c.await_latch-latch.ensures.place) taken.2,
+      covered_by_own kept.place who gone.number gone h worker.seat.me taken.1 second,
+      ap is_some first,
+      ap is_some second,
+    )

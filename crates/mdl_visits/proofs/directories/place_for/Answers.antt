@@ -1,0 +1,30 @@
+-- The key stands at the place, whether it did before or was given it.
+use Rattle.std.proofs.Common.{ℕ, ◌+◌, ◌<◌, length, sym, ap, ◌∙◌, subst, arith}
+use Rattle.mdl_steps.specs.declared.view.Keys.{Keys}
+use Rattle.mdl_steps.specs.Plays.{Mine, listing}
+use Rattle.mdl_steps.specs.Seats.{HasDirectory}
+use Rattle.mdl_visits.specs.Lookups.{relisted}
+use Rattle.mdl_visits.proofs.Lookups.{found_there, stands_next}
+use Rattle.mdl_visits.proofs.Naming.{same_record}
+use Rattle.mdl_visits.proofs.directories.place_for.Goals as goal
+
+pub returns-in-Some-clause-looked : goal.returns-in-Some-clause-looked
+returns-in-Some-clause-looked g c =
+    let old = c.args.worker.now.seat.me in
+    let held = c.requires.held in
+    λ k has.
+    let fit = subst (λ (x : Keys). length x.keys < c.args.slots) (sym (same_record k held.0 old has.recorded held.1.recorded)) held.2 in
+    found_there c.args.slots c.args.key.now c.in-Some.place k old c.place_of.new.self.seat.me has fit (sym (c.in-Some.ensures.told k has.carried)) c.place_of.ensures.same
+
+pub returns-in-Ok-clause-looked : goal.returns-in-Ok-clause-looked
+returns-in-Ok-clause-looked g c =
+    let old = c.args.worker.now.seat.me in
+    let key = c.args.key.now in
+    let found = c.place_of.ensures.same in
+    let same = ◌∙◌ {A = Mine} c.key_count-place.ensures.same found in
+    λ k has.
+    let had : HasDirectory k c.place_of.new.self.seat.me = subst (λ (m : Mine). HasDirectory k m) (sym found) has in
+    let named = c.in-Ok.ensures.named k (subst (λ (m : Mine). HasDirectory k m) (sym same) has) in
+    let count = c.key_count-place.ensures.told k had.carried in
+    stands_next c.args.slots key (c.key_count-place.result + 1) k old c.name_key.new.worker.seat.me named.0 (ap (λ (n : ℕ). n + 1) count) (omega arith)
+    (named.1 ∙ ap (λ (m : Mine). relisted named.0 (listing key k) m) same)

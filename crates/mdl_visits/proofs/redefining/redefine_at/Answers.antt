@@ -1,0 +1,59 @@
+-- What was changed stood in the book that was met under the latch.
+use Rattle.std.proofs.Common.{◌≡◌, ℕ, ◌+◌, [], sym, subst}
+use Rattle.std.specs.Prelude.{IfOk, OnErr}
+use Rattle.mdl_defs.specs.Standings.{standing_after}
+use Rattle.mdl_steps.specs.Plays.{Mine, unlatched}
+use Rattle.mdl_steps.specs.Seats.{Holds, HasExclusive}
+use Rattle.mdl_visits.specs.Redefinitions.{redefined_and_put}
+use Rattle.mdl_visits.proofs.Changing.{exclusive_there, on_refusal, redefines, refused}
+use Rattle.mdl_visits.proofs.Visiting.{visits_put}
+use Rattle.mdl_visits.proofs.redefining.redefine_at.Goals as goal
+
+pub redefine-requires-clause-held : goal.redefine-requires-clause-held
+redefine-requires-clause-held g c =
+    let latch = c.await_latch-latch in
+    let taken = latch.ensures.taken in
+    let h = taken.0 in
+    let came : Mine = latch.new.worker.seat.me in
+    let exclusive = exclusive_there c.args.place h c.args.worker.now.seat.me taken.1 c.requires.apart c.requires.held in (
+      h,
+      subst (λ (q : ℕ). Holds q h h.book came) (sym latch.ensures.place) taken.2,
+      taken.1.exact,
+      subst (λ (x : Mine). HasExclusive h x) (sym taken.3.1) exclusive,
+      taken.1.stands,
+    )
+
+pub returns-clause-changed : goal.returns-clause-changed
+returns-clause-changed g c =
+    let place = c.args.place in
+    let change = c.args.change.now in
+    let latch = c.await_latch-latch in
+    let taken = latch.ensures.taken in
+    let h = taken.0 in
+    let came : Mine = latch.new.worker.seat.me in
+    let went : Mine = c.redefine.new.worker.seat.me in
+    let has = subst (λ (q : ℕ). Holds q h h.book came) (sym latch.ensures.place) taken.2 in
+    let done = subst (λ (q : ℕ). IfOk c.redefine.result (λ version. (version ≡ h.book.standing.version + 1) × (went ≡ redefined_and_put q (standing_after change h.book.standing) came))) latch.ensures.place
+    (c.redefine.ensures.changed h has) in
+    redefines place change h c.args.worker.now.seat.me came went latch.ensures.inside taken.2 taken.3.0 c.redefine.result taken.1.here taken.3.1 done (c.redefine.ensures.refused h has)
+
+pub returns-clause-unchanged : goal.returns-clause-unchanged
+returns-clause-unchanged g c =
+    let latch = c.await_latch-latch in
+    let came : Mine = latch.new.worker.seat.me in
+    let went : Mine = c.redefine.new.worker.seat.me in
+    let put = subst (λ (q : ℕ). OnErr c.redefine.result (went ≡ unlatched q [] came)) latch.ensures.place c.redefine.ensures.unchanged in
+    on_refusal c.redefine.result (λ e. visits_put c.args.place [] c.args.worker.now.seat.me came went latch.ensures.inside e) put
+
+pub returns-clause-refused : goal.returns-clause-refused
+returns-clause-refused g c =
+    let place = c.args.place in
+    let worker = c.args.worker.now in
+    let latch = c.await_latch-latch in
+    let taken = latch.ensures.taken in
+    let h = taken.0 in
+    let came : Mine = latch.new.worker.seat.me in
+    let went : Mine = c.redefine.new.worker.seat.me in
+    let has = subst (λ (q : ℕ). Holds q h h.book came) (sym latch.ensures.place) taken.2 in
+    let put = subst (λ (q : ℕ). OnErr c.redefine.result (went ≡ unlatched q [] came)) latch.ensures.place c.redefine.ensures.unchanged in
+    refused place c.args.change.now h worker.seat.me came went latch.ensures.inside taken.2 worker.number c.redefine.result worker.numbered.0 put (c.redefine.ensures.refused h has) (c.redefine.ensures.drop h has)

@@ -1,0 +1,40 @@
+-- An audit: the books of all places that have a key, as a session's records of their latches had them at one of its steps.
+use Rattle.std.specs.Prelude.{◌≡◌, ◌⊎◌, ℕ, ◌+◌, ◌<◌, List, [], ◌∷◌, ◌++◌, length, Some}
+use Rattle.mdl_steps.specs.declared.view.Held.{Held}
+use Rattle.mdl_steps.specs.declared.view.Met.{Met}
+use Rattle.mdl_steps.specs.Cells.{held_at}
+use Rattle.mdl_steps.specs.Plays.{Mine}
+use Rattle.mdl_visits.specs.declared.audited.Audited.{Audited}
+use Rattle.mdl_visits.specs.Visits.{IsStepOf}
+
+-- among these latches is that of the place, and this is the place's book by its record
+abbrev pub IsRecorded : ℕ → List Held → Audited → Type 0
+IsRecorded place latches a = (a.place ≡ place) × ((h : Held) × (held_at place latches ≡ Some h) × (a.book ≡ h.book))
+
+-- these are the books of as many places, from a place on, in order
+abbrev pub AreRecorded : ℕ → List Held → List Audited → Type 0
+AreRecorded place latches [] = Unit {0}
+AreRecorded place latches (a ∷ more) = IsRecorded place latches a × AreRecorded (place + 1) latches more
+
+-- the session had just these latches when it began, or at a step that it made between the two
+abbrev pub HadLatches : List Held → Mine → Mine → Type 0
+HadLatches latches m m′ = (latches ≡ m.0.latches) ⊎ ((e : Met) × IsStepOf m m′ e × (e.held ≡ latches))
+
+-- the session had the latches of the places from one to another, beside those that it had of lower ones, and added the books of these places to a
+-- list, in order, as they were then
+pub record Gathers (place last : ℕ) (before after : List Audited) (m m′ : Mine) : Type 0 where
+  pub latches : List Held
+  pub had : HadLatches latches m m′
+  pub kept : (q : ℕ) (h : Held) → q < place → held_at q m.0.latches ≡ Some h → held_at q latches ≡ Some h
+  pub books : List Audited
+  pub listed : after ≡ before ++ books
+  pub all : place + length books ≡ last + 1
+  pub recorded : AreRecorded place latches books
+
+-- at one step between the two the session had the latches of the places from 1 to so many, and these are the books of all of them, in order, as they were
+-- then
+pub record Audits (count : ℕ) (audited : List Audited) (m m′ : Mine) : Type 0 where
+  pub all : length audited ≡ count
+  pub moment : Met
+  pub step : IsStepOf m m′ moment
+  pub recorded : AreRecorded 1 moment.held audited

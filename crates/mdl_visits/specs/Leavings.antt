@@ -1,0 +1,53 @@
+-- How a session goes from a place whose latch it holds: it gives the latch back, with what it did there.
+use Rattle.std.specs.Prelude.{◌≡◌, ℕ, ◌∷◌, ◌++◌, List, [], Some, is_some, true}
+use lib.ListN.{get_elem?}
+use mathlib.Core.Option.{some}
+use Rattle.mdl_defs.specs.declared.standing.Standing.{Standing}
+use Rattle.mdl_book.specs.Tickets.{ticket_of}
+use Rattle.mdl_steps.specs.declared.deed.Deed.{Deed}
+use Rattle.mdl_steps.specs.declared.view.Held.{Held}
+use Rattle.mdl_steps.specs.declared.view.Met.{Met}
+use Rattle.mdl_steps.specs.declared.view.Own.{Own}
+use Rattle.mdl_steps.specs.declared.view.View.{View}
+use Rattle.mdl_steps.specs.Cells.{held_at}
+use Rattle.mdl_steps.specs.Deeds.{all_done}
+use Rattle.mdl_steps.specs.Layout.{latch_word, lock_word}
+use Rattle.mdl_steps.specs.Plays.{Mine, noting_version}
+use Rattle.mdl_steps.specs.Seats.{elsewhere, rest}
+use Rattle.mdl_visits.specs.Visits.{and_made}
+
+-- the latch of a place, which the session held, and the slot that it took last were given back after these deeds, steps were made, and nothing
+-- else changed
+abbrev pub Leaves : ℕ → List Deed → Mine → Mine → Type 0
+Leaves place ds m m′ = (made : List Met) × (m′ ≡ and_made made (record (all_done place ds m.0) { latches = elsewhere place m }, rest m.1))
+
+-- what a session knows once it has read what stands at a place: this, under each ticket that it has there
+abbrev pub knowing : ℕ → Standing → View → View
+knowing place standing v = record v {
+  fast = noting_version place standing.version v.fast;
+  slow = noting_version place standing.version v.slow;
+  reads = v.reads ++ record { place = place; standing = standing } ∷ [];
+}
+
+-- a step on the word of a place, made while the session's ticket of this number stood in the granted list, by the record of the latch
+pub record MeetsOwn (place session number : ℕ) (e : Met) : Type 0 where
+  pub word : e.word ≡ lock_word place
+  pub latch : Held
+  pub held : held_at place e.held ≡ Some latch
+  pub there : is_some (ticket_of session number latch.book.granted) ≡ true
+
+-- one of the tickets is of this number, at this place
+abbrev pub HasTicket : ℕ → ℕ → List Own → Type 0
+HasTicket place number tickets = (k : ℕ) × (t : Own) × (get_elem? tickets k ≡ some t) × (t.place ≡ place) × (t.number ≡ number)
+
+-- the session came to a place, read what stands there and went: it knows that, and nothing else changed but its list of steps
+abbrev pub Learns : ℕ → Standing → Mine → Mine → Type 0
+Learns place standing m m′ = (made : List Met) × (m′ ≡ and_made made (knowing place standing m.0, m.1))
+
+-- a step that gave the latch of a place back, whose record tells that this stood there
+pub record MeetsStanding (place session : ℕ) (standing : Standing) (e : Met) : Type 0 where
+  pub word : e.word ≡ latch_word place
+  pub freed : e.found ≡ session
+  pub latch : Held
+  pub held : held_at place e.held ≡ Some latch
+  pub stands : latch.book.standing ≡ standing

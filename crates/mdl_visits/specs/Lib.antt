@@ -1,0 +1,14 @@
+pub mod Audits
+pub mod Coverings
+pub mod Grantings
+pub mod Idle
+pub mod Leavings
+pub mod Lookups
+pub mod Numbers
+pub mod Polls
+pub mod Readings
+pub mod Redefinitions
+pub mod Tables
+pub mod Visits
+pub mod WaitEndings
+pub mod WaitOpenings

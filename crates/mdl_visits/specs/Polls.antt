@@ -1,0 +1,47 @@
+-- What a session meets in the words of waits, its own and those of others.
+use Rattle.std.specs.Prelude.{◌≡◌, ◌≢◌, ℕ, ◌/◌, ◌%◌, ◌==◌, [], ◌∷◌, ◌++◌, Option, Some, None, if◌then◌else◌}
+use Rattle.mdl_calls.specs.declared.answers.Settled.{Settled}
+use Rattle.mdl_calls.specs.declared.answers.Settled.TheVariants.{Granted, Victim, Timeout, Killed}
+use Rattle.mdl_steps.specs.declared.view.Met.{Met}
+use Rattle.mdl_steps.specs.Layout.{wait_word}
+use Rattle.mdl_steps.specs.Plays.{Mine}
+use Rattle.mdl_steps.specs.WaitPlays.{wait_in}
+
+-- the state of a wait that is settled so
+abbrev pub state_of : Settled → ℕ
+state_of Granted = 2
+state_of Victim = 3
+state_of Timeout = 4
+state_of Killed = 5
+
+-- a step that met the word of a session's wait: it was the session's last wait, of this number, in this state
+pub record MeetsWait (slots session number state : ℕ) (e : Met) : Type 0 where
+  pub word : e.word ≡ wait_word slots session
+  pub found : e.found ≡ wait_in number state
+
+-- the number of a session's wait, where it has one, by its word
+abbrev pub number_in : ℕ → Option ℕ
+number_in word = if word % 8 == 0 then None else Some (word / 8)
+
+-- a step that met this in the word of a session's wait
+pub record MeetsWord (slots session word : ℕ) (e : Met) : Type 0 where
+  pub word_is : e.word ≡ wait_word slots session
+  pub found : e.found ≡ word
+
+-- a step that met the word of a session's wait, by which it had one of this number, or none
+pub record MeetsNumber (slots session : ℕ) (number : Option ℕ) (e : Met) : Type 0 where
+  pub word : e.word ≡ wait_word slots session
+  pub told : number ≡ number_in e.found
+
+-- no wait was settled between the two
+abbrev pub SettlesNothing : Mine → Mine → Type 0
+SettlesNothing m m′ = m′.0.settles ≡ m.0.settles
+
+-- a step that met another word than this one of a session's wait
+pub record MeetsOther (slots session word : ℕ) (e : Met) : Type 0 where
+  pub word_is : e.word ≡ wait_word slots session
+  pub differs : e.found ≢ word
+
+-- just one wait was settled between the two, which is so told
+abbrev pub Settles : ℕ → ℕ → ℕ → Mine → Mine → Type 0
+Settles session wait state m m′ = m′.0.settles ≡ m.0.settles ++ record { session = session; wait = wait; state = state } ∷ []

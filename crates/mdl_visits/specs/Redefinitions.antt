@@ -1,0 +1,77 @@
+-- A change of what stands under a key, as the session that makes it meets it: by its exclusive ticket it changes what stands in the book, under the
+-- latch of the place, and writes the word of the version.
+use Rattle.std.specs.Prelude.{◌≡◌, ◌⊎◌, ℕ, ◌+◌, List, ◌∷◌, [], ◌++◌, Option, Some, None, if◌then◌else◌}
+use Rattle.mdl_key.specs.declared.mode.Mode.TheVariants.{X}
+use Rattle.mdl_key.specs.Words.{same_mode}
+use Rattle.mdl_defs.specs.declared.change.Change.{Change}
+use Rattle.mdl_defs.specs.declared.change.Change.TheVariants.{Drop}
+use Rattle.mdl_defs.specs.declared.change_error.ChangeError.{ChangeError}
+use Rattle.mdl_defs.specs.declared.change_error.ChangeError.TheVariants.{OutOfMemory}
+use Rattle.mdl_defs.specs.declared.standing.Standing.{Standing}
+use Rattle.mdl_defs.specs.Standings.{standing_fault, standing_after}
+use Rattle.mdl_calls.specs.declared.space_error.SpaceError.{SpaceError}
+use Rattle.mdl_calls.specs.declared.space_error.SpaceError.TheVariants.{NotHeld, NotExclusive}
+use Rattle.mdl_calls.specs.Reads.{cause_of}
+use Rattle.mdl_steps.specs.declared.view.Held.{Held}
+use Rattle.mdl_steps.specs.declared.view.Met.{Met}
+use Rattle.mdl_steps.specs.declared.view.Own.{Own}
+use Rattle.mdl_steps.specs.Cells.{held_at}
+use Rattle.mdl_steps.specs.Layout.{latch_word, version_word}
+use Rattle.mdl_steps.specs.Plays.{Mine, redefined, restood, unlatched}
+use Rattle.mdl_visits.specs.Numbers.{numbered}
+use Rattle.mdl_visits.specs.Visits.{IsStepOf}
+
+-- why nothing is changed under a ticket: there is none, or it isn't exclusive
+abbrev pub exclusive_fault : Option Own → Option SpaceError
+exclusive_fault None = Some NotHeld
+exclusive_fault (Some t) = if same_mode t.mode X then None else Some NotExclusive
+
+-- one of the tickets is exclusive, at this place
+abbrev pub HasExclusiveAt : ℕ → List Own → Type 0
+HasExclusiveAt place tickets = (number : ℕ) × (t : Own) × (numbered number tickets ≡ Some t) × (t.place ≡ place) × (t.mode ≡ X)
+
+-- the version was written of what stands at a place from now on, and the latch was given back
+abbrev pub redefined_and_put : ℕ → Standing → Mine → Mine
+redefined_and_put place standing m = unlatched place [] (redefined place standing m)
+
+-- two steps, the second right after the first, that were made between the two
+abbrev pub AreStepsOf : Mine → Mine → Met → Met → Type 0
+AreStepsOf m m′ first second = (before : List Met) × (after : List Met) × (m′.0.log ≡ (m.0.log ++ before) ++ first ∷ second ∷ after)
+
+-- what a change to this version met: a step that took the latch, by whose record what stood at the place could be changed so, and one that wrote the
+-- version. There it found the version before, and by its record the change stands; the rest of the record is the same
+pub record MeetsChange (place : ℕ) (change : Change) (version : ℕ) (take write : Met) : Type 0 where
+  pub latched : take.word ≡ latch_word place
+  pub free : take.found ≡ 0
+  pub latch : Held
+  pub held : held_at place take.held ≡ Some latch
+  pub allowed : standing_fault latch.book.key.namespace change latch.book.standing ≡ None
+  pub newer : version ≡ latch.book.standing.version + 1
+  pub written : write.word ≡ version_word place
+  pub older : write.found ≡ latch.book.standing.version
+  pub stands : held_at place write.held ≡ Some (restood (standing_after change latch.book.standing) latch)
+
+-- between the two the session changed what stands at a place to this version, and it knows what stands there then
+pub record Redefines (place : ℕ) (change : Change) (version : ℕ) (m m′ : Mine) : Type 0 where
+  pub take : Met
+  pub write : Met
+  pub steps : AreStepsOf m m′ take write
+  pub meets : MeetsChange place change version take write
+  pub learnt : m′.0.reads ≡ m.0.reads ++ record { place = place; standing = standing_after change meets.latch.book.standing } ∷ []
+
+-- a step that gave the latch of a place back, whose record tells why what stood there couldn't be changed so
+pub record MeetsFault (place session : ℕ) (change : Change) (why : ChangeError) (e : Met) : Type 0 where
+  pub word : e.word ≡ latch_word place
+  pub freed : e.found ≡ session
+  pub latch : Held
+  pub held : held_at place e.held ≡ Some latch
+  pub fault : standing_fault latch.book.key.namespace change latch.book.standing ≡ Some why
+
+-- why a change was refused that a session tried at a place: a step met the fault, or memory ran out, which `Drop` doesn't need
+abbrev pub IsRefusedFor : ℕ → ℕ → Change → ChangeError → Mine → Mine → Type 0
+IsRefusedFor place session change why m m′ =
+    ((e : Met) × IsStepOf m m′ e × MeetsFault place session change why e) ⊎ ((why ≡ OutOfMemory) × (change ≡ Drop → ⊥))
+
+-- the same in the words of a space
+abbrev pub IsRefusedAs : ℕ → ℕ → Change → SpaceError → Mine → Mine → Type 0
+IsRefusedAs place session change cause m m′ = (why : ChangeError) × (cause ≡ cause_of why) × IsRefusedFor place session change why m m′

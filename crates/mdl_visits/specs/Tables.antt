@@ -1,0 +1,75 @@
+-- How a session finds the tables of a schema that have a definition: the directory tells the tables, and the session asks at the place of each.
+use Rattle.std.specs.Prelude.{◌≡◌, ℕ, ◌<◌, Bool, true, List, ◌++◌, map, filter, All, AllPairs, Contains, is_some, Some}
+use Rattle.std.specs.List.Sorted.{IsPermutation, IsSortedBy}
+use Rattle.std.specs.Ordering.{is_lt}
+use Rattle.std.specs.declared.cmp.Ordering.TheVariants.{Less}
+use Rattle.mdl_key.specs.Keys.{key_cmp}
+use Rattle.mdl_steps.specs.declared.view.Held.{Held}
+use Rattle.mdl_steps.specs.declared.view.Keys.{Keys}
+use Rattle.mdl_steps.specs.declared.view.Known.{Known}
+use Rattle.mdl_steps.specs.declared.view.Met.{Met}
+use Rattle.mdl_steps.specs.Cells.{held_at}
+use Rattle.mdl_steps.specs.Layout.{latch_word}
+use Rattle.mdl_steps.specs.Plays.{Mine}
+use Rattle.mdl_steps.specs.Rule.{key_at}
+use Rattle.mdl_steps.specs.Schemas.{is_table_of, tables_from, unknown}
+use Rattle.mdl_visits.specs.Visits.{IsStepOf}
+
+-- ---- which tables there are
+
+-- a table of the schema stands at its place by the directory's record
+abbrev pub IsTable : List ℕ → Keys → Known → Type 0
+IsTable schema k t = (0 < t.place) × (key_at k.keys t.place ≡ Some t.key) × (is_table_of schema t.key ≡ true)
+
+-- all tables of the schema by the directory's record, and nothing else, each once in the order of their keys
+pub record AreTables (schema : List ℕ) (k : Keys) (tables : List Known) : Type 0 where
+  pub each : All (IsTable schema k) tables
+  pub every : (t : Known) → IsTable schema k t → Contains tables t
+  pub in_order : AllPairs (λ (one other : Known). key_cmp one.key other.key ≡ Less) tables
+
+-- no key is less than the one before it
+abbrev pub AreSorted : List Known → Type 0
+AreSorted tables = IsSortedBy (λ (one other : Known). is_lt (key_cmp one.key other.key)) tables
+
+-- the tables among the directory's keys, sorted
+pub record AreListed (schema : List ℕ) (k : Keys) (tables : List Known) : Type 0 where
+  pub all : IsPermutation (tables_from schema 1 k.keys) tables
+  pub sorted : AreSorted tables
+
+-- the seat whose session knows these keys, too
+abbrev pub knowing_all : List Known → Mine → Mine
+knowing_all tables m = (record m.0 { known = m.0.known ++ unknown m.0.known tables }, m.1)
+
+-- each of these keys is at a place of the table
+abbrev pub AreWithin : ℕ → List Known → Type 0
+AreWithin slots tables = All (λ (x : Known). (0 < x.place) × (x.place < slots)) tables
+
+-- ---- which of them have a definition
+
+-- a step that gave the latch of a place back, whose record tells whether a definition stood there
+pub record MeetsDefinition (place session : ℕ) (defined : Bool) (e : Met) : Type 0 where
+  pub word : e.word ≡ latch_word place
+  pub freed : e.found ≡ session
+  pub latch : Held
+  pub held : held_at place e.held ≡ Some latch
+  pub stands : is_some latch.book.standing.definition ≡ defined
+
+-- a table, and whether it had a definition as it was asked for that
+pub record Asked : Type 0 where
+  pub table : Known
+  pub defined : Bool
+
+-- one of the steps between the two found it so
+abbrev pub WasAsked : ℕ → Mine → Mine → Asked → Type 0
+WasAsked session m m′ a = (e : Met) × IsStepOf m m′ e × MeetsDefinition a.table.place session a.defined e
+
+-- the places of those that had one
+abbrev pub told : List Asked → List ℕ
+told asked = map (λ (a : Asked). a.table.place) (filter (λ (a : Asked). a.defined) asked)
+
+-- each of these tables was asked in turn, and these are the places of those that had a definition
+pub record HasAsked (session : ℕ) (tables : List Known) (places : List ℕ) (m m′ : Mine) : Type 0 where
+  pub asked : List Asked
+  pub each : All (WasAsked session m m′) asked
+  pub same : map (λ (a : Asked). a.table) asked ≡ tables
+  pub those : places ≡ told asked

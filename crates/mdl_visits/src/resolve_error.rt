@@ -1,0 +1,13 @@
+//! Why a key has no place.
+use thiserror::Error;
+
+/// Why a key has no place. A refused call names no key.
+#[derive(Clone, Copy, Debug, PartialEq, Eq, Error)]
+pub enum ResolveError {
+    /// Each place has a key, and this key has none.
+    #[error("no place is left")]
+    NoPlace,
+    /// Memory ran out.
+    #[error("out of memory")]
+    OutOfMemory,
+}
