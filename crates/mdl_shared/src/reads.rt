@@ -12,7 +12,7 @@ ghost use Rattle.mdl_shared.specs.Keepings.{KeepsWait};
 ghost use Rattle.mdl_visits.specs.Leavings.{MeetsStanding};
 ghost use Rattle.mdl_shared.specs.Members.{noting_at, holding_fault};
 ghost use Rattle.mdl_visits.specs.Numbers.{numbered};
-ghost use Rattle.mdl_visits.specs.Readings.{ReadsNothing, ReadsThere};
+ghost use Rattle.mdl_visits.specs.Readings.{Follows, ReadsNothing, ReadsThere};
 ghost use Rattle.mdl_visits.specs.Visits.{IsStepOf};
 
 use crate::Session;
@@ -33,6 +33,7 @@ impl Member {
         ensures read { IfOk result (λ standing. (self.new.tickets.items ≡ noting_version place standing.version self.old.tickets.items)
             × ReadsThere place standing self.old.worker.seat.me self.new.worker.seat.me
             × ((e : Met) × IsStepOf self.old.worker.seat.me self.new.worker.seat.me e × MeetsStanding place self.old.worker.number standing e)) }
+        ensures follows { IfOk result (λ standing. Follows place standing self.old.worker.seat.me) }
         ensures unchanged { OnErr result ((self.new.tickets.items ≡ self.old.tickets.items) × ReadsNothing self.old.worker.seat.me self.new.worker.seat.me) }
     {
         let standing = read_at(rt, &mut self.worker, &self.table.shared, place)?;
@@ -82,6 +83,8 @@ impl<R: Wait> Session<R> {
             × (self.new.member.tickets.items ≡ noting_version t.place standing.version self.old.member.tickets.items)
             × ReadsThere t.place standing self.old.member.worker.seat.me self.new.member.worker.seat.me
             × ((e : Met) × IsStepOf self.old.member.worker.seat.me self.new.member.worker.seat.me e × MeetsStanding t.place self.old.member.worker.number standing e)) }
+        ensures follows { IfOk result (λ standing. (t : Own) → numbered id self.old.member.tickets.items ≡ Some t
+            → Follows t.place standing self.old.member.worker.seat.me) }
         ensures unchanged { OnErr result ((self.new.member.tickets.items ≡ self.old.member.tickets.items) × ReadsNothing self.old.member.worker.seat.me self.new.member.worker.seat.me) }
         ensures refused { Refuses (holding_fault id self.old.member.tickets.items) cause.OutOfMemory result }
     {

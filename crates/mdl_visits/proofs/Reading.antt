@@ -6,14 +6,19 @@ use Rattle.mdl_steps.specs.declared.view.Held.{Held}
 use Rattle.mdl_steps.specs.declared.view.Met.{Met}
 use Rattle.mdl_steps.specs.Cells.{held_at}
 use Rattle.mdl_steps.specs.Layout.{latch_word}
-use Rattle.mdl_steps.specs.Plays.{Mine, read_and_put}
+use Rattle.mdl_steps.specs.Plays.{Mine, IsFresh, read_and_put}
 use Rattle.mdl_visits.specs.Leavings.{Learns, MeetsStanding, knowing}
+use Rattle.mdl_visits.specs.Readings.{Follows}
 use Rattle.mdl_visits.specs.Visits.{IsInside, IsStepOf}
 
 -- what is told of a result tells what follows from it
 pub ok_told : {A E : Type 0} {P Q : A → Type 0} (result : Result A E) → ((a : A) → P a → Q a) → IfOk result P → IfOk result Q
 ok_told (Ok a) follows told = follows a told
 ok_told (Err e) follows told = tt
+
+-- what the holder of a fresh latch is told of what it read and noted
+pub follows : {place : ℕ} {h : Held} {m : Mine} → IsFresh place h m → Follows place h.book.standing m
+follows fresh = record { reads = fresh.reads; noted = fresh.noted }
 
 -- ---- a visit to read
 

@@ -19,6 +19,7 @@ use Rattle.mdl_steps.specs.Cells.{held_at}
 use Rattle.mdl_steps.specs.Layout.{latch_word, version_word}
 use Rattle.mdl_steps.specs.Plays.{Mine, redefined, restood, unlatched}
 use Rattle.mdl_visits.specs.Numbers.{numbered}
+use Rattle.mdl_visits.specs.Readings.{Follows}
 use Rattle.mdl_visits.specs.Visits.{IsStepOf}
 
 -- why nothing is changed under a ticket: there is none, or it isn't exclusive
@@ -51,12 +52,14 @@ pub record MeetsChange (place : ℕ) (change : Change) (version : ℕ) (take wri
   pub older : write.found ≡ latch.book.standing.version
   pub stands : held_at place write.held ≡ Some (restood (standing_after change latch.book.standing) latch)
 
--- between the two the session changed what stands at a place to this version, and it knows what stands there then
+-- between the two the session changed what stands at a place to this version, which goes on from what it read and noted there, and it knows what
+-- stands there then
 pub record Redefines (place : ℕ) (change : Change) (version : ℕ) (m m′ : Mine) : Type 0 where
   pub take : Met
   pub write : Met
   pub steps : AreStepsOf m m′ take write
   pub meets : MeetsChange place change version take write
+  pub follows : Follows place meets.latch.book.standing m
   pub learnt : m′.0.reads ≡ m.0.reads ++ record { place = place; standing = standing_after change meets.latch.book.standing } ∷ []
 
 -- a step that gave the latch of a place back, whose record tells why what stood there couldn't be changed so
@@ -67,10 +70,11 @@ pub record MeetsFault (place session : ℕ) (change : Change) (why : ChangeError
   pub held : held_at place e.held ≡ Some latch
   pub fault : standing_fault latch.book.key.namespace change latch.book.standing ≡ Some why
 
--- why a change was refused that a session tried at a place: a step met the fault, or memory ran out, which `Drop` doesn't need
+-- why a change was refused that a session tried at a place: a step met the fault, in what goes on from what the session read and noted there, or
+-- memory ran out, which `Drop` doesn't need
 abbrev pub IsRefusedFor : ℕ → ℕ → Change → ChangeError → Mine → Mine → Type 0
 IsRefusedFor place session change why m m′ =
-    ((e : Met) × IsStepOf m m′ e × MeetsFault place session change why e) ⊎ ((why ≡ OutOfMemory) × (change ≡ Drop → ⊥))
+    ((e : Met) × IsStepOf m m′ e × (met : MeetsFault place session change why e) × Follows place met.latch.book.standing m) ⊎ ((why ≡ OutOfMemory) × (change ≡ Drop → ⊥))
 
 -- the same in the words of a space
 abbrev pub IsRefusedAs : ℕ → ℕ → Change → SpaceError → Mine → Mine → Type 0

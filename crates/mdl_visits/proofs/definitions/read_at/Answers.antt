@@ -1,11 +1,13 @@
 -- What was read stood in the book that was met under the latch.
 use Rattle.std.proofs.Common.{◌≡◌, ℕ, sym, ap, ◌∙◌, subst, []}
 use Rattle.std.proofs.lemmas.Result.{on_err_weaker}
+use Rattle.mdl_defs.specs.declared.standing.Standing.{Standing}
 use Rattle.mdl_steps.specs.Plays.{Mine, read_and_put}
 use Rattle.mdl_steps.specs.Seats.{Holds}
 use Rattle.mdl_visits.specs.Leavings.{Leaves}
 use Rattle.mdl_visits.proofs.Leaving.{visits_left}
-use Rattle.mdl_visits.proofs.Reading.{learns, meets_standing, ok_told}
+use Rattle.mdl_visits.specs.Readings.{Follows}
+use Rattle.mdl_visits.proofs.Reading.{follows, learns, meets_standing, ok_told}
 use Rattle.mdl_visits.proofs.definitions.read_at.Goals as goal
 
 pub returns-clause-learnt : goal.returns-clause-learnt
@@ -30,3 +32,12 @@ returns-clause-unchanged g c =
     let came : Mine = latch.new.worker.seat.me in
     let went : Mine = c.read.new.worker.seat.me in
     on_err_weaker c.read.result (λ left. visits_left c.args.place c.args.worker.now.seat.me came went latch.ensures.inside [] (subst (λ (q : ℕ). Leaves q [] came went) latch.ensures.place left)) c.read.ensures.unchanged
+
+pub returns-clause-follows : goal.returns-clause-follows
+returns-clause-follows g c =
+    let latch = c.await_latch-latch in
+    let taken = latch.ensures.taken in
+    let h = taken.0 in
+    let came : Mine = latch.new.worker.seat.me in
+    let has = subst (λ (q : ℕ). Holds q h h.book came) (sym latch.ensures.place) taken.2 in
+    ok_told c.read.result (λ standing e. subst (λ (s : Standing). Follows c.args.place s c.args.worker.now.seat.me) (sym e.0) (follows taken.1)) (c.read.ensures.told h has)
