@@ -69,15 +69,11 @@ fn table(alloc: Global) -> Option<Definition> {
 pub(crate) enum Act {
     Resolve(Lock),
     Try(Place, Mode),
-    // It tries as often, and tells what comes of the last time.
-    TryOften(Place, Mode, u32),
     Upgrade(TicketId, Mode),
     Downgrade(TicketId, Mode),
     Clone(TicketId, Mode),
     Merge(TicketId, TicketId),
     Release(TicketId),
-    // It gives up its tickets from this number down to the first, and tells what comes of the last one.
-    ReleaseDownFrom(TicketId),
     Read(TicketId),
     Change(TicketId, Edit),
     // It puts a schema as often, and tells what comes of the last time.
@@ -133,13 +129,11 @@ pub(crate) fn make<R: Wait>(alloc: Global, session: &mut Session<R>, act: Act) -
     match act {
         Act::Resolve(lock) => resolve(alloc, session, lock),
         Act::Try(place, mode) => attempted(session.try_now(place, mode)),
-        Act::TryOften(place, mode, times) => try_often(session, place, mode, times),
         Act::Upgrade(id, mode) => upgraded(session.upgrade_now(id, mode)),
         Act::Downgrade(id, mode) => done(session.downgrade(id, mode)),
         Act::Clone(id, mode) => cloned(session.clone_ticket(id, mode)),
         Act::Merge(old, new) => done(session.merge(old, new)),
         Act::Release(id) => done(session.release(id)),
-        Act::ReleaseDownFrom(id) => release_down_from(session, id),
         Act::Read(id) => read(session, id),
         Act::Change(id, edit) => change(alloc, session, id, edit),
         Act::PutOften(id, times) => put_often(session, id, times),
@@ -176,7 +170,6 @@ fn may_take_memory(act: Act) -> bool {
     match act {
         Act::Resolve(_)
         | Act::Try(_, _)
-        | Act::TryOften(_, _, _)
         | Act::Clone(_, _)
         | Act::Read(_)
         | Act::Change(_, Edit::CreateTable)
@@ -197,22 +190,6 @@ fn attempted(outcome: Result<Attempt, SpaceError>) -> Reply {
         Ok(Attempt::WouldWait) => Reply::WouldWait,
         Err(why) => Reply::Refused(why),
     }
-}
-
-fn try_often<R: Wait>(session: &mut Session<R>, place: Place, mode: Mode, times: u32) -> Reply {
-    let mut last = Reply::Done;
-    for _ in 0..times {
-        last = attempted(session.try_now(place, mode));
-    }
-    last
-}
-
-fn release_down_from<R: Wait>(session: &mut Session<R>, id: TicketId) -> Reply {
-    let mut last = Reply::Done;
-    for given_up in 0..id {
-        last = done(session.release(id - given_up));
-    }
-    last
 }
 
 fn upgraded(outcome: Result<Upgrade, SpaceError>) -> Reply {

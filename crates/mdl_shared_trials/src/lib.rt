@@ -18,8 +18,6 @@ mod counting;
 #[cfg(test)]
 mod ending;
 #[cfg(test)]
-mod full;
-#[cfg(test)]
 mod locks;
 #[cfg(test)]
 mod memory;
