@@ -33,9 +33,9 @@ use Rattle.mdl_steps.specs.Rule.{TellsLists, KnowsKeys, IsUnused, key_at}
 abbrev pub Mine : Type 0
 Mine = Me Slot View
 
--- with one step more
+-- with one step more, at which the session has the directory's record that is in the view
 abbrev pub logged : ℕ → ℕ → List Held → View → View
-logged word found held v = record v { log = v.log ++ record { word = word; found = found; held = held } ∷ [] }
+logged word found held v = record v { log = v.log ++ record { word = word; found = found; held = held; directory = v.directory } ∷ [] }
 
 -- ---- the record of a latch
 
@@ -146,9 +146,9 @@ pub record IsDirectory (slots : ℕ) (k : Keys) (m : Mine) : Type 0 where
 abbrev pub consulted : Keys → Mine → Mine
 consulted k m = (logged (latch_word 0) 0 m.0.latches (record m.0 { directory = Some k }), (0, slot.Directory k) ∷ m.1)
 
--- it was given back, and the session knows these keys, too
+-- it was given back, and the session knows these keys, too. The step tells the record that there was
 abbrev pub informed : List Known → Mine → Mine
-informed more m = (logged (latch_word 0) m.0.number m.0.latches (record m.0 { directory = None; known = m.0.known ++ more }), rest m.1)
+informed more m = (record (logged (latch_word 0) m.0.number m.0.latches m.0) { directory = None; known = m.0.known ++ more }, rest m.1)
 
 -- with a key for the place after all others
 abbrev pub listing : KeyName → Keys → Keys
