@@ -40,7 +40,8 @@ logged word found held v = record v { log = v.log ++ record { word = word; found
 -- ---- the record of a latch
 
 -- as the latch is taken: the word's flags tell the lists exactly then, granted tickets are compatible and in modes of the kind, the book has
--- of the session just the tickets that it has (but for one that it waits for), and it is the book of each key that is known to be here.
+-- of the session just the tickets that it has (but for one that it waits for), and it is the book of each key that is known to be here,
+-- and of that which the directory has for the place, where the session holds its latch.
 -- Each session waits at most once, for a mode of the kind, and so does the session itself where it met its wait lost
 pub record IsFresh (place : ℕ) (h : Held) (m : Mine) : Type 0 where
   pub here : h.place ≡ place
@@ -51,6 +52,7 @@ pub record IsFresh (place : ℕ) (h : Held) (m : Mine) : Type 0 where
   pub own : (number : ℕ) → NotWaited m.0 number →
       ticket_of m.0.number number h.book.granted ≡ ticket_of m.0.number number (map (ticket_by m.0.number) (own_at place m.0.slow))
   pub named : (i : ℕ) (k : Known) → get_elem? m.0.known i ≡ some k → k.place ≡ place → h.book.key ≡ k.key
+  pub keyed : (k : Keys) → m.0.directory ≡ Some k → (key : KeyName) → key_at k.keys place ≡ Some key → h.book.key ≡ key
   pub vacant : (k : Keys) → m.0.directory ≡ Some k → key_at k.keys place ≡ None → IsUnused h.book
   pub once : Once h.book.waiting
   pub single : (session first second : ℕ) (t u : Ticket) → ticket_of session first h.book.waiting ≡ Some t → ticket_of session second h.book.waiting ≡ Some u → first ≡ second

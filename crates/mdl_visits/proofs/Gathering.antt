@@ -75,7 +75,7 @@ module _ (place : ℕ) (h : Held) (made : List Met) (m m′ : Mine) (here : h.pl
   rising_next rising = subst (IsRising (place + 1)) (sym taken) (omega arith, each_below m.0.latches place (place + 1) (omega arith) rising)
 
   abbrev took : Met
-  took = record { word = latch_word place; found = 0; held = h ∷ m.0.latches }
+  took = record { word = latch_word place; found = 0; held = h ∷ m.0.latches; directory = m.0.directory }
 
   log_then : m′.0.log ≡ m.0.log ++ (made ++ took ∷ [])
   log_then = ap (λ (x : Mine). x.0.log) taken ∙ append_assoc m.0.log made (took ∷ [])
@@ -86,7 +86,7 @@ module _ (place : ℕ) (h : Held) (made : List Met) (m m′ : Mine) (here : h.pl
 
   module _ (m″ m‴ : Mine) (steps : MakesSteps m′ m″) (put : m‴ ≡ unlatched place [] m″) where
     abbrev gave : Met
-    gave = record { word = latch_word place; found = m″.0.number; held = m″.0.latches }
+    gave = record { word = latch_word place; found = m″.0.number; held = m″.0.latches; directory = m″.0.directory }
 
     log_put : m‴.0.log ≡ m″.0.log ++ gave ∷ []
     log_put = ap (λ (x : Mine). x.0.log) put
@@ -158,10 +158,10 @@ module _ (slots : ℕ) (k : Keys) (made : List Met) (m m′ m″ : Mine) (taken 
     took_first = took_directory slots k made m idle is steps.0 k 0 m‴ all_put
 
     abbrev first : Met
-    first = record { word = latch_word 0; found = 0; held = m.0.latches }
+    first = record { word = latch_word 0; found = 0; held = m.0.latches; directory = Some k }
 
     abbrev final : Met
-    final = record { word = latch_word 0; found = m″.0.number; held = m″.0.latches }
+    final = record { word = latch_word 0; found = m″.0.number; held = m″.0.latches; directory = m″.0.directory }
 
     log_first : m′.0.log ≡ m.0.log ++ (made ++ first ∷ [])
     log_first = ap (λ (x : Mine). x.0.log) taken ∙ append_assoc m.0.log made (first ∷ [])

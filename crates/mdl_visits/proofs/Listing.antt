@@ -31,10 +31,10 @@ all_within slots k tables fit stand =
 module _ (slots : ℕ) (k : Keys) (made : List Met) (old : Mine) (idle : IsIdle old) (is : IsDirectory slots k (and_made made old))
     (more : List Known) (new : Mine) (e : new ≡ informed more (consulted k (and_made made old))) where
   abbrev took : Met
-  took = record { word = latch_word 0; found = 0; held = old.0.latches }
+  took = record { word = latch_word 0; found = 0; held = old.0.latches; directory = Some k }
 
   abbrev gave : Met
-  gave = record { word = latch_word 0; found = old.0.number; held = old.0.latches }
+  gave = record { word = latch_word 0; found = old.0.number; held = old.0.latches; directory = Some k }
 
   abbrev all : List Met
   all = made ++ (took ∷ gave ∷ [])

@@ -92,10 +92,10 @@ module _ (slots : ℕ) (k : Keys) (made : List Met) (old : Mine) (idle : IsIdle 
     (more : List Met) (after : Keys) (place : ℕ) (new : Mine)
     (e : new ≡ informed (learnt (relisted more after (consulted k (and_made made old))) place) (relisted more after (consulted k (and_made made old)))) where
   abbrev took : Met
-  took = record { word = latch_word 0; found = 0; held = old.0.latches }
+  took = record { word = latch_word 0; found = 0; held = old.0.latches; directory = Some k }
 
   abbrev gave : Met
-  gave = record { word = latch_word 0; found = old.0.number; held = old.0.latches }
+  gave = record { word = latch_word 0; found = old.0.number; held = old.0.latches; directory = Some after }
 
   abbrev all : List Met
   all = made ++ (took ∷ more ++ gave ∷ [])

@@ -48,8 +48,8 @@ pub named_is : (place : ℕ) (key : KeyName) (k : Keys) (h : Held) (made : List 
     → new ≡ named place key (written place (empty_book key) (latched place h (and_made made old)))
     → (more : List Met) × (new ≡ relisted more (listing key k) old)
 named_is place key k h made old new here alone is e =
-    let took : Met = record { word = latch_word place; found = 0; held = h ∷ old.0.latches } in
-    let gave : Met = record { word = latch_word place; found = old.0.number; held = h ∷ old.0.latches } in
+    let took : Met = record { word = latch_word place; found = 0; held = h ∷ old.0.latches; directory = old.0.directory } in
+    let gave : Met = record { word = latch_word place; found = old.0.number; held = h ∷ old.0.latches; directory = option_map (listing key) old.0.directory } in
     let log : ((old.0.log ++ made) ++ took ∷ []) ++ gave ∷ [] ≡ old.0.log ++ ((made ++ took ∷ []) ++ gave ∷ []) =
     ap (λ (l : List Met). l ++ gave ∷ []) (append_assoc old.0.log made (took ∷ [])) ∙ append_assoc old.0.log (made ++ took ∷ []) (gave ∷ []) in
     let left : List Held = filter (λ x. not (x.place == place)) (h ∷ old.0.latches) in
@@ -78,7 +78,7 @@ listed_at place asked listed key k old new has none next first second e =
 
 -- what a record tells of a seat doesn't hang on its list of steps
 fresh_then : (place : ℕ) (h : Held) (made : List Met) (m : Mine) → IsFresh place h m → IsFresh place h (and_made made m)
-fresh_then place h made m f = record { here = f.here; exact = f.exact; unnoted = f.unnoted; lawful = f.lawful; modes = f.modes; own = f.own; named = f.named; vacant = f.vacant; once = f.once; single = f.single; wished = f.wished; lost = f.lost }
+fresh_then place h made m f = record { here = f.here; exact = f.exact; unnoted = f.unnoted; lawful = f.lawful; modes = f.modes; own = f.own; named = f.named; keyed = f.keyed; vacant = f.vacant; once = f.once; single = f.single; wished = f.wished; lost = f.lost }
 
 -- ---- the same along the calls, the held latch being that of the place
 

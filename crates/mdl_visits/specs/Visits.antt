@@ -63,7 +63,7 @@ pub record Enters (place : ℕ) (obtrusive : Bool) (word : ℕ) (m m′ : Mine) 
   pub fresh : IsFresh place found m
   pub holds : Holds place (noting word (raised true obtrusive found)) found.book m′
   pub inside : IsInside place m m′
-  pub read : (before : List Met) × (m′.0.log ≡ (m.0.log ++ before) ++ record { word = lock_word place; found = word; held = m′.0.latches } ∷ [])
+  pub read : (before : List Met) × (m′.0.log ≡ (m.0.log ++ before) ++ record { word = lock_word place; found = word; held = m′.0.latches; directory = m′.0.directory } ∷ [])
 
 -- it may go: the book is as it was, and the flags tell of each ticket in it
 abbrev pub MayLeave : ℕ → Mine → Type 0
