@@ -11,7 +11,8 @@ use Rattle.mdl_steps.specs.Layout.{latch_word, lock_word}
 use Rattle.mdl_steps.specs.Plays.{Mine, IsFresh, latched, unlatched, logged, stepped, raised, noting, changed}
 use Rattle.mdl_steps.specs.Seats.{Holds, IsRising, written}
 use Rattle.mdl_steps.proofs.Hands.{elsewhere-stepped, elsewhere-rising}
-use Rattle.mdl_visits.specs.Visits.{and_made, MakesSteps, IsInside, Visits, Enters}
+use Rattle.mdl_visits.specs.Visits.{and_made, MakesSteps, Lingers, IsInside, Visits, Enters}
+use Rattle.mdl_visits.proofs.Steps.{each_append}
 
 -- ---- steps
 
@@ -21,13 +22,17 @@ makes_none m = ([], λ i. and_log (sym (append-nil m.0.log) i))
     and_log : List Met → Mine
     and_log log = (record m.0 { log = log }, m.1)
 
+pub lingers_none : (m : Mine) → Lingers m m
+lingers_none m = ([], λ i. (record m.0 { log = sym (append-nil m.0.log) i }, m.1), tt)
+
 -- one that only met something
-pub makes_one : (word found : ℕ) (m m′ m″ : Mine) → MakesSteps m m′ → m″ ≡ (logged word found m′.0.latches m′.0, m′.1) → MakesSteps m m″
-makes_one word found m m′ m″ steps met =
+pub lingers_one : (word found : ℕ) (m m′ m″ : Mine) → Lingers m m′ → m″ ≡ (logged word found m′.0.latches m′.0, m′.1) → Lingers m m″
+lingers_one word found m m′ m″ steps met =
     let e : Met = record { word = word; found = found; held = m.0.latches; directory = m.0.directory } in (
       steps.0 ++ e ∷ [],
       met ∙ ap (λ (x : Mine). (logged word found x.0.latches x.0, x.1)) steps.1
           ∙ (λ i. (record m.0 { log = append_assoc m.0.log steps.0 (e ∷ []) i }, m.1)),
+      each_append (λ (x : Met). x.directory ≡ m.0.directory) steps.0 (e ∷ []) steps.2 (refl, tt),
     )
 
 -- ---- inside
