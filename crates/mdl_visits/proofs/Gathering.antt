@@ -122,6 +122,13 @@ module _ (place : ℕ) (h : Held) (made : List Met) (m m′ : Mine) (here : h.pl
           recorded = ((at, (h, more.kept place h (omega arith) recorded, refl)), more.recorded);
         }
 
+    -- all of them were held when those behind the place were
+    pub more_latches : (last q : ℕ) (before middle after : List Audited) (at : q ≡ place) (recorded : held_at place m′.0.latches ≡ Some h)
+        (added : middle ≡ before ++ record { place = q; book = h.book } ∷ []) (more : Gathers (place + 1) last middle after m′ m″)
+        → (gathers_more last q before middle after at recorded added more).latches ≡ more.latches
+    unfolding gathers_more
+    more_latches last q before middle after at recorded added more = refl
+
 -- behind the last place there is nothing to gather
 pub gathers_none : (place last : ℕ) (audited : List Audited) (m : Mine) → place ≡ last + 1 → Gathers place last audited audited m m
 gathers_none place last audited m behind = record {
@@ -180,7 +187,7 @@ module _ (slots : ℕ) (k : Keys) (made : List Met) (m m′ m″ : Mine) (taken 
           ∙ append_assoc (m.0.log ++ made) (first ∷ []) (steps.0 ++ final ∷ []),
     )
 
-    moment_of : (latches : List Held) → HadLatches latches m′ m″ → (e : Met) × IsStepOf m m‴ e × (e.held ≡ latches)
+    pub moment_of : (latches : List Held) → HadLatches latches m′ m″ → (e : Met) × IsStepOf m m‴ e × (e.held ≡ latches)
     moment_of latches had = ⊎_elim
         (λ at_once. (first, first_then, sym (at_once ∙ ap (λ (x : Mine). x.0.latches) taken)))
         (λ later. (later.0, step_from m m′ m‴ (made ++ first ∷ []) later.0 log_first (step_till m′ m″ m‴ (final ∷ []) later.0 log_final later.1), later.2))
