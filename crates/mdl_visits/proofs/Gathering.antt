@@ -131,6 +131,13 @@ module _ (place : ℕ) (h : Held) (made : List Met) (m m′ : Mine) (here : h.pl
           keyed = λ k has. (fresh.keyed k has, more.keyed k (ap (λ (x : Mine). x.0.directory) taken ∙ has));
         }
 
+    -- all of them were held when those behind the place were
+    pub more_latches : (fresh : IsFresh place h m) (last q : ℕ) (before middle after : List Audited) (at : q ≡ place) (recorded : held_at place m′.0.latches ≡ Some h)
+        (added : middle ≡ before ++ record { place = q; book = h.book } ∷ []) (more : Gathers (place + 1) last middle after m′ m″)
+        → (gathers_more fresh last q before middle after at recorded added more).latches ≡ more.latches
+    unfolding gathers_more
+    more_latches fresh last q before middle after at recorded added more = refl
+
 -- behind the last place there is nothing to gather
 pub gathers_none : (place last : ℕ) (audited : List Audited) (m : Mine) → place ≡ last + 1 → Gathers place last audited audited m m
 gathers_none place last audited m behind = record {
@@ -150,7 +157,7 @@ key_between : (before keys : List KeyName) (key : KeyName) → slice_get (before
 key_between [] keys key = refl
 key_between (x ∷ xs) keys key = key_between xs keys key
 
-keys_from : (before keys : List KeyName) (books : List Audited) (place : ℕ) → place ≡ length before + 1 → length books ≡ length keys → AreKeyed (before ++ keys) place books
+pub keys_from : (before keys : List KeyName) (books : List Audited) (place : ℕ) → place ≡ length before + 1 → length books ≡ length keys → AreKeyed (before ++ keys) place books
     → map (λ (a : Audited). a.book.key) books ≡ keys
 keys_from before [] [] place at same keyed = refl
 keys_from before [] (a ∷ more) place at same keyed = absurd (omega arith)
@@ -221,7 +228,7 @@ module _ (slots : ℕ) (k : Keys) (made : List Met) (m m′ m″ : Mine) (taken 
           ∙ append_assoc (m.0.log ++ made) (first ∷ []) (steps.0 ++ final ∷ []),
     )
 
-    moment_of : (latches : List Held) → HadLatches latches m′ m″ → (e : Met) × IsStepOf m m‴ e × (e.held ≡ latches) × (e.directory ≡ Some k)
+    pub moment_of : (latches : List Held) → HadLatches latches m′ m″ → (e : Met) × IsStepOf m m‴ e × (e.held ≡ latches) × (e.directory ≡ Some k)
     moment_of latches had = ⊎_elim
         (λ at_once. (first, first_then, sym (at_once ∙ ap (λ (x : Mine). x.0.latches) taken), refl))
         (λ later. (

@@ -71,8 +71,8 @@ fn gather<R: Wait>(
     outcome
 }
 
-// Adds a copy of the book in hand to a list.
-fn add_book(
+/// Adds a copy of the book in hand to a list.
+pub(crate) fn add_book(
     worker: &mut Worker,
     top: &LockTable,
     latch: &Latched,
