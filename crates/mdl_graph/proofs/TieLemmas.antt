@@ -12,7 +12,7 @@ use Rattle.std.proofs.lemmas.List.Folds.{list_any-append}
 use Rattle.mdl_book.specs.declared.book_view.BookView.{BookView}
 use Rattle.mdl_book.specs.declared.ticket.Ticket.{Ticket}
 use Rattle.mdl_graph.specs.declared.cycle.Member.{Member}
-use Rattle.mdl_graph.specs.Graphs.{GraphView, IsGraphOf, is_settled, waits}
+use Rattle.mdl_graph.specs.Graphs.{GraphView, IsGraphOf, is_settled, lock_of, waits}
 use Rattle.mdl_graph.proofs.MemberLemmas.{contained}
 use Rattle.mdl_graph.specs.Members.{Among}
 use Rattle.mdl_graph.specs.WaitsFor.{SessionTest, is_unsettled, is_tied, waits_at, waits_for, wish_of, wishes_at, wishes_in}
@@ -97,3 +97,16 @@ graph-more settled books book old new was kept grown tied =
           ∙ ap (λ (test : SessionTest). waits_for settled books waiter other || waits_at test book waiter other) tests
           ∙ sym (list_any-append (λ b. waits_at settled b waiter other) books (book ∷ []) ∙ ap (λ (b : Bool). waits_for settled books waiter other || b) (or_false (waits_at settled book waiter other)));
     }
+
+-- likewise for a lock of the same key and lists
+pub graph-same : (settled : SessionTest) (books : List BookView) (book one : BookView) (old new : GraphView) → one.key ≡ book.key → one.granted ≡ book.granted → one.waiting ≡ book.waiting
+    → IsGraphOf settled books old
+    → new.settled ≡ old.settled
+    → new.wishes ≡ old.wishes ++ wishes_at (is_settled old) book
+    → ((waiter other : ℕ) → waits new waiter other ≡ (waits old waiter other || waits_at (is_settled old) book waiter other))
+    → IsGraphOf settled (books ++ one ∷ []) new
+graph-same settled books book one old new key granted waiting was kept grown tied =
+    let same : lock_of book.key book.granted book.waiting ≡ lock_of one.key one.granted one.waiting = (λ i. lock_of (sym key i) (sym granted i) (sym waiting i)) in
+    graph-more settled books one old new was kept
+    (grown ∙ ap (λ (lock : BookView). old.wishes ++ wishes_at (is_settled old) lock) same)
+    (λ waiter other. tied waiter other ∙ ap (λ (lock : BookView). waits old waiter other || waits_at (is_settled old) lock waiter other) same)

@@ -40,6 +40,7 @@ mod counts;
 mod cycle;
 mod laws;
 mod levels;
+mod lists;
 mod rows;
 mod stands;
 mod wait_graph;

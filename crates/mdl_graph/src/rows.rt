@@ -7,7 +7,8 @@ ghost use Rattle.mdl_graph.specs.WaitsFor.{holds_against, waits_ahead, waits_at,
 ghost use Rattle.mdl_graph.specs.Searches.{holds, are_joined, AreSeen, AreRows, AreOfModes, stands_against};
 
 use crate::Member;
-use mdl_book::{Book, Sessions};
+use crate::lists::Lists;
+use mdl_book::Sessions;
 use mdl_key::{Mode, conflicts_granted, conflicts_waiting, weight};
 use std::alloc::AllocError;
 
@@ -20,7 +21,7 @@ pub(crate) fn make_room(
     ranks: &mut Vec<usize>,
     waits: &mut Vec<(usize, u16)>,
     stands: &mut Vec<(u16, usize)>,
-    book: &Book,
+    book: &Lists,
 ) -> Result<(), AllocError>
     ensures wishes { wishes.new.items ≡ wishes.old.items }
     ensures ranks { ranks.new.items ≡ ranks.old.items }
@@ -60,7 +61,7 @@ pub(crate) fn add_waiters(
     waits: &mut Vec<(usize, u16)>,
     stands: &mut Vec<(u16, usize)>,
     settled: &Sessions,
-    book: &Book,
+    book: &Lists,
 ) -> Result<(), AllocError>
     requires known { (row session : ℕ) → length ranks.old.items ≤ row → holds waits.old.items row session ≡ false }
     requires fresh { (row session : ℕ) → length ranks.old.items ≤ row → holds stands.old.items session row ≡ false }
@@ -95,7 +96,7 @@ fn row_of(
     stands: &mut Vec<(u16, usize)>,
     first: usize,
     settled: &Sessions,
-    book: &Book,
+    book: &Lists,
     mode: Mode,
 ) -> Result<usize, AllocError>
     requires begun { first ≤ length ranks.old.items }
@@ -138,7 +139,7 @@ fn known_row(ranks: &[usize], first: usize, mode: Mode) -> Option<usize>
 fn stand_holders(
     stands: &mut Vec<(u16, usize)>,
     seen: &mut Sessions,
-    book: &Book,
+    book: &Lists,
     mode: Mode,
     row: usize,
 ) -> Result<(), AllocError>
@@ -163,7 +164,7 @@ fn stand_waiters(
     stands: &mut Vec<(u16, usize)>,
     seen: &mut Sessions,
     settled: &Sessions,
-    book: &Book,
+    book: &Lists,
     mode: Mode,
     row: usize,
 ) -> Result<(), AllocError>

@@ -1,17 +1,19 @@
 //! Which session waits for which.
 ghost use Rattle.std.specs.Prelude.{◌≡◌, ℕ, ◌||◌, ◌++◌, [], ◌∷◌, List, false, None, OnOk, OnErr, IfOk};
 ghost use Rattle.mdl_book.specs.declared.book_view.BookView.{BookView};
-ghost use Rattle.mdl_graph.specs.Graphs.{empty_graph, is_settled, waits, IsGraphOf, deadlock};
+ghost use Rattle.mdl_graph.specs.Graphs.{empty_graph, is_settled, lock_of, waits, IsGraphOf, deadlock};
 ghost use Rattle.mdl_graph.specs.WaitsFor.{SessionTest, waits_at, wishes_at};
 
 use crate::counts::session_count;
 use crate::levels::{level_at, levels_back};
+use crate::lists::Lists;
 use crate::rows::{add_waiters, make_room, stands_in_some, waits_in_some};
 use crate::stands::Stands;
 use crate::waits::Waits;
 use crate::walks::walk;
 use crate::{Cycle, Member};
-use mdl_book::{Book, Sessions};
+use mdl_book::{Book, Sessions, Ticket};
+use mdl_key::Key;
 use std::alloc::{AllocError, Global};
 use std::marker::Model;
 
@@ -73,24 +75,45 @@ impl WaitGraph {
             → IsGraphOf settled books self.old → IsGraphOf settled (books ++ book.now ∷ []) self.new) }
         ensures unchanged { OnErr result (self.new ≡ self.old) }
     {
+        self.add_lists(book.key(), book.granted(), book.waiting())
+    }
+
+    /// Adds a lock that is told by its key and its two lists, each in order. A refused growth leaves the graph as it was.
+    pub fn add_lists(
+        &mut self,
+        key: &Key,
+        granted: &[Ticket],
+        waiting: &[Ticket],
+    ) -> Result<(), AllocError>
+        ensures settled { self.new.settled ≡ self.old.settled }
+        ensures wishes { OnOk result (self.new.wishes ≡ self.old.wishes ++ wishes_at (is_settled self.old) (lock_of key.now granted.now waiting.now)) }
+        ensures waits { OnOk result ((waiter other : ℕ) → waits self.new waiter other
+            ≡ (waits self.old waiter other || waits_at (is_settled self.old) (lock_of key.now granted.now waiting.now) waiter other)) }
+        ensures graph { OnOk result ((settled : SessionTest) (books : List BookView) (book : BookView)
+            → book.key ≡ key.now → book.granted ≡ granted.now → book.waiting ≡ waiting.now
+            → IsGraphOf settled books self.old → IsGraphOf settled (books ++ book ∷ []) self.new) }
+        ensures unchanged { OnErr result (self.new ≡ self.old) }
+    {
+        let lists = Lists::new(key, granted, waiting);
         make_room(
             &mut self.wishes,
             &mut self.ranks,
             &mut self.waits,
             &mut self.stands,
-            book,
+            &lists,
         )?;
-        self.add_reserved(book)
+        self.add_reserved(&lists)
     }
 
     // Likewise, where there is room for most of what is added.
-    fn add_reserved(&mut self, book: &Book) -> Result<(), AllocError>
+    fn add_reserved(&mut self, book: &Lists) -> Result<(), AllocError>
         ensures settled { self.new.settled ≡ self.old.settled }
         ensures wishes { OnOk result (self.new.wishes ≡ self.old.wishes ++ wishes_at (is_settled self.old) book.now) }
         ensures waits { OnOk result ((waiter other : ℕ) → waits self.new waiter other
             ≡ (waits self.old waiter other || waits_at (is_settled self.old) book.now waiter other)) }
-        ensures graph { OnOk result ((settled : SessionTest) (books : List BookView)
-            → IsGraphOf settled books self.old → IsGraphOf settled (books ++ book.now ∷ []) self.new) }
+        ensures graph { OnOk result ((settled : SessionTest) (books : List BookView) (one : BookView)
+            → one.key ≡ book.now.key → one.granted ≡ book.now.granted → one.waiting ≡ book.now.waiting
+            → IsGraphOf settled books self.old → IsGraphOf settled (books ++ one ∷ []) self.new) }
         ensures unchanged { OnErr result (self.new ≡ self.old) }
     {
         let wishes = self.wishes.len();

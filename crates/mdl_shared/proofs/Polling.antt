@@ -11,7 +11,7 @@ use Rattle.mdl_visits.specs.Visits.{IsStepOf}
 
 pub met_word : (slots session found : ℕ) (m m′ : Mine) → m′ ≡ met_wait slots session found m → (e : Met) × IsStepOf m m′ e × MeetsWord slots session found e
 met_word slots session found m m′ is =
-    let e : Met = record { word = wait_word slots session; found = found; held = m.0.latches } in (
+    let e : Met = record { word = wait_word slots session; found = found; held = m.0.latches; directory = m.0.directory } in (
       e,
       ([], [], ap (λ (x : Mine). x.0.log) is ∙ ap (λ (log : List Met). log ++ e ∷ []) (sym (append-nil m.0.log))),
       record { word_is = refl; found = refl },
@@ -31,7 +31,7 @@ module _ (slots session wait state found : ℕ) (m m′ : Mine)
   pub settled_word : (e : Met) × IsStepOf m m′ e × MeetsWord slots session found e
   settled_word = whether
       (λ hit.
-      let e : Met = record { word = wait_word slots session; found = wait_in wait 1; held = m.0.latches } in (
+      let e : Met = record { word = wait_word slots session; found = wait_in wait 1; held = m.0.latches; directory = m.0.directory } in (
         e,
         ([], [], ap (λ (x : Mine). x.0.log) (settled hit) ∙ ap (λ (log : List Met). log ++ e ∷ []) (sym (append-nil m.0.log))),
         record { word_is = refl; found = sym hit },

@@ -7,6 +7,7 @@ pub use Rattle.mdl_visits.specs.Numbers
 pub use Rattle.mdl_visits.specs.Polls
 pub use Rattle.mdl_visits.specs.Readings
 pub use Rattle.mdl_visits.specs.Redefinitions
+pub use Rattle.mdl_visits.specs.Searches
 pub use Rattle.mdl_visits.specs.Tables
 pub use Rattle.mdl_visits.specs.Visits
 pub use Rattle.mdl_visits.specs.WaitEndings

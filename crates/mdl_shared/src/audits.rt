@@ -1,5 +1,5 @@
 //! An audit of the table.
-ghost use Rattle.std.specs.Prelude.{◌≡◌, length, IfOk, IfErr};
+ghost use Rattle.std.specs.Prelude.{◌≡◌, IfOk, IfErr};
 ghost use Rattle.std.specs.Arc.{arc_value};
 ghost use Rattle.mdl_calls.specs.declared.space_error.SpaceError.TheVariants as cause;
 ghost use Rattle.mdl_steps.specs.declared.view.Keys.{Keys};
@@ -22,8 +22,8 @@ impl Member {
             × (self.new.known.items ≡ self.old.known.items) × (self.new.tickets.items ≡ self.old.tickets.items) }
         ensures wait { KeepsWait self.old self.new }
         ensures reads { ReadsNothing self.old.worker.seat.me self.new.worker.seat.me }
-        ensures told { IfOk result (λ audited. (k : Keys) × TookDirectory (arc_value self.old.table).shared.table_id.slots k self.old.worker.seat.me self.new.worker.seat.me
-            × Audits (length k.keys) audited.items self.old.worker.seat.me self.new.worker.seat.me) }
+        ensures told { (k : Keys) × TookDirectory (arc_value self.old.table).shared.table_id.slots k k self.old.worker.seat.me self.new.worker.seat.me
+            × IfOk result (λ audited. Audits k audited.items self.old.worker.seat.me self.new.worker.seat.me) }
     {
         let mut audited = Vec::new(*self.known.allocator());
         go_round(rt, &mut self.worker, &self.table.shared, &mut audited)?;
@@ -41,8 +41,8 @@ impl<R: Wait> Session<R> {
             × (self.new.member.tickets.items ≡ self.old.member.tickets.items) }
         ensures wait { KeepsWait self.old.member self.new.member }
         ensures reads { ReadsNothing self.old.member.worker.seat.me self.new.member.worker.seat.me }
-        ensures told { IfOk result (λ audited. (k : Keys) × TookDirectory (arc_value self.old.member.table).shared.table_id.slots k self.old.member.worker.seat.me self.new.member.worker.seat.me
-            × Audits (length k.keys) audited.items self.old.member.worker.seat.me self.new.member.worker.seat.me) }
+        ensures told { (k : Keys) × TookDirectory (arc_value self.old.member.table).shared.table_id.slots k k self.old.member.worker.seat.me self.new.member.worker.seat.me
+            × IfOk result (λ audited. Audits k audited.items self.old.member.worker.seat.me self.new.member.worker.seat.me) }
         ensures refused { IfErr result (λ why. why ≡ cause.OutOfMemory) }
     {
         match self.member.audit(&self.rt) {

@@ -54,6 +54,7 @@ mod places;
 mod polls;
 mod reads;
 mod reschedules;
+mod searches;
 mod session;
 mod settlements;
 mod tables;

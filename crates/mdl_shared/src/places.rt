@@ -1,9 +1,9 @@
 //! The places of keys, as a session looks them up.
-ghost use Rattle.std.specs.Prelude.{◌≡◌, ◌⊎◌, ℕ, ◌<◌, ◌++◌, ◌∷◌, [], Ok, Err, None, IfOk, IfErr, OnErr};
+ghost use Rattle.std.specs.Prelude.{◌≡◌, ◌⊎◌, ℕ, ◌<◌, ◌++◌, ◌∷◌, [], Ok, Err, None, Some, IfOk, IfErr, OnErr};
 ghost use Rattle.std.specs.Arc.{arc_value};
 ghost use Rattle.mdl_calls.specs.declared.space_error.SpaceError.TheVariants as cause;
 ghost use Rattle.mdl_steps.specs.declared.view.Keys.{Keys};
-ghost use Rattle.mdl_visits.specs.declared.resolve_error.ResolveError.TheVariants.{NoPlace};
+ghost use Rattle.mdl_visits.specs.declared.resolve_error.ResolveError.TheVariants.{NoPlace, OutOfMemory};
 ghost use Rattle.mdl_shared.specs.Keepings.{KeepsWait};
 ghost use Rattle.mdl_visits.specs.Lookups.{TookDirectory, IsAnswer};
 ghost use Rattle.mdl_shared.specs.Members.{LearnsPlace, place_known};
@@ -36,10 +36,12 @@ impl Member {
         ensures known { IfOk result (λ place. (0 < place) × (place < (arc_value self.old.table).shared.table_id.slots)
             × (self.new.known.items ≡ self.old.known.items ++ record { key = key.now; place = place } ∷ [])) }
         ensures unchanged { OnErr result (self.new.known.items ≡ self.old.known.items) }
-        ensures answer { IfOk result (λ place. (k : Keys) × TookDirectory (arc_value self.old.table).shared.table_id.slots k self.old.worker.seat.me self.new.worker.seat.me
-            × IsAnswer (arc_value self.old.table).shared.table_id.slots key.now k (Ok place)) }
-        ensures full { result ≡ Err NoPlace → (k : Keys) × TookDirectory (arc_value self.old.table).shared.table_id.slots k self.old.worker.seat.me self.new.worker.seat.me
-            × IsAnswer (arc_value self.old.table).shared.table_id.slots key.now k (Err NoPlace) }
+        ensures answer { IfOk result (λ place. (k left : Keys) × TookDirectory (arc_value self.old.table).shared.table_id.slots k left self.old.worker.seat.me self.new.worker.seat.me
+            × IsAnswer (arc_value self.old.table).shared.table_id.slots key.now k left (Ok place)) }
+        ensures full { result ≡ Err NoPlace → (k left : Keys) × TookDirectory (arc_value self.old.table).shared.table_id.slots k left self.old.worker.seat.me self.new.worker.seat.me
+            × IsAnswer (arc_value self.old.table).shared.table_id.slots key.now k left (Err NoPlace) }
+        ensures memory { result ≡ Err OutOfMemory → (self.new.worker.seat.me ≡ self.old.worker.seat.me)
+            ⊎ ((k : Keys) × TookDirectory (arc_value self.old.table).shared.table_id.slots k k self.old.worker.seat.me self.new.worker.seat.me) }
     {
         let alloc = *self.known.allocator();
         if self.known.reserve(1).is_err() {
@@ -68,12 +70,16 @@ impl<R: Wait> Session<R> {
         ensures known { IfOk result (λ place. (0 < place) × (place < (arc_value self.old.member.table).shared.table_id.slots)
             × LearnsPlace key.now place (place_known key.now self.old.member.known.items) self.old.member.known.items self.new.member.known.items) }
         ensures unchanged { OnErr result (self.new.member.known.items ≡ self.old.member.known.items) }
-        ensures answer { place_known key.now self.old.member.known.items ≡ None → IfOk result (λ place. (k : Keys)
-            × TookDirectory (arc_value self.old.member.table).shared.table_id.slots k self.old.member.worker.seat.me self.new.member.worker.seat.me
-            × IsAnswer (arc_value self.old.member.table).shared.table_id.slots key.now k (Ok place)) }
+        ensures same { (place : ℕ) → place_known key.now self.old.member.known.items ≡ Some place → self.new.member.worker.seat.me ≡ self.old.member.worker.seat.me }
+        ensures answer { place_known key.now self.old.member.known.items ≡ None → IfOk result (λ place. (k left : Keys)
+            × TookDirectory (arc_value self.old.member.table).shared.table_id.slots k left self.old.member.worker.seat.me self.new.member.worker.seat.me
+            × IsAnswer (arc_value self.old.member.table).shared.table_id.slots key.now k left (Ok place)) }
         ensures refused { IfErr result (λ why. (place_known key.now self.old.member.known.items ≡ None) × ((why ≡ cause.NoPlace) ⊎ (why ≡ cause.OutOfMemory))) }
-        ensures full { result ≡ Err cause.NoPlace → (k : Keys) × TookDirectory (arc_value self.old.member.table).shared.table_id.slots k self.old.member.worker.seat.me self.new.member.worker.seat.me
-            × IsAnswer (arc_value self.old.member.table).shared.table_id.slots key.now k (Err NoPlace) }
+        ensures full { result ≡ Err cause.NoPlace → (k left : Keys)
+            × TookDirectory (arc_value self.old.member.table).shared.table_id.slots k left self.old.member.worker.seat.me self.new.member.worker.seat.me
+            × IsAnswer (arc_value self.old.member.table).shared.table_id.slots key.now k left (Err NoPlace) }
+        ensures memory { result ≡ Err cause.OutOfMemory → (self.new.member.worker.seat.me ≡ self.old.member.worker.seat.me)
+            ⊎ ((k : Keys) × TookDirectory (arc_value self.old.member.table).shared.table_id.slots k k self.old.member.worker.seat.me self.new.member.worker.seat.me) }
     {
         if let Some(place) = self.member.known_place(key) {
             return Ok(place as u16);

@@ -27,8 +27,8 @@ impl Member {
         ensures same { (self.new.table ≡ self.old.table) × (self.new.worker.number ≡ self.old.worker.number) × (self.new.next ≡ self.old.next) × (self.new.tickets.items ≡ self.old.tickets.items) }
         ensures wait { KeepsWait self.old self.new }
         ensures reads { ReadsNothing self.old.worker.seat.me self.new.worker.seat.me }
-        ensures told { IfOk result (λ places. (k : Keys) × (tables : List Known)
-            × TookDirectory (arc_value self.old.table).shared.table_id.slots k self.old.worker.seat.me self.new.worker.seat.me
+        ensures told { (k : Keys) × TookDirectory (arc_value self.old.table).shared.table_id.slots k k self.old.worker.seat.me self.new.worker.seat.me
+            × IfOk result (λ places. (tables : List Known)
             × AreTables schema.now k tables
             × HasAsked self.old.worker.number tables places.items self.old.worker.seat.me self.new.worker.seat.me
             × (self.new.known.items ≡ self.old.known.items ++ unknown self.old.known.items tables)) }
@@ -87,8 +87,8 @@ impl<R: Wait> Session<R> {
             × (self.new.member.next ≡ self.old.member.next) × (self.new.member.tickets.items ≡ self.old.member.tickets.items) }
         ensures wait { KeepsWait self.old.member self.new.member }
         ensures reads { ReadsNothing self.old.member.worker.seat.me self.new.member.worker.seat.me }
-        ensures told { IfOk result (λ places. (k : Keys) × (tables : List Known)
-            × TookDirectory (arc_value self.old.member.table).shared.table_id.slots k self.old.member.worker.seat.me self.new.member.worker.seat.me
+        ensures told { (k : Keys) × TookDirectory (arc_value self.old.member.table).shared.table_id.slots k k self.old.member.worker.seat.me self.new.member.worker.seat.me
+            × IfOk result (λ places. (tables : List Known)
             × AreTables schema.now k tables
             × HasAsked self.old.member.worker.number tables places.items self.old.member.worker.seat.me self.new.member.worker.seat.me
             × (self.new.member.known.items ≡ self.old.member.known.items ++ unknown self.old.member.known.items tables)) }

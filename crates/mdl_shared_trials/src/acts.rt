@@ -1,7 +1,8 @@
 //! Calls of a session and what comes of them, as the rows of tests have them.
 use crate::audits::{Shown, are_shown};
 use mdl_calls::{
-    Attempt, Begun, Ended, Held, Place, Poll, Settled, SpaceError, TicketId, TimedOut, Upgrade,
+    Attempt, Begun, Ended, Held, Place, Poll, Search, Settled, SpaceError, TicketId, TimedOut,
+    Upgrade,
 };
 use mdl_defs::{Change, Column, Columns, Definition, Standing};
 use mdl_key::{Key, KeyError, Mode};
@@ -97,6 +98,8 @@ pub(crate) enum Act {
     WaitOf(u16),
     // It makes way at a place whose key it knows.
     Reschedule(Place),
+    // It looks for a deadlock.
+    Search,
 }
 
 /// What comes of it.
@@ -121,6 +124,8 @@ pub(crate) enum Reply {
     Settled(Settled),
     Ended(Ended),
     Wait(Option<u64>),
+    NoCycle,
+    Victim(u16),
     Refused(SpaceError),
 }
 
@@ -149,6 +154,7 @@ pub(crate) fn make<R: Wait>(alloc: Global, session: &mut Session<R>, act: Act) -
         Act::Kill(target, wait) => Reply::Is(session.kill(target, wait)),
         Act::WaitOf(target) => Reply::Wait(session.wait_of(target)),
         Act::Reschedule(place) => reschedule(session, place),
+        Act::Search => searched(session.search_deadlock()),
     }
 }
 
@@ -179,7 +185,8 @@ fn may_take_memory(act: Act) -> bool {
         | Act::Names(_, _)
         | Act::Audit(_)
         | Act::Begin(_, _)
-        | Act::Reschedule(_) => true,
+        | Act::Reschedule(_)
+        | Act::Search => true,
         _ => false,
     }
 }
@@ -249,6 +256,14 @@ fn timed_out(outcome: Result<TimedOut, SpaceError>) -> Reply {
 fn ended(outcome: Result<Ended, SpaceError>) -> Reply {
     match outcome {
         Ok(how) => Reply::Ended(how),
+        Err(why) => Reply::Refused(why),
+    }
+}
+
+fn searched(outcome: Result<Search, SpaceError>) -> Reply {
+    match outcome {
+        Ok(Search::NoCycle) => Reply::NoCycle,
+        Ok(Search::Victim(session)) => Reply::Victim(session),
         Err(why) => Reply::Refused(why),
     }
 }

@@ -32,6 +32,8 @@ mod places;
 #[cfg(test)]
 mod rows;
 #[cfg(test)]
+mod searches;
+#[cfg(test)]
 mod sessions;
 #[cfg(test)]
 mod stress;

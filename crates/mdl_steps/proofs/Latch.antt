@@ -12,7 +12,7 @@ use Rattle.atomic_table.specs.Table.{State, Allows, step, Act, takes, keeps, ste
 use Rattle.atomic_table.proofs.Lists.{at_map, set_else, exchanged}
 use Rattle.mdl_key.specs.declared.mode.Mode.{Mode}
 use Rattle.mdl_key.specs.declared.namespace.Kind.{Kind}
-use Rattle.mdl_key.specs.Words.{is_mode_of}
+use Rattle.mdl_key.specs.Words.{KeyName, is_mode_of}
 use Rattle.mdl_book.specs.declared.ticket.Ticket.{Ticket}
 use Rattle.mdl_book.specs.Books.{lock_kind}
 use Rattle.mdl_book.specs.Granting.{is_lawful}
@@ -121,6 +121,9 @@ module _ (slots id place : ℕ) (me : Mine) (some_number : 0 < me.0.number) (fir
       named = λ i k there here.
           let knows = each_at (λ (x : Known). (0 < x.place) × (key_at r.keys x.place ≡ Some x.key)) me.0.known (r.views id me.0 seat).1 i k there in
           ok.book_ok.named.key_is k.key (ap (λ (q : ℕ). key_at r.keys q) (sym here) ∙ knows.1);
+      keyed = λ k recorded key there.
+          let keys_are = (r.directory_agrees.held id (desk_of me.0) (at_map desk_of s.views id me.0 seat) k recorded).2 in
+          ok.book_ok.named.key_is key (ap (λ (keys : List KeyName). key_at keys place) (sym keys_are) ∙ there);
       vacant = λ k recorded none.
           let keys_are = (r.directory_agrees.held id (desk_of me.0) (at_map desk_of s.views id me.0 seat) k recorded).2 in
           (ok.book_ok.named.vacant (rw (sym keys_are) none)).0;

@@ -34,14 +34,15 @@ use Rattle.mdl_steps.specs.Rule.{TellsLists, KnowsKeys, IsUnused, NoteAgrees, Re
 abbrev pub Mine : Type 0
 Mine = Me Slot View
 
--- with one step more
+-- with one step more, at which the session has the directory's record that is in the view
 abbrev pub logged : ℕ → ℕ → List Held → View → View
-logged word found held v = record v { log = v.log ++ record { word = word; found = found; held = held } ∷ [] }
+logged word found held v = record v { log = v.log ++ record { word = word; found = found; held = held; directory = v.directory } ∷ [] }
 
 -- ---- the record of a latch
 
 -- as the latch is taken: the word's flags tell the lists exactly then, granted tickets are compatible and in modes of the kind, the book has
--- of the session just the tickets that it has (but for one that it waits for), and it is the book of each key that is known to be here.
+-- of the session just the tickets that it has (but for one that it waits for), and it is the book of each key that is known to be here,
+-- and of that which the directory has for the place, where the session holds its latch.
 -- Each session waits at most once, for a mode of the kind, and so does the session itself where it met its wait lost. What stands may
 -- stand under the key: no version that the session read is newer, what it read of this one is just that, and this is the version that it noted
 pub record IsFresh (place : ℕ) (h : Held) (m : Mine) : Type 0 where
@@ -53,6 +54,7 @@ pub record IsFresh (place : ℕ) (h : Held) (m : Mine) : Type 0 where
   pub own : (number : ℕ) → NotWaited m.0 number →
       ticket_of m.0.number number h.book.granted ≡ ticket_of m.0.number number (map (ticket_by m.0.number) (own_at place m.0.slow))
   pub named : (i : ℕ) (k : Known) → get_elem? m.0.known i ≡ some k → k.place ≡ place → h.book.key ≡ k.key
+  pub keyed : (k : Keys) → m.0.directory ≡ Some k → (key : KeyName) → key_at k.keys place ≡ Some key → h.book.key ≡ key
   pub vacant : (k : Keys) → m.0.directory ≡ Some k → key_at k.keys place ≡ None → IsUnused h.book
   pub once : Once h.book.waiting
   pub single : (session first second : ℕ) (t u : Ticket) → ticket_of session first h.book.waiting ≡ Some t → ticket_of session second h.book.waiting ≡ Some u → first ≡ second
@@ -151,9 +153,9 @@ pub record IsDirectory (slots : ℕ) (k : Keys) (m : Mine) : Type 0 where
 abbrev pub consulted : Keys → Mine → Mine
 consulted k m = (logged (latch_word 0) 0 m.0.latches (record m.0 { directory = Some k }), (0, slot.Directory k) ∷ m.1)
 
--- it was given back, and the session knows these keys, too
+-- it was given back, and the session knows these keys, too. The step tells the record that there was
 abbrev pub informed : List Known → Mine → Mine
-informed more m = (logged (latch_word 0) m.0.number m.0.latches (record m.0 { directory = None; known = m.0.known ++ more }), rest m.1)
+informed more m = (record (logged (latch_word 0) m.0.number m.0.latches m.0) { directory = None; known = m.0.known ++ more }, rest m.1)
 
 -- with a key for the place after all others
 abbrev pub listing : KeyName → Keys → Keys

@@ -88,6 +88,9 @@ pub struct Met {
     /// The records of the latches that the session held at the step: those before it where the step gave one back or
     /// lowered flags, otherwise those after it.
     pub held: [Held; 0],
+    /// The record of the directory's latch, where the session held that at the step: the one before it where the step gave
+    /// it back, otherwise the one after it.
+    pub directory: Option<Keys>,
 }
 
 /// The numbers that the first seat draws for the sessions. Any other seat has none.

@@ -44,7 +44,7 @@ asked_within who a b c d x before was after = (was.0, step_within a b c d was.0 
 
 module _ (place : ℕ) (m m′ m″ : Mine) (inside : IsInside place m m′) (put : m″ ≡ unlatched place [] m′) where
   puts : Met
-  puts = record { word = latch_word place; found = m.0.number; held = inside.latches }
+  puts = record { word = latch_word place; found = m.0.number; held = inside.latches; directory = m.0.directory }
 
   pub looked : MakesSteps m m″
   looked = let visit = visits_put place [] m m′ m″ inside put in (visit.made, visit.now)

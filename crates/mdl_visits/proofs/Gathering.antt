@@ -1,21 +1,24 @@
 -- The books of places in turn, gathered while their latches are held.
-use Rattle.std.proofs.Common.{◌≡◌, ℕ, ◌+◌, ◌<◌, ◌≤◌, List, [], ◌∷◌, ◌++◌, length, Some, refl, sym, ap, ◌∙◌, subst, inl, inr, ⊎_elim, arith, append_assoc, append-nil}
+use Rattle.std.proofs.Common.{◌≡◌, ℕ, ◌+◌, ◌-◌, ◌<◌, ◌≤◌, List, [], ◌∷◌, ◌++◌, length, map, Some, refl, sym, ap, ◌∙◌, subst, inl, inr, ⊎_elim, arith, append_assoc, append-nil, length-append}
+use Rattle.std.specs.Prelude.{slice_get}
+use Rattle.mdl_key.specs.Words.{KeyName}
 use Rattle.mdl_steps.specs.declared.view.Held.{Held}
 use Rattle.mdl_steps.specs.declared.view.Keys.{Keys}
 use Rattle.mdl_steps.specs.declared.view.Met.{Met}
 use Rattle.mdl_steps.specs.Cells.{held_at}
 use Rattle.mdl_steps.specs.Layout.{latch_word}
 use Rattle.mdl_steps.specs.Lists.{Each}
-use Rattle.mdl_steps.specs.Plays.{Mine, IsDirectory, consulted, informed, latched, unlatched}
+use Rattle.mdl_steps.specs.Plays.{Mine, IsDirectory, IsFresh, consulted, informed, latched, unlatched}
 use Rattle.mdl_steps.specs.Rule.{TellsLists}
 use Rattle.mdl_steps.specs.Seats.{HasDirectory, Holds, IsRising, MayPut, learnt}
 use Rattle.mdl_steps.proofs.Views.{held_at-past}
 use Rattle.mdl_visits.specs.declared.audited.Audited.{Audited}
-use Rattle.mdl_visits.specs.Audits.{AreRecorded, Audits, Gathers, HadLatches}
+use Rattle.mdl_visits.specs.Audits.{AreKeyed, AreRecorded, Audits, Gathers, HadLatches}
 use Rattle.mdl_visits.specs.Idle.{IsIdle}
-use Rattle.mdl_visits.specs.Lookups.{TookDirectory, relisted}
-use Rattle.mdl_visits.specs.Visits.{IsInside, IsStepOf, MakesSteps, and_made}
-use Rattle.mdl_visits.proofs.Lookups.{put_after, took_directory, knows_nothing, no_latches}
+use Rattle.mdl_visits.specs.Lookups.{HadEither, TookDirectory, given_back, relisted}
+use Rattle.mdl_visits.specs.Visits.{AllHad, IsInside, IsStepOf, KeepsDirectory, MakesSteps, and_made}
+use Rattle.mdl_visits.proofs.Lookups.{had_none, put_after, knows_nothing, no_latches}
+use Rattle.mdl_visits.proofs.Steps.{each_map}
 use Rattle.mdl_visits.proofs.Visiting.{inside_at, visits_put, makes_none}
 
 -- ---- steps
@@ -75,7 +78,7 @@ module _ (place : ℕ) (h : Held) (made : List Met) (m m′ : Mine) (here : h.pl
   rising_next rising = subst (IsRising (place + 1)) (sym taken) (omega arith, each_below m.0.latches place (place + 1) (omega arith) rising)
 
   abbrev took : Met
-  took = record { word = latch_word place; found = 0; held = h ∷ m.0.latches }
+  took = record { word = latch_word place; found = 0; held = h ∷ m.0.latches; directory = m.0.directory }
 
   log_then : m′.0.log ≡ m.0.log ++ (made ++ took ∷ [])
   log_then = ap (λ (x : Mine). x.0.log) taken ∙ append_assoc m.0.log made (took ∷ [])
@@ -86,7 +89,7 @@ module _ (place : ℕ) (h : Held) (made : List Met) (m m′ : Mine) (here : h.pl
 
   module _ (m″ m‴ : Mine) (steps : MakesSteps m′ m″) (put : m‴ ≡ unlatched place [] m″) where
     abbrev gave : Met
-    gave = record { word = latch_word place; found = m″.0.number; held = m″.0.latches }
+    gave = record { word = latch_word place; found = m″.0.number; held = m″.0.latches; directory = m″.0.directory }
 
     log_put : m‴.0.log ≡ m″.0.log ++ gave ∷ []
     log_put = ap (λ (x : Mine). x.0.log) put
@@ -103,13 +106,18 @@ module _ (place : ℕ) (h : Held) (made : List Met) (m m′ : Mine) (here : h.pl
 
     had_all : (latches : List Held) → HadLatches latches m′ m″ → HadLatches latches m m‴
     had_all latches had = ⊎_elim
-        (λ at_once. inr (took, took_then, sym (at_once ∙ ap (λ (x : Mine). x.0.latches) taken)))
-        (λ later. inr (later.0, step_from m m′ m‴ (made ++ took ∷ []) later.0 log_then (step_till m′ m″ m‴ (gave ∷ []) later.0 log_put later.1), later.2))
+        (λ at_once. inr (took, took_then, sym (at_once ∙ ap (λ (x : Mine). x.0.latches) taken), refl))
+        (λ later. inr (
+          later.0,
+          step_from m m′ m‴ (made ++ took ∷ []) later.0 log_then (step_till m′ m″ m‴ (gave ∷ []) later.0 log_put later.1),
+          later.2,
+          later.3 ∙ ap (λ (x : Mine). x.0.directory) taken,
+        ))
         had
 
-    pub gathers_more : (last q : ℕ) (before middle after : List Audited) → q ≡ place → held_at place m′.0.latches ≡ Some h
+    pub gathers_more : IsFresh place h m → (last q : ℕ) (before middle after : List Audited) → q ≡ place → held_at place m′.0.latches ≡ Some h
         → middle ≡ before ++ record { place = q; book = h.book } ∷ [] → Gathers (place + 1) last middle after m′ m″ → Gathers place last before after m m‴
-    gathers_more last q before middle after at recorded added more =
+    gathers_more fresh last q before middle after at recorded added more =
         let one : Audited = record { place = q; book = h.book } in
         let count = more.all in
         record {
@@ -120,7 +128,15 @@ module _ (place : ℕ) (h : Held) (made : List Met) (m m′ : Mine) (here : h.pl
           listed = more.listed ∙ ap (λ (xs : List Audited). xs ++ more.books) added ∙ append_assoc before (one ∷ []) more.books;
           all = omega arith;
           recorded = ((at, (h, more.kept place h (omega arith) recorded, refl)), more.recorded);
+          keyed = λ k has. (fresh.keyed k has, more.keyed k (ap (λ (x : Mine). x.0.directory) taken ∙ has));
         }
+
+    -- all of them were held when those behind the place were
+    pub more_latches : (fresh : IsFresh place h m) (last q : ℕ) (before middle after : List Audited) (at : q ≡ place) (recorded : held_at place m′.0.latches ≡ Some h)
+        (added : middle ≡ before ++ record { place = q; book = h.book } ∷ []) (more : Gathers (place + 1) last middle after m′ m″)
+        → (gathers_more fresh last q before middle after at recorded added more).latches ≡ more.latches
+    unfolding gathers_more
+    more_latches fresh last q before middle after at recorded added more = refl
 
 -- behind the last place there is nothing to gather
 pub gathers_none : (place last : ℕ) (audited : List Audited) (m : Mine) → place ≡ last + 1 → Gathers place last audited audited m m
@@ -132,7 +148,26 @@ gathers_none place last audited m behind = record {
   listed = sym (append-nil audited);
   all = omega arith;
   recorded = tt;
+  keyed = λ k has. tt;
 }
+
+-- ---- the keys of the books
+
+key_between : (before keys : List KeyName) (key : KeyName) → slice_get (before ++ key ∷ keys) (length before) ≡ Some key
+key_between [] keys key = refl
+key_between (x ∷ xs) keys key = key_between xs keys key
+
+pub keys_from : (before keys : List KeyName) (books : List Audited) (place : ℕ) → place ≡ length before + 1 → length books ≡ length keys → AreKeyed (before ++ keys) place books
+    → map (λ (a : Audited). a.book.key) books ≡ keys
+keys_from before [] [] place at same keyed = refl
+keys_from before [] (a ∷ more) place at same keyed = absurd (omega arith)
+keys_from before (key ∷ keys) [] place at same keyed = absurd (omega arith)
+keys_from before (key ∷ keys) (a ∷ more) place at same keyed =
+    let here : place - 1 ≡ length before = omega arith in
+    let first : a.book.key ≡ key = keyed.0 key (ap (slice_get (before ++ key ∷ keys)) here ∙ key_between before keys key) in
+    let longer : length (before ++ key ∷ []) ≡ length before + 1 = length-append before (key ∷ []) in
+    let others = keys_from (before ++ key ∷ []) keys more (place + 1) (omega arith) (omega arith) (subst (λ (all : List KeyName). AreKeyed all (place + 1) more) (sym (append_assoc before (key ∷ []) keys)) keyed.1) in
+    ap (λ (x : KeyName). x ∷ map (λ (b : Audited). b.book.key) more) first ∙ ap (λ (xs : List KeyName). key ∷ xs) others
 
 -- ---- all of it, while the directory's latch is held
 
@@ -154,17 +189,30 @@ module _ (slots : ℕ) (k : Keys) (made : List Met) (m m′ m″ : Mine) (taken 
     pub makes_all : MakesSteps m m‴
     makes_all = knows_nothing slots k made m idle is steps.0 k 0 m‴ all_put refl
 
-    pub took_first : TookDirectory slots k m m‴
-    took_first = took_directory slots k made m idle is steps.0 k 0 m‴ all_put
-
     abbrev first : Met
-    first = record { word = latch_word 0; found = 0; held = m.0.latches }
+    first = record { word = latch_word 0; found = 0; held = m.0.latches; directory = Some k }
 
     abbrev final : Met
-    final = record { word = latch_word 0; found = m″.0.number; held = m″.0.latches }
+    final = record { word = latch_word 0; found = m″.0.number; held = m″.0.latches; directory = m″.0.directory }
 
     log_first : m′.0.log ≡ m.0.log ++ (made ++ first ∷ [])
     log_first = ap (λ (x : Mine). x.0.log) taken ∙ append_assoc m.0.log made (first ∷ [])
+
+    pub took_first : AllHad m.0.directory made → KeepsDirectory m′ m″ → TookDirectory slots k k m m‴
+    took_first lingered keeps =
+        let then : Mine = consulted k (and_made made m) in
+        let same : then.0.log ++ steps.0 ≡ then.0.log ++ keeps.0 =
+        sym (ap (λ (x : Mine). x.0.log) (steps.1 ∙ ap (and_made steps.0) taken)) ∙ keeps.1 ∙ ap (λ (x : Mine). x.0.log ++ keeps.0) taken in
+        record {
+          before = made;
+          within = keeps.0;
+          after = [];
+          recorded = is;
+          listed = ap (λ (x : Mine). x.0.log) all_put ∙ ap (λ (log : List Met). log ++ given_back k m ∷ []) same ∙ append_assoc then.0.log keeps.0 (given_back k m ∷ []);
+          none_before = had_none m idle made lingered;
+          either_within = each_map (λ (e : Met). e.directory ≡ m′.0.directory) (HadEither k k) (λ e had. inl (had ∙ ap (λ (x : Mine). x.0.directory) taken)) keeps.0 keeps.2;
+          none_after = tt;
+        }
 
     log_final : m‴.0.log ≡ m″.0.log ++ final ∷ []
     log_final = ap (λ (x : Mine). x.0.log) put
@@ -180,21 +228,28 @@ module _ (slots : ℕ) (k : Keys) (made : List Met) (m m′ m″ : Mine) (taken 
           ∙ append_assoc (m.0.log ++ made) (first ∷ []) (steps.0 ++ final ∷ []),
     )
 
-    moment_of : (latches : List Held) → HadLatches latches m′ m″ → (e : Met) × IsStepOf m m‴ e × (e.held ≡ latches)
+    pub moment_of : (latches : List Held) → HadLatches latches m′ m″ → (e : Met) × IsStepOf m m‴ e × (e.held ≡ latches) × (e.directory ≡ Some k)
     moment_of latches had = ⊎_elim
-        (λ at_once. (first, first_then, sym (at_once ∙ ap (λ (x : Mine). x.0.latches) taken)))
-        (λ later. (later.0, step_from m m′ m‴ (made ++ first ∷ []) later.0 log_first (step_till m′ m″ m‴ (final ∷ []) later.0 log_final later.1), later.2))
+        (λ at_once. (first, first_then, sym (at_once ∙ ap (λ (x : Mine). x.0.latches) taken), refl))
+        (λ later. (
+          later.0,
+          step_from m m′ m‴ (made ++ first ∷ []) later.0 log_first (step_till m′ m″ m‴ (final ∷ []) later.0 log_final later.1),
+          later.2,
+          later.3 ∙ ap (λ (x : Mine). x.0.directory) taken,
+        ))
         had
 
-    pub audits : (last : ℕ) (audited : List Audited) → last ≡ length k.keys → Gathers 1 last [] audited m′ m″ → Audits (length k.keys) audited m m‴
+    pub audits : (last : ℕ) (audited : List Audited) → last ≡ length k.keys → Gathers 1 last [] audited m′ m″ → Audits k audited m m‴
     audits last audited count gathered =
         let moment = moment_of gathered.latches gathered.had in
         let all = gathered.all in
         let long = ap (λ (xs : List Audited). length xs) gathered.listed in
         record {
           all = omega arith;
+          keys = ap (map (λ (a : Audited). a.book.key)) gathered.listed ∙ keys_from [] k.keys gathered.books 1 refl (omega arith) (gathered.keyed k (ap (λ (x : Mine). x.0.directory) taken));
           moment = moment.0;
           step = moment.1;
+          directory = moment.3;
           recorded = subst (λ (xs : List Audited). AreRecorded 1 moment.0.held xs) (sym gathered.listed)
               (subst (λ (held : List Held). AreRecorded 1 held gathered.books) (sym moment.2) gathered.recorded);
         }

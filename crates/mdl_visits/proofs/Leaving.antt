@@ -26,10 +26,10 @@ needed false up e = refl
 
 module _ (place : ℕ) (ds : List Deed) (found : ℕ) (book : BookView) (slow obtrusive : Bool) (m : Mine) where
   lowers : Met
-  lowers = record { word = lock_word place; found = found; held = m.0.latches }
+  lowers = record { word = lock_word place; found = found; held = m.0.latches; directory = m.0.directory }
 
   puts : Met
-  puts = record { word = latch_word place; found = m.0.number; held = (settled place ds found book slow obtrusive m).0.latches }
+  puts = record { word = latch_word place; found = m.0.number; held = (settled place ds found book slow obtrusive m).0.latches; directory = m.0.directory }
 
   abbrev last : Mine
   last = unlatched place [] (settled place ds found book slow obtrusive m)

@@ -21,5 +21,9 @@ pub mod Asking
 pub mod Gathering
 pub mod Sorting
 pub mod Listing
+pub mod Deadlocks
+pub mod Words
+pub mod Outcomes
+pub mod Holding
 pub mod WaitEndings
 pub mod WaitOpenings

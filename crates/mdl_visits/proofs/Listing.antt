@@ -1,5 +1,5 @@
 -- What a session has after it asked the directory for the tables of a schema.
-use Rattle.std.proofs.Common.{◌≡◌, ℕ, ◌-◌, ◌<◌, List, [], ◌∷◌, ◌++◌, length, None, Some, ap, ◌∙◌, arith, append_assoc, append-nil}
+use Rattle.std.proofs.Common.{◌≡◌, ℕ, ◌-◌, ◌<◌, List, [], ◌∷◌, ◌++◌, length, None, Some, ap, ◌∙◌, subst, arith, append_assoc, append-nil}
 use Rattle.std.specs.Prelude.{Option}
 use Rattle.std.proofs.lemmas.List.Elements.{All-weaker}
 use Rattle.mdl_steps.specs.declared.view.Keys.{Keys}
@@ -10,10 +10,11 @@ use Rattle.mdl_steps.specs.Plays.{Mine, IsDirectory, consulted, informed}
 use Rattle.mdl_steps.specs.Rule.{key_at}
 use Rattle.mdl_steps.specs.Schemas.{StandThere, unknown}
 use Rattle.mdl_visits.specs.Idle.{IsIdle}
-use Rattle.mdl_visits.specs.Lookups.{TookDirectory}
+use Rattle.mdl_visits.specs.Lookups.{TookDirectory, given_back}
 use Rattle.mdl_visits.specs.Tables.{AreTables, AreWithin, knowing_all}
-use Rattle.mdl_visits.specs.Visits.{GoesOn, MakesSteps, and_made}
-use Rattle.mdl_visits.proofs.Lookups.{no_record, some_there}
+use Rattle.mdl_visits.specs.Visits.{AllHad, KeepsDirectory, MakesSteps, and_made}
+use Rattle.mdl_visits.proofs.Lookups.{had_none, no_record, some_there}
+use Rattle.mdl_visits.proofs.Steps.{each_append}
 
 -- ---- the tables stand where the directory says
 
@@ -31,10 +32,10 @@ all_within slots k tables fit stand =
 module _ (slots : ℕ) (k : Keys) (made : List Met) (old : Mine) (idle : IsIdle old) (is : IsDirectory slots k (and_made made old))
     (more : List Known) (new : Mine) (e : new ≡ informed more (consulted k (and_made made old))) where
   abbrev took : Met
-  took = record { word = latch_word 0; found = 0; held = old.0.latches }
+  took = record { word = latch_word 0; found = 0; held = old.0.latches; directory = Some k }
 
   abbrev gave : Met
-  gave = record { word = latch_word 0; found = old.0.number; held = old.0.latches }
+  gave = record { word = latch_word 0; found = old.0.number; held = old.0.latches; directory = Some k }
 
   abbrev all : List Met
   all = made ++ (took ∷ gave ∷ [])
@@ -47,8 +48,17 @@ module _ (slots : ℕ) (k : Keys) (made : List Met) (old : Mine) (idle : IsIdle 
       ∙ ap (λ (log : List Met). (record old.0 { log = log; directory = None; known = old.0.known ++ more }, old.1)) joined
       ∙ ap (λ (d : Option Keys). (record old.0 { log = old.0.log ++ all; directory = d; known = old.0.known ++ more }, old.1)) (no_record old.0.directory idle.1)
 
-  pub took_directory : TookDirectory slots k old new
-  took_directory = record { before = made; after = gave ∷ []; recorded = is; listed = ap (λ (m : Mine). m.0.log) e }
+  pub took_directory : AllHad old.0.directory made → TookDirectory slots k k old new
+  took_directory lingered = record {
+    before = made;
+    within = [];
+    after = [];
+    recorded = is;
+    listed = ap (λ (m : Mine). m.0.log) e;
+    none_before = had_none old idle made lingered;
+    either_within = tt;
+    none_after = tt;
+  }
 
   pub knows_tables : (tables : List Known) → more ≡ unknown old.0.known tables → MakesSteps (knowing_all tables old) new
   knows_tables tables those = (
@@ -67,11 +77,18 @@ pub told_after : (k : Keys) (made : List Met) (tables : List Known) (old taken l
     → new ≡ informed (unknown old.0.known tables) (consulted k (and_made made old))
 told_after k made tables old taken listed new first second third = third ∙ ap (λ (m : Mine). informed (unknown m.0.known tables) m) (second ∙ first)
 
--- the directory was asked in a call that went on
-pub took_earlier : (slots : ℕ) (k : Keys) (old mid new : Mine) → TookDirectory slots k old mid → GoesOn mid new → TookDirectory slots k old new
-took_earlier slots k old mid new took goes = record {
-  before = took.before;
-  after = took.after ++ goes.0;
-  recorded = took.recorded;
-  listed = goes.1 ∙ ap (λ (log : List Met). log ++ goes.0) took.listed ∙ append_assoc (consulted k (and_made took.before old)).0.log took.after goes.0;
-}
+-- the directory was asked in a call that went on, without it
+pub took_earlier : (slots : ℕ) (k left : Keys) (old mid new : Mine) → TookDirectory slots k left old mid → KeepsDirectory mid new → mid.0.directory ≡ None → TookDirectory slots k left old new
+took_earlier slots k left old mid new took goes none =
+    let first : List Met = (consulted k (and_made took.before old)).0.log in
+    let later : List Met = given_back left old ∷ took.after in
+    record {
+      before = took.before;
+      within = took.within;
+      after = took.after ++ goes.0;
+      recorded = took.recorded;
+      listed = goes.1 ∙ ap (λ (log : List Met). log ++ goes.0) took.listed ∙ append_assoc first (took.within ++ later) goes.0 ∙ ap (λ (log : List Met). first ++ log) (append_assoc took.within later goes.0);
+      none_before = took.none_before;
+      either_within = took.either_within;
+      none_after = each_append (λ (e : Met). e.directory ≡ None) took.after goes.0 took.none_after (subst (λ (d : Option Keys). AllHad d goes.0) none goes.2);
+    }

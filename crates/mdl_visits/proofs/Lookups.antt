@@ -1,6 +1,6 @@
 -- What a session has after the directory's latch was given back.
-use Rattle.std.proofs.Common.{◌≡◌, ℕ, zero, suc, ◌+◌, ◌-◌, ◌<◌, false, List, [], ◌∷◌, ◌++◌, length, Some, None, refl, sym, ap, ◌∙◌, subst, arith, append_assoc, append-nil}
-use Rattle.std.specs.Prelude.{Option, slice_get, is_some}
+use Rattle.std.proofs.Common.{◌≡◌, ℕ, zero, suc, ◌+◌, ◌-◌, ◌<◌, false, List, [], ◌∷◌, ◌++◌, length, Some, None, refl, sym, ap, ◌∙◌, subst, inl, inr, arith, append_assoc, append-nil}
+use Rattle.std.specs.Prelude.{Option, Result, Ok, Err, slice_get, is_some}
 use Rattle.std.specs.Option.{option_map, option_to_list}
 use Rattle.std.proofs.lemmas.Bool.{lt-ltb}
 use Rattle.std.proofs.lemmas.List.{nil_from_length}
@@ -10,13 +10,15 @@ use Rattle.mdl_steps.specs.declared.view.Keys.{Keys}
 use Rattle.mdl_steps.specs.declared.view.Known.{Known}
 use Rattle.mdl_steps.specs.declared.view.Met.{Met}
 use Rattle.mdl_steps.specs.Layout.{latch_word}
+use Rattle.mdl_steps.specs.Lists.{Each}
 use Rattle.mdl_steps.specs.Plays.{Mine, IsDirectory, consulted, informed, listing}
 use Rattle.mdl_steps.specs.Rule.{key_at}
 use Rattle.mdl_steps.specs.Seats.{HasDirectory, learnt, place_among, recorded_key}
 use Rattle.mdl_steps.proofs.Looking.{there}
+use Rattle.mdl_visits.specs.declared.resolve_error.ResolveError.{ResolveError}
 use Rattle.mdl_visits.specs.Idle.{IsIdle}
-use Rattle.mdl_visits.specs.Lookups.{TookDirectory, HasLooked, knowing, relisted}
-use Rattle.mdl_visits.specs.Visits.{and_made, MakesSteps}
+use Rattle.mdl_visits.specs.Lookups.{TookDirectory, HadEither, HasLooked, HasNamed, IsAnswer, knowing, relisted}
+use Rattle.mdl_visits.specs.Visits.{AllHad, and_made, MakesSteps}
 use Rattle.mdl_steps.proofs.NewKeys.{key_last}
 
 -- ---- a session between two calls
@@ -24,6 +26,9 @@ use Rattle.mdl_steps.proofs.NewKeys.{key_last}
 pub no_record : (d : Option Keys) → is_some d ≡ false → None ≡ d
 no_record None e = refl
 no_record (Some k) e = absurd (cc)
+
+pub had_none : (m : Mine) → IsIdle m → (made : List Met) → AllHad m.0.directory made → AllHad None made
+had_none m idle made had = subst (λ (d : Option Keys). AllHad d made) (sym (no_record m.0.directory idle.1)) had
 
 pub no_latches : (m : Mine) → IsIdle m → m.0.latches ≡ []
 no_latches m idle = nil_from_length m.0.latches idle.0
@@ -48,29 +53,35 @@ some_there (x ∷ xs) (suc i) key e = let next = some_there xs i key e in omega 
 
 -- a key that has a place was found there
 pub found_there : (slots : ℕ) (key : KeyName) (place : ℕ) (k : Keys) (m new : Mine) → HasDirectory k m → length k.keys < slots → place_among key k.keys ≡ Some place → new ≡ m
-    → HasLooked slots key place m new
+    → HasLooked slots key k (Ok place) m new
 found_there slots key place k m new has fit e same =
     let at = there key k.keys place e in
     let inside = some_there k.keys (place - 1) key at.1 in
     let first = at.0 in
-    record { made = []; after = k; seat = same ∙ relisted_nothing k m has; some_place = (first, omega arith); stands = at.1 }
+    record { made = []; left = k; seat = same ∙ relisted_nothing k m has; had = tt; answer = inl (e, refl); stands = (first, omega arith, at.1) }
 
--- a new one stands at the next place
-pub stands_next : (slots : ℕ) (key : KeyName) (place : ℕ) (k : Keys) (m new : Mine) (made : List Met) → place ≡ length k.keys + 1 → place < slots → new ≡ relisted made (listing key k) m
-    → HasLooked slots key place m new
-stands_next slots key place k m new made next fit e =
+-- a new one has none yet
+pub found_nowhere : (slots : ℕ) (key : KeyName) (why : ResolveError) (k : Keys) (m new : Mine) → HasDirectory k m → IsAnswer slots key k k (Err why) → new ≡ m
+    → HasLooked slots key k (Err why) m new
+found_nowhere slots key why k m new has is same = record { made = []; left = k; seat = same ∙ relisted_nothing k m has; had = tt; answer = is; stands = tt }
+
+-- it stands at the next place then
+pub stands_next : (slots : ℕ) (key : KeyName) (place : ℕ) (k : Keys) (m new : Mine) → HasNamed key k m new → place_among key k.keys ≡ None → place ≡ length k.keys + 1 → place < slots
+    → HasLooked slots key k (Ok place) m new
+stands_next slots key place k m new named none next fit =
     let at : place - 1 ≡ length k.keys = omega arith in
     record {
-      made = made;
-      after = listing key k;
-      seat = e;
-      some_place = (omega arith, fit);
-      stands = ap (slice_get (k.keys ++ key ∷ [])) at ∙ key_last k.keys key;
+      made = named.0;
+      left = listing key k;
+      seat = named.1;
+      had = named.2;
+      answer = inr (none, next, refl);
+      stands = (omega arith, fit, ap (slice_get (k.keys ++ key ∷ [])) at ∙ key_last k.keys key);
     }
 
 -- the seat still has the directory's latch
-pub has_looked : (slots : ℕ) (key : KeyName) (place : ℕ) (old new : Mine) (l : HasLooked slots key place old new) → HasDirectory l.after new
-has_looked slots key place old new l = subst (λ (m : Mine). HasDirectory l.after m) (sym l.seat) (record { recorded = refl; carried = refl })
+pub has_looked : (slots : ℕ) (key : KeyName) (k : Keys) (result : Result ℕ ResolveError) (old new : Mine) (l : HasLooked slots key k result old new) → HasDirectory l.left new
+has_looked slots key k result old new l = subst (λ (m : Mine). HasDirectory l.left m) (sym l.seat) (record { recorded = refl; carried = refl })
 
 -- ---- the directory's latch is given back
 
@@ -92,10 +103,10 @@ module _ (slots : ℕ) (k : Keys) (made : List Met) (old : Mine) (idle : IsIdle 
     (more : List Met) (after : Keys) (place : ℕ) (new : Mine)
     (e : new ≡ informed (learnt (relisted more after (consulted k (and_made made old))) place) (relisted more after (consulted k (and_made made old)))) where
   abbrev took : Met
-  took = record { word = latch_word 0; found = 0; held = old.0.latches }
+  took = record { word = latch_word 0; found = 0; held = old.0.latches; directory = Some k }
 
   abbrev gave : Met
-  gave = record { word = latch_word 0; found = old.0.number; held = old.0.latches }
+  gave = record { word = latch_word 0; found = old.0.number; held = old.0.latches; directory = Some after }
 
   abbrev all : List Met
   all = made ++ (took ∷ more ++ gave ∷ [])
@@ -109,12 +120,19 @@ module _ (slots : ℕ) (k : Keys) (made : List Met) (old : Mine) (idle : IsIdle 
       ∙ ap (λ (log : List Met). (record old.0 { log = log; directory = None; known = old.0.known ++ learning after place }, old.1)) joined
       ∙ ap (λ (d : Option Keys). (record old.0 { log = old.0.log ++ all; directory = d; known = old.0.known ++ learning after place }, old.1)) (no_record old.0.directory idle.1)
 
-  pub took_directory : TookDirectory slots k old new
-  took_directory = record {
+  pub idle_then : IsIdle new
+  idle_then = subst IsIdle (sym put_is) idle
+
+  pub took_directory : AllHad old.0.directory made → Each (HadEither k after) more → TookDirectory slots k after old new
+  took_directory lingered had = record {
     before = made;
-    after = more ++ gave ∷ [];
+    within = more;
+    after = [];
     recorded = is;
     listed = ap (λ (m : Mine). m.0.log) e ∙ append_assoc ((old.0.log ++ made) ++ took ∷ []) more (gave ∷ []);
+    none_before = had_none old idle made lingered;
+    either_within = had;
+    none_after = tt;
   }
 
   pub knows_one : (key : KeyName) → 0 < place → key_at after.keys place ≡ Some key → MakesSteps (knowing (record { key = key; place = place }) old) new

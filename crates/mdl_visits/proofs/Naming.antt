@@ -1,5 +1,5 @@
 -- The next place gets a new key: what the seat may do then, and what it has afterwards.
-use Rattle.std.proofs.Common.{◌≡◌, ℕ, ◌+◌, ◌-◌, ◌==◌, not, false, List, [], ◌∷◌, ◌++◌, length, Some, None, refl, sym, ap, ◌∙◌, subst, arith, append_assoc}
+use Rattle.std.proofs.Common.{◌≡◌, ℕ, ◌+◌, ◌-◌, ◌==◌, not, false, List, [], ◌∷◌, ◌++◌, length, Some, None, refl, sym, ap, ◌∙◌, subst, inl, inr, arith, append_assoc}
 use Rattle.std.specs.Prelude.{Option, slice_get}
 use Rattle.std.specs.List.{filter}
 use Rattle.std.specs.Option.{option_map}
@@ -16,9 +16,10 @@ use Rattle.mdl_steps.specs.Plays.{Mine, IsFresh, latched, listing, named}
 use Rattle.mdl_steps.specs.Rule.{key_at, IsUnused}
 use Rattle.mdl_steps.specs.Seats.{HasDirectory, Holds, MayName, place_among, rest, written}
 use Rattle.mdl_steps.proofs.Hands.{elsewhere-taken, holds_taken, holds_written}
-use Rattle.mdl_visits.specs.Lookups.{IsListed, relisted}
+use Rattle.mdl_visits.specs.Lookups.{HadEither, HasNamed, IsListed}
 use Rattle.mdl_steps.proofs.NewKeys.{none_after}
-use Rattle.mdl_visits.specs.Visits.{and_made}
+use Rattle.mdl_visits.specs.Visits.{AllHad, and_made}
+use Rattle.mdl_visits.proofs.Steps.{each_append, each_map}
 
 -- a book that nobody uses has nothing to tell
 unused_tells : (book : BookView) → IsUnused book → (has_tickets book ≡ false) × (has_obtrusive book ≡ false)
@@ -45,24 +46,28 @@ may_name place key k h m fresh is =
 
 -- once it was given back, the key stands in the directory's record, too
 pub named_is : (place : ℕ) (key : KeyName) (k : Keys) (h : Held) (made : List Met) (old new : Mine) → h.place ≡ place → old.0.latches ≡ [] → IsListed place key k old
-    → new ≡ named place key (written place (empty_book key) (latched place h (and_made made old)))
-    → (more : List Met) × (new ≡ relisted more (listing key k) old)
-named_is place key k h made old new here alone is e =
-    let took : Met = record { word = latch_word place; found = 0; held = h ∷ old.0.latches } in
-    let gave : Met = record { word = latch_word place; found = old.0.number; held = h ∷ old.0.latches } in
+    → AllHad old.0.directory made → new ≡ named place key (written place (empty_book key) (latched place h (and_made made old)))
+    → HasNamed key k old new
+named_is place key k h made old new here alone is lingered e =
+    let took : Met = record { word = latch_word place; found = 0; held = h ∷ old.0.latches; directory = old.0.directory } in
+    let gave : Met = record { word = latch_word place; found = old.0.number; held = h ∷ old.0.latches; directory = option_map (listing key) old.0.directory } in
     let log : ((old.0.log ++ made) ++ took ∷ []) ++ gave ∷ [] ≡ old.0.log ++ ((made ++ took ∷ []) ++ gave ∷ []) =
     ap (λ (l : List Met). l ++ gave ∷ []) (append_assoc old.0.log made (took ∷ [])) ∙ append_assoc old.0.log (made ++ took ∷ []) (gave ∷ []) in
     let left : List Held = filter (λ x. not (x.place == place)) (h ∷ old.0.latches) in
     let none : filter (λ (x : Held). not (x.place == place)) old.0.latches ≡ old.0.latches = rw alone refl in
     let latches : left ≡ old.0.latches = elsewhere-taken place h (and_made made old) here ∙ none in
     let directory : option_map (listing key) old.0.directory ≡ Some (listing key k) = ap (option_map (listing key)) is.recorded in
-    let all : List Met = (made ++ took ∷ []) ++ gave ∷ [] in (
+    let all : List Met = (made ++ took ∷ []) ++ gave ∷ [] in
+    let either : Met → Type 0 = HadEither k (listing key k) in (
       all,
       e
           ∙ ap (λ (l : List Met). (record old.0 { log = l; latches = left; directory = option_map (listing key) old.0.directory }, old.1)) log
           ∙ ap (λ (hs : List Held). (record old.0 { log = old.0.log ++ all; latches = hs; directory = option_map (listing key) old.0.directory }, old.1)) latches
           ∙ ap (λ (d : Option Keys). (record old.0 { log = old.0.log ++ all; directory = d }, old.1)) directory
           ∙ ap (λ (hand : List (ℕ × Slot)). (record old.0 { log = old.0.log ++ all; directory = Some (listing key k) }, hand)) is.carried,
+      each_append either (made ++ took ∷ []) (gave ∷ [])
+          (each_append either made (took ∷ []) (each_map (λ (m : Met). m.directory ≡ old.0.directory) either (λ m had. inl (had ∙ is.recorded)) made lingered) (inl is.recorded, tt))
+          (inr directory, tt),
     )
 
 -- a copy of the key was added to the directory in hand, and there is another copy
@@ -78,7 +83,7 @@ listed_at place asked listed key k old new has none next first second e =
 
 -- what a record tells of a seat doesn't hang on its list of steps
 fresh_then : (place : ℕ) (h : Held) (made : List Met) (m : Mine) → IsFresh place h m → IsFresh place h (and_made made m)
-fresh_then place h made m f = record { here = f.here; exact = f.exact; unnoted = f.unnoted; lawful = f.lawful; modes = f.modes; own = f.own; named = f.named; vacant = f.vacant; once = f.once; single = f.single; wished = f.wished; lost = f.lost; stands = f.stands; reads = f.reads; noted = f.noted }
+fresh_then place h made m f = record { here = f.here; exact = f.exact; unnoted = f.unnoted; lawful = f.lawful; modes = f.modes; own = f.own; named = f.named; keyed = f.keyed; vacant = f.vacant; once = f.once; single = f.single; wished = f.wished; lost = f.lost; stands = f.stands; reads = f.reads; noted = f.noted }
 
 -- ---- the same along the calls, the held latch being that of the place
 
@@ -95,7 +100,7 @@ module _ (place here : ℕ) (key : KeyName) (k : Keys) (h : Held) (made : List M
       let listed : IsListed place key k (and_made made old) = record { recorded = is.recorded; carried = is.carried; new = is.new; next = is.next } in
       subst (λ (p : ℕ). MayName p key k h next) (sym at) (subst (λ (m : Mine). MayName place key k h m) (sym next_is) (may_name place key k h (and_made made old) (fresh_then place h made old fresh) listed))
 
-  pub named_at : (new : Mine) → old.0.latches ≡ [] → new ≡ named here key next → (more : List Met) × (new ≡ relisted more (listing key k) old)
-  named_at new alone e =
-      named_is place key k h made old new fresh.here alone is
+  pub named_at : (new : Mine) → old.0.latches ≡ [] → AllHad old.0.directory made → new ≡ named here key next → HasNamed key k old new
+  named_at new alone lingered e =
+      named_is place key k h made old new fresh.here alone is lingered
       (e ∙ ap (λ (x : Mine). named here key x) next_is ∙ ap (λ (p : ℕ). named p key (written place (empty_book key) (latched place h (and_made made old)))) at)

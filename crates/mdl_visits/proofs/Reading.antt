@@ -24,7 +24,7 @@ follows fresh = record { reads = fresh.reads; noted = fresh.noted }
 
 module _ (place : ℕ) (standing : Standing) (m m′ m″ : Mine) (inside : IsInside place m m′) (read : m″ ≡ read_and_put place standing m′) where
   puts : Met
-  puts = record { word = latch_word place; found = m.0.number; held = inside.latches }
+  puts = record { word = latch_word place; found = m.0.number; held = inside.latches; directory = m.0.directory }
 
   pub learns : Learns place standing m m″
   unfolding puts

@@ -32,7 +32,7 @@ use Rattle.mdl_visits.proofs.Way.{settled_after, settled_before, steps_of, way_g
 -- a step that only met a wait's word, and what was met
 pub step_met : (slots session found : ℕ) (m m′ : Mine) → m′ ≡ met_wait slots session found m → (e : Met) × IsStepOf m m′ e × (e.word ≡ wait_word slots session) × (e.found ≡ found)
 step_met slots session found m m′ is =
-    let e : Met = record { word = wait_word slots session; found = found; held = m.0.latches } in
+    let e : Met = record { word = wait_word slots session; found = found; held = m.0.latches; directory = m.0.directory } in
     (e, ([], [], ap (λ (x : Mine). x.0.log) is ∙ ap (λ (log : List Met). log ++ e ∷ []) (sym (append-nil m.0.log))), refl, refl)
 
 -- a seat has one record of a place's latch
@@ -111,7 +111,7 @@ module _ (id : TableId) (place session number word : ℕ) (m a : Mine) (is : a �
             read_then = step_before m a b more step.0 step.1;
             of_wait = step.2;
             met = met.0;
-            met_then = step_after m a b (record { word = wait_word id.slots session; found = word; held = m.0.latches } ∷ [], ap (λ (x : Mine). x.0.log) is) met.0 met.1;
+            met_then = step_after m a b (record { word = wait_word id.slots session; found = word; held = m.0.latches; directory = m.0.directory } ∷ [], ap (λ (x : Mine). x.0.log) is) met.0 met.1;
             of_same = met.2;
             settled = λ same. (let found = step.3 in let again : met.0.found ≡ 8 * (step.0.found / 8) + 1 = same in met.3 (omega arith));
           }),

@@ -1,9 +1,13 @@
 -- Steps between two of a session's views are steps between any two that are farther apart.
-use Rattle.std.proofs.Common.{List, [], ◌∷◌, ◌++◌, ap, ◌∙◌, append_assoc}
+use Rattle.std.proofs.Common.{◌≡◌, ℕ, List, [], ◌∷◌, ◌++◌, refl, sym, ap, ◌∙◌, subst, append_assoc, append-nil}
+use Rattle.std.specs.Prelude.{Option}
+use Rattle.mdl_steps.specs.declared.view.Held.{Held}
+use Rattle.mdl_steps.specs.declared.view.Keys.{Keys}
 use Rattle.mdl_steps.specs.declared.view.Met.{Met}
+use Rattle.mdl_steps.specs.Layout.{latch_word}
 use Rattle.mdl_steps.specs.Lists.{Each}
-use Rattle.mdl_steps.specs.Plays.{Mine}
-use Rattle.mdl_visits.specs.Visits.{GoesOn, IsStepOf}
+use Rattle.mdl_steps.specs.Plays.{Mine, latched, unlatched}
+use Rattle.mdl_visits.specs.Visits.{AllHad, GoesOn, IsStepOf, KeepsDirectory, and_made}
 
 module _ (a b c : Mine) where
   -- more steps follow
@@ -35,3 +39,30 @@ module _ {X : Type 0} where
   pub each_map : (P Q : X → Type 0) → ((x : X) → P x → Q x) → (xs : List X) → Each P xs → Each Q xs
   each_map P Q so [] all = tt
   each_map P Q so (x ∷ xs) all = (so x all.0, each_map P Q so xs all.1)
+
+-- ---- what the session has of the directory meanwhile
+
+pub keeps_none : (m m′ : Mine) → m′ ≡ m → KeepsDirectory m m′
+keeps_none m m′ same = ([], ap (λ (x : Mine). x.0.log) same ∙ sym (append-nil m.0.log), tt)
+
+pub keeps_on : (a b c : Mine) → KeepsDirectory a b → b.0.directory ≡ a.0.directory → KeepsDirectory b c → KeepsDirectory a c
+keeps_on a b c first same more = (
+  first.0 ++ more.0,
+  more.1 ∙ ap (λ (log : List Met). log ++ more.0) first.1 ∙ append_assoc a.0.log first.0 more.0,
+  each_append (λ (e : Met). e.directory ≡ a.0.directory) first.0 more.0 first.2 (subst (λ (d : Option Keys). AllHad d more.0) same more.2),
+)
+
+-- the latch of a place is taken, something is done, and it is given back
+pub keeps_there : (place : ℕ) (h : Held) (made : List Met) (a b c d : Mine) → AllHad a.0.directory made → b ≡ latched place h (and_made made a) → KeepsDirectory b c
+    → c.0.directory ≡ b.0.directory → d ≡ unlatched place [] c → KeepsDirectory a d
+keeps_there place h made a b c d had taken inside same put =
+    let took : Met = record { word = latch_word place; found = 0; held = h ∷ a.0.latches; directory = a.0.directory } in
+    let gave : Met = record { word = latch_word place; found = c.0.number; held = c.0.latches; directory = c.0.directory } in
+    let first : KeepsDirectory a b = (
+      made ++ took ∷ [],
+      ap (λ (x : Mine). x.0.log) taken ∙ append_assoc a.0.log made (took ∷ []),
+      each_append (λ (e : Met). e.directory ≡ a.0.directory) made (took ∷ []) had (refl, tt),
+    ) in
+    let last : KeepsDirectory c d = (gave ∷ [], ap (λ (x : Mine). x.0.log) put, (refl, tt)) in
+    let had_still : b.0.directory ≡ a.0.directory = ap (λ (x : Mine). x.0.directory) taken in
+    keeps_on a c d (keeps_on a b c first had_still inside) (same ∙ had_still) last

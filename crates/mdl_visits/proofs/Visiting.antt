@@ -11,7 +11,8 @@ use Rattle.mdl_steps.specs.Layout.{latch_word, lock_word}
 use Rattle.mdl_steps.specs.Plays.{Mine, IsFresh, latched, unlatched, logged, stepped, raised, noting, changed}
 use Rattle.mdl_steps.specs.Seats.{Holds, IsRising, written}
 use Rattle.mdl_steps.proofs.Hands.{elsewhere-stepped, elsewhere-rising}
-use Rattle.mdl_visits.specs.Visits.{and_made, MakesSteps, IsInside, Visits, Enters}
+use Rattle.mdl_visits.specs.Visits.{and_made, MakesSteps, Lingers, IsInside, Visits, Enters}
+use Rattle.mdl_visits.proofs.Steps.{each_append}
 
 -- ---- steps
 
@@ -21,13 +22,17 @@ makes_none m = ([], λ i. and_log (sym (append-nil m.0.log) i))
     and_log : List Met → Mine
     and_log log = (record m.0 { log = log }, m.1)
 
+pub lingers_none : (m : Mine) → Lingers m m
+lingers_none m = ([], λ i. (record m.0 { log = sym (append-nil m.0.log) i }, m.1), tt)
+
 -- one that only met something
-pub makes_one : (word found : ℕ) (m m′ m″ : Mine) → MakesSteps m m′ → m″ ≡ (logged word found m′.0.latches m′.0, m′.1) → MakesSteps m m″
-makes_one word found m m′ m″ steps met =
-    let e : Met = record { word = word; found = found; held = m.0.latches } in (
+pub lingers_one : (word found : ℕ) (m m′ m″ : Mine) → Lingers m m′ → m″ ≡ (logged word found m′.0.latches m′.0, m′.1) → Lingers m m″
+lingers_one word found m m′ m″ steps met =
+    let e : Met = record { word = word; found = found; held = m.0.latches; directory = m.0.directory } in (
       steps.0 ++ e ∷ [],
       met ∙ ap (λ (x : Mine). (logged word found x.0.latches x.0, x.1)) steps.1
           ∙ (λ i. (record m.0 { log = append_assoc m.0.log steps.0 (e ∷ []) i }, m.1)),
+      each_append (λ (x : Met). x.directory ≡ m.0.directory) steps.0 (e ∷ []) steps.2 (refl, tt),
     )
 
 -- ---- inside
@@ -40,11 +45,11 @@ inside_at place latches book m log = (record m.0 { latches = latches; log = log 
 pub fresh_before : (place : ℕ) (h : Held) (m m′ : Mine) → MakesSteps m m′ → IsFresh place h m′ → IsFresh place h m
 fresh_before place h m m′ steps fresh =
     let f : IsFresh place h (and_made steps.0 m) = subst (IsFresh place h) steps.1 fresh in
-    record { here = f.here; exact = f.exact; unnoted = f.unnoted; lawful = f.lawful; modes = f.modes; own = f.own; named = f.named; vacant = f.vacant; once = f.once; single = f.single; wished = f.wished; lost = f.lost; stands = f.stands; reads = f.reads; noted = f.noted }
+    record { here = f.here; exact = f.exact; unnoted = f.unnoted; lawful = f.lawful; modes = f.modes; own = f.own; named = f.named; keyed = f.keyed; vacant = f.vacant; once = f.once; single = f.single; wished = f.wished; lost = f.lost; stands = f.stands; reads = f.reads; noted = f.noted }
 
 pub inside_taken : (place : ℕ) (h : Held) (m m′ : Mine) (made : List Met) → IsRising place m → h.place ≡ place → m′ ≡ latched place h (and_made made m) → IsInside place m m′
 inside_taken place h m m′ made rising here taken =
-    let e : Met = record { word = latch_word place; found = 0; held = h ∷ m.0.latches } in
+    let e : Met = record { word = latch_word place; found = 0; held = h ∷ m.0.latches; directory = m.0.directory } in
     record {
       latches = h ∷ m.0.latches;
       made = made ++ e ∷ [];
@@ -56,7 +61,7 @@ inside_taken place h m m′ made rising here taken =
 pub inside_stepped : (place found : ℕ) (f : Held → Held) (m m′ m″ : Mine) → ((h : Held) → (f h).place ≡ h.place) → IsInside place m m′ → m″ ≡ stepped place found f m′ → IsInside place m m″
 inside_stepped place found f m m′ m″ stays inside made =
     let latches = map (λ (h : Held). cond (h.place == place) (f h) h) inside.latches in
-    let e : Met = record { word = lock_word place; found = found; held = latches } in
+    let e : Met = record { word = lock_word place; found = found; held = latches; directory = m.0.directory } in
     let log = m.0.log ++ inside.made in
     record {
       latches = latches;
@@ -80,7 +85,7 @@ inside_written place book m m′ m″ inside made = record {
 
 pub visits_put : (place : ℕ) (ds : List Deed) (m m′ m″ : Mine) → IsInside place m m′ → m″ ≡ unlatched place ds m′ → Visits place ds m m″
 visits_put place ds m m′ m″ inside put =
-    let e : Met = record { word = latch_word place; found = m.0.number; held = inside.latches } in
+    let e : Met = record { word = latch_word place; found = m.0.number; held = inside.latches; directory = m.0.directory } in
     record {
       made = inside.made ++ e ∷ [];
       now = put ∙ ap (unlatched place ds) inside.now
@@ -93,7 +98,6 @@ pub enters : (place found word : ℕ) (obtrusive : Bool) (h : Held) (m a b c : M
     → c ≡ stepped place word (noting word) b → Holds place (noting word (raised true obtrusive h)) h.book c → Enters place obtrusive word m c
 enters place found word obtrusive h m a b c fresh inside raise read holds =
     let up = inside_stepped place found (raised true obtrusive) m a b (λ x. refl) inside raise in
-    let latches : (changed place (noting word) b.0).latches ≡ c.0.latches = sym (ap (λ (x : Mine). x.0.latches) read) in
     record {
       found = h;
       fresh = fresh;
@@ -102,7 +106,7 @@ enters place found word obtrusive h m a b c fresh inside raise read holds =
       read = (
         up.made,
         ap (λ (x : Mine). x.0.log) read
-            ∙ ap (λ (log : List Met). log ++ record { word = lock_word place; found = word; held = (changed place (noting word) b.0).latches } ∷ []) (ap (λ (x : Mine). x.0.log) up.now)
-            ∙ ap (λ (held : List Held). (m.0.log ++ up.made) ++ record { word = lock_word place; found = word; held = held } ∷ []) latches,
+            ∙ ap (λ (log : List Met). log ++ record { word = lock_word place; found = word; held = (changed place (noting word) b.0).latches; directory = b.0.directory } ∷ []) (ap (λ (x : Mine). x.0.log) up.now)
+            ∙ ap (λ (x : Mine). (m.0.log ++ up.made) ++ record { word = lock_word place; found = word; held = x.0.latches; directory = x.0.directory } ∷ []) (sym read),
       );
     }

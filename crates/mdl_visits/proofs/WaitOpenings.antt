@@ -127,10 +127,10 @@ module _ (slots place : ℕ) (mode : Mode) (m m′ m″ : Mine) (inside : IsInsi
   held = map (λ (h : Held). cond (h.place == place) (with_waiting (asked_ticket mode m.0) h) h) inside.latches
 
   opens_step : Met
-  opens_step = record { word = wait_word slots m.0.number; found = 8 * m.0.waits; held = held }
+  opens_step = record { word = wait_word slots m.0.number; found = 8 * m.0.waits; held = held; directory = m.0.directory }
 
   puts_step : Met
-  puts_step = record { word = latch_word place; found = m.0.number; held = held }
+  puts_step = record { word = latch_word place; found = m.0.number; held = held; directory = m.0.directory }
 
   log : ((m.0.log ++ inside.made) ++ opens_step ∷ []) ++ puts_step ∷ [] ≡ m.0.log ++ (inside.made ++ opens_step ∷ puts_step ∷ [])
   log = append_assoc (m.0.log ++ inside.made) (opens_step ∷ []) (puts_step ∷ []) ∙ append_assoc m.0.log inside.made (opens_step ∷ puts_step ∷ [])
@@ -168,15 +168,15 @@ module _ (slots place : ℕ) (mode : Mode) (m m′ m″ : Mine) (inside : IsInsi
 
   pub goes_on : GoesOn m′ m″
   goes_on =
-      let opens_there : Met = record { word = wait_word slots m′.0.number; found = 8 * m′.0.waits; held = (opened slots place mode m′).0.latches } in
-      let puts_there : Met = record { word = latch_word place; found = m′.0.number; held = (opened slots place mode m′).0.latches } in
+      let opens_there : Met = record { word = wait_word slots m′.0.number; found = 8 * m′.0.waits; held = (opened slots place mode m′).0.latches; directory = m′.0.directory } in
+      let puts_there : Met = record { word = latch_word place; found = m′.0.number; held = (opened slots place mode m′).0.latches; directory = m′.0.directory } in
       (opens_there ∷ puts_there ∷ [], ap (λ (x : Mine). x.0.log) made ∙ append_assoc m′.0.log (opens_there ∷ []) (puts_there ∷ []))
 
 -- ---- what the step that read the word tells
 
 module _ (place word : ℕ) (asks : Bool) (m m′ m″ : Mine) (entered : Enters place asks word m m′) (goes : GoesOn m′ m″) where
   read_step : Met
-  read_step = record { word = lock_word place; found = word; held = m′.0.latches }
+  read_step = record { word = lock_word place; found = word; held = m′.0.latches; directory = m′.0.directory }
 
   read_there : IsStepOf m m″ read_step
   unfolding read_step

@@ -86,7 +86,7 @@ module _ (slots place : ℕ) where
     latches = m.0.latches;
     told = (meeting session found m.0).told;
     grants = [];
-    made = record { word = wait_word slots session; found = found; held = m.0.latches } ∷ [];
+    made = record { word = wait_word slots session; found = found; held = m.0.latches; directory = m.0.directory } ∷ [];
     book = book;
     now = is ∙ (λ i. (record (met_wait slots session found m).0 { settles = sym (append-nil m.0.settles) i }, carried i));
     others = refl;
@@ -100,7 +100,7 @@ module _ (slots place : ℕ) where
     latches_then = (changed place (with_admitted session ticket) m.0).latches
 
     grants_it : Met
-    grants_it = record { word = wait_word slots session; found = wait_in number 1; held = latches_then }
+    grants_it = record { word = wait_word slots session; found = wait_in number 1; held = latches_then; directory = m.0.directory }
 
     meets : (wish_number : ready.wish.number ≡ ticket) → MeetsGranted slots place (record { session = session; wait = number; state = 2 }) grants_it
     unfolding grants_it latches_then

@@ -1,9 +1,12 @@
 -- An audit: the books of all places that have a key, as a session's records of their latches had them at one of its steps.
-use Rattle.std.specs.Prelude.{◌≡◌, ◌⊎◌, ℕ, ◌+◌, ◌<◌, List, [], ◌∷◌, ◌++◌, length, Some}
+use Rattle.std.specs.Prelude.{◌≡◌, ◌⊎◌, ℕ, ◌+◌, ◌<◌, List, [], ◌∷◌, ◌++◌, length, map, Some}
+use Rattle.mdl_key.specs.Words.{KeyName}
 use Rattle.mdl_steps.specs.declared.view.Held.{Held}
+use Rattle.mdl_steps.specs.declared.view.Keys.{Keys}
 use Rattle.mdl_steps.specs.declared.view.Met.{Met}
 use Rattle.mdl_steps.specs.Cells.{held_at}
 use Rattle.mdl_steps.specs.Plays.{Mine}
+use Rattle.mdl_steps.specs.Rule.{key_at}
 use Rattle.mdl_visits.specs.declared.audited.Audited.{Audited}
 use Rattle.mdl_visits.specs.Visits.{IsStepOf}
 
@@ -16,9 +19,14 @@ abbrev pub AreRecorded : ℕ → List Held → List Audited → Type 0
 AreRecorded place latches [] = Unit {0}
 AreRecorded place latches (a ∷ more) = IsRecorded place latches a × AreRecorded (place + 1) latches more
 
--- the session had just these latches when it began, or at a step that it made between the two
+-- the session had just these latches when it began, or at a step that it made between the two, at which it had of the directory what it had before
 abbrev pub HadLatches : List Held → Mine → Mine → Type 0
-HadLatches latches m m′ = (latches ≡ m.0.latches) ⊎ ((e : Met) × IsStepOf m m′ e × (e.held ≡ latches))
+HadLatches latches m m′ = (latches ≡ m.0.latches) ⊎ ((e : Met) × IsStepOf m m′ e × (e.held ≡ latches) × (e.directory ≡ m.0.directory))
+
+-- the books of the places from one on are those of the keys that the directory has for them
+abbrev pub AreKeyed : List KeyName → ℕ → List Audited → Type 0
+AreKeyed keys place [] = Unit {0}
+AreKeyed keys place (a ∷ more) = ((key : KeyName) → key_at keys place ≡ Some key → a.book.key ≡ key) × AreKeyed keys (place + 1) more
 
 -- the session had the latches of the places from one to another, beside those that it had of lower ones, and added the books of these places to a
 -- list, in order, as they were then
@@ -30,11 +38,14 @@ pub record Gathers (place last : ℕ) (before after : List Audited) (m m′ : Mi
   pub listed : after ≡ before ++ books
   pub all : place + length books ≡ last + 1
   pub recorded : AreRecorded place latches books
+  pub keyed : (k : Keys) → m.0.directory ≡ Some k → AreKeyed k.keys place books
 
--- at one step between the two the session had the latches of the places from 1 to so many, and these are the books of all of them, in order, as they were
--- then
-pub record Audits (count : ℕ) (audited : List Audited) (m m′ : Mine) : Type 0 where
-  pub all : length audited ≡ count
+-- these are the books of the directory's keys, in order, from place 1 on: at one step between the two the session had this record of the directory and the
+-- latches of all these places, and so the books were then
+pub record Audits (k : Keys) (audited : List Audited) (m m′ : Mine) : Type 0 where
+  pub all : length audited ≡ length k.keys
+  pub keys : map (λ (a : Audited). a.book.key) audited ≡ k.keys
   pub moment : Met
   pub step : IsStepOf m m′ moment
+  pub directory : moment.directory ≡ Some k
   pub recorded : AreRecorded 1 moment.held audited

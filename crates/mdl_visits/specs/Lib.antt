@@ -8,6 +8,7 @@ pub mod Numbers
 pub mod Polls
 pub mod Readings
 pub mod Redefinitions
+pub mod Searches
 pub mod Tables
 pub mod Visits
 pub mod WaitEndings

@@ -1,35 +1,50 @@
 -- What a session meets as it looks a key's place up, and what it knows then.
-use Rattle.std.specs.Prelude.{◌≡◌, ℕ, ◌+◌, ◌<◌, ◌≤◌, ◌⊎◌, List, ◌∷◌, [], ◌++◌, length, Some, None, Result, Ok, Err}
+use Rattle.std.specs.Prelude.{◌≡◌, ℕ, ◌+◌, ◌<◌, ◌≤◌, ◌⊎◌, List, ◌∷◌, [], ◌++◌, length, Some, None, Result, Ok, Err, IfOk}
 use Rattle.mdl_key.specs.Words.{KeyName}
 use Rattle.mdl_steps.specs.declared.slot.Slot.TheVariants as slot
 use Rattle.mdl_steps.specs.declared.view.Keys.{Keys}
 use Rattle.mdl_steps.specs.declared.view.Known.{Known}
 use Rattle.mdl_steps.specs.declared.view.Met.{Met}
+use Rattle.mdl_steps.specs.Layout.{latch_word}
+use Rattle.mdl_steps.specs.Lists.{Each}
 use Rattle.mdl_steps.specs.Plays.{Mine, IsDirectory, consulted, listing}
 use Rattle.mdl_steps.specs.Rule.{key_at}
 use Rattle.mdl_steps.specs.Seats.{place_among, rest}
 use Rattle.mdl_visits.specs.declared.resolve_error.ResolveError.{ResolveError}
 use Rattle.mdl_visits.specs.declared.resolve_error.ResolveError.TheVariants.{NoPlace, OutOfMemory}
-use Rattle.mdl_visits.specs.Visits.{and_made}
+use Rattle.mdl_visits.specs.Visits.{AllHad, and_made}
 
 -- the seat whose session knows one key more
 abbrev pub knowing : Known → Mine → Mine
 knowing known m = (record m.0 { known = m.0.known ++ known ∷ [] }, m.1)
 
--- one of the steps between the two took the directory's latch, and this is the record that was made of it
-pub record TookDirectory (slots : ℕ) (k : Keys) (old new : Mine) : Type 0 where
+-- the step that gives the directory's latch back, by whose record these are the keys
+abbrev pub given_back : Keys → Mine → Met
+given_back k m = record { word = latch_word 0; found = m.0.number; held = m.0.latches; directory = Some k }
+
+-- at the step the session had one of these two records of the directory
+abbrev pub HadEither : Keys → Keys → Met → Type 0
+HadEither k left e = (e.directory ≡ Some k) ⊎ (e.directory ≡ Some left)
+
+-- of the steps between the two one took the directory's latch, and this is the record that was made of it; a later one gave it back, with the record
+-- that is left then. Between these the session had one of the two records at each step, and at none of the others it had any
+pub record TookDirectory (slots : ℕ) (k left : Keys) (old new : Mine) : Type 0 where
   pub before : List Met
+  pub within : List Met
   pub after : List Met
   pub recorded : IsDirectory slots k (and_made before old)
-  pub listed : new.0.log ≡ (consulted k (and_made before old)).0.log ++ after
+  pub listed : new.0.log ≡ (consulted k (and_made before old)).0.log ++ (within ++ given_back left old ∷ after)
+  pub none_before : AllHad None before
+  pub either_within : Each (HadEither k left) within
+  pub none_after : AllHad None after
 
--- what is answered by the directory's record: a key that has a place keeps it, and that takes no memory; a new one gets the place after
--- all others, if there is one
-abbrev pub IsAnswer : ℕ → KeyName → Keys → Result ℕ ResolveError → Type 0
-IsAnswer slots key k (Ok place) =
-    (place_among key k.keys ≡ Some place) ⊎ ((place_among key k.keys ≡ None) × (place ≡ length k.keys + 1))
-IsAnswer slots key k (Err NoPlace) = (place_among key k.keys ≡ None) × (slots ≤ length k.keys + 1)
-IsAnswer slots key k (Err OutOfMemory) = (place_among key k.keys ≡ None) × (length k.keys + 1 < slots)
+-- what is answered by the directory's record, and the record that is left: a key that has a place keeps it, and that takes no memory; a new one gets
+-- the place after all others, if there is one, and nothing else changes
+abbrev pub IsAnswer : ℕ → KeyName → Keys → Keys → Result ℕ ResolveError → Type 0
+IsAnswer slots key k left (Ok place) =
+    ((place_among key k.keys ≡ Some place) × (left ≡ k)) ⊎ ((place_among key k.keys ≡ None) × (place ≡ length k.keys + 1) × (left ≡ listing key k))
+IsAnswer slots key k left (Err NoPlace) = (place_among key k.keys ≡ None) × (slots ≤ length k.keys + 1) × (left ≡ k)
+IsAnswer slots key k left (Err OutOfMemory) = (place_among key k.keys ≡ None) × (length k.keys + 1 < slots) × (left ≡ k)
 
 -- ---- while the session holds the directory's latch
 
@@ -37,13 +52,19 @@ IsAnswer slots key k (Err OutOfMemory) = (place_among key k.keys ≡ None) × (l
 abbrev pub relisted : List Met → Keys → Mine → Mine
 relisted made k m = (record m.0 { log = m.0.log ++ made; directory = Some k }, (0, slot.Directory k) ∷ rest m.1)
 
--- the key stands at a place of the table by the record that the seat has then; nothing else became of what it had
-pub record HasLooked (slots : ℕ) (key : KeyName) (place : ℕ) (old new : Mine) : Type 0 where
+-- the key's place was asked for by a record that the seat had: it has this one then, by which the key stands at the place that was answered, and nothing
+-- else became of what it had
+pub record HasLooked (slots : ℕ) (key : KeyName) (k : Keys) (result : Result ℕ ResolveError) (old new : Mine) : Type 0 where
   pub made : List Met
-  pub after : Keys
-  pub seat : new ≡ relisted made after old
-  pub some_place : (0 < place) × (place < slots)
-  pub stands : key_at after.keys place ≡ Some key
+  pub left : Keys
+  pub seat : new ≡ relisted made left old
+  pub had : Each (HadEither k left) made
+  pub answer : IsAnswer slots key k left result
+  pub stands : IfOk result (λ place. (0 < place) × (place < slots) × (key_at left.keys place ≡ Some key))
+
+-- the new key was given its place: the seat has the record with it from then on, and at each step before it had one of the two
+abbrev pub HasNamed : KeyName → Keys → Mine → Mine → Type 0
+HasNamed key k old new = (made : List Met) × (new ≡ relisted made (listing key k) old) × Each (HadEither k (listing key k)) made
 
 -- a new key was added to the directory in hand for the next place, which isn't recorded yet
 pub record IsListed (place : ℕ) (key : KeyName) (k : Keys) (m : Mine) : Type 0 where

@@ -1,6 +1,6 @@
 -- A visit of a session to a place: it takes the latch there, does what it came for, and gives the latch back. What it met
 -- there stands in its list of steps.
-use Rattle.std.specs.Prelude.{◌≡◌, ℕ, ◌≤◌, ◌==◌, not, Bool, true, false, List, [], ◌∷◌, ◌++◌, filter, Some}
+use Rattle.std.specs.Prelude.{◌≡◌, ℕ, ◌≤◌, ◌==◌, not, Bool, true, false, List, [], ◌∷◌, ◌++◌, filter, Option, Some}
 use lib.ListN.{get_elem?}
 use mathlib.Core.Option.{some}
 use Rattle.mdl_key.specs.declared.mode.Mode.{Mode}
@@ -14,12 +14,14 @@ use Rattle.mdl_book.specs.Granting.{goes_first, is_grantable}
 use Rattle.mdl_steps.specs.declared.deed.Deed.{Deed}
 use Rattle.mdl_steps.specs.declared.slot.Slot.TheVariants as slot
 use Rattle.mdl_steps.specs.declared.view.Held.{Held}
+use Rattle.mdl_steps.specs.declared.view.Keys.{Keys}
 use Rattle.mdl_steps.specs.declared.view.Known.{Known}
 use Rattle.mdl_steps.specs.declared.view.Met.{Met}
 use Rattle.mdl_steps.specs.declared.view.View.{View}
 use Rattle.mdl_steps.specs.Cells.{held_at}
 use Rattle.mdl_steps.specs.Deeds.{MayJoin, all_done}
 use Rattle.mdl_steps.specs.Layout.{latch_word, lock_word}
+use Rattle.mdl_steps.specs.Lists.{Each}
 use Rattle.mdl_steps.specs.Plays.{Mine, IsFresh, noting, raised}
 use Rattle.mdl_steps.specs.Rule.{Flagged, Lawful, NotedCounts}
 use Rattle.mdl_steps.specs.Seats.{Holds}
@@ -33,6 +35,18 @@ and_made made m = (record m.0 { log = m.0.log ++ made }, m.1)
 -- steps were made between the two, and nothing else changed
 abbrev pub MakesSteps : Mine → Mine → Type 0
 MakesSteps m m′ = (made : List Met) × (m′ ≡ and_made made m)
+
+-- at each of these steps the session had this of the directory: the record of its latch, or nothing
+abbrev pub AllHad : Option Keys → List Met → Type 0
+AllHad directory made = Each (λ (e : Met). e.directory ≡ directory) made
+
+-- steps were made between the two that only met something
+abbrev pub Lingers : Mine → Mine → Type 0
+Lingers m m′ = (made : List Met) × (m′ ≡ and_made made m) × AllHad m.0.directory made
+
+-- at each step that was made between the two the session had of the directory what it had before
+abbrev pub KeepsDirectory : Mine → Mine → Type 0
+KeepsDirectory m m′ = (made : List Met) × (m′.0.log ≡ m.0.log ++ made) × AllHad m.0.directory made
 
 -- the list of steps grew between the two
 abbrev pub GoesOn : Mine → Mine → Type 0
@@ -63,7 +77,7 @@ pub record Enters (place : ℕ) (obtrusive : Bool) (word : ℕ) (m m′ : Mine) 
   pub fresh : IsFresh place found m
   pub holds : Holds place (noting word (raised true obtrusive found)) found.book m′
   pub inside : IsInside place m m′
-  pub read : (before : List Met) × (m′.0.log ≡ (m.0.log ++ before) ++ record { word = lock_word place; found = word; held = m′.0.latches } ∷ [])
+  pub read : (before : List Met) × (m′.0.log ≡ (m.0.log ++ before) ++ record { word = lock_word place; found = word; held = m′.0.latches; directory = m′.0.directory } ∷ [])
 
 -- it may go: the book is as it was, and the flags tell of each ticket in it
 abbrev pub MayLeave : ℕ → Mine → Type 0

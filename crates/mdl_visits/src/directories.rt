@@ -2,11 +2,11 @@
 ghost use Rattle.std.specs.Prelude.{◌≡◌, ◌+◌, ◌<◌, List, [], length, None, IfOk, OnOk, OnErr};
 ghost use Rattle.mdl_steps.specs.declared.view.Keys.{Keys};
 ghost use Rattle.mdl_steps.specs.declared.view.Met.{Met};
-ghost use Rattle.mdl_steps.specs.Plays.{IsDirectory, consulted, listing};
+ghost use Rattle.mdl_steps.specs.Plays.{IsDirectory, consulted};
 ghost use Rattle.mdl_steps.specs.Seats.{IsSized, IsPlace, HasDirectory, place_among};
 ghost use Rattle.mdl_visits.specs.Idle.{IsIdle};
-ghost use Rattle.mdl_visits.specs.Lookups.{TookDirectory, IsAnswer, IsListed, HasLooked, knowing, relisted};
-ghost use Rattle.mdl_visits.specs.Visits.{MakesSteps, and_made};
+ghost use Rattle.mdl_visits.specs.Lookups.{TookDirectory, IsAnswer, IsListed, HasLooked, HasNamed, knowing};
+ghost use Rattle.mdl_visits.specs.Visits.{AllHad, MakesSteps, and_made};
 
 use crate::latches::await_latch;
 use crate::resolve_error::ResolveError;
@@ -25,7 +25,7 @@ pub(crate) fn await_directory<R: Wait>(
     requires table { (worker.old.seat.table_id ≡ top.now.table_id) × IsSized top.now.table_id × (0 < top.now.table_id.slots) }
     ensures seat { (worker.new.seat.table_id ≡ worker.old.seat.table_id) × (worker.new.number ≡ worker.old.number) }
     ensures taken { (made : List Met) × (k : Keys) × IsDirectory top.now.table_id.slots k (and_made made worker.old.seat.me)
-        × (worker.new.seat.me ≡ consulted k (and_made made worker.old.seat.me)) }
+        × (worker.new.seat.me ≡ consulted k (and_made made worker.old.seat.me)) × AllHad worker.old.seat.me.0.directory made }
 {
     for _ in rt.forever() {
         if let Some(latch) = worker.take_directory(top) {
@@ -54,7 +54,7 @@ pub fn resolve<R: Wait>(
     ensures known { IfOk result (λ place. (0 < place) × (place < slots)
         × MakesSteps (knowing (record { key = key.now; place = place }) worker.old.seat.me) worker.new.seat.me) }
     ensures refused { OnErr result (MakesSteps worker.old.seat.me worker.new.seat.me) }
-    ensures answer { (k : Keys) × TookDirectory slots k worker.old.seat.me worker.new.seat.me × IsAnswer slots key.now k result }
+    ensures answer { (k left : Keys) × TookDirectory slots k left worker.old.seat.me worker.new.seat.me × IsAnswer slots key.now k left result }
 {
     let directory = await_directory(rt, worker, top);
     match place_for(rt, worker, top, &directory, alloc, slots, key) {
@@ -84,8 +84,7 @@ fn place_for<R: Wait>(
     requires held { (k : Keys) × HasDirectory k worker.old.seat.me × (length k.keys < slots) }
     requires alone { worker.old.seat.me.0.latches ≡ [] }
     ensures seat { (worker.new.seat.table_id ≡ worker.old.seat.table_id) × (worker.new.number ≡ worker.old.number) }
-    ensures answer { (k : Keys) → HasDirectory k worker.old.seat.me → IsAnswer slots key.now k result }
-    ensures looked { (k : Keys) → HasDirectory k worker.old.seat.me → IfOk result (λ place. HasLooked slots key.now place worker.old.seat.me worker.new.seat.me) }
+    ensures looked { (k : Keys) → HasDirectory k worker.old.seat.me → HasLooked slots key.now k result worker.old.seat.me worker.new.seat.me }
     ensures refused { OnErr result (worker.new.seat.me ≡ worker.old.seat.me) }
 {
     if let Some(place) = worker.place_of(top, directory, key) {
@@ -116,8 +115,7 @@ fn name_key<R: Wait>(
     requires new { (k : Keys) × HasDirectory k worker.old.seat.me × (place_among key.now k.keys ≡ None) × (place ≡ length k.keys + 1) }
     requires alone { worker.old.seat.me.0.latches ≡ [] }
     ensures seat { (worker.new.seat.table_id ≡ worker.old.seat.table_id) × (worker.new.number ≡ worker.old.number) }
-    ensures named { OnOk result ((k : Keys) → HasDirectory k worker.old.seat.me
-        → (made : List Met) × (worker.new.seat.me ≡ relisted made (listing key.now k) worker.old.seat.me)) }
+    ensures named { OnOk result ((k : Keys) → HasDirectory k worker.old.seat.me → HasNamed key.now k worker.old.seat.me worker.new.seat.me) }
     ensures unchanged { OnErr result (worker.new.seat.me ≡ worker.old.seat.me) }
 {
     let listed = key.clone()?;
@@ -142,8 +140,7 @@ fn name_place<R: Wait>(
     requires listed { (k : Keys) × IsListed place key k worker.old.seat.me }
     requires alone { worker.old.seat.me.0.latches ≡ [] }
     ensures seat { (worker.new.seat.table_id ≡ worker.old.seat.table_id) × (worker.new.number ≡ worker.old.number) }
-    ensures named { (k : Keys) → IsListed place key k worker.old.seat.me
-        → (made : List Met) × (worker.new.seat.me ≡ relisted made (listing key k) worker.old.seat.me) }
+    ensures named { (k : Keys) → IsListed place key k worker.old.seat.me → HasNamed key k worker.old.seat.me worker.new.seat.me }
 {
     let latch = await_latch(rt, worker, top, place);
     worker.name_book(top, &latch, alloc, key);

@@ -48,8 +48,8 @@ fn serve(worker: &mut Worker, table: &OwnedTable, latch: &Latched, session: u16,
     }
 }
 
-// Whether the table has the word of a session's wait.
-fn has_session(table: &OwnedTable, session: u16) -> bool
+/// Whether the table has the word of a session's wait.
+pub(crate) fn has_session(table: &OwnedTable, session: u16) -> bool
     requires { IsSized table.now.shared.table_id }
     ensures { result ≡ (nat_lt 0 session && nat_lt (wait_word table.now.shared.table_id.slots session) table.now.shared.table_id.words) }
 {

@@ -51,6 +51,8 @@ mod covering;
 mod definitions;
 mod directories;
 mod granting;
+mod hearing;
+mod judging;
 mod latches;
 mod laws;
 mod making_way;
@@ -60,9 +62,11 @@ mod releasing;
 mod resolve_error;
 mod rounds;
 mod schemas;
+mod searching;
 mod settling;
 mod strengthening;
 mod tries;
+mod victims;
 mod withdrawing;
 
 pub use askings::ask_all;
@@ -70,6 +74,7 @@ pub use audited::Audited;
 pub use covering::{double, fold, weaken};
 pub use definitions::read_at;
 pub use directories::resolve;
+pub use hearing::Heard;
 pub use laws::{
     blocked_wishes_werent_grantable, granted_waits_were_grantable, granted_wishes_were_grantable,
     waits_left_werent_grantable,
@@ -81,6 +86,7 @@ pub use releasing::release;
 pub use resolve_error::ResolveError;
 pub use rounds::go_round;
 pub use schemas::find_tables;
+pub use searching::search_all;
 pub use strengthening::try_strengthen;
 pub use tries::{Tried, try_grant};
 pub use withdrawing::withdraw;

@@ -7,7 +7,7 @@ ghost use Rattle.mdl_steps.specs.Seats.{IsSized, IsRising, rest};
 ghost use Rattle.mdl_visits.specs.Audits.{Audits, Gathers};
 ghost use Rattle.mdl_visits.specs.Idle.{IsIdle};
 ghost use Rattle.mdl_visits.specs.Lookups.{TookDirectory};
-ghost use Rattle.mdl_visits.specs.Visits.{MakesSteps};
+ghost use Rattle.mdl_visits.specs.Visits.{KeepsDirectory, MakesSteps};
 
 use crate::Audited;
 use crate::directories::await_directory;
@@ -30,8 +30,8 @@ pub fn go_round<R: Wait>(
     requires empty { audited.old.items ≡ [] }
     ensures seat { (worker.new.seat.table_id ≡ worker.old.seat.table_id) × (worker.new.number ≡ worker.old.number) }
     ensures steps { MakesSteps worker.old.seat.me worker.new.seat.me }
-    ensures told { OnOk result ((k : Keys) × TookDirectory top.now.table_id.slots k worker.old.seat.me worker.new.seat.me
-        × Audits (length k.keys) audited.new.items worker.old.seat.me worker.new.seat.me) }
+    ensures told { (k : Keys) × TookDirectory top.now.table_id.slots k k worker.old.seat.me worker.new.seat.me
+        × OnOk result (Audits k audited.new.items worker.old.seat.me worker.new.seat.me) }
 {
     let directory = await_directory(rt, worker, top);
     let last = worker.key_count(top, &directory);
@@ -55,6 +55,7 @@ fn gather<R: Wait>(
     requires rising { IsRising place worker.old.seat.me }
     ensures seat { (worker.new.seat.table_id ≡ worker.old.seat.table_id) × (worker.new.number ≡ worker.old.number) }
     ensures steps { MakesSteps worker.old.seat.me worker.new.seat.me }
+    ensures directory { KeepsDirectory worker.old.seat.me worker.new.seat.me }
     ensures gathered { OnOk result (Gathers place last audited.old.items audited.new.items worker.old.seat.me worker.new.seat.me) }
 {
     if place > last {
@@ -70,8 +71,8 @@ fn gather<R: Wait>(
     outcome
 }
 
-// Adds a copy of the book in hand to a list.
-fn add_book(
+/// Adds a copy of the book in hand to a list.
+pub(crate) fn add_book(
     worker: &mut Worker,
     top: &LockTable,
     latch: &Latched,

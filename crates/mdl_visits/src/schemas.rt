@@ -29,8 +29,8 @@ pub fn find_tables<R: Wait>(
     requires idle { IsIdle worker.old.seat.me }
     ensures seat { (worker.new.seat.table_id ≡ worker.old.seat.table_id) × (worker.new.number ≡ worker.old.number) }
     ensures same { known.new.items ≡ known.old.items }
-    ensures found { IfOk result (λ found. (k : Keys) × TookDirectory top.now.table_id.slots k worker.old.seat.me worker.new.seat.me
-        × AreTables schema.now k found.0.items × MakesSteps (knowing_all found.0.items worker.old.seat.me) worker.new.seat.me) }
+    ensures found { (k : Keys) × TookDirectory top.now.table_id.slots k k worker.old.seat.me worker.new.seat.me
+        × IfOk result (λ found. AreTables schema.now k found.0.items × MakesSteps (knowing_all found.0.items worker.old.seat.me) worker.new.seat.me) }
     ensures within { IfOk result (λ found. AreWithin top.now.table_id.slots found.0.items) }
     ensures room { IfOk result (λ found. (vec_len known.new + length found.0.items ≤ vec_capacity known.new)
         × (found.1.items ≡ []) × (vec_len found.1 + length found.0.items ≤ vec_capacity found.1)) }

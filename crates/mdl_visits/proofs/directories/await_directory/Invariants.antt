@@ -1,6 +1,6 @@
 -- While the latch is another's, the session only makes steps that find it so.
 use Rattle.std.proofs.Common.{◌≡◌}
-use Rattle.mdl_visits.specs.Visits.{MakesSteps}
+use Rattle.mdl_visits.specs.Visits.{Lingers}
 use Rattle.mdl_visits.proofs.directories.await_directory.Given as goal
 
 abbrev pub invariant-loop : goal.invariant-loop
@@ -8,5 +8,5 @@ invariant-loop g l = record {
   next : (goal.iterator-loop g).can_next l.iterator';
   finite : (goal.iterator-loop g).is_finite l.iterator';
   seat : (l.worker.seat.table_id ≡ l.fn.worker.seat.table_id) × (l.worker.number ≡ l.fn.worker.number);
-  met : MakesSteps l.fn.worker.seat.me l.worker.seat.me;
+  met : Lingers l.fn.worker.seat.me l.worker.seat.me;
 }

@@ -1,10 +1,23 @@
 -- The session knows the key, which stands at its place by the directory's record.
-use Rattle.std.proofs.Common.{ℕ, sym, subst}
+use Rattle.std.proofs.Common.{◌≡◌, ℕ, ◌<◌, Some, sym, subst}
+use Rattle.std.specs.Prelude.{Result, IfOk}
 use Rattle.mdl_steps.specs.Plays.{Mine, IsDirectory}
+use Rattle.mdl_steps.specs.Rule.{key_at}
 use Rattle.mdl_steps.specs.Seats.{HasDirectory}
+use Rattle.mdl_visits.specs.declared.resolve_error.ResolveError.{ResolveError}
+use Rattle.mdl_visits.specs.Lookups.{IsAnswer}
 use Rattle.mdl_visits.specs.Visits.{and_made}
-use Rattle.mdl_visits.proofs.Lookups.{has_taken, knows_one, put_after, took_directory}
+use Rattle.mdl_visits.proofs.Lookups.{has_looked, has_taken, idle_then, knows_one, put_after, took_directory}
 use Rattle.mdl_visits.proofs.directories.resolve.Goals as goal
+
+pub put_directory-requires-clause-put : goal.put_directory-requires-clause-put
+put_directory-requires-clause-put g c =
+    let old = c.args.worker.now.seat.me in
+    let first = c.await_directory-directory.new.worker.seat.me in
+    let taken = c.await_directory-directory.ensures.taken in
+    let has = subst (λ (m : Mine). HasDirectory taken.1 m) (sym taken.3) (has_taken taken.1 (and_made taken.0 old)) in
+    let looked = c.place_for.ensures.looked taken.1 has in
+    (looked.left, has_looked c.args.slots c.args.key.now taken.1 c.place_for.result first c.place_for.new.worker.seat.me looked)
 
 pub returns-in-Ok-clause-known : goal.returns-in-Ok-clause-known
 returns-in-Ok-clause-known g c =
@@ -12,13 +25,25 @@ returns-in-Ok-clause-known g c =
     let first = c.await_directory-directory.new.worker.seat.me in
     let taken = c.await_directory-directory.ensures.taken in
     let has = subst (λ (m : Mine). HasDirectory taken.1 m) (sym taken.3) (has_taken taken.1 (and_made taken.0 old)) in
-    let looked = c.in-Ok.ensures.looked taken.1 has in
+    let looked = c.place_for.ensures.looked taken.1 has in
+    let stands = subst (λ (r : Result ℕ ResolveError). IfOk r (λ place. (0 < place) × (place < c.args.slots) × (key_at looked.left.keys place ≡ Some c.args.key.now))) c.in-Ok.is looked.stands in
     let is = subst (λ (n : ℕ). IsDirectory n taken.1 (and_made taken.0 old)) (sym c.requires.slots.1) taken.2 in
-    let e = put_after taken.1 taken.0 looked.made looked.after c.in-Ok.place old first c.place_for.new.worker.seat.me c.put_directory.new.self.seat.me taken.3 looked.seat c.put_directory.ensures.made in (
-      looked.some_place.0,
-      looked.some_place.1,
-      knows_one c.args.slots taken.1 taken.0 old c.requires.idle is looked.made looked.after c.in-Ok.place c.put_directory.new.self.seat.me e c.args.key.now looked.some_place.0 looked.stands,
+    let e = put_after taken.1 taken.0 looked.made looked.left c.in-Ok.place old first c.place_for.new.worker.seat.me c.put_directory.new.self.seat.me taken.3 looked.seat c.put_directory.ensures.made in (
+      stands.0,
+      stands.1,
+      knows_one c.args.slots taken.1 taken.0 old c.requires.idle is looked.made looked.left c.in-Ok.place c.put_directory.new.self.seat.me e c.args.key.now stands.0 stands.2,
     )
+
+pub returns-in-Ok-clause-idle : goal.returns-in-Ok-clause-idle
+returns-in-Ok-clause-idle g c =
+    let old = c.args.worker.now.seat.me in
+    let first = c.await_directory-directory.new.worker.seat.me in
+    let taken = c.await_directory-directory.ensures.taken in
+    let has = subst (λ (m : Mine). HasDirectory taken.1 m) (sym taken.3) (has_taken taken.1 (and_made taken.0 old)) in
+    let looked = c.place_for.ensures.looked taken.1 has in
+    let is = subst (λ (n : ℕ). IsDirectory n taken.1 (and_made taken.0 old)) (sym c.requires.slots.1) taken.2 in
+    let e = put_after taken.1 taken.0 looked.made looked.left c.in-Ok.place old first c.place_for.new.worker.seat.me c.put_directory.new.self.seat.me taken.3 looked.seat c.put_directory.ensures.made in
+    idle_then c.args.slots taken.1 taken.0 old c.requires.idle is looked.made looked.left c.in-Ok.place c.put_directory.new.self.seat.me e
 
 pub returns-in-Ok-clause-answer : goal.returns-in-Ok-clause-answer
 returns-in-Ok-clause-answer g c =
@@ -26,10 +51,26 @@ returns-in-Ok-clause-answer g c =
     let first = c.await_directory-directory.new.worker.seat.me in
     let taken = c.await_directory-directory.ensures.taken in
     let has = subst (λ (m : Mine). HasDirectory taken.1 m) (sym taken.3) (has_taken taken.1 (and_made taken.0 old)) in
-    let looked = c.in-Ok.ensures.looked taken.1 has in
+    let looked = c.place_for.ensures.looked taken.1 has in
     let is = subst (λ (n : ℕ). IsDirectory n taken.1 (and_made taken.0 old)) (sym c.requires.slots.1) taken.2 in
-    let e = put_after taken.1 taken.0 looked.made looked.after c.in-Ok.place old first c.place_for.new.worker.seat.me c.put_directory.new.self.seat.me taken.3 looked.seat c.put_directory.ensures.made in (
+    let e = put_after taken.1 taken.0 looked.made looked.left c.in-Ok.place old first c.place_for.new.worker.seat.me c.put_directory.new.self.seat.me taken.3 looked.seat c.put_directory.ensures.made in (
       taken.1,
-      took_directory c.args.slots taken.1 taken.0 old c.requires.idle is looked.made looked.after c.in-Ok.place c.put_directory.new.self.seat.me e,
-      c.in-Ok.ensures.answer taken.1 has,
+      looked.left,
+      took_directory c.args.slots taken.1 taken.0 old c.requires.idle is looked.made looked.left c.in-Ok.place c.put_directory.new.self.seat.me e taken.4 looked.had,
+      subst (IsAnswer c.args.slots c.args.key.now taken.1 looked.left) c.in-Ok.is looked.answer,
+    )
+
+pub returns-in-Err-clause-answer : goal.returns-in-Err-clause-answer
+returns-in-Err-clause-answer g c =
+    let old = c.args.worker.now.seat.me in
+    let first = c.await_directory-directory.new.worker.seat.me in
+    let taken = c.await_directory-directory.ensures.taken in
+    let has = subst (λ (m : Mine). HasDirectory taken.1 m) (sym taken.3) (has_taken taken.1 (and_made taken.0 old)) in
+    let looked = c.place_for.ensures.looked taken.1 has in
+    let is = subst (λ (n : ℕ). IsDirectory n taken.1 (and_made taken.0 old)) (sym c.requires.slots.1) taken.2 in
+    let e = put_after taken.1 taken.0 looked.made looked.left 0 old first c.place_for.new.worker.seat.me c.put_directory-in-Err.new.self.seat.me taken.3 looked.seat c.put_directory-in-Err.ensures.made in (
+      taken.1,
+      looked.left,
+      took_directory c.args.slots taken.1 taken.0 old c.requires.idle is looked.made looked.left 0 c.put_directory-in-Err.new.self.seat.me e taken.4 looked.had,
+      subst (IsAnswer c.args.slots c.args.key.now taken.1 looked.left) c.in-Err.is looked.answer,
     )

@@ -16,4 +16,4 @@ returns-in-Some-take_latch-clause-taken g c =
     let place = c.args.place in
     let told = c.in-Some-take_latch.ensures.taken.1 in
     let steps = c.loop.invariant.steps in
-    (told.0, fresh_before place told.0 c.args.worker.now.seat.me _ steps told.1, told.2, (steps.0, ◌∙◌ {A = Mine} told.3 (ap (latched place told.0) steps.1)))
+    (told.0, fresh_before place told.0 c.args.worker.now.seat.me _ (steps.0, steps.1) told.1, told.2, (steps.0, ◌∙◌ {A = Mine} told.3 (ap (latched place told.0) steps.1), steps.2))

@@ -1,11 +1,12 @@
 -- Each book is copied under its latch, whose record stays until the latches of the places behind it are given back.
-use Rattle.std.proofs.Common.{◌≡◌, ℕ, [], Some, sym, ◌∙◌, subst, arith, rules}
+use Rattle.std.proofs.Common.{◌≡◌, ℕ, [], Some, refl, sym, ap, ◌∙◌, subst, arith, rules}
 use Rattle.std.proofs.lemmas.Result.{on_ok_weaker}
 use Rattle.mdl_steps.specs.Plays.{Mine}
 use Rattle.mdl_steps.specs.Seats.{Holds, MayPut}
 use Rattle.mdl_steps.specs.Cells.{held_at}
 use Rattle.mdl_visits.specs.Visits.{IsInside}
 use Rattle.mdl_visits.proofs.Gathering.{gathers_more, gathers_none, makes_same, may_put, rising_next, there_and_back, unlatched_at}
+use Rattle.mdl_visits.proofs.Steps.{keeps_none, keeps_there}
 use Rattle.mdl_visits.proofs.rounds.+gather.Goals as goal
 
 pub add_book-requires-clause-carried : goal.add_book-requires-clause-carried
@@ -31,6 +32,15 @@ returns-in-Err-clause-steps g t c =
     let went = c.put_latch.new.self.seat.me in
     there_and_back c.args.place c.args.worker.now.seat.me came copied went latch.ensures.inside (makes_same came copied c.add_book.ensures.same)
     (unlatched_at c.args.place latch.result.place copied went latch.ensures.place c.put_latch.ensures.made)
+
+pub returns-in-Err-clause-directory : goal.returns-in-Err-clause-directory
+returns-in-Err-clause-directory g t c =
+    let latch = c.await_latch-latch in
+    let taken = latch.ensures.taken in
+    let copied = c.add_book.new.worker.seat.me in
+    let went = c.put_latch.new.self.seat.me in
+    keeps_there c.args.place taken.0 taken.3.0 c.args.worker.now.seat.me copied copied went taken.3.2 (◌∙◌ {A = Mine} c.add_book.ensures.same taken.3.1)
+    (keeps_none copied copied refl) refl (unlatched_at c.args.place latch.result.place copied went latch.ensures.place c.put_latch.ensures.made)
 
 pub gather-outcome-requires : goal.gather-outcome-requires
 gather-outcome-requires g t c =
@@ -65,6 +75,17 @@ returns-clause-steps g t c =
     there_and_back c.args.place c.args.worker.now.seat.me copied gathered went inside c.gather-outcome.ensures.steps
     (unlatched_at c.args.place latch.result.place gathered went latch.ensures.place c.put_latch-2.ensures.made)
 
+pub returns-clause-directory : goal.returns-clause-directory
+returns-clause-directory g t c =
+    let latch = c.await_latch-latch in
+    let taken = latch.ensures.taken in
+    let copied = c.add_book.new.worker.seat.me in
+    let gathered = c.gather-outcome.new.worker.seat.me in
+    let went = c.put_latch-2.new.self.seat.me in
+    keeps_there c.args.place taken.0 taken.3.0 c.args.worker.now.seat.me copied gathered went taken.3.2 (◌∙◌ {A = Mine} c.add_book.ensures.same taken.3.1)
+    c.gather-outcome.ensures.directory (ap (λ (m : Mine). m.0.directory) c.gather-outcome.ensures.steps.1)
+    (unlatched_at c.args.place latch.result.place gathered went latch.ensures.place c.put_latch-2.ensures.made)
+
 pub returns-clause-gathered : goal.returns-clause-gathered
 returns-clause-gathered g t c =
     let latch = c.await_latch-latch in
@@ -81,7 +102,7 @@ returns-clause-gathered g t c =
     let added = c.in_default.ensures.added h.book has.carried in
     on_ok_weaker c.gather-outcome.result
     (λ more. gathers_more c.args.place h taken.3.0 m copied taken.1.here (◌∙◌ {A = Mine} same taken.3.1) gathered went c.gather-outcome.ensures.steps
-    (unlatched_at c.args.place latch.result.place gathered went at c.put_latch-2.ensures.made)
+    (unlatched_at c.args.place latch.result.place gathered went at c.put_latch-2.ensures.made) taken.1
     c.args.last latch.result.place c.args.audited.now.items c.add_book.new.audited.items c.gather-outcome.new.audited.items at
     (subst (λ (x : Mine). held_at c.args.place x.0.latches ≡ Some h) (sym {A = Mine} same) taken.2.recorded) added more)
     c.gather-outcome.ensures.gathered

@@ -54,11 +54,11 @@ returns-clause-told g c =
     let has = subst (λ (x : Mine). HasDirectory k x) (sym {A = Mine} taken.3) (has_taken k (and_made taken.0 m)) in
     let count = c.key_count-last.ensures.told k has.carried in
     let steps = c.gather-outcome.ensures.steps in
-    let put = c.put_directory.ensures.made in
-    on_ok_weaker c.gather-outcome.result
-    (λ more. (
+    let put = c.put_directory.ensures.made in (
       k,
-      took_first slots k taken.0 m counted gathered then steps went put c.requires.idle taken.2,
-      audits slots k taken.0 m counted gathered then steps went put c.requires.idle taken.2 c.key_count-last.result c.gather-outcome.new.audited.items count
-          (subst (λ (xs : List Audited). Gathers 1 c.key_count-last.result xs c.gather-outcome.new.audited.items counted gathered) c.requires.empty more),
-    )) c.gather-outcome.ensures.gathered
+      took_first slots k taken.0 m counted gathered then steps went put c.requires.idle taken.2 taken.4 c.gather-outcome.ensures.directory,
+      on_ok_weaker c.gather-outcome.result
+          (λ more. audits slots k taken.0 m counted gathered then steps went put c.requires.idle taken.2 c.key_count-last.result c.gather-outcome.new.audited.items count
+          (subst (λ (xs : List Audited). Gathers 1 c.key_count-last.result xs c.gather-outcome.new.audited.items counted gathered) c.requires.empty more))
+          c.gather-outcome.ensures.gathered,
+    )

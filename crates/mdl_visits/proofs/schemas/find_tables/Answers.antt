@@ -1,5 +1,5 @@
 -- The tables are those of the directory's record, and the session knows them as its latch is given back.
-use Rattle.std.proofs.Common.{◌≡◌, ℕ, List, refl, sym, ap, ◌∙◌, subst}
+use Rattle.std.proofs.Common.{◌≡◌, ℕ, List, [], refl, sym, ap, ◌∙◌, subst}
 use Rattle.mdl_steps.specs.declared.view.Known.{Known}
 use Rattle.mdl_steps.specs.Plays.{Mine, informed}
 use Rattle.mdl_steps.specs.Schemas.{StandThere, unknown}
@@ -36,10 +36,23 @@ returns-in-Ok-clause-found g c =
     let e = told_after taken.1 taken.0 tables old first listed new taken.3 c.list_tables.ensures.same.0 put in
     let more : List Known = unknown old.0.known tables in (
       taken.1,
-      took_directory slots taken.1 taken.0 old c.requires.idle taken.2 more new e,
-      are_tables c.args.schema.now taken.1 tables taken.2.distinct (c.in-Ok.ensures.listed taken.1 has),
-      knows_tables slots taken.1 taken.0 old c.requires.idle taken.2 more new e tables refl,
+      took_directory slots taken.1 taken.0 old c.requires.idle taken.2 more new e taken.4,
+      (
+        are_tables c.args.schema.now taken.1 tables taken.2.distinct (c.in-Ok.ensures.listed taken.1 has),
+        knows_tables slots taken.1 taken.0 old c.requires.idle taken.2 more new e tables refl,
+      ),
     )
+
+pub returns-in-Err-clause-found : goal.returns-in-Err-clause-found
+returns-in-Err-clause-found g c =
+    let slots : ℕ = c.args.top.now.table_id.slots in
+    let old : Mine = c.args.worker.now.seat.me in
+    let first : Mine = c.await_directory-directory.new.worker.seat.me in
+    let listed : Mine = c.list_tables.new.worker.seat.me in
+    let new : Mine = c.put_directory_telling-in-Err.new.self.seat.me in
+    let taken = c.await_directory-directory.ensures.taken in
+    let e = told_after taken.1 taken.0 [] old first listed new taken.3 c.list_tables.ensures.same.0 c.put_directory_telling-in-Err.ensures.made in
+    (taken.1, took_directory slots taken.1 taken.0 old c.requires.idle taken.2 (unknown old.0.known []) new e taken.4, tt)
 
 pub returns-in-Ok-clause-within : goal.returns-in-Ok-clause-within
 returns-in-Ok-clause-within g c =

@@ -1,28 +1,22 @@
--- Room changes nothing of the graph.
-use Rattle.std.proofs.Common.{◌≡◌, ◌++◌, ℕ, [], ◌∷◌, List, subst}
-use Rattle.std.specs.Prelude.{◌||◌, OnOk, OnErr}
+-- A book tells its key and its lists.
+use Rattle.std.proofs.Common.{◌≡◌, ℕ, sym, subst}
+use Rattle.std.specs.Prelude.{◌||◌, OnOk}
+use Rattle.std.proofs.lemmas.Result.{on_ok_weaker}
 use Rattle.mdl_book.specs.declared.book_view.BookView.{BookView}
-use Rattle.mdl_graph.specs.Graphs.{GraphView, IsGraphOf, is_settled, waits}
-use Rattle.mdl_graph.specs.Searches.{ties_of}
-use Rattle.mdl_graph.specs.WaitsFor.{SessionTest, waits_at}
+use Rattle.mdl_graph.specs.Graphs.{is_settled, lock_of, waits}
+use Rattle.mdl_graph.specs.WaitsFor.{waits_at}
 use Rattle.mdl_graph.proofs.wait_graph.WaitGraph.add.Goals as goal
 
 pub returns-clause-waits : goal.returns-clause-waits
 returns-clause-waits c =
-    let roomy : GraphView = record { settled = c.self.inside.settled; wishes = c.make_room.new.wishes.items; ties = ties_of c.make_room.new.waits.items c.make_room.new.stands.items } in
-    let same : roomy ≡ c.args.self.now = rw (c.make_room.ensures.wishes, c.make_room.ensures.waits, c.make_room.ensures.stands) c.self.view_is in
-    subst (λ (graph : GraphView). OnOk c.add_reserved.result ((waiter other : ℕ) → waits c.add_reserved.new.self waiter other
-    ≡ (waits graph waiter other || waits_at (is_settled graph) c.args.book.now waiter other))) same c.add_reserved.ensures.waits
+    let book = c.args.book.now in
+    let same : lock_of c.key.result.now c.granted.result.now c.waiting.result.now ≡ lock_of book.key book.granted book.waiting =
+    (λ i. lock_of (c.key.ensures i) (c.granted.ensures i) (c.waiting.ensures i)) in
+    subst (λ (lock : BookView). OnOk c.add_lists.result ((waiter other : ℕ) → waits c.add_lists.new.self waiter other
+    ≡ (waits c.args.self.now waiter other || waits_at (is_settled c.args.self.now) lock waiter other))) same c.add_lists.ensures.waits
 
 pub returns-clause-graph : goal.returns-clause-graph
 returns-clause-graph c =
-    let roomy : GraphView = record { settled = c.self.inside.settled; wishes = c.make_room.new.wishes.items; ties = ties_of c.make_room.new.waits.items c.make_room.new.stands.items } in
-    let same : roomy ≡ c.args.self.now = rw (c.make_room.ensures.wishes, c.make_room.ensures.waits, c.make_room.ensures.stands) c.self.view_is in
-    subst (λ (graph : GraphView). OnOk c.add_reserved.result ((settled : SessionTest) (books : List BookView)
-    → IsGraphOf settled books graph → IsGraphOf settled (books ++ c.args.book.now ∷ []) c.add_reserved.new.self)) same c.add_reserved.ensures.graph
-
-pub returns-clause-unchanged : goal.returns-clause-unchanged
-returns-clause-unchanged c =
-    let roomy : GraphView = record { settled = c.self.inside.settled; wishes = c.make_room.new.wishes.items; ties = ties_of c.make_room.new.waits.items c.make_room.new.stands.items } in
-    let same : roomy ≡ c.args.self.now = rw (c.make_room.ensures.wishes, c.make_room.ensures.waits, c.make_room.ensures.stands) c.self.view_is in
-    subst (λ (graph : GraphView). OnErr c.add_reserved.result (c.add_reserved.new.self ≡ graph)) same c.add_reserved.ensures.unchanged
+    on_ok_weaker c.add_lists.result
+    (λ graph settled books was. graph settled books c.args.book.now (sym c.key.ensures) (sym c.granted.ensures) (sym c.waiting.ensures) was)
+    c.add_lists.ensures.graph

@@ -6,7 +6,7 @@ use Rattle.mdl_graph.specs.Graphs.{GraphView}
 use Rattle.mdl_graph.specs.Searches.{ties_of}
 use Rattle.mdl_graph.specs.WaitsFor.{waits_at}
 use Rattle.mdl_graph.proofs.JoinLemmas.{ties_join}
-use Rattle.mdl_graph.proofs.TieLemmas.{wished-more, graph-more}
+use Rattle.mdl_graph.proofs.TieLemmas.{wished-more, graph-same}
 use Rattle.mdl_graph.proofs.wait_graph.WaitGraph.add_reserved.Goals as goal
 
 pub invariant_of-self : goal.invariant_of-self
@@ -25,11 +25,11 @@ returns-in-Ok-clause-waits c = λ waiter other.
     (sym (ties_join c.self.inside.waits.items c.self.inside.stands.items waiter other)))
 
 pub returns-in-Ok-clause-graph : goal.returns-in-Ok-clause-graph
-returns-in-Ok-clause-graph c = λ settled books was.
+returns-in-Ok-clause-graph c = λ settled books one key granted waiting was.
     let book = c.args.book.now in
     let before : GraphView = record { settled = c.self.inside.settled; wishes = c.self.inside.wishes.items; ties = ties_of c.self.inside.waits.items c.self.inside.stands.items } in
     let after : GraphView = record { settled = c.self.inside.settled; wishes = c.add_waiters.new.wishes.items; ties = ties_of c.add_waiters.new.waits.items c.add_waiters.new.stands.items } in
-    graph-more settled books book before after (rw (← c.self.view_is) at was) refl c.in-Ok.ensures.wishes
+    graph-same settled books book one before after key granted waiting (rw (← c.self.view_is) at was) refl c.in-Ok.ensures.wishes
     (λ waiter other.
     ties_join c.add_waiters.new.waits.items c.add_waiters.new.stands.items waiter other
     ∙ c.in-Ok.ensures.ties waiter other

@@ -1,5 +1,5 @@
 -- The session's lists are those of its view, with the schema's tables that it didn't know.
-use Rattle.std.proofs.Common.{◌≡◌, ℕ, ◌<◌, not, List, ◌++◌, sym, ap, ◌∙◌, subst, ◌≤◌}
+use Rattle.std.proofs.Common.{◌≡◌, ℕ, ◌<◌, not, List, ◌++◌, None, sym, ap, ◌∙◌, subst, ◌≤◌}
 use Rattle.std.specs.Arc.{arc_value}
 use Rattle.std.proofs.lemmas.List.Elements.{All-filter}
 use Rattle.mdl_steps.specs.declared.view.Known.{Known}
@@ -14,6 +14,7 @@ use Rattle.mdl_shared.specs.Waitings.{is_ask_placed}
 use Rattle.mdl_shared.proofs.Awaiting.{awaited_and}
 use Rattle.mdl_visits.proofs.Asking.{asked_after, goes_on}
 use Rattle.mdl_visits.proofs.Listing.{took_earlier}
+use Rattle.mdl_visits.proofs.Lookups.{no_record}
 use Rattle.mdl_shared.proofs.Membership.{known_and, within_and}
 use Rattle.mdl_shared.proofs.member.Member.tables_of.Goals as goal
 
@@ -24,8 +25,8 @@ invariant_of-self-2 g c =
     let slots : ℕ = (arc_value self.table).shared.table_id.slots in
     let found = c.in_ok-tables.ensures.found in
     let asked = c.ask_all.ensures.steps in
-    let now : c.ask_all.new.worker.seat.me ≡ and_made asked.0 (and_made found.3.0 (knowing_all tables self.worker.seat.me)) =
-    asked.1 ∙ ap (and_made asked.0) found.3.1 in
+    let now : c.ask_all.new.worker.seat.me ≡ and_made asked.0 (and_made found.2.1.0 (knowing_all tables self.worker.seat.me)) =
+    asked.1 ∙ ap (and_made asked.0) found.2.1.1 in
     let learnt = c.learn.ensures ∙ ap (λ (ks : List Known). ks ++ unknown ks tables) c.in_ok-tables.ensures.same in
     let new : List Known = unknown self.known.items tables in
     let within : AreWithin slots tables = subst (λ table. AreWithin table.shared.table_id.slots tables) c.deref.ensures c.in_ok-tables.ensures.within in record {
@@ -60,14 +61,17 @@ returns-clause-told g c =
     let new : Mine = c.ask_all.new.worker.seat.me in
     let found = c.in_ok-tables.ensures.found in
     let places : List ℕ = c.ask_all.new.places.items in
-    let took = subst (λ table. TookDirectory table.shared.table_id.slots found.0 old mid) c.deref.ensures found.1 in
+    let took = subst (λ table. TookDirectory table.shared.table_id.slots found.0 found.0 old mid) c.deref.ensures found.1 in
+    let none : mid.0.directory ≡ None = ap (λ (m : Mine). m.0.directory) found.2.1.1 ∙ sym (no_record old.0.directory self.idle.1) in
     let asked : HasAsked self.worker.number tables places mid new =
     subst (λ (n : ℕ). HasAsked n tables places mid new) c.find_tables.ensures.seat.1
     (subst (λ (ts : List Known). HasAsked c.find_tables.new.worker.number ts places mid new) c.deref-3.ensures.value c.ask_all.ensures.asked) in (
       found.0,
-      tables,
-      took_earlier (arc_value self.table).shared.table_id.slots found.0 old mid new took (goes_on mid new c.ask_all.ensures.steps),
-      found.2,
-      asked_after self.worker.number tables places old mid new (goes_on (knowing_all tables old) mid found.3) asked,
-      c.learn.ensures ∙ ap (λ (ks : List Known). ks ++ unknown ks tables) c.in_ok-tables.ensures.same,
+      took_earlier (arc_value self.table).shared.table_id.slots found.0 found.0 old mid new took c.ask_all.ensures.directory none,
+      (
+        tables,
+        found.2.0,
+        asked_after self.worker.number tables places old mid new (goes_on (knowing_all tables old) mid found.2.1) asked,
+        c.learn.ensures ∙ ap (λ (ks : List Known). ks ++ unknown ks tables) c.in_ok-tables.ensures.same,
+      ),
     )

@@ -1,0 +1,80 @@
+-- The settled sessions by the words of waits, and the graph of books that were copied.
+use Rattle.std.proofs.Common.{◌≡◌, ℕ, ◌+◌, ◌<◌, ◌≤◌, ◌==◌, ◌||◌, ◌&&◌, Bool, true, false, not, List, [], ◌∷◌, ◌++◌, length, map, take, get_or, Option, refl, sym, ap, ◌∙◌, subst, arith}
+use Rattle.std.specs.Prelude.{◌%◌}
+use Rattle.std.specs.Cmp.{nat_cmp_total, unsigned_tied}
+use Rattle.std.specs.FinSet as set
+use Rattle.std.specs.Option.{option_map}
+use Rattle.std.specs.Ordering.{nat_cmp}
+use Rattle.std.proofs.lemmas.Bool.Decides.{nat_tests}
+use Rattle.std.proofs.lemmas.List.{map-append, take_all, take_more}
+use Rattle.std.proofs.lemmas.List.Folds.{list_any-append}
+use Rattle.mdl_book.specs.declared.book_view.BookView.{BookView}
+use Rattle.mdl_graph.specs.declared.cycle.Member.{Member}
+use Rattle.mdl_graph.specs.Graphs.{GraphView, IsGraphOf, cycle_found, deadlock, deadlock_in, member_of, victim_in, waits}
+use Rattle.mdl_graph.specs.Victims.{victim_of}
+use Rattle.mdl_graph.specs.WaitsFor.{SessionTest, waits_for}
+use Rattle.mdl_graph.proofs.CycleLaws.{chosen_same}
+use Rattle.mdl_visits.specs.declared.audited.Audited.{Audited}
+use Rattle.mdl_visits.specs.declared.hearing.Heard.{Heard}
+use Rattle.mdl_visits.specs.Searches.{books_of, settled_by}
+
+-- ---- who is settled
+
+pub none_settled : (settled : set.FinSet nat_cmp) → settled ≡ set.empty → (session : ℕ) → set.contains settled session ≡ false
+none_settled settled none session = ap (λ (s : set.FinSet nat_cmp). set.contains s session) none ∙ set.contains-empty nat_cmp session
+
+-- a word more tells of its session alone
+one_more : (words : List Heard) (h : Heard) (session : ℕ)
+    → settled_by (words ++ h ∷ []) session ≡ (settled_by words session || (h.session == session && not (h.word.0 % 8 == 1)))
+one_more words h session =
+    let one = h.session == session && not (h.word.0 % 8 == 1) in
+    let all : settled_by (words ++ h ∷ []) session ≡ (settled_by words session || (one || false)) =
+    list_any-append (λ (x : Heard). x.session == session && not (x.word.0 % 8 == 1)) words (h ∷ []) in
+    all ∙ ap (λ (b : Bool). settled_by words session || b) (or_false one)
+  where
+    or_false : (b : Bool) → (b || false) ≡ b
+    or_false true = refl
+    or_false false = refl
+
+module _ (old : set.FinSet nat_cmp) (words : List Heard) (h : Heard) (before : (session : ℕ) → set.contains old session ≡ settled_by words session) where
+  pub put_settled : (new : set.FinSet nat_cmp) → new ≡ set.insert old h.session → (h.word.0 % 8 == 1) ≡ false
+      → (session : ℕ) → set.contains new session ≡ settled_by (words ++ h ∷ []) session
+  put_settled new put closed session =
+      let here : (set.contains old session || (h.session == session && true)) ≡ ((session == h.session) || set.contains old session) = grind (arith, nat_tests) in
+      ap (λ (s : set.FinSet nat_cmp). set.contains s session) put
+      ∙ set.contains-insert nat_cmp_total old h.session session
+      ∙ ap (λ (b : Bool). b || set.contains old session) (unsigned_tied session h.session)
+      ∙ sym here
+      ∙ ap (λ (b : Bool). b || (h.session == session && true)) (before session)
+      ∙ ap (λ (b : Bool). settled_by words session || (h.session == session && not b)) (sym closed)
+      ∙ sym (one_more words h session)
+
+  pub passed_open : (h.word.0 % 8 == 1) ≡ true → (session : ℕ) → set.contains old session ≡ settled_by (words ++ h ∷ []) session
+  passed_open open_still session =
+      let none : settled_by words session ≡ (settled_by words session || (h.session == session && false)) = grind (arith, nat_tests) in
+      before session ∙ none ∙ ap (λ (b : Bool). settled_by words session || (h.session == session && not b)) (sym open_still) ∙ sym (one_more words h session)
+
+-- ---- the graph
+
+-- the deadlock that a graph has is that of the books
+pub deadlock_same : (settled : SessionTest) (books : List BookView) (graph : GraphView) (from : ℕ) → IsGraphOf settled books graph
+    → deadlock graph from ≡ deadlock_in settled books from
+deadlock_same settled books graph from is =
+    ap (option_map (map (member_of graph.wishes)))
+    (chosen_same (waits graph) (waits_for settled books) (map (λ (wish : Member). wish.session) graph.wishes) from is.same_waits)
+    ∙ ap (λ wishes. cycle_found wishes (waits_for settled books) from) is.same_wishes
+
+-- a book more of those that were copied
+pub book_more : (settled : SessionTest) (audited : List Audited) (i : ℕ) (d : Audited) (graph : GraphView) → i < length audited
+    → IsGraphOf settled (books_of (take i audited) ++ (get_or audited i d).book ∷ []) graph → IsGraphOf settled (books_of (take (i + 1) audited)) graph
+book_more settled audited i d graph inside is =
+    subst (λ (books : List BookView). IsGraphOf settled books graph)
+    (sym (ap books_of (take_more audited i d inside) ∙ map-append (λ (a : Audited). a.book) (take i audited) (get_or audited i d ∷ []))) is
+
+-- once all were added
+pub victim_same : (settled : SessionTest) (audited : List Audited) (added from : ℕ) (graph : GraphView) (cycle : Option (List Member))
+    → IsGraphOf settled (books_of (take added audited)) graph → length audited ≤ added → cycle ≡ deadlock graph from
+    → option_map victim_of cycle ≡ victim_in settled (books_of audited) from
+victim_same settled audited added from graph cycle is all found =
+    ap (option_map victim_of)
+    (found ∙ deadlock_same settled (books_of audited) graph from (subst (λ (some : List Audited). IsGraphOf settled (books_of some) graph) (take_all added audited all) is))

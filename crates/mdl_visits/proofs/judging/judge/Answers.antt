@@ -1,0 +1,31 @@
+-- What was found at last is what comes of it.
+use Rattle.std.proofs.Common.{ℕ, List, Option, refl, subst}
+use Rattle.std.specs.Prelude.{MatchOption}
+use Rattle.mdl_calls.specs.declared.answers.Search.{Search}
+use Rattle.mdl_steps.specs.declared.view.Held.{Held}
+use Rattle.mdl_steps.specs.Plays.{Mine}
+use Rattle.mdl_visits.specs.Polls.{SettlesNothing}
+use Rattle.mdl_visits.specs.Searches.{Judges}
+use Rattle.mdl_visits.proofs.Asking.{goes_nowhere}
+use Rattle.mdl_visits.proofs.Outcomes.{judges_within}
+use Rattle.mdl_visits.proofs.Words.{goes_hearing, hears_none, same_latches}
+use Rattle.mdl_visits.proofs.judging.judge.Goals as goal
+
+pub loop-init : goal.loop-init
+loop-init g c = record { seat = refl; number = refl; hears = hears_none c.args.worker.now.seat.me; settles = refl }
+
+pub returns-in-Some-2-clause-judged : goal.returns-in-Some-2-clause-judged
+returns-in-Some-2-clause-judged g c =
+    let id = c.args.table.now.shared.table_id in
+    let audited = c.args.audited.now in
+    let found = c.in-Some-2.found in
+    let inv = c.loop.invariant in
+    let m : Mine = c.args.worker.now.seat.me in
+    let m′ : Mine = c.loop.worker.seat.me in
+    let m″ : Mine = c.judge_once.new.worker.seat.me in
+    let who = c.loop.worker.number in
+    let here : Judges id who m′.0.latches audited found m′ m″ =
+    subst (λ (o : Option Search). MatchOption o (SettlesNothing m′ m″) (λ f. Judges id who m′.0.latches audited f m′ m″)) c.in-Some-2.is c.in_ok-found.ensures.judged in
+    let mine = subst (λ (n : ℕ). Judges id n m′.0.latches audited found m′ m″) inv.number here in
+    let latched = subst (λ (latches : List Held). Judges id c.args.worker.now.number latches audited found m′ m″) (same_latches m m′ inv.hears) mine in
+    judges_within id c.args.worker.now.number m.0.latches audited found m m′ m″ m″ (goes_hearing m m′ inv.hears) inv.settles (goes_nowhere m″) refl latched

@@ -1,0 +1,42 @@
+-- The words that were heard say what came of it.
+use Rattle.std.proofs.Common.{◌≡◌, ℕ, List, Some, refl, sym, ap, ◌∙◌, subst}
+use Rattle.mdl_steps.specs.declared.view.Held.{Held}
+use Rattle.mdl_steps.specs.Plays.{Mine}
+use Rattle.mdl_graph.specs.Graphs.{victim_in}
+use Rattle.mdl_visits.specs.declared.hearing.Heard.{Heard}
+use Rattle.mdl_visits.specs.Searches.{Fells, books_of, settled_by}
+use Rattle.mdl_visits.proofs.Asking.{goes_nowhere}
+use Rattle.mdl_visits.proofs.Outcomes.{fells_within}
+use Rattle.mdl_visits.proofs.Words.{all_within, goes_hearing, hears_then, same_latches}
+use Rattle.mdl_visits.proofs.judging.judge_once.Goals as goal
+
+pub returns-in-Some-clause-hears : goal.returns-in-Some-clause-hears
+returns-in-Some-clause-hears c =
+    hears_then c.args.worker.now.seat.me c.hear_all.new.worker.seat.me c.fell.new.worker.seat.me c.in_ok-hear_all.ensures.hears c.fell.ensures.hears
+
+pub returns-in-Some-clause-judged : goal.returns-in-Some-clause-judged
+returns-in-Some-clause-judged c =
+    let slots = c.args.table.now.shared.table_id.slots in
+    let audited = c.args.audited.now in
+    let victim = c.in-Some.victim in
+    let words : List Heard = c.hear_all.new.words.items in
+    let heard = c.in_ok-hear_all.ensures in
+    let m : Mine = c.args.worker.now.seat.me in
+    let m′ : Mine = c.hear_all.new.worker.seat.me in
+    let m″ : Mine = c.fell.new.worker.seat.me in
+    let who = c.args.worker.now.number in
+    let found : victim_in (settled_by words) (books_of audited) who ≡ Some victim =
+    ap (λ (ws : List Heard). victim_in (settled_by ws) (books_of audited) who) (sym c.deref.ensures.value)
+    ∙ ap (λ (n : ℕ). victim_in (settled_by c.deref.result.now) (books_of audited) n) (sym (c.number.ensures ∙ heard.seat.1))
+    ∙ sym c.in_ok-find_victim.ensures
+    ∙ c.in-Some.is in
+    let fells = subst (λ (latches : List Held). Fells slots victim latches m′ m″) (same_latches m m′ heard.hears) (c.fell.ensures.felled c.if-fell.true) in
+    record {
+      words = words;
+      all = heard.all;
+      heard = all_within slots m.0.latches m m m′ m″ words (goes_nowhere m) (goes_hearing m′ m″ c.fell.ensures.hears) heard.heard;
+      outcome = (
+        found,
+        fells_within slots who m.0.latches audited words m m′ m″ m″ (goes_hearing m m′ heard.hears) heard.settles (goes_nowhere m″) refl victim fells,
+      );
+    }

@@ -1,0 +1,37 @@
+-- All of it happens while the directory's latch is held, by the keys that its record has.
+use Rattle.std.proofs.Common.{ℕ, List, sym, ◌∙◌, subst}
+use Rattle.std.specs.Prelude.{IfOk}
+use Rattle.std.proofs.lemmas.Result.{IfOk-weaker}
+use Rattle.mdl_steps.specs.Plays.{Mine}
+use Rattle.mdl_steps.specs.Seats.{HasDirectory}
+use Rattle.mdl_visits.specs.declared.audited.Audited.{Audited}
+use Rattle.mdl_visits.specs.Searches.{Searches}
+use Rattle.mdl_visits.specs.Visits.{and_made}
+use Rattle.mdl_visits.proofs.Holding.{searched, took_heard}
+use Rattle.mdl_visits.proofs.Lookups.{has_taken}
+use Rattle.mdl_visits.proofs.searching.search_all.Goals as goal
+
+pub returns-clause-searched : goal.returns-clause-searched
+returns-clause-searched g c =
+    let taken = c.await_directory-directory.ensures.taken in
+    let k = taken.1 in
+    let id = c.args.table.now.shared.table_id in
+    let who = c.args.worker.now.number in
+    let m : Mine = c.args.worker.now.seat.me in
+    let counted : Mine = c.key_count-last.new.self.seat.me in
+    let looked : Mine = c.search_from-outcome.new.worker.seat.me in
+    let went : Mine = c.put_directory.new.self.seat.me in
+    let then = ◌∙◌ {A = Mine} c.key_count-last.ensures.same taken.3 in
+    let has = subst (λ (x : Mine). HasDirectory k x) (sym {A = Mine} taken.3) (has_taken k (and_made taken.0 m)) in
+    let count = c.key_count-last.ensures.told k has.carried in
+    let hears = c.search_from-outcome.ensures.hears in
+    let put = c.put_directory.ensures.made in
+    let result = c.search_from-outcome.result in
+    let audited = c.search_from-outcome.new.audited.items in
+    let mine = subst (λ (n : ℕ). IfOk result (λ found. Searches id n 1 c.key_count-last.result c.new-audited.result.items audited found counted looked))
+    (c.key_count-last.ensures.seat.1 ∙ c.await_directory-directory.ensures.seat.1) c.search_from-outcome.ensures.searched in
+    let empty = subst (λ (xs : List Audited). IfOk result (λ found. Searches id who 1 c.key_count-last.result xs audited found counted looked)) c.new-audited.ensures.items mine in (
+      k,
+      took_heard id k taken.0 m counted looked then hears went put c.requires.idle taken.2 taken.4,
+      IfOk-weaker result _ _ (λ found more. searched id k taken.0 m counted looked then hears went put c.requires.idle taken.2 who c.key_count-last.result audited found count more) empty,
+    )

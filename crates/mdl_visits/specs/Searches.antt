@@ -1,0 +1,117 @@
+-- A search for a deadlock: what a session meets and does while it has the latches of all places that have a key.
+use Rattle.std.specs.Prelude.{◌≡◌, ℕ, zero, suc, ◌≤◌, ◌%◌, ◌==◌, ◌&&◌, not, true, List, [], ◌∷◌, ◌++◌, length, map, All, Option, Some, None}
+use Rattle.std.specs.List.{list_any}
+use Rattle.atomic_table.specs.Seated.{TableId}
+use Rattle.mdl_book.specs.declared.book_view.BookView.{BookView}
+use Rattle.mdl_book.specs.SessionSets.{is_session}
+use Rattle.mdl_calls.specs.declared.answers.Search.{Search}
+use Rattle.mdl_calls.specs.declared.answers.Search.TheVariants.{NoCycle, Victim}
+use Rattle.mdl_graph.specs.Graphs.{deadlock_in, victim_in}
+use Rattle.mdl_graph.specs.WaitsFor.{SessionTest}
+use Rattle.mdl_steps.specs.declared.view.Held.{Held}
+use Rattle.mdl_steps.specs.declared.view.Keys.{Keys}
+use Rattle.mdl_steps.specs.declared.view.Met.{Met}
+use Rattle.mdl_steps.specs.declared.view.Settlement.{Settlement}
+use Rattle.mdl_steps.specs.Layout.{wait_word}
+use Rattle.mdl_steps.specs.Plays.{Mine}
+use Rattle.mdl_steps.specs.WaitSeats.{IsSession}
+use Rattle.mdl_visits.specs.declared.audited.Audited.{Audited}
+use Rattle.mdl_visits.specs.declared.hearing.Heard.{Heard}
+use Rattle.mdl_visits.specs.Audits.{AreRecorded, Gathers}
+use Rattle.mdl_visits.specs.Grantings.{StaysTold}
+use Rattle.mdl_visits.specs.Polls.{MeetsWait, Settles, SettlesNothing}
+use Rattle.mdl_visits.specs.Visits.{AllHad, IsStepOf}
+
+-- ---- the words of waits
+
+-- whether a session has no open wait by one of these words: it has none, or it is settled
+abbrev pub settled_by : List Heard → SessionTest
+settled_by words session = list_any (λ (h : Heard). h.session == session && not (h.word.0 % 8 == 1)) words
+
+-- the sessions from 1 to so many
+unfoldable pub sessions_to : ℕ → List ℕ
+sessions_to zero = []
+sessions_to (suc n) = sessions_to n ++ suc n ∷ []
+
+-- these are the words of all sessions of the table, each once, in order
+pub record AreOfAll (id : TableId) (words : List Heard) : Type 0 where
+  pub last : ℕ
+  pub sessions : map (λ (h : Heard). h.session) words ≡ sessions_to last
+  pub each : All (λ (h : Heard). IsSession id h.session × (is_session h.session ≡ true)) words
+  pub every : (session : ℕ) → IsSession id session → is_session session ≡ true → session ≤ last
+
+-- one of the steps between the two met this word, while the session had just these latches
+abbrev pub WasHeard : ℕ → List Held → Mine → Mine → Heard → Type 0
+WasHeard slots latches m m′ h = (e : Met) × IsStepOf m m′ e × (e.word ≡ wait_word slots h.session) × (e.found ≡ h.word.0) × (e.held ≡ latches)
+
+-- ---- what is found
+
+-- the books that were copied
+abbrev pub books_of : List Audited → List BookView
+books_of audited = map (λ (a : Audited). a.book) audited
+
+-- one of the steps between the two met the unsettled wait of a session while the session that searches had just these latches, and it alone was
+-- settled then, as the victim's
+pub record Fells (slots victim : ℕ) (latches : List Held) (m m′ : Mine) : Type 0 where
+  pub wait : ℕ
+  pub settles : Settles victim wait 3 m m′
+  pub moment : Met
+  pub step : IsStepOf m m′ moment
+  pub met : MeetsWait slots victim wait 1 moment
+  pub held : moment.held ≡ latches
+
+-- by these words and books the session waits in no cycle, and nothing was settled; or this is the victim of the cycle that is chosen, and its wait was
+-- settled
+abbrev pub IsOutcome : ℕ → ℕ → List Held → List Audited → List Heard → Mine → Mine → Search → Type 0
+IsOutcome slots who latches audited words m m′ NoCycle =
+    (deadlock_in (settled_by words) (books_of audited) who ≡ None) × SettlesNothing m m′
+IsOutcome slots who latches audited words m m′ (Victim victim) =
+    (victim_in (settled_by words) (books_of audited) who ≡ Some victim) × Fells slots victim latches m m′
+
+-- that came of the words of all sessions, as steps between the two met them, while the session had just these latches, and of these books
+pub record Judges (id : TableId) (who : ℕ) (latches : List Held) (audited : List Audited) (found : Search) (m m′ : Mine) : Type 0 where
+  pub words : List Heard
+  pub all : AreOfAll id words
+  pub heard : All (WasHeard id.slots latches m m′) words
+  pub outcome : IsOutcome id.slots who latches audited words m m′ found
+
+-- the session had the latches of the places from one to another, beside those of lower ones, added the books of these to a list, and judged by all of
+-- the list then
+pub record Searches (id : TableId) (who place last : ℕ) (before after : List Audited) (found : Search) (m m′ : Mine) : Type 0 where
+  pub gathers : Gathers place last before after m m′
+  pub judges : Judges id who gathers.latches after found m m′
+
+-- the session had at one step between the two this record of the directory and the latches of the places of all its keys, and judged by their books as they
+-- were then
+pub record Searched (id : TableId) (who : ℕ) (k : Keys) (found : Search) (m m′ : Mine) : Type 0 where
+  pub audited : List Audited
+  pub all : length audited ≡ length k.keys
+  pub keys : map (λ (a : Audited). a.book.key) audited ≡ k.keys
+  pub moment : Met
+  pub step : IsStepOf m m′ moment
+  pub directory : moment.directory ≡ Some k
+  pub recorded : AreRecorded 1 moment.held audited
+  pub judges : Judges id who moment.held audited found m m′
+
+-- ---- what becomes of the session
+
+-- steps were made that met the words of waits, or settled them
+abbrev pub hearing : List Met → Option ℕ → List Settlement → Mine → Mine
+hearing made told settles m = (record m.0 { log = m.0.log ++ made; told = told; settles = settles }, m.1)
+
+-- likewise, and nothing else changed. What was told of its own wait stays so
+pub record Listens (m m′ : Mine) : Type 0 where
+  pub made : List Met
+  pub told : Option ℕ
+  pub settles : List Settlement
+  pub now : m′ ≡ hearing made told settles m
+  pub stays : StaysTold m.0.told told
+
+-- likewise, and at each step the session had of the directory what it had before
+pub record Hears (m m′ : Mine) : Type 0 where
+  pub made : List Met
+  pub told : Option ℕ
+  pub settles : List Settlement
+  pub now : m′ ≡ hearing made told settles m
+  pub stays : StaysTold m.0.told told
+  pub had : AllHad m.0.directory made

@@ -1,0 +1,103 @@
+//! A session that has all latches looks for a deadlock that it waits in, and settles the victim's wait.
+ghost use Rattle.std.specs.Prelude.{◌≡◌, true, false, All, IfOk, OnErr, MatchOption};
+ghost use Rattle.mdl_book.specs.SessionSets.{is_session};
+ghost use Rattle.mdl_steps.specs.Seats.{IsSized};
+ghost use Rattle.mdl_steps.specs.WaitSeats.{IsSession};
+ghost use Rattle.mdl_visits.specs.declared.hearing.Heard.{Heard};
+ghost use Rattle.mdl_visits.specs.Polls.{SettlesNothing};
+ghost use Rattle.mdl_visits.specs.Searches.{Fells, Hears, Judges};
+
+use crate::Audited;
+use crate::hearing::{Heard, hear_all};
+use crate::victims::find_victim;
+use mdl_calls::Search;
+use mdl_steps::{Loss, OwnedTable, WaitWord, Worker};
+use std::alloc::{AllocError, Global};
+use std::sync::Wait;
+
+/// Looks for a deadlock that the session waits in, by the books of all places, whose latches it has, and settles the wait of the victim. Where
+/// another session settles that first, it looks again.
+pub(crate) fn judge<R: Wait>(
+    rt: &R,
+    worker: &mut Worker,
+    table: &OwnedTable,
+    alloc: Global,
+    audited: &[Audited],
+) -> Result<Search, AllocError>
+    requires { (worker.old.seat.table_id ≡ table.now.shared.table_id) × IsSized table.now.shared.table_id }
+    ensures seat { (worker.new.seat.table_id ≡ worker.old.seat.table_id) × (worker.new.number ≡ worker.old.number) }
+    ensures hears { Hears worker.old.seat.me worker.new.seat.me }
+    ensures judged { IfOk result (λ found. Judges table.now.shared.table_id worker.old.number worker.old.seat.me.0.latches audited.now found
+        worker.old.seat.me worker.new.seat.me) }
+    ensures nothing { OnErr result (SettlesNothing worker.old.seat.me worker.new.seat.me) }
+{
+    for _ in rt.forever() {
+        if let Some(found) = judge_once(worker, table, alloc, audited)? {
+            return Ok(found);
+        }
+    }
+    unreachable!()
+}
+
+// The same, once: nothing is found where another session settled the victim's wait first.
+fn judge_once(
+    worker: &mut Worker,
+    table: &OwnedTable,
+    alloc: Global,
+    audited: &[Audited],
+) -> Result<Option<Search>, AllocError>
+    requires { (worker.old.seat.table_id ≡ table.now.shared.table_id) × IsSized table.now.shared.table_id }
+    ensures seat { (worker.new.seat.table_id ≡ worker.old.seat.table_id) × (worker.new.number ≡ worker.old.number) }
+    ensures hears { Hears worker.old.seat.me worker.new.seat.me }
+    ensures judged { IfOk result (λ tried. MatchOption tried (SettlesNothing worker.old.seat.me worker.new.seat.me)
+        (λ found. Judges table.now.shared.table_id worker.old.number worker.old.seat.me.0.latches audited.now found worker.old.seat.me worker.new.seat.me)) }
+    ensures nothing { OnErr result (SettlesNothing worker.old.seat.me worker.new.seat.me) }
+{
+    let mut words = Vec::new(alloc);
+    hear_all(worker, table, &mut words)?;
+    match find_victim(alloc, audited, &words, worker.number())? {
+        None => Ok(Some(Search::NoCycle)),
+        Some(victim) if fell(worker, table, victim, &words) => Ok(Some(Search::Victim(victim))),
+        Some(_) => Ok(None),
+    }
+}
+
+// Settles the wait of a session as the victim's, if it was open by its word and is so still. Whether this call settled it.
+fn fell(worker: &mut Worker, table: &OwnedTable, victim: u16, words: &[Heard]) -> bool
+    requires table { (worker.old.seat.table_id ≡ table.now.shared.table_id) × IsSized table.now.shared.table_id }
+    requires sessions { All (λ (h : Heard). IsSession table.now.shared.table_id h.session × (is_session h.session ≡ true)) words.now }
+    ensures seat { (worker.new.seat.table_id ≡ worker.old.seat.table_id) × (worker.new.number ≡ worker.old.number) }
+    ensures hears { Hears worker.old.seat.me worker.new.seat.me }
+    ensures felled { result ≡ true → Fells table.now.shared.table_id.slots victim worker.old.seat.me.0.latches worker.old.seat.me worker.new.seat.me }
+    ensures missed { result ≡ false → SettlesNothing worker.old.seat.me worker.new.seat.me }
+{
+    for heard in words {
+        if heard.session == victim {
+            return settle(worker, table, *heard);
+        }
+    }
+    false
+}
+
+// The same by its word.
+fn settle(worker: &mut Worker, table: &OwnedTable, heard: Heard) -> bool
+    requires table { (worker.old.seat.table_id ≡ table.now.shared.table_id) × IsSized table.now.shared.table_id }
+    requires session { IsSession table.now.shared.table_id heard.session }
+    ensures seat { (worker.new.seat.table_id ≡ worker.old.seat.table_id) × (worker.new.number ≡ worker.old.number) }
+    ensures hears { Hears worker.old.seat.me worker.new.seat.me }
+    ensures felled { result ≡ true → Fells table.now.shared.table_id.slots heard.session worker.old.seat.me.0.latches worker.old.seat.me worker.new.seat.me }
+    ensures missed { result ≡ false → SettlesNothing worker.old.seat.me worker.new.seat.me }
+{
+    let word = heard.word;
+    if word.state() != WaitWord::UNSETTLED {
+        return false;
+    }
+    let slots = table.slot_count();
+    worker.settle_wait(
+        &table.shared,
+        slots,
+        heard.session,
+        word.number(),
+        Loss::Victim,
+    ) == word
+}

@@ -1,0 +1,76 @@
+//! A search for a deadlock: the latches of all places that have a key are taken one after the other, and by their books it is looked for, once all
+//! are taken.
+ghost use Rattle.std.specs.Prelude.{◌≡◌, ℕ, ◌+◌, ◌<◌, ◌≤◌, IfOk, OnErr};
+ghost use Rattle.mdl_steps.specs.declared.view.Keys.{Keys};
+ghost use Rattle.mdl_steps.specs.Seats.{IsSized, IsRising};
+ghost use Rattle.mdl_visits.specs.Idle.{IsIdle};
+ghost use Rattle.mdl_visits.specs.Lookups.{TookDirectory};
+ghost use Rattle.mdl_visits.specs.Polls.{SettlesNothing};
+ghost use Rattle.mdl_visits.specs.Searches.{Hears, Listens, Searched, Searches};
+
+use crate::Audited;
+use crate::directories::await_directory;
+use crate::judging::judge;
+use crate::latches::await_latch;
+use crate::rounds::add_book;
+use mdl_calls::Search;
+use mdl_steps::{OwnedTable, Worker};
+use std::alloc::{AllocError, Global};
+use std::sync::Wait;
+
+/// Looks for a deadlock that the session waits in, and settles the wait of its victim. No key gets a place meanwhile, since the session holds
+/// the directory's latch, and no book changes once the session has all latches.
+pub fn search_all<R: Wait>(
+    rt: &R,
+    worker: &mut Worker,
+    table: &OwnedTable,
+    alloc: Global,
+) -> Result<Search, AllocError>
+    requires table { (worker.old.seat.table_id ≡ table.now.shared.table_id) × IsSized table.now.shared.table_id }
+    requires slots { (0 < table.now.shared.table_id.slots) × (table.now.shared.table_id.slots ≤ 65536) }
+    requires idle { IsIdle worker.old.seat.me }
+    ensures seat { (worker.new.seat.table_id ≡ worker.old.seat.table_id) × (worker.new.number ≡ worker.old.number) }
+    ensures hears { Listens worker.old.seat.me worker.new.seat.me }
+    ensures searched { (k : Keys) × TookDirectory table.now.shared.table_id.slots k k worker.old.seat.me worker.new.seat.me
+        × IfOk result (λ found. Searched table.now.shared.table_id worker.old.number k found worker.old.seat.me worker.new.seat.me) }
+    ensures nothing { OnErr result (SettlesNothing worker.old.seat.me worker.new.seat.me) }
+{
+    let directory = await_directory(rt, worker, &table.shared);
+    let last = worker.key_count(&table.shared, &directory);
+    let mut audited = Vec::new(alloc);
+    let outcome = search_from(rt, worker, table, 1, last, &mut audited);
+    worker.put_directory(&table.shared, directory, 0);
+    outcome
+}
+
+// Adds the books of the places from one to the last to a list, and searches by all of the list while their latches are held.
+fn search_from<R: Wait>(
+    rt: &R,
+    worker: &mut Worker,
+    table: &OwnedTable,
+    place: usize,
+    last: usize,
+    audited: &mut Vec<Audited>,
+) -> Result<Search, AllocError>
+    requires table { (worker.old.seat.table_id ≡ table.now.shared.table_id) × IsSized table.now.shared.table_id }
+    requires places { (0 < place) × (place ≤ last + 1) × (last < table.now.shared.table_id.slots) × (last < 65536) }
+    requires rising { IsRising place worker.old.seat.me }
+    ensures seat { (worker.new.seat.table_id ≡ worker.old.seat.table_id) × (worker.new.number ≡ worker.old.number) }
+    ensures hears { Hears worker.old.seat.me worker.new.seat.me }
+    ensures searched { IfOk result (λ found. Searches table.now.shared.table_id worker.old.number place last audited.old.items audited.new.items found
+        worker.old.seat.me worker.new.seat.me) }
+    ensures nothing { OnErr result (SettlesNothing worker.old.seat.me worker.new.seat.me) }
+{
+    if place > last {
+        let alloc = *audited.allocator();
+        return judge(rt, worker, table, alloc, audited);
+    }
+    let latch = await_latch(rt, worker, &table.shared, place);
+    if let Err(AllocError) = add_book(worker, &table.shared, &latch, audited) {
+        worker.put_latch(&table.shared, latch, &[]);
+        return Err(AllocError);
+    }
+    let outcome = search_from(rt, worker, table, place + 1, last, audited);
+    worker.put_latch(&table.shared, latch, &[]);
+    outcome
+}
