@@ -1,0 +1,3 @@
+pub mod SessionJoins
+pub mod SessionSpaces
+pub mod SpaceLaws
