@@ -1,4 +1,5 @@
 pub mod CallLaws
+pub mod CallsHappen
 pub mod KeptSound
 pub mod KeyLaws
 pub mod KeyLists

@@ -4,11 +4,16 @@
 //! There is no code here: each law is the contract of a function that does nothing.
 #![tactic(auto)]
 
+mod happenings;
 mod keys;
 mod reads;
 mod sessions;
 mod waits;
 
+pub use happenings::{
+    keys_are_found, locks_are_had, memory_runs_out, standings_are_changed, standings_are_read,
+    waits_are_begun, waits_are_lost,
+};
 pub use keys::{keys_have_one_place, known_keys_stay, resolved_keys_are_known};
 pub use reads::{changes_are_of_what_was_read, what_is_read_may_stand, what_is_read_stands};
 pub use sessions::{
