@@ -6,10 +6,9 @@ use Rattle.mdl_key.specs.declared.mode.Mode.TheVariants.{X}
 use Rattle.mdl_defs.specs.declared.standing.Standing.{Standing}
 use Rattle.mdl_defs.specs.Standings.{standing_after}
 use Rattle.mdl_calls.specs.declared.answers.Held.{Held}
-use Rattle.mdl_calls.specs.declared.answers.Settled.{Settled}
 use Rattle.mdl_calls.specs.declared.answers.Settled.TheVariants.{Victim}
 use Rattle.mdl_calls.specs.Own.{ending, gaining, ticket_drawn, wait_drawn, waiting}
-use Rattle.mdl_calls.specs.Words.{Wait_of, Kill, Release, Downgrade, Poll_wait, Settle_timeout, End_wait, Change_definition, Unpin, caller, OfHeld, Own, holds, is_waiting, ticket_held}
+use Rattle.mdl_calls.specs.Words.{Wait_of, Kill, Release, Downgrade, Poll_wait, Settle_timeout, End_wait, Change_definition, Unpin, caller, OfHeld, Own, holds, ticket_held}
 use Rattle.mdl_session_laws.specs.Happenings.{KeysAreFound, LocksAreHad, WaitsAreBegun, WaitsAreLost, StandingsAreRead, StandingsAreChanged, MemoryRunsOut}
 use Rattle.mdl_session_laws.specs.SessionJoins.{KeepsSettled, LearnsPlace, NotesThere, ReadsNothing}
 use Rattle.mdl_session_laws.specs.SessionSpaces.{Space, IsSound, SpeaksFor, noted_at}
@@ -23,17 +22,9 @@ reads-nothing a b reads notes = record {
   carried = λ place version holds noted. ap (noted_at place) notes ∙ noted;
 }
 
--- where it has no wait, it knows nothing of one
-unsettled : (a : Space) → IsSound a → is_waiting a.own ≡ false → a.settled ≡ None
-unsettled a sound idle = by a.settled sound.settled
-  where
-    by : (o : Option Settled) → (is_some o ≡ true → is_waiting a.own ≡ true) → o ≡ None
-    by None waits = refl
-    by (Some how) waits = let no = sym (waits refl) ∙ idle in cc
-
 -- what it knows of its wait stays
-settled-same : (a b : Space) → IsSound a → b.settled ≡ a.settled → KeepsSettled false a b
-settled-same a b sound same = ((λ how is. same ∙ is), λ idle. same ∙ unsettled a sound idle)
+settled-same : (a b : Space) → b.settled ≡ a.settled → KeepsSettled false a b
+settled-same a b same = ((λ how is. same ∙ is), λ idle. same)
 
 -- ---- keys
 
@@ -52,7 +43,7 @@ keys-found a place key sound new free = (
     learns = subst (λ o. LearnsPlace key place o a.known b.known) (sym new) (free, refl);
     agreed = λ state how is. cc;
     told = λ how is. cc;
-    settled = settled-same a b sound refl;
+    settled = settled-same a b refl;
     reads = reads-nothing a b refl refl;
     truly = tt;
   },
@@ -78,7 +69,7 @@ locks-had a place mode sound idle known fit = (
     learns = refl;
     agreed = λ state how is. cc;
     told = λ how is. cc;
-    settled = settled-same a b sound refl;
+    settled = settled-same a b refl;
     reads = reads-nothing a b refl refl;
     truly = tt;
   },
@@ -102,7 +93,7 @@ waits-begun a place mode sound idle known fit = (
     learns = refl;
     agreed = λ state how is. cc;
     told = λ how is. cc;
-    settled = settled-same a b sound refl;
+    settled = settled-same a b refl;
     reads = reads-nothing a b refl refl;
     truly = tt;
   },
@@ -174,7 +165,7 @@ standings-read a id ticket standing sound its meets = (
     learns = refl;
     agreed = λ state how is. cc;
     told = λ how is. cc;
-    settled = settled-same a (noting ticket.place standing a) sound refl;
+    settled = settled-same a (noting ticket.place standing a) refl;
     reads = of-ticket id a.own ticket _ its (meets, notes-there ticket.place standing a);
     truly = tt;
   },
@@ -195,7 +186,7 @@ standings-changed a id ticket stood change sound its exclusive meets allowed = (
     learns = refl;
     agreed = λ state how is. cc;
     told = λ how is. cc;
-    settled = settled-same a b sound refl;
+    settled = settled-same a b refl;
     reads = of-ticket id a.own ticket _ its (record {
       stood = stood;
       meets = meets;
@@ -230,7 +221,7 @@ memory-out a (Change_definition who id change) sound mine takes = record {
   learns = refl;
   agreed = λ state how is. cc;
   told = λ how is. cc;
-  settled = settled-same a a sound refl;
+  settled = settled-same a a refl;
   reads = reads-nothing a a refl refl;
   truly = λ ticket its exclusive. inl refl;
 }
@@ -254,7 +245,7 @@ memory-out a call sound mine takes = record {
   learns = refl;
   agreed = λ state how is. cc;
   told = λ how is. cc;
-  settled = settled-same a a sound refl;
+  settled = settled-same a a refl;
   reads = reads-nothing a a refl refl;
   truly = tt;
 }

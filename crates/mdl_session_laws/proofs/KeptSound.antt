@@ -1,5 +1,6 @@
 -- What is always so of a session is so after each call.
 use Rattle.std.proofs.Common.{◌≡◌, ℕ, Bool, true, false, is_some, Option, Some, None, IfSome, refl, sym, ap, subst, ◌∙◌}
+use Rattle.mdl_calls.specs.declared.answers.Settled.{Settled}
 use Rattle.mdl_calls.specs.Words.{Answer, Call, IsRising, Own, Wait, is_waiting, own_after}
 use Rattle.mdl_session_laws.specs.SessionJoins.{Joins, KeepsSettled, ends_wait}
 use Rattle.mdl_session_laws.specs.SessionSpaces.{Space, IsSound, Knows, is_known, are_below, are_placed, first_free}
@@ -8,6 +9,14 @@ use Rattle.mdl_session_laws.proofs.KnownAfter.{known-apart, knows-on, known-on}
 use Rattle.mdl_session_laws.proofs.OwnAfter.{placed-after, awaited-after, counts-after, waits-on}
 use Rattle.mdl_session_laws.proofs.ReadAfter.{learnt, noted-on, newest-on, fits-on}
 use Rattle.mdl_session_laws.proofs.TicketLists.{all-weaker}
+
+-- where it has no wait, it knows nothing of one
+unsettled : (a : Space) → IsSound a → is_waiting a.own ≡ false → a.settled ≡ None
+unsettled a sound idle = by a.settled sound.settled
+  where
+    by : (o : Option Settled) → (is_some o ≡ true → is_waiting a.own ≡ true) → o ≡ None
+    by None waits = refl
+    by (Some how) waits = let no = sym (waits refl) ∙ idle in cc
 
 module _ (a b : Space) (call : Call) (answer : Answer) (sound : IsSound a) (joins : Joins a call answer b) where
   -- places that were known are
@@ -40,7 +49,7 @@ module _ (a b : Space) (call : Call) (answer : Answer) (sound : IsSound a) (join
         where
           waits : (w : Bool) → is_waiting a.own ≡ w → is_waiting (own_after call answer a.own) ≡ true
           waits true e = waits-on call answer a.own is e
-          waits false e = free (keeps.1 e)
+          waits false e = free (keeps.1 e ∙ unsettled a sound e)
 
   -- what is so of what the call leaves is so of what the session has
   of-own : (P : Own → Type 0) → P (own_after call answer a.own) → P b.own

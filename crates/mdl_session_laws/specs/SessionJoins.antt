@@ -79,10 +79,10 @@ ends_wait (End_wait who) (Lost how) = true
 ends_wait _ _ = false
 
 -- what the session knows of how its wait is settled, whether or not that is ended: nothing of an ended one; else what it knew, and it may have learnt
--- it, where it waited
+-- it, but not where it had no wait
 abbrev pub KeepsSettled : Bool → Space → Space → Type 0
 KeepsSettled true a b = b.settled ≡ None
-KeepsSettled false a b = ((how : Settled) → a.settled ≡ Some how → b.settled ≡ Some how) × (is_waiting a.own ≡ false → b.settled ≡ None)
+KeepsSettled false a b = ((how : Settled) → a.settled ≡ Some how → b.settled ≡ Some how) × (is_waiting a.own ≡ false → b.settled ≡ a.settled)
 
 -- ---- what is read
 
