@@ -7,20 +7,15 @@ use Rattle.mdl_defs.specs.declared.standing.Standing.{Standing}
 use Rattle.mdl_defs.specs.Standings.{standing_after}
 use Rattle.mdl_calls.specs.declared.answers.Held.{Held}
 use Rattle.mdl_calls.specs.declared.answers.Settled.TheVariants.{Victim}
+use Rattle.mdl_calls.specs.declared.space_error.SpaceError.TheVariants.{OutOfMemory}
 use Rattle.mdl_calls.specs.Own.{ending, gaining, ticket_drawn, wait_drawn, waiting}
 use Rattle.mdl_calls.specs.Words.{Wait_of, Kill, Release, Downgrade, Poll_wait, Settle_timeout, End_wait, Change_definition, Unpin, caller, OfHeld, Own, holds, ticket_held}
 use Rattle.mdl_session_laws.specs.Happenings.{KeysAreFound, LocksAreHad, WaitsAreBegun, WaitsAreLost, StandingsAreRead, StandingsAreChanged, MemoryRunsOut}
-use Rattle.mdl_session_laws.specs.SessionJoins.{KeepsSettled, LearnsPlace, NotesThere, ReadsNothing}
-use Rattle.mdl_session_laws.specs.SessionSpaces.{Space, IsSound, SpeaksFor, noted_at}
+use Rattle.mdl_session_laws.specs.SessionJoins.{KeepsSettled, LearnsPlace, NotesThere}
+use Rattle.mdl_session_laws.specs.SessionSpaces.{Space, IsSound, SpeaksFor}
+use Rattle.mdl_session_laws.proofs.RefusedCalls.{KeepsAll, reads-nothing, refused-joins}
 
--- ---- where nothing is read, or noted
-
-reads-nothing : (a b : Space) → b.reads ≡ a.reads → b.notes ≡ a.notes → ReadsNothing a b
-reads-nothing a b reads notes = record {
-  reads = reads;
-  noted = λ place version noted. ap (noted_at place) (sym notes) ∙ noted;
-  carried = λ place version holds noted. ap (noted_at place) notes ∙ noted;
-}
+-- ---- the wait
 
 -- what it knows of its wait stays
 settled-same : (a b : Space) → b.settled ≡ a.settled → KeepsSettled false a b
@@ -208,23 +203,14 @@ caller-is : (a : Space) (o : Option ℕ) → IsSound a → o ≡ Some a.number �
 caller-is a None sound e = tt
 caller-is a (Some who) sound e = (let same : who ≡ a.number = cc in same, sound)
 
+-- nothing changes
+keeps-all : (a : Space) → KeepsAll a a
+keeps-all a = record { number = refl; own = refl; numbers = refl; known = refl; settled = settled-same a a refl; notes = refl; reads = refl }
+
 pub memory-out : MemoryRunsOut
-memory-out a (Change_definition who id change) sound mine takes = record {
-  mine = caller-is a (Some who) sound mine;
-  has = refl;
-  fits = refl;
-  number = refl;
-  own = refl;
-  numbers = refl;
-  explained = takes;
-  gained = tt;
-  learns = refl;
-  agreed = λ state how is. cc;
-  told = λ how is. cc;
-  settled = settled-same a a refl;
-  reads = reads-nothing a a refl refl;
-  truly = λ ticket its exclusive. inl refl;
-}
+memory-out a (Change_definition who id change) sound mine takes =
+    refused-joins a a (Change_definition who id change) OutOfMemory (caller-is a (Some who) sound mine) refl refl (keeps-all a) takes
+    (λ state how is. cc) (λ ticket its exclusive. inl refl)
 memory-out a (Wait_of target) sound mine takes = cc
 memory-out a (Kill target number) sound mine takes = cc
 memory-out a (Release who id) sound mine takes = cc
@@ -233,19 +219,5 @@ memory-out a (Poll_wait who) sound mine takes = cc
 memory-out a (Settle_timeout who) sound mine takes = cc
 memory-out a (End_wait who) sound mine takes = cc
 memory-out a (Unpin who place) sound mine takes = cc
-memory-out a call sound mine takes = record {
-  mine = caller-is a (caller call) sound mine;
-  has = refl;
-  fits = refl;
-  number = refl;
-  own = refl;
-  numbers = refl;
-  explained = tt;
-  gained = tt;
-  learns = refl;
-  agreed = λ state how is. cc;
-  told = λ how is. cc;
-  settled = settled-same a a refl;
-  reads = reads-nothing a a refl refl;
-  truly = tt;
-}
+memory-out a call sound mine takes =
+    refused-joins a a call OutOfMemory (caller-is a (caller call) sound mine) refl refl (keeps-all a) tt (λ state how is. cc) tt

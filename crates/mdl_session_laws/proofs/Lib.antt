@@ -8,5 +8,6 @@ pub mod OwnAfter
 pub mod ReadAfter
 pub mod ReadLaws
 pub mod ReadLists
+pub mod RefusedCalls
 pub mod TicketLists
 pub mod WaitLaws

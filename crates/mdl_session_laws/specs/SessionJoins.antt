@@ -147,7 +147,7 @@ LetsRead _ _ a b = ReadsNothing a b
 
 -- ---- answers
 
--- what some answers tell of the session as it is, also where another one makes the call
+-- what some answers tell of the session as it is. The victim of a search, and those whose wait is looked after or killed, may be others: of them nothing is said
 abbrev pub TellsTruly : Call → Answer → Space → Space → Type 0
 TellsTruly (List_held who) (Holds tickets) a b = tickets ≡ a.own.held
 TellsTruly (Key_of who place) (Key_is key) a b = key_known place a.known ≡ Some key
