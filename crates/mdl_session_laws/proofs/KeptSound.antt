@@ -1,0 +1,86 @@
+-- What is always so of a session is so after each call.
+use Rattle.std.proofs.Common.{◌≡◌, ℕ, Bool, true, false, is_some, Option, Some, None, IfSome, refl, sym, ap, subst, ◌∙◌}
+use Rattle.mdl_calls.specs.declared.answers.Settled.{Settled}
+use Rattle.mdl_calls.specs.Words.{Answer, Call, IsRising, Own, Wait, is_waiting, own_after}
+use Rattle.mdl_session_laws.specs.SessionJoins.{Joins, KeepsSettled, ends_wait}
+use Rattle.mdl_session_laws.specs.SessionSpaces.{Space, IsSound, Knows, is_known, are_below, are_placed, first_free}
+use Rattle.mdl_session_laws.specs.SpaceLaws.{beginning}
+use Rattle.mdl_session_laws.proofs.KnownAfter.{known-apart, knows-on, known-on}
+use Rattle.mdl_session_laws.proofs.OwnAfter.{placed-after, awaited-after, counts-after, waits-on}
+use Rattle.mdl_session_laws.proofs.ReadAfter.{learnt, noted-on, newest-on, fits-on}
+use Rattle.mdl_session_laws.proofs.TicketLists.{all-weaker}
+
+-- where it has no wait, it knows nothing of one
+unsettled : (a : Space) → IsSound a → is_waiting a.own ≡ false → a.settled ≡ None
+unsettled a sound idle = by a.settled sound.settled
+  where
+    by : (o : Option Settled) → (is_some o ≡ true → is_waiting a.own ≡ true) → o ≡ None
+    by None waits = refl
+    by (Some how) waits = let no = sym (waits refl) ∙ idle in cc
+
+module _ (a b : Space) (call : Call) (answer : Answer) (sound : IsSound a) (joins : Joins a call answer b) where
+  -- places that were known are
+  known-still : (place : ℕ) → is_known place a.known ≡ true → is_known place b.known ≡ true
+  known-still = known-on call answer a.known b.known joins.learns
+
+  -- tickets and waits are at them
+  placed-still : are_placed b.known (own_after call answer a.own).held ≡ true
+  placed-still =
+      all-weaker (λ t. is_known t.place a.known) (λ t. is_known t.place b.known) (λ t. known-still t.place) (own_after call answer a.own).held
+      (placed-after a.known call answer a.own sound.placed sound.awaited joins.gained)
+
+  awaited-still : IfSome (own_after call answer a.own).wait (λ (w : Wait). is_known w.place b.known ≡ true)
+  awaited-still = by (own_after call answer a.own).wait (awaited-after a.known call answer a.own sound.awaited joins.gained)
+    where
+      by : (o : Option Wait) → IfSome o (λ (w : Wait). is_known w.place a.known ≡ true) → IfSome o (λ (w : Wait). is_known w.place b.known ≡ true)
+      by None at = tt
+      by (Some wait) at = known-still wait.place at
+
+  -- only a wait is settled
+  settled-still : is_some b.settled ≡ true → is_waiting (own_after call answer a.own) ≡ true
+  settled-still some = by (ends_wait call answer) refl joins.settled
+    where
+      free : b.settled ≡ None → is_waiting (own_after call answer a.own) ≡ true
+      free none = let e = sym some ∙ ap is_some none in cc
+
+      by : (ends : Bool) → ends_wait call answer ≡ ends → KeepsSettled ends a b → is_waiting (own_after call answer a.own) ≡ true
+      by true is none = free none
+      by false is keeps = waits (is_waiting a.own) refl
+        where
+          waits : (w : Bool) → is_waiting a.own ≡ w → is_waiting (own_after call answer a.own) ≡ true
+          waits true e = waits-on call answer a.own is e
+          waits false e = free (keeps.1 e ∙ unsettled a sound e)
+
+  -- what is so of what the call leaves is so of what the session has
+  of-own : (P : Own → Type 0) → P (own_after call answer a.own) → P b.own
+  of-own P = subst P (sym joins.own)
+
+  pub keeps-sound : IsSound b
+  keeps-sound =
+      let counts = counts-after (Knows a a.number) call answer a.own a.numbers b.numbers (sound.rising, sound.below) joins.numbers joins.explained in
+      let lets = learnt a b call answer sound joins.reads in
+      record {
+        rising = of-own IsRising counts.0;
+        below = of-own (λ own. are_below (first_free (is_waiting own) b.numbers) own.held ≡ true) counts.1;
+        placed = of-own (λ own. are_placed b.known own.held ≡ true) placed-still;
+        awaited = of-own (λ own. IfSome own.wait (λ (w : Wait). is_known w.place b.known ≡ true)) awaited-still;
+        apart = known-apart call answer a.known b.known joins.learns sound.apart;
+        settled = λ some. of-own (λ own. is_waiting own ≡ true) (settled-still some);
+        noted = noted-on a b sound lets;
+        newest = newest-on a b sound lets;
+        fits = fits-on a b sound (knows-on call answer a.known b.known joins.learns) lets;
+      }
+
+-- and it is so of a session that has nothing yet
+pub begins-sound : (number : ℕ) → IsSound (beginning number)
+begins-sound number = record {
+  rising = refl;
+  below = refl;
+  placed = refl;
+  awaited = tt;
+  apart = refl;
+  settled = λ some. cc;
+  noted = λ place version noted. cc;
+  newest = λ place standing read. cc;
+  fits = λ place standing read. cc;
+}

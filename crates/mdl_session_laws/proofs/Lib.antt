@@ -1,0 +1,13 @@
+pub mod CallLaws
+pub mod CallsHappen
+pub mod KeptSound
+pub mod KeyLaws
+pub mod KeyLists
+pub mod KnownAfter
+pub mod OwnAfter
+pub mod ReadAfter
+pub mod ReadLaws
+pub mod ReadLists
+pub mod RefusedCalls
+pub mod TicketLists
+pub mod WaitLaws

@@ -1,0 +1,209 @@
+-- What a session has after a call: tickets of rising numbers, and they and a wait at places that it knows.
+use Rattle.std.proofs.Common.{◌≡◌, ℕ, ◌+◌, Bool, true, false, not, nat_lt, List, [], ◌∷◌, ◌++◌, map, filter, is_some, Option, Some, None, MatchOption, IfSome, if◌then◌else◌, refl, sym, ap, subst, ◌∙◌, lt-ltb, arith}
+use Rattle.mdl_key.specs.declared.mode.Mode.{Mode}
+use Rattle.mdl_calls.specs.declared.answers.Held.{Held}
+use Rattle.mdl_calls.specs.Own.{DrawsTicket, DrawsWait, changing, cloning, ending, gaining, merging, upgraded, waiting, winning}
+use Rattle.mdl_calls.specs.Words.{Answer, Granted, Waits, Lost, Done, Upgraded, Call, Try_now, Begin_wait, End_wait, Release, Clone_ticket, Upgrade_now, Merge, Downgrade, Knowledge, IsExplained, MayClone, Own, Wait, Numbers, Draws, IsRising, giving_up, is_number, is_waiting, own_after, ticket_held}
+use Rattle.mdl_session_laws.specs.SessionJoins.{gained_at, ends_wait}
+use Rattle.mdl_session_laws.specs.SessionSpaces.{KnownKey, is_known, are_below, are_placed, first_free}
+use Rattle.mdl_session_laws.proofs.TicketLists.{all-fewer, all-changed, all-last, all-found, rising-fewer, rising-changed, rising-last, below-up}
+
+-- ---- a ticket that gets another mode
+
+-- it, where it has this number
+abbrev in_mode : ℕ → (Mode → Mode) → Held → Held
+in_mode id change t = if is_number id t then record t { mode = change t.mode } else t
+
+-- it keeps its number and its place
+keeps-number : (id : ℕ) (change : Mode → Mode) (t : Held) → (in_mode id change t).id ≡ t.id
+keeps-number id change t = elim (is_number id t) as (λ b. (if b then record t { mode = change t.mode } else t).id ≡ t.id) [ true ↦ refl | false ↦ refl ]
+
+keeps-place : (id : ℕ) (change : Mode → Mode) (t : Held) → (in_mode id change t).place ≡ t.place
+keeps-place id change t = elim (is_number id t) as (λ b. (if b then record t { mode = change t.mode } else t).place ≡ t.place) [ true ↦ refl | false ↦ refl ]
+
+-- ---- places
+
+module _ (known : List KnownKey) where
+  abbrev is_here : Held → Bool
+  is_here t = is_known t.place known
+
+  here-changed : (id : ℕ) (change : Mode → Mode) (held : List Held) → are_placed known held ≡ true → are_placed known (map (in_mode id change) held) ≡ true
+  here-changed id change = all-changed is_here (in_mode id change) (λ t. ap (λ p. is_known p known) (keeps-place id change t))
+
+  -- what was gained is at a known place
+  pub placed-after : (call : Call) (answer : Answer) (own : Own) → are_placed known own.held ≡ true → IfSome own.wait (λ (w : Wait). is_known w.place known ≡ true)
+      → IfSome (gained_at call answer) (λ place. is_known place known ≡ true) → are_placed known (own_after call answer own).held ≡ true
+  placed-after (Try_now who place mode) (Granted id) own here awaited gained = all-last is_here own.held _ here gained
+  placed-after (Begin_wait who place mode) (Granted id) own here awaited gained = all-last is_here own.held _ here gained
+  placed-after (End_wait who) (Granted id) own here awaited gained =
+      elim own.wait as (λ o. IfSome o (λ (w : Wait). is_known w.place known ≡ true) → are_placed known (winning id o own).held ≡ true) [
+        | None ↦ λ none. here
+        | Some wait ↦ λ at. all-last is_here own.held _ here at
+      ] awaited
+  placed-after (Release who id) Done own here awaited gained = all-fewer is_here (λ ticket. not (is_number id ticket)) own.held here
+  placed-after (Clone_ticket who id mode) (Granted copy) own here awaited gained =
+      by (ticket_held id own) (λ t found. all-found is_here (is_number id) own.held t here found)
+    where
+      by : (o : Option Held) → ((t : Held) → o ≡ Some t → is_known t.place known ≡ true) → are_placed known (cloning copy mode o own).held ≡ true
+      by None at = here
+      by (Some t) at = all-last is_here own.held _ here (at t refl)
+  placed-after (Upgrade_now who id mode) Upgraded own here awaited gained = here-changed id (upgraded mode) own.held here
+  placed-after (Merge who old new) Done own here awaited gained = by (ticket_held new own)
+    where
+      by : (o : Option Held) → are_placed known (merging old new o own).held ≡ true
+      by None = here
+      by (Some t) = here-changed old (λ _. t.mode) (giving_up new own).held (all-fewer is_here (λ ticket. not (is_number new ticket)) own.held here)
+  placed-after (Downgrade who id mode) Done own here awaited gained = here-changed id (λ _. mode) own.held here
+  placed-after _ _ own here awaited gained = here
+
+  -- and so is what is waited for
+  pub awaited-after : (call : Call) (answer : Answer) (own : Own) → IfSome own.wait (λ (w : Wait). is_known w.place known ≡ true)
+      → IfSome (gained_at call answer) (λ place. is_known place known ≡ true)
+      → IfSome (own_after call answer own).wait (λ (w : Wait). is_known w.place known ≡ true)
+  awaited-after (Try_now who place mode) (Granted id) own awaited gained = awaited
+  awaited-after (Begin_wait who place mode) (Granted id) own awaited gained = awaited
+  awaited-after (Begin_wait who place mode) (Waits number) own awaited gained = gained
+  awaited-after (End_wait who) (Granted id) own awaited gained =
+      elim own.wait as (λ o. o ≡ own.wait → IfSome (winning id o own).wait (λ (w : Wait). is_known w.place known ≡ true)) [
+        | None ↦ λ e. awaited
+        | Some wait ↦ λ e. tt
+      ] refl
+  awaited-after (End_wait who) (Lost how) own awaited gained = tt
+  awaited-after (Release who id) Done own awaited gained = awaited
+  awaited-after (Clone_ticket who id mode) (Granted copy) own awaited gained =
+      elim (ticket_held id own) as (λ o. IfSome (cloning copy mode o own).wait (λ (w : Wait). is_known w.place known ≡ true)) [
+        | None ↦ awaited
+        | Some t ↦ awaited
+      ]
+  awaited-after (Merge who old new) Done own awaited gained =
+      elim (ticket_held new own) as (λ o. IfSome (merging old new o own).wait (λ (w : Wait). is_known w.place known ≡ true)) [
+        | None ↦ awaited
+        | Some t ↦ awaited
+      ]
+  awaited-after (Upgrade_now who id mode) Upgraded own awaited gained = awaited
+  awaited-after (Downgrade who id mode) Done own awaited gained = awaited
+  awaited-after _ _ own awaited gained = awaited
+
+-- ---- numbers
+
+-- held tickets have rising numbers, and the first free one is above them
+abbrev Counts : Own → Numbers → Type 0
+Counts own numbers = IsRising own × (are_below (first_free (is_waiting own) numbers) own.held ≡ true)
+
+-- whether it waits or not, the next number is above them
+below-next : (own : Own) (numbers : Numbers) → Counts own numbers → are_below (numbers.last_ticket + 1) own.held ≡ true
+below-next own numbers counts = by (is_waiting own) counts.1
+  where
+    by : (b : Bool) → are_below (first_free b numbers) own.held ≡ true → are_below (numbers.last_ticket + 1) own.held ≡ true
+    by false below = below
+    by true below = below-up numbers.last_ticket (numbers.last_ticket + 1) (lt-ltb numbers.last_ticket (numbers.last_ticket + 1) (omega arith)) own.held below
+
+below-last : (held : List Held) (t : Held) → are_below t.id held ≡ true → are_below (t.id + 1) (held ++ t ∷ []) ≡ true
+below-last held t below =
+    let next = lt-ltb t.id (t.id + 1) (omega arith) in
+    all-last (λ other. nat_lt other.id (t.id + 1)) held t (below-up t.id (t.id + 1) next held below) next
+
+-- one more, of the next number, where it doesn't wait
+counts-gaining : (own : Own) (id place : ℕ) (mode : Mode) (before after : Numbers) → is_waiting own ≡ false → Counts own before → DrawsTicket id before after
+    → Counts (gaining id place mode own) after
+counts-gaining own id place mode before after idle counts draws = (
+  rising-last own.held t counts.0 below,
+  subst (λ b. are_below (first_free b after) (own.held ++ t ∷ []) ≡ true) (sym idle)
+      (subst (λ (n : ℕ). are_below (n + 1) (own.held ++ t ∷ []) ≡ true) (draws.0 ∙ sym (ap (λ (n : Numbers). n.last_ticket) draws.1)) (below-last own.held t below)),
+)
+  where
+    t : Held
+    t = record { id = id; place = place; mode = mode }
+
+    below : are_below id own.held ≡ true
+    below = subst (λ n. are_below n own.held ≡ true) (sym draws.0) (below-next own before counts)
+
+-- those that are left, where it waits or not as before and gives no number
+counts-fewer : (own : Own) (keep : Held → Bool) (before after : Numbers) → Counts own before → after ≡ before → Counts (record own { held = filter keep own.held }) after
+counts-fewer own keep before after counts e = (
+  rising-fewer keep own.held counts.0,
+  subst (λ n. are_below (first_free (is_waiting own) n) (filter keep own.held) ≡ true) (sym e)
+      (all-fewer (λ other. nat_lt other.id (first_free (is_waiting own) before)) keep own.held counts.1),
+)
+
+-- and those that get another mode
+counts-changed : (own : Own) (id : ℕ) (change : Mode → Mode) (before after : Numbers) → Counts own before → after ≡ before → Counts (changing id change own) after
+counts-changed own id change before after counts e = (
+  rising-changed (in_mode id change) (keeps-number id change) own.held counts.0,
+  subst (λ n. are_below (first_free (is_waiting own) n) (map (in_mode id change) own.held) ≡ true) (sym e)
+      (all-changed (λ other. nat_lt other.id (first_free (is_waiting own) before)) (in_mode id change)
+      (λ t. ap (λ n. nat_lt n (first_free (is_waiting own) before)) (keeps-number id change t)) own.held counts.1),
+)
+
+-- nothing at all
+counts-same : (own : Own) (before after : Numbers) → Counts own before → after ≡ before → Counts own after
+counts-same own before after counts e = subst (Counts own) (sym e) counts
+
+-- without the wait
+counts-ending : (own : Own) (before after : Numbers) → Counts own before → after ≡ before → Counts (ending own) after
+counts-ending own before after counts e = subst (Counts (ending own)) (sym e) (counts.0, below-next own before counts)
+
+-- with the ticket that was waited for
+counts-winning : (own : Own) (id : ℕ) (before after : Numbers) → is_waiting own ≡ true → Counts own before → (id ≡ before.last_ticket) × (after ≡ before)
+    → Counts (winning id own.wait own) after
+counts-winning own id before after waits counts draws =
+    elim own.wait as (λ o. is_some o ≡ true → are_below (first_free (is_some o) before) own.held ≡ true → Counts (winning id o own) after) [
+      | None ↦ λ e below. cc
+      | Some wait ↦ λ e below. (
+          let mine : are_below id own.held ≡ true = subst (λ n. are_below n own.held ≡ true) (sym draws.0) below in
+          let t : Held = record { id = id; place = wait.place; mode = wait.mode } in (
+            rising-last own.held t counts.0 mine,
+            subst (λ (n : ℕ). are_below (n + 1) (own.held ++ t ∷ []) ≡ true) (draws.0 ∙ sym (ap (λ (n : Numbers). n.last_ticket) draws.1)) (below-last own.held t mine),
+          ))
+    ] waits counts.1
+
+-- with a wait, of the next number
+counts-waiting : (own : Own) (number place : ℕ) (mode : Mode) (before after : Numbers) → is_waiting own ≡ false → Counts own before → DrawsWait number before after
+    → Counts (waiting number place mode own) after
+counts-waiting own number place mode before after idle counts draws = (
+  counts.0,
+  subst (λ (n : ℕ). are_below n own.held ≡ true) (sym (ap (λ (n : Numbers). n.last_ticket) draws.1)) (below-next own before counts),
+)
+
+-- whatever a call leaves
+pub counts-after : (knows : Knowledge) (call : Call) (answer : Answer) (own : Own) (before after : Numbers) → Counts own before
+    → Draws call answer before after → IsExplained knows call answer own → Counts (own_after call answer own) after
+counts-after knows (Try_now who place mode) (Granted id) own before after counts draws clear = counts-gaining own id place mode before after clear.0 counts draws
+counts-after knows (Begin_wait who place mode) (Granted id) own before after counts draws clear = counts-gaining own id place mode before after clear.0 counts draws
+counts-after knows (Begin_wait who place mode) (Waits number) own before after counts draws clear = counts-waiting own number place mode before after clear.0 counts draws
+counts-after knows (End_wait who) (Granted id) own before after counts draws clear = counts-winning own id before after clear counts draws
+counts-after knows (End_wait who) (Lost how) own before after counts draws clear = counts-ending own before after counts draws
+counts-after knows (Release who id) Done own before after counts draws clear = counts-fewer own (λ ticket. not (is_number id ticket)) before after counts draws
+counts-after knows (Clone_ticket who id mode) (Granted copy) own before after counts draws clear = by (ticket_held id own) clear.1
+  where
+    by : (o : Option Held) → MatchOption o ⊥ (MayClone knows mode) → Counts (cloning copy mode o own) after
+    by None none = absurd none
+    by (Some t) may = counts-gaining own copy t.place mode before after clear.0 counts draws
+counts-after knows (Upgrade_now who id mode) Upgraded own before after counts draws clear = counts-changed own id (upgraded mode) before after counts draws
+counts-after knows (Merge who old new) Done own before after counts draws clear = by (ticket_held new own)
+  where
+    by : (o : Option Held) → Counts (merging old new o own) after
+    by None = counts-same own before after counts draws
+    by (Some t) =
+        counts-changed (giving_up new own) old (λ _. t.mode) before after
+        (counts-fewer own (λ ticket. not (is_number new ticket)) before before counts refl) draws
+counts-after knows (Downgrade who id mode) Done own before after counts draws clear = counts-changed own id (λ _. mode) before after counts draws
+counts-after knows _ _ own before after counts draws clear = counts-same own before after counts draws
+
+-- ---- the wait
+
+-- a wait goes on unless it is ended
+pub waits-on : (call : Call) (answer : Answer) (own : Own) → ends_wait call answer ≡ false → is_waiting own ≡ true → is_waiting (own_after call answer own) ≡ true
+waits-on (Try_now who place mode) (Granted id) own on waits = waits
+waits-on (Begin_wait who place mode) (Granted id) own on waits = waits
+waits-on (Begin_wait who place mode) (Waits number) own on waits = refl
+waits-on (End_wait who) (Granted id) own on waits = cc
+waits-on (End_wait who) (Lost how) own on waits = cc
+waits-on (Release who id) Done own on waits = waits
+waits-on (Clone_ticket who id mode) (Granted copy) own on waits =
+    elim (ticket_held id own) as (λ o. is_waiting (cloning copy mode o own) ≡ true) [ None ↦ waits | Some t ↦ waits ]
+waits-on (Upgrade_now who id mode) Upgraded own on waits = waits
+waits-on (Merge who old new) Done own on waits =
+    elim (ticket_held new own) as (λ o. is_waiting (merging old new o own) ≡ true) [ None ↦ waits | Some t ↦ waits ]
+waits-on (Downgrade who id mode) Done own on waits = waits
+waits-on _ _ own on waits = waits

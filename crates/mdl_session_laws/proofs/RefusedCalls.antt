@@ -1,0 +1,74 @@
+-- A call that is refused joins a session to one that has, knows and has read the same: what is left to show is the cause, and what was met of the wait.
+use Rattle.std.proofs.Common.{◌≡◌, ℕ, true, false, Option, Some, IfSome, refl, sym, ap, subst, ◌∙◌}
+use Rattle.mdl_calls.specs.declared.answers.Settled.{Settled}
+use Rattle.mdl_calls.specs.declared.space_error.SpaceError.{SpaceError}
+use Rattle.mdl_calls.specs.Words.{Refused, Call, Resolve, Try_now, Read_definition, Poll_wait, End_wait, caller, is_answer_of, told, IsCause, Own, Numbers, Draws, own_after}
+use Rattle.mdl_session_laws.specs.SessionJoins.{Joins, KeepsSettled, Learns, LetsRead, ReadsNothing, TellsTruly, ends_wait, gained_at, has_call, met}
+use Rattle.mdl_session_laws.specs.SessionSpaces.{Space, SpeaksFor, Knows, is_known, noted_at}
+
+-- all is the same but how the wait is settled, which may have been learnt
+pub record KeepsAll (a b : Space) : Type 0 where
+  pub number : b.number ≡ a.number
+  pub own : b.own ≡ a.own
+  pub numbers : b.numbers ≡ a.numbers
+  pub known : b.known ≡ a.known
+  pub settled : KeepsSettled false a b
+  pub notes : b.notes ≡ a.notes
+  pub reads : b.reads ≡ a.reads
+
+-- nothing is read, or noted
+pub reads-nothing : (a b : Space) → b.reads ≡ a.reads → b.notes ≡ a.notes → ReadsNothing a b
+reads-nothing a b reads notes = record {
+  reads = reads;
+  noted = λ place version noted. ap (noted_at place) (sym notes) ∙ noted;
+  carried = λ place version holds noted. ap (noted_at place) notes ∙ noted;
+}
+
+refused-own : (call : Call) (why : SpaceError) (own : Own) → own_after call (Refused why) own ≡ own
+refused-own (Try_now who place mode) why own = refl
+refused-own _ why own = refl
+
+refused-draws : (call : Call) (why : SpaceError) (before after : Numbers) → after ≡ before → Draws call (Refused why) before after
+refused-draws (Try_now who place mode) why before after e = e
+refused-draws _ why before after e = e
+
+refused-gains : (known : ℕ → Type 0) (call : Call) (why : SpaceError) → IfSome (gained_at call (Refused why)) known
+refused-gains known (Try_now who place mode) why = tt
+refused-gains known _ why = tt
+
+refused-learns : (call : Call) (why : SpaceError) (a b : Space) → b.known ≡ a.known → Learns call (Refused why) a.known b.known
+refused-learns (Resolve who key) why a b e = e
+refused-learns _ why a b e = e
+
+refused-told : (call : Call) (why : SpaceError) (how : Settled) (b : Space) → told call (Refused why) ≡ Some how → b.settled ≡ Some how
+refused-told (Poll_wait who) why how b e = cc
+refused-told _ why how b e = cc
+
+refused-ends : (call : Call) (why : SpaceError) → ends_wait call (Refused why) ≡ false
+refused-ends (End_wait who) why = refl
+refused-ends _ why = refl
+
+refused-reads : (call : Call) (why : SpaceError) (a b : Space) → ReadsNothing a b → LetsRead call (Refused why) a b
+refused-reads (Read_definition who id) why a b nothing = nothing
+refused-reads _ why a b nothing = nothing
+
+pub refused-joins : (a b : Space) (call : Call) (why : SpaceError) → IfSome (caller call) (SpeaksFor a) → has_call call ≡ true
+    → is_answer_of call (Refused why) ≡ true → KeepsAll a b → IsCause (Knows a a.number) call why a.own
+    → ((state : Option Settled) (how : Settled) → met call (Refused why) ≡ Some state → a.settled ≡ Some how → state ≡ Some how)
+    → TellsTruly call (Refused why) a b → Joins a call (Refused why) b
+refused-joins a b call why mine has fits same cause agreed truly = record {
+  mine = mine;
+  has = has;
+  fits = fits;
+  number = same.number;
+  own = same.own ∙ sym (refused-own call why a.own);
+  numbers = refused-draws call why a.numbers b.numbers same.numbers;
+  explained = cause;
+  gained = refused-gains (λ place. is_known place a.known ≡ true) call why;
+  learns = refused-learns call why a b same.known;
+  agreed = agreed;
+  told = λ how is. refused-told call why how b is;
+  settled = subst (λ ends. KeepsSettled ends a b) (sym (refused-ends call why)) same.settled;
+  reads = refused-reads call why a b (reads-nothing a b same.reads same.notes);
+  truly = truly;
+}

@@ -1,0 +1,4 @@
+pub mod Happenings
+pub mod SessionJoins
+pub mod SessionSpaces
+pub mod SpaceLaws

@@ -1,0 +1,22 @@
+//! A session of a space that threads share is a lock space: what it keeps of its own (`specs/SessionSpaces`), how calls join it (`specs/SessionJoins`), and
+//! the laws of lock spaces that follow. Those that stand here as contracts are a few of them; `proofs` has each law of the trait as a lemma.
+//!
+//! There is no code here: each law is the contract of a function that does nothing.
+#![tactic(auto)]
+
+mod happenings;
+mod keys;
+mod reads;
+mod sessions;
+mod waits;
+
+pub use happenings::{
+    keys_are_found, locks_are_had, memory_runs_out, standings_are_changed, standings_are_read,
+    waits_are_begun, waits_are_lost,
+};
+pub use keys::{keys_have_one_place, known_keys_stay, resolved_keys_are_known};
+pub use reads::{changes_are_of_what_was_read, what_is_read_may_stand, what_is_read_stands};
+pub use sessions::{
+    calls_keep_sessions_sound, numbers_rise, others_change_nothing, sessions_begin_sound,
+};
+pub use waits::{settled_waits_are_told_so, settled_waits_stay};
