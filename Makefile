@@ -48,7 +48,7 @@ script:
 # everything is proved and tested from nothing. Of the growths every third is refused here; `make growths` refuses each.
 test: layout docs examples
 	@sh growths/check.sh 3
-	@rt ci
+	@sh make/gate.sh
 
 # What `rt ci` would refuse of the files' layout and of the must-fail edits, told at once.
 layout: kit
