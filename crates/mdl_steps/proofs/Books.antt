@@ -22,7 +22,7 @@ use Rattle.mdl_steps.specs.Lists.{Each}
 use Rattle.mdl_steps.specs.Rule.{BookOk, PartOk, NotedCounts, Numbered, NoteAgrees}
 use Rattle.mdl_steps.proofs.Deeds.{Deeded, gains, loses, alters, all_fast-set, set_twice, may_join}
 use Rattle.mdl_steps.proofs.Latch.{due_asked}
-use Rattle.mdl_steps.proofs.Owns.{each-owned, each-from_at, each-to_at}
+use Rattle.mdl_steps.proofs.Owns.{each-note, each-owned, each-from_at, each-to_at}
 use Rattle.mdl_steps.proofs.Views.{at_inside}
 use Rattle.mdl_steps.proofs.Waiting.{waiting_kept}
 
@@ -121,10 +121,13 @@ module _ (key : Option KeyName) (version : ℕ) (parts : List Part) (book : Book
       waited_below : (t : Ticket) → due (part_at f place v).asks ≡ Some t → t.number < v.next
       waited_below t e = let a = due_asked place v.number (f v.number) v.asks t e in let below = numbered.asks a.0 a.1 in let is = a.2 in omega arith
 
+      noted_there : Each (λ (t : Own). t.place ≡ place → NoteAgrees book t) v.slow
+      noted_there = each-from_at (NoteAgrees book) place v.slow old.versions_agree.slow
+
       notes : (e : Deed) → Each (NoteAgrees book) (own_at place (owned place e v.slow))
       notes e = each-to_at (NoteAgrees book) place (owned place e v.slow)
-          (each-owned (λ (t : Own). t.place ≡ place → NoteAgrees book t) place e v.slow (λ t mode agrees. agrees) (λ number mode is here version none. absurd (cc))
-          (each-from_at (NoteAgrees book) place v.slow old.versions_agree.slow))
+          (each-owned (λ (t : Own). t.place ≡ place → NoteAgrees book t) place e v.slow (λ t mode agrees. agrees)
+          (λ number mode is here. each-note (λ (version : ℕ). version ≡ book.standing.version) place v.slow noted_there) noted_there)
 
       by_deed : (e : Deed) → May v book noted e → BookOk key version (set parts id (part_at f place (done place e v))) (booked v.number e book)
       by_deed (Gain number mode) may = replaced (book.granted ++ record { session = v.number; number = number; mode = mode } ∷ []) (done place (Gain number mode) v) refl (notes (Gain number mode))

@@ -20,7 +20,7 @@ use Rattle.mdl_book.proofs.FastLemmas.{may_stand-covered}
 use Rattle.mdl_book.proofs.GrantingLemmas.{lawful_push, lawful_changed-beside, lawful_without-beside}
 use Rattle.mdl_steps.specs.declared.deed.Deed.TheVariants.{Alter, Lose}
 use Rattle.mdl_steps.specs.declared.view.Own.{Own}
-use Rattle.mdl_steps.specs.Cells.{Part, ticket_by, all_fast}
+use Rattle.mdl_steps.specs.Cells.{Part, note_at, ticket_by, all_fast}
 use Rattle.mdl_steps.specs.Deeds.{MayJoin, owned}
 use Rattle.mdl_steps.specs.Lists.{Each, Once}
 use Rattle.mdl_steps.specs.Rule.{Lawful, NotedCounts}
@@ -145,10 +145,10 @@ module _ (kind : Kind) (fast granted : List Ticket) (session place : ℕ) (waite
 
   pub gains : (number next : ℕ) (mode : Mode) → number ≡ next → Each (λ (t : Own). t.number < next) slow → ((t : Ticket) → waited ≡ Some t → t.number < next)
       → is_mode_of kind mode ≡ true → is_compatible kind (fast ++ granted) session mode ≡ true
-      → Deeded kind fast granted (granted ++ record { session = session; number = number; mode = mode } ∷ []) session place waited (slow ++ record { number = number; place = place; mode = mode; noted = None } ∷ [])
+      → Deeded kind fast granted (granted ++ record { session = session; number = number; mode = mode } ∷ []) session place waited (slow ++ record { number = number; place = place; mode = mode; noted = note_at place slow } ∷ [])
   gains number next mode is below waited_below of_kind compatible =
       let t : Ticket = record { session = session; number = number; mode = mode } in
-      let own : Own = record { number = number; place = place; mode = mode; noted = None } in
+      let own : Own = record { number = number; place = place; mode = mode; noted = note_at place slow } in
       let shown_is = shown-push session place own slow refl in
       let not_waited : (u : Ticket) → waited ≡ Some u → u.number ≢ number = λ u w e. let less = waited_below u w in omega arith in
       let not_shown : ticket_of session number (shown session place slow) ≡ None = subst (λ (m : ℕ). ticket_of session m (shown session place slow) ≡ None) (sym is) (fresh_shown session place next slow below) in

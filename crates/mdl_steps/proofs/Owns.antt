@@ -9,7 +9,7 @@ use Rattle.mdl_book.specs.Tickets.{is_ticket, ticket_of, in_mode}
 use Rattle.mdl_steps.specs.declared.deed.Deed.{Deed}
 use Rattle.mdl_steps.specs.declared.deed.Deed.TheVariants.{Gain, Alter, Lose}
 use Rattle.mdl_steps.specs.declared.view.Own.{Own}
-use Rattle.mdl_steps.specs.Cells.{own_at, ticket_by}
+use Rattle.mdl_steps.specs.Cells.{note_at, own_at, ticket_by}
 use Rattle.mdl_steps.specs.Deeds.{is_own, owned}
 use Rattle.mdl_steps.specs.Lists.{Each}
 use Rattle.mdl_steps.proofs.Tickets.{of_other_number}
@@ -39,7 +39,7 @@ own_else-lose place q number (t ∷ ts) else = by_bool (t.place == place)
     (λ elsewhere. rw elsewhere (ap (λ xs. cond (t.place == q) (t ∷ xs) xs) (own_else-lose place q number ts else)))
 
 pub owned_else : (place q : ℕ) (d : Deed) (ts : List Own) → q ≢ place → own_at q (owned place d ts) ≡ own_at q ts
-owned_else place q (Gain number mode) ts else = own_else-push place q (record { number = number; place = place; mode = mode; noted = None }) ts refl else
+owned_else place q (Gain number mode) ts else = own_else-push place q (record { number = number; place = place; mode = mode; noted = note_at place ts }) ts refl else
 owned_else place q (Alter number mode) ts else = own_else-alter place q number mode ts else
 owned_else place q (Lose number) ts else = own_else-lose place q number ts else
 
@@ -96,20 +96,24 @@ module _ (session place : ℕ) where
 -- ---- what holds of each ticket, whatever its mode
 
 module _ (P : Own → Type 0) (place : ℕ) where
+  each-push : (t : Own) (ts : List Own) → P t → Each P ts → Each P (ts ++ t ∷ [])
+  each-push t [] last all = (last, tt)
+  each-push t (x ∷ xs) last all = (all.0, each-push t xs last all.1)
+
   pub each-owned : (d : Deed) (ts : List Own) → ((t : Own) (mode : Mode) → P t → P (record t { mode = mode }))
-      → ((number : ℕ) (mode : Mode) → d ≡ Gain number mode → P (record { number = number; place = place; mode = mode; noted = None }))
+      → ((number : ℕ) (mode : Mode) → d ≡ Gain number mode → P (record { number = number; place = place; mode = mode; noted = note_at place ts }))
       → Each P ts → Each P (owned place d ts)
-  each-owned (Gain number mode) [] any gained all = (gained number mode refl, tt)
-  each-owned (Gain number mode) (t ∷ ts) any gained all = (all.0, each-owned (Gain number mode) ts any gained all.1)
+  each-owned (Gain number mode) ts any gained all =
+      each-push (record { number = number; place = place; mode = mode; noted = note_at place ts }) ts (gained number mode refl) all
   each-owned (Alter number mode) [] any gained all = tt
   each-owned (Alter number mode) (t ∷ ts) any gained all = (
     by_bool (is_own place number t) (λ own. subst (λ (b : Bool). P (cond {A = Own} b (record t { mode = mode }) t)) (sym own) (any t mode all.0)) (λ not_own. subst (λ (b : Bool). P (cond {A = Own} b (record t { mode = mode }) t)) (sym not_own) all.0),
-    each-owned (Alter number mode) ts any gained all.1,
+    each-owned (Alter number mode) ts any (λ n m is. absurd (cc)) all.1,
   )
   each-owned (Lose number) [] any gained all = tt
   each-owned (Lose number) (t ∷ ts) any gained all = by_bool (is_own place number t)
-      (λ own. subst (λ (b : Bool). Each P (cond {A = List Own} (not b) (t ∷ owned place (Lose number) ts) (owned place (Lose number) ts))) (sym own) (each-owned (Lose number) ts any gained all.1))
-      (λ not_own. subst (λ (b : Bool). Each P (cond {A = List Own} (not b) (t ∷ owned place (Lose number) ts) (owned place (Lose number) ts))) (sym not_own) (all.0, each-owned (Lose number) ts any gained all.1))
+      (λ own. subst (λ (b : Bool). Each P (cond {A = List Own} (not b) (t ∷ owned place (Lose number) ts) (owned place (Lose number) ts))) (sym own) (each-owned (Lose number) ts any (λ n m is. absurd (cc)) all.1))
+      (λ not_own. subst (λ (b : Bool). Each P (cond {A = List Own} (not b) (t ∷ owned place (Lose number) ts) (owned place (Lose number) ts))) (sym not_own) (all.0, each-owned (Lose number) ts any (λ n m is. absurd (cc)) all.1))
 
 -- what holds of each ticket at a place is what holds of each ticket, if it is there
 module _ (P : Own → Type 0) (q : ℕ) where
@@ -125,3 +129,13 @@ module _ (P : Own → Type 0) (q : ℕ) where
   each-to_at (t ∷ ts) all = by_bool (t.place == q)
       (λ here. subst (λ (b : Bool). Each P (cond {A = List Own} b (t ∷ own_at q ts) (own_at q ts))) (sym here) (all.0 (eqb-true _ _ here), each-to_at ts all.1))
       (λ away. subst (λ (b : Bool). Each P (cond {A = List Own} b (t ∷ own_at q ts) (own_at q ts))) (sym away) (each-to_at ts all.1))
+
+-- ---- the note of a place
+
+-- it is that of one of the tickets there
+pub each-note : (P : ℕ → Type 0) (place : ℕ) (ts : List Own) → Each (λ (t : Own). t.place ≡ place → (version : ℕ) → t.noted ≡ Some version → P version) ts
+    → (version : ℕ) → note_at place ts ≡ Some version → P version
+each-note P place [] all version is = absurd (cc)
+each-note P place (t ∷ ts) all version is = by_bool (t.place == place)
+    (λ here. all.0 (eqb-true _ _ here) version (rw here at is))
+    (λ away. each-note P place ts all.1 version (rw away at is))

@@ -232,9 +232,9 @@ module _ (key : Option KeyName) (version : ℕ) (parts : List Part) (book : Book
 
   -- ---- a granted wait is ended
 
-  pub taken_ok : (t : Ticket) (own : Own) → x.asks ≡ Some (record { ticket = t; state = 2 }) → t ≡ ticket_by x.number own → own.noted ≡ None
+  pub taken_ok : (t : Ticket) (own : Own) → x.asks ≡ Some (record { ticket = t; state = 2 }) → t ≡ ticket_by x.number own → NoteAgrees book own
       → BookOk key version (set parts id (record x { asks = None; slow = x.slow ++ own ∷ [] })) book
-  taken_ok t own e is unnoted =
+  taken_ok t own e is agrees =
       let y : Part = record x { asks = None; slow = x.slow ++ own ∷ [] } in
       let apart : ticket_of x.number t.number (map (ticket_by x.number) x.slow) ≡ None = mine.slow_held.apart t (ap due e) in
       let same : (m : ℕ) → ticket_of x.number m book.granted ≡ ticket_of x.number m (t ∷ map (ticket_by x.number) x.slow) =
@@ -248,7 +248,7 @@ module _ (key : Option KeyName) (version : ℕ) (parts : List Part) (book : Book
             ∙ ap (ticket_of x.number m) (ap (λ (u : Ticket). map (ticket_by x.number) x.slow ++ u ∷ []) is ∙ sym (map_last x.slow));
         apart = λ u none. absurd (cc);
       })
-      (each-append _ x.slow (own ∷ []) mine.versions_agree.slow ((λ v noted. let none = unnoted in absurd (cc)), tt))
+      (each-append _ x.slow (own ∷ []) mine.versions_agree.slow (agrees, tt))
       (waiting_kept parts id x (record x { asks = None; slow = x.slow ++ own ∷ [] }) at refl (lock_kind book) book.waiting (sym (ap pending e)) ok.waiting)
       (λ none. let was = (ok.named.vacant none).0 in (was.0, was.1))
     where

@@ -16,17 +16,17 @@ use Rattle.mdl_steps.specs.declared.view.Held.{Held}
 use Rattle.mdl_steps.specs.declared.view.Known.{Known}
 use Rattle.mdl_steps.specs.declared.view.Own.{Own}
 use Rattle.mdl_steps.specs.declared.view.View.{View}
-use Rattle.mdl_steps.specs.Cells.{Part, asking_at, part_at, holder_at, held_at, own_at, ticket_by, waiter_of, waits, cell, all_fast}
+use Rattle.mdl_steps.specs.Cells.{Part, asking_at, part_at, holder_at, held_at, note_at, own_at, ticket_by, waiter_of, waits, cell, all_fast}
 use Rattle.mdl_steps.specs.Layout.{wait_word}
 use Rattle.mdl_steps.specs.Lists.{Each}
 use Rattle.mdl_steps.specs.Plays.{Mine}
-use Rattle.mdl_steps.specs.Rule.{Rule, PlaceOk, BookOk, Numbered, WaitOk, key_at}
+use Rattle.mdl_steps.specs.Rule.{Rule, PlaceOk, BookOk, NoteAgrees, Numbered, WaitOk, key_at}
 use Rattle.mdl_steps.specs.WaitPlays.{wait_in, asking, asked_ticket, opened, taken_over, ended_granted, ended_lost, with_waiting, with_cancelled, opens_wait, ends_granted, ends_lost}
 use Rattle.mdl_steps.specs.WaitSeats.{MayOpen, MayCancel}
 use Rattle.mdl_steps.proofs.Desks.{each-append}
 use Rattle.mdl_steps.proofs.Holder.{Under, under, holder_cell}
 use Rattle.mdl_steps.proofs.Lift.{Table, after, alone, alone_parts, seat_there, holders_again}
-use Rattle.mdl_steps.proofs.Owns.{owned_else}
+use Rattle.mdl_steps.proofs.Owns.{each-from_at, each-note, owned_else}
 use Rattle.mdl_steps.proofs.Views.{by_bool, each_at, held_at-changed, held_at-unchanged, other}
 use Rattle.mdl_steps.proofs.WaitBooks.{opened_ok, taken_ok, cancelled_ok, fast_kept}
 use Rattle.mdl_steps.proofs.WaitFlags.{flagged_cancelled}
@@ -198,7 +198,7 @@ module _ (s : Table) (r : Rule s) (id : ℕ) (me : Mine) (seat : get_elem? s.vie
     -- granted: the ticket is the session's own
     module _ (granted : state ≡ 2) (a : Ask) (asks : me.0.asks ≡ Some a) where
       abbrev pub own : Own
-      own = record { number = a.number; place = a.place; mode = a.mode; noted = None }
+      own = record { number = a.number; place = a.place; mode = a.mode; noted = note_at a.place me.0.slow }
 
       abbrev pub taken : View
       taken = record (ended_granted (length s.homes) me).0 { slow = me.0.slow ++ own ∷ [] }
@@ -220,6 +220,9 @@ module _ (s : Table) (r : Rule s) (id : ℕ) (me : Mine) (seat : get_elem? s.vie
           let there_part = at_map (part_at (waits s) a.place) s.views id me.0 seat in
           let asked : (part_at (waits s) a.place me.0).asks ≡ Some (record { ticket = wished session a; state = 2 }) =
           subst (λ (st : ℕ). (part_at (waits s) a.place me.0).asks ≡ Some (record { ticket = wished session a; state = st })) granted (was_asked a asks) in
+          let noted = (there_ok.book_ok.each id (part_at (waits s) a.place me.0) there_part).versions_agree.slow in
+          let agrees : NoteAgrees there_ok.book own =
+          each-note (λ (version : ℕ). version ≡ there_ok.book.standing.version) a.place me.0.slow (each-from_at (NoteAgrees there_ok.book) a.place me.0.slow noted) in
           on_wait s r session (8 * me.0.waits) id me.0 taken a.place (record {
             inside = inside a asks;
             seat = seat;
@@ -247,7 +250,7 @@ module _ (s : Table) (r : Rule s) (id : ℕ) (me : Mine) (seat : get_elem? s.vie
           (rw (holders_again s a.place id me.0 taken seat refl)
           (part_cell key (cell s a.place) there_ok (set (cell s a.place).parts id with_own)
           (fast_kept key (cell s a.place).version (cell s a.place).parts there_ok.book id (part_at (waits s) a.place me.0) there_part is_alone there_ok.book_ok with_own refl refl)
-          (taken_ok key (cell s a.place).version (cell s a.place).parts there_ok.book id (part_at (waits s) a.place me.0) there_part is_alone there_ok.book_ok (wished session a) own asked refl refl)))
+          (taken_ok key (cell s a.place).version (cell s a.place).parts there_ok.book id (part_at (waits s) a.place me.0) there_part is_alone there_ok.book_ok (wished session a) own asked refl agrees)))
 
     -- lost: the ticket is gone
     module _ (place : ℕ) (h : Held) (may : MayCancel place h me) (same_state : may.state ≡ state) where
@@ -339,7 +342,7 @@ module _ (slots id : ℕ) (me : Mine) (some_number : 0 < me.0.number) where
       by_ask : (asks : Option Ask) → me.0.asks ≡ asks → Rule (after s (wait_word (length s.homes) me.0.number) (8 * me.0.waits) id (ended_granted (length s.homes) me).0 s.homes)
       by_ask None e = (let ok = own_ok s r id me seat some_number in let idle = ok.idle e in let two = (ok.told 2 told).1 in absurd (omega arith))
       by_ask (Some a) e =
-          subst (λ (o : Option Ask). Rule (after s (wait_word (length s.homes) me.0.number) (8 * me.0.waits) id (record (ended_granted (length s.homes) me).0 { slow = me.0.slow ++ taken_over o }) s.homes)) (sym e)
+          subst (λ (o : Option Ask). Rule (after s (wait_word (length s.homes) me.0.number) (8 * me.0.waits) id (record (ended_granted (length s.homes) me).0 { slow = me.0.slow ++ taken_over o me.0.slow }) s.homes)) (sym e)
           (taken_rule s r id me seat some_number 2 told refl a e)
 
   pub ends_lost_allowed : (place : ℕ) (h : Held) → MayCancel place h me → (n : ℕ) → n ≡ 8 * me.0.waits

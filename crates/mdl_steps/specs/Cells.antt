@@ -2,7 +2,7 @@
 -- the cell of each other place the same.
 use Rattle.std.specs.Prelude.{ℕ, ◌%◌, ◌==◌, Bool, false, List, [], ◌∷◌, ◌++◌, filter, find, map, length, slice_index, if◌then◌else◌, Option, Some, None}
 use Rattle.std.specs.List.{list_any}
-use Rattle.std.specs.Option.{option_to_list}
+use Rattle.std.specs.Option.{option_and_then, option_to_list}
 use mathlib.Core.Option.{Option as Maybe}
 use lib.ListN.{get_elem?}
 use Rattle.atomic_table.specs.Table.{State}
@@ -48,6 +48,10 @@ pub record Desk : Type 0 where
 
 abbrev pub own_at : ℕ → List Own → List Own
 own_at place tickets = filter (λ t. t.place == place) tickets
+
+-- the version that is noted at a place, under the first of these tickets that is there
+abbrev pub note_at : ℕ → List Own → Option ℕ
+note_at place tickets = option_and_then (λ (t : Own). t.noted) (find (λ (t : Own). t.place == place) tickets)
 
 abbrev pub reads_at : ℕ → List Read → List Read
 reads_at place reads = filter (λ r. r.place == place) reads

@@ -1,6 +1,6 @@
 -- What a session does to its own tickets under a latch, and when it may: `MDL_context::try_acquire_lock`, `clone_ticket`,
 -- `upgrade_shared_lock` and `release_lock` of MySQL 5.7, sql/mdl.cc, without their ways of finding out.
-use Rattle.std.specs.Prelude.{◌≡◌, ℕ, ◌+◌, ◌==◌, ◌&&◌, Bool, true, false, not, List, [], ◌∷◌, ◌++◌, map, filter, Contains, Some, None, if◌then◌else◌, ◌⊎◌}
+use Rattle.std.specs.Prelude.{◌≡◌, ℕ, ◌+◌, ◌==◌, ◌&&◌, Bool, true, false, not, List, [], ◌∷◌, ◌++◌, map, filter, Contains, Some, if◌then◌else◌, ◌⊎◌}
 use lib.ListN.{get_elem?}
 use mathlib.Core.Option.{some}
 use Rattle.mdl_key.specs.declared.mode.Mode.{Mode}
@@ -17,6 +17,7 @@ use Rattle.mdl_steps.specs.declared.view.Ask.{Ask}
 use Rattle.mdl_steps.specs.declared.view.Known.{Known}
 use Rattle.mdl_steps.specs.declared.view.Own.{Own}
 use Rattle.mdl_steps.specs.declared.view.View.{View}
+use Rattle.mdl_steps.specs.Cells.{note_at}
 
 -- ---- what is done
 
@@ -35,9 +36,9 @@ all_booked session (d ∷ ds) book = all_booked session ds (booked session d boo
 abbrev pub is_own : ℕ → ℕ → Own → Bool
 is_own place number t = t.place == place && t.number == number
 
--- a session's own tickets after a deed at a place
+-- a session's own tickets after a deed at a place. One that it gained has the note of those that it had there
 abbrev pub owned : ℕ → Deed → List Own → List Own
-owned place (Gain number mode) slow = slow ++ record { number = number; place = place; mode = mode; noted = None } ∷ []
+owned place (Gain number mode) slow = slow ++ record { number = number; place = place; mode = mode; noted = note_at place slow } ∷ []
 owned place (Alter number mode) slow = map (λ t. if is_own place number t then record t { mode = mode } else t) slow
 owned place (Lose number) slow = filter (λ t. not (is_own place number t)) slow
 

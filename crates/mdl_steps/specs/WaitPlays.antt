@@ -11,7 +11,7 @@ use Rattle.mdl_steps.specs.declared.view.Ask.{Ask}
 use Rattle.mdl_steps.specs.declared.view.Held.{Held}
 use Rattle.mdl_steps.specs.declared.view.Own.{Own}
 use Rattle.mdl_steps.specs.declared.view.View.{View}
-use Rattle.mdl_steps.specs.Cells.{waiter_of}
+use Rattle.mdl_steps.specs.Cells.{note_at, waiter_of}
 use Rattle.mdl_steps.specs.Layout.{wait_word}
 use Rattle.mdl_steps.specs.Plays.{Mine, logged, changed}
 use Rattle.mdl_steps.specs.Rule.{WaitOk}
@@ -74,14 +74,15 @@ settled_granted slots place session ticket number m =
     let v = changed place (with_admitted session ticket) m.0 in
     (logged (wait_word slots session) (wait_in number 1) v.latches (settling session number 2 (meeting session (wait_in number 2) v)), m.1)
 
--- the ticket that was waited for, as the session has it from then on
-abbrev pub taken_over : Option Ask → List Own
-taken_over asks = option_to_list (option_map (λ a. record { number = a.number; place = a.place; mode = a.mode; noted = None }) asks)
+-- the ticket that was waited for, as the session has it from then on, with the note of those that it had there
+abbrev pub taken_over : Option Ask → List Own → List Own
+taken_over asks slow =
+    option_to_list (option_map (λ a. record { number = a.number; place = a.place; mode = a.mode; noted = note_at a.place slow }) asks)
 
 -- a granted wait was ended: the session has its ticket
 abbrev pub ended_granted : ℕ → Mine → Mine
 ended_granted slots m =
-    let v = record m.0 { asks = None; told = None; slow = m.0.slow ++ taken_over m.0.asks } in
+    let v = record m.0 { asks = None; told = None; slow = m.0.slow ++ taken_over m.0.asks m.0.slow } in
     (logged (wait_word slots m.0.number) (wait_in m.0.waits 2) m.0.latches v, m.1)
 
 -- a lost wait was ended: its ticket is gone from the record's waiting list

@@ -55,7 +55,7 @@ ending_holds s r id me seat some_number met =
     let was : waits s session ≡ wait_in me.0.waits 2 = (let number = own.number in let state = (own.told 2 met).1 in omega arith) in
     let zero : 8 * me.0.waits ≡ wait_in me.0.waits 0 = omega arith in
     let r₀ : Rule (after_wait s me.0.number (8 * me.0.waits) id (ended_granted (length s.homes) me)) =
-    subst (λ (o : Option Ask). Rule (after_wait s me.0.number (8 * me.0.waits) id (record (ended_granted (length s.homes) me).0 { slow = me.0.slow ++ taken_over o }, me.1))) (sym ask.1)
+    subst (λ (o : Option Ask). Rule (after_wait s me.0.number (8 * me.0.waits) id (record (ended_granted (length s.homes) me).0 { slow = me.0.slow ++ taken_over o me.0.slow }, me.1))) (sym ask.1)
     (taken_rule s r id me seat some_number 2 met refl a ask.1) in
     let r′ : Rule s′ = subst (λ (m : ℕ). Rule (after_wait s me.0.number m id (ended_granted (length s.homes) me))) zero r₀ in (
       a,
