@@ -29,7 +29,7 @@ use Rattle.mdl_steps.proofs.Views.{by_bool, held_at-first, held_at-changed}
 use Rattle.mdl_visits.specs.Leavings.{Learns, knowing}
 use Rattle.mdl_visits.specs.Numbers.{numbered, is_ask_apart}
 use Rattle.mdl_visits.specs.Readings.{Follows}
-use Rattle.mdl_visits.specs.Redefinitions.{AreStepsOf, HasExclusiveAt, IsRefusedFor, MeetsFault, Redefines, redefined_and_put}
+use Rattle.mdl_visits.specs.Redefinitions.{AreStepsOf, HasExclusiveAt, IsNamed, IsRefusedFor, MeetsFault, Redefines, redefined_and_put}
 use Rattle.mdl_visits.specs.Visits.{IsInside, IsStepOf, and_made}
 use Rattle.mdl_visits.proofs.Numbers.{not_waited}
 
@@ -126,7 +126,8 @@ refusal change (Some fault) why told drop = inl (ap Some (sym (same told)))
     same : ◌≡◌ {A = Result ℕ ChangeError} (Err why) (Err fault) → why ≡ fault
     same e = cc
 
-module _ (place : ℕ) (change : Change) (h : Held) (m m′ m″ : Mine) (inside : IsInside place m m′) (has : Holds place h h.book m′) (after : Follows place h.book.standing m) where
+module _ (place : ℕ) (change : Change) (h : Held) (m m′ m″ : Mine) (inside : IsInside place m m′) (has : Holds place h h.book m′) (after : Follows place h.book.standing m)
+    (named : IsNamed place h.book.key m) where
   -- what became of it where it was made
   pub redefines : (made : List Met) (result : Result ℕ ChangeError) → h.place ≡ place → m′ ≡ latched place h (and_made made m)
       → IfOk result (λ version. (version ≡ h.book.standing.version + 1) × (m″ ≡ redefined_and_put place (standing_after change h.book.standing) m′))
@@ -152,6 +153,7 @@ module _ (place : ℕ) (change : Change) (h : Held) (m m′ m″ : Mine) (inside
             stands = held_at-changed place (restood standing) (λ x. refl) m′.0.latches h has.recorded;
           };
           follows = after;
+          named = named;
           learnt = ap (λ (x : Mine). x.0.reads) knows.1;
         },
         (standing, sym done.0, knows),
@@ -165,13 +167,14 @@ module _ (place : ℕ) (change : Change) (h : Held) (m m′ m″ : Mine) (inside
   refused who (Ok version) mine put told drop = tt
   refused who (Err why) mine put told drop = because (refusal change (standing_fault h.book.key.namespace change h.book.standing) why told drop)
     where
-      meets : standing_fault h.book.key.namespace change h.book.standing ≡ Some why → (e : Met) × IsStepOf m m″ e × (met : MeetsFault place who change why e) × Follows place met.latch.book.standing m
+      meets : standing_fault h.book.key.namespace change h.book.standing ≡ Some why → (e : Met) × IsStepOf m m″ e × (met : MeetsFault place who change why e) × Follows place met.latch.book.standing m × IsNamed place met.latch.book.key m
       meets fault =
           let puts : Met = record { word = latch_word place; found = m.0.number; held = inside.latches; directory = m.0.directory } in (
             puts,
             (inside.made, [], ap (λ (x : Mine). x.0.log) (put ∙ ap (unlatched place []) inside.now)),
             record { word = refl; freed = mine; latch = h; held = ap (λ (x : Mine). held_at place x.0.latches) (sym inside.now) ∙ has.recorded; fault = fault },
             after,
+            named,
           )
 
       because : (standing_fault h.book.key.namespace change h.book.standing ≡ Some why) ⊎ ((why ≡ OutOfMemory) × (change ≡ Drop → ⊥)) → IsRefusedFor place who change why m m″

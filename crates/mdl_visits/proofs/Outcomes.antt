@@ -1,5 +1,5 @@
 -- What a search comes to: nobody waits in a cycle, or the victim's wait was settled.
-use Rattle.std.proofs.Common.{◌≡◌, ◌≢◌, ℕ, ◌+◌, ◌*◌, ◌<◌, ◌==◌, ◌&&◌, nat_lt, List, [], ◌∷◌, ◌++◌, refl, sym, ap, ◌∙◌, arith, append-nil}
+use Rattle.std.proofs.Common.{◌≡◌, ◌≢◌, ℕ, ◌+◌, ◌*◌, ◌<◌, ◌==◌, ◌&&◌, nat_lt, List, [], ◌∷◌, ◌++◌, Some, refl, sym, ap, ◌∙◌, arith, append-nil}
 use Rattle.std.specs.Prelude.{◌%◌}
 use Rattle.std.proofs.lemmas.Bool.{and_parts, eq-eqb, eqb-true, false≢true}
 use Rattle.atomic_table.specs.Seated.{TableId}
@@ -16,7 +16,7 @@ use Rattle.mdl_steps.proofs.Views.{by_bool}
 use Rattle.mdl_visits.specs.declared.audited.Audited.{Audited}
 use Rattle.mdl_visits.specs.declared.hearing.Heard.{Heard}
 use Rattle.mdl_visits.specs.Grantings.{StaysTold}
-use Rattle.mdl_visits.specs.Searches.{Fells, Hears, IsOutcome, Judges}
+use Rattle.mdl_visits.specs.Searches.{Fells, Hears, IsOutcome, Judges, KnowsFall}
 use Rattle.mdl_visits.specs.Visits.{GoesOn}
 use Rattle.mdl_visits.proofs.Asking.{step_within}
 use Rattle.mdl_visits.proofs.Words.{all_within, hears_met}
@@ -57,6 +57,17 @@ module _ (slots session number : ℕ) (m m′ : Mine) (lost : m′ ≡ settled_l
         met = record { word = refl; found = refl };
         held = refl;
       }
+
+-- the session's own wait is known to be lost then
+pub knows_lost : (slots session number : ℕ) (m m′ : Mine) → m′ ≡ settled_lost slots session number 3 m → session ≡ m.0.number → m′.0.told ≡ Some 3
+knows_lost slots session number m m′ lost own =
+    let word : (8 * number + 3) % 8 ≡ 3 = omega arith in
+    ap (λ (x : Mine). x.0.told) lost ∙ rw word (rw (eq-eqb session m.0.number own) refl)
+
+-- and it knows that as long as it is told so
+pub knows_on : (who : ℕ) (found : Search) (m m′ : Mine) → m′.0.told ≡ m.0.told → KnowsFall who found m → KnowsFall who found m′
+knows_on who NoCycle m m′ same knows = tt
+knows_on who (Victim victim) m m′ same knows = λ own. same ∙ knows own
 
 -- whichever word was met
 pub hears_settling : (slots session number found : ℕ) (m m′ : Mine) → TellsOwn slots session found m.0 → (found ≡ wait_in number 1 → m′ ≡ settled_lost slots session number 3 m)

@@ -1,6 +1,8 @@
 -- A visit to read what stands at a place.
-use Rattle.std.proofs.Common.{◌≡◌, ℕ, [], ◌∷◌, ◌++◌, Ok, Err, Some, ap, ◌∙◌, refl, sym, append_assoc}
+use Rattle.std.proofs.Common.{◌≡◌, ℕ, [], ◌∷◌, ◌++◌, Ok, Err, Some, ap, ◌∙◌, refl, sym, subst, append_assoc}
 use Rattle.std.specs.Prelude.{IfOk, Result}
+use Rattle.mdl_key.specs.Words.{KeyName}
+use Rattle.mdl_defs.specs.Standings.{MayStand}
 use Rattle.mdl_defs.specs.declared.standing.Standing.{Standing}
 use Rattle.mdl_steps.specs.declared.view.Held.{Held}
 use Rattle.mdl_steps.specs.declared.view.Met.{Met}
@@ -18,7 +20,11 @@ ok_told (Err e) follows told = tt
 
 -- what the holder of a fresh latch is told of what it read and noted
 pub follows : {place : ℕ} {h : Held} {m : Mine} → IsFresh place h m → Follows place h.book.standing m
-follows fresh = record { reads = fresh.reads; noted = fresh.noted }
+follows {place} {h} {m} fresh = record {
+  reads = fresh.reads;
+  fits = λ i k at here. subst (λ (key : KeyName). MayStand key.namespace h.book.standing) (fresh.named i k at here) fresh.stands;
+  noted = fresh.noted;
+}
 
 -- ---- a visit to read
 

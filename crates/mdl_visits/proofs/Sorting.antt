@@ -26,7 +26,7 @@ use Rattle.mdl_visits.specs.Tables.{AreListed, AreTables, IsTable}
 pub key-total : IsTotalOrder key_cmp
 key-total = search (comparing, rules) depth 9
 
-key-ties : (j k : KeyName) → key_eq j k ≡ is_eq (key_cmp j k)
+pub key-ties : (j k : KeyName) → key_eq j k ≡ is_eq (key_cmp j k)
 key-ties = search (comparing, rules) depth 9
 
 other_key : (j k : KeyName) → ((j ≡ k) → ⊥) → key_eq j k ≡ false

@@ -1,8 +1,10 @@
 -- A change of what stands under a key, as the session that makes it meets it: by its exclusive ticket it changes what stands in the book, under the
 -- latch of the place, and writes the word of the version.
 use Rattle.std.specs.Prelude.{◌≡◌, ◌⊎◌, ℕ, ◌+◌, List, ◌∷◌, [], ◌++◌, Option, Some, None, if◌then◌else◌}
+use lib.ListN.{get_elem?}
+use mathlib.Core.Option.{some}
 use Rattle.mdl_key.specs.declared.mode.Mode.TheVariants.{X}
-use Rattle.mdl_key.specs.Words.{same_mode}
+use Rattle.mdl_key.specs.Words.{KeyName, same_mode}
 use Rattle.mdl_defs.specs.declared.change.Change.{Change}
 use Rattle.mdl_defs.specs.declared.change.Change.TheVariants.{Drop}
 use Rattle.mdl_defs.specs.declared.change_error.ChangeError.{ChangeError}
@@ -13,6 +15,7 @@ use Rattle.mdl_calls.specs.declared.space_error.SpaceError.{SpaceError}
 use Rattle.mdl_calls.specs.declared.space_error.SpaceError.TheVariants.{NotHeld, NotExclusive}
 use Rattle.mdl_calls.specs.Reads.{cause_of}
 use Rattle.mdl_steps.specs.declared.view.Held.{Held}
+use Rattle.mdl_steps.specs.declared.view.Known.{Known}
 use Rattle.mdl_steps.specs.declared.view.Met.{Met}
 use Rattle.mdl_steps.specs.declared.view.Own.{Own}
 use Rattle.mdl_steps.specs.Cells.{held_at}
@@ -52,14 +55,19 @@ pub record MeetsChange (place : ℕ) (change : Change) (version : ℕ) (take wri
   pub older : write.found ≡ latch.book.standing.version
   pub stands : held_at place write.held ≡ Some (restood (standing_after change latch.book.standing) latch)
 
--- between the two the session changed what stands at a place to this version, which goes on from what it read and noted there, and it knows what
--- stands there then
+-- this is each key that the session knows to be at a place
+abbrev pub IsNamed : ℕ → KeyName → Mine → Type 0
+IsNamed place key m = (i : ℕ) (k : Known) → get_elem? m.0.known i ≡ some k → k.place ≡ place → key ≡ k.key
+
+-- between the two the session changed what stands at a place to this version, which goes on from what it read and noted there, under the key that it
+-- knows to be there, and it knows what stands there then
 pub record Redefines (place : ℕ) (change : Change) (version : ℕ) (m m′ : Mine) : Type 0 where
   pub take : Met
   pub write : Met
   pub steps : AreStepsOf m m′ take write
   pub meets : MeetsChange place change version take write
   pub follows : Follows place meets.latch.book.standing m
+  pub named : IsNamed place meets.latch.book.key m
   pub learnt : m′.0.reads ≡ m.0.reads ++ record { place = place; standing = standing_after change meets.latch.book.standing } ∷ []
 
 -- a step that gave the latch of a place back, whose record tells why what stood there couldn't be changed so
@@ -74,7 +82,8 @@ pub record MeetsFault (place session : ℕ) (change : Change) (why : ChangeError
 -- memory ran out, which `Drop` doesn't need
 abbrev pub IsRefusedFor : ℕ → ℕ → Change → ChangeError → Mine → Mine → Type 0
 IsRefusedFor place session change why m m′ =
-    ((e : Met) × IsStepOf m m′ e × (met : MeetsFault place session change why e) × Follows place met.latch.book.standing m) ⊎ ((why ≡ OutOfMemory) × (change ≡ Drop → ⊥))
+    ((e : Met) × IsStepOf m m′ e × (met : MeetsFault place session change why e) × Follows place met.latch.book.standing m
+    × IsNamed place met.latch.book.key m) ⊎ ((why ≡ OutOfMemory) × (change ≡ Drop → ⊥))
 
 -- the same in the words of a space
 abbrev pub IsRefusedAs : ℕ → ℕ → Change → SpaceError → Mine → Mine → Type 0

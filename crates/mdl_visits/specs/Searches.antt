@@ -68,6 +68,11 @@ IsOutcome slots who latches audited words m m′ NoCycle =
 IsOutcome slots who latches audited words m m′ (Victim victim) =
     (victim_in (settled_by words) (books_of audited) who ≡ Some victim) × Fells slots victim latches m m′
 
+-- a session whose own wait was settled as the victim's knows that
+abbrev pub KnowsFall : ℕ → Search → Mine → Type 0
+KnowsFall who NoCycle m = Unit {0}
+KnowsFall who (Victim victim) m = victim ≡ who → m.0.told ≡ Some 3
+
 -- that came of the words of all sessions, as steps between the two met them, while the session had just these latches, and of these books
 pub record Judges (id : TableId) (who : ℕ) (latches : List Held) (audited : List Audited) (found : Search) (m m′ : Mine) : Type 0 where
   pub words : List Heard

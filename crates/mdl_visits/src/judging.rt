@@ -1,11 +1,11 @@
 //! A session that has all latches looks for a deadlock that it waits in, and settles the victim's wait.
-ghost use Rattle.std.specs.Prelude.{◌≡◌, true, false, All, IfOk, OnErr, MatchOption};
+ghost use Rattle.std.specs.Prelude.{◌≡◌, Some, true, false, All, IfOk, IfSome, OnErr, MatchOption};
 ghost use Rattle.mdl_book.specs.SessionSets.{is_session};
 ghost use Rattle.mdl_steps.specs.Seats.{IsSized};
 ghost use Rattle.mdl_steps.specs.WaitSeats.{IsSession};
 ghost use Rattle.mdl_visits.specs.declared.hearing.Heard.{Heard};
 ghost use Rattle.mdl_visits.specs.Polls.{SettlesNothing};
-ghost use Rattle.mdl_visits.specs.Searches.{Fells, Hears, Judges};
+ghost use Rattle.mdl_visits.specs.Searches.{Fells, Hears, Judges, KnowsFall};
 
 use crate::Audited;
 use crate::hearing::{Heard, hear_all};
@@ -29,6 +29,7 @@ pub(crate) fn judge<R: Wait>(
     ensures hears { Hears worker.old.seat.me worker.new.seat.me }
     ensures judged { IfOk result (λ found. Judges table.now.shared.table_id worker.old.number worker.old.seat.me.0.latches audited.now found
         worker.old.seat.me worker.new.seat.me) }
+    ensures own { IfOk result (λ found. KnowsFall worker.old.number found worker.new.seat.me) }
     ensures nothing { OnErr result (SettlesNothing worker.old.seat.me worker.new.seat.me) }
 {
     for _ in rt.forever() {
@@ -51,6 +52,7 @@ fn judge_once(
     ensures hears { Hears worker.old.seat.me worker.new.seat.me }
     ensures judged { IfOk result (λ tried. MatchOption tried (SettlesNothing worker.old.seat.me worker.new.seat.me)
         (λ found. Judges table.now.shared.table_id worker.old.number worker.old.seat.me.0.latches audited.now found worker.old.seat.me worker.new.seat.me)) }
+    ensures own { IfOk result (λ tried. IfSome tried (λ found. KnowsFall worker.old.number found worker.new.seat.me)) }
     ensures nothing { OnErr result (SettlesNothing worker.old.seat.me worker.new.seat.me) }
 {
     let mut words = Vec::new(alloc);
@@ -68,6 +70,7 @@ fn fell(worker: &mut Worker, table: &OwnedTable, victim: u16, words: &[Heard]) -
     requires sessions { All (λ (h : Heard). IsSession table.now.shared.table_id h.session × (is_session h.session ≡ true)) words.now }
     ensures seat { (worker.new.seat.table_id ≡ worker.old.seat.table_id) × (worker.new.number ≡ worker.old.number) }
     ensures hears { Hears worker.old.seat.me worker.new.seat.me }
+    ensures own { result ≡ true → victim ≡ worker.old.number → worker.new.seat.me.0.told ≡ Some 3 }
     ensures felled { result ≡ true → Fells table.now.shared.table_id.slots victim worker.old.seat.me.0.latches worker.old.seat.me worker.new.seat.me }
     ensures missed { result ≡ false → SettlesNothing worker.old.seat.me worker.new.seat.me }
 {
@@ -85,6 +88,7 @@ fn settle(worker: &mut Worker, table: &OwnedTable, heard: Heard) -> bool
     requires session { IsSession table.now.shared.table_id heard.session }
     ensures seat { (worker.new.seat.table_id ≡ worker.old.seat.table_id) × (worker.new.number ≡ worker.old.number) }
     ensures hears { Hears worker.old.seat.me worker.new.seat.me }
+    ensures own { result ≡ true → heard.session ≡ worker.old.number → worker.new.seat.me.0.told ≡ Some 3 }
     ensures felled { result ≡ true → Fells table.now.shared.table_id.slots heard.session worker.old.seat.me.0.latches worker.old.seat.me worker.new.seat.me }
     ensures missed { result ≡ false → SettlesNothing worker.old.seat.me worker.new.seat.me }
 {

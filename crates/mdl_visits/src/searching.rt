@@ -6,7 +6,7 @@ ghost use Rattle.mdl_steps.specs.Seats.{IsSized, IsRising};
 ghost use Rattle.mdl_visits.specs.Idle.{IsIdle};
 ghost use Rattle.mdl_visits.specs.Lookups.{TookDirectory};
 ghost use Rattle.mdl_visits.specs.Polls.{SettlesNothing};
-ghost use Rattle.mdl_visits.specs.Searches.{Hears, Listens, Searched, Searches};
+ghost use Rattle.mdl_visits.specs.Searches.{Hears, KnowsFall, Listens, Searched, Searches};
 
 use crate::Audited;
 use crate::directories::await_directory;
@@ -33,6 +33,7 @@ pub fn search_all<R: Wait>(
     ensures hears { Listens worker.old.seat.me worker.new.seat.me }
     ensures searched { (k : Keys) × TookDirectory table.now.shared.table_id.slots k k worker.old.seat.me worker.new.seat.me
         × IfOk result (λ found. Searched table.now.shared.table_id worker.old.number k found worker.old.seat.me worker.new.seat.me) }
+    ensures own { IfOk result (λ found. KnowsFall worker.old.number found worker.new.seat.me) }
     ensures nothing { OnErr result (SettlesNothing worker.old.seat.me worker.new.seat.me) }
 {
     let directory = await_directory(rt, worker, &table.shared);
@@ -59,6 +60,7 @@ fn search_from<R: Wait>(
     ensures hears { Hears worker.old.seat.me worker.new.seat.me }
     ensures searched { IfOk result (λ found. Searches table.now.shared.table_id worker.old.number place last audited.old.items audited.new.items found
         worker.old.seat.me worker.new.seat.me) }
+    ensures own { IfOk result (λ found. KnowsFall worker.old.number found worker.new.seat.me) }
     ensures nothing { OnErr result (SettlesNothing worker.old.seat.me worker.new.seat.me) }
 {
     if place > last {

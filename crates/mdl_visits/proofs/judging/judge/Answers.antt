@@ -1,11 +1,11 @@
 -- What was found at last is what comes of it.
 use Rattle.std.proofs.Common.{ℕ, List, Option, refl, subst}
-use Rattle.std.specs.Prelude.{MatchOption}
+use Rattle.std.specs.Prelude.{IfSome, MatchOption}
 use Rattle.mdl_calls.specs.declared.answers.Search.{Search}
 use Rattle.mdl_steps.specs.declared.view.Held.{Held}
 use Rattle.mdl_steps.specs.Plays.{Mine}
 use Rattle.mdl_visits.specs.Polls.{SettlesNothing}
-use Rattle.mdl_visits.specs.Searches.{Judges}
+use Rattle.mdl_visits.specs.Searches.{Judges, KnowsFall}
 use Rattle.mdl_visits.proofs.Asking.{goes_nowhere}
 use Rattle.mdl_visits.proofs.Outcomes.{judges_within}
 use Rattle.mdl_visits.proofs.Words.{goes_hearing, hears_none, same_latches}
@@ -29,3 +29,11 @@ returns-in-Some-2-clause-judged g c =
     let mine = subst (λ (n : ℕ). Judges id n m′.0.latches audited found m′ m″) inv.number here in
     let latched = subst (λ (latches : List Held). Judges id c.args.worker.now.number latches audited found m′ m″) (same_latches m m′ inv.hears) mine in
     judges_within id c.args.worker.now.number m.0.latches audited found m m′ m″ m″ (goes_hearing m m′ inv.hears) inv.settles (goes_nowhere m″) refl latched
+
+pub returns-in-Some-2-clause-own : goal.returns-in-Some-2-clause-own
+returns-in-Some-2-clause-own g c =
+    let found = c.in-Some-2.found in
+    let m″ : Mine = c.judge_once.new.worker.seat.me in
+    let here : KnowsFall c.loop.worker.number found m″ =
+    subst (λ (o : Option Search). IfSome o (λ f. KnowsFall c.loop.worker.number f m″)) c.in-Some-2.is c.in_ok-found.ensures.own in
+    subst (λ (n : ℕ). KnowsFall n found m″) c.loop.invariant.number here

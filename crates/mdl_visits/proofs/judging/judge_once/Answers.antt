@@ -40,3 +40,6 @@ returns-in-Some-clause-judged c =
         fells_within slots who m.0.latches audited words m m′ m″ m″ (goes_hearing m m′ heard.hears) heard.settles (goes_nowhere m″) refl victim fells,
       );
     }
+
+pub returns-in-Some-clause-own : goal.returns-in-Some-clause-own
+returns-in-Some-clause-own c = λ own. c.fell.ensures.own c.if-fell.true (own ∙ sym c.in_ok-hear_all.ensures.seat.1)

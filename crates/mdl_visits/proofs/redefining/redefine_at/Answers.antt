@@ -36,7 +36,7 @@ returns-clause-changed g c =
     let has = subst (λ (q : ℕ). Holds q h h.book came) (sym latch.ensures.place) taken.2 in
     let done = subst (λ (q : ℕ). IfOk c.redefine.result (λ version. (version ≡ h.book.standing.version + 1) × (went ≡ redefined_and_put q (standing_after change h.book.standing) came))) latch.ensures.place
     (c.redefine.ensures.changed h has) in
-    redefines place change h c.args.worker.now.seat.me came went latch.ensures.inside taken.2 (follows taken.1) taken.3.0 c.redefine.result taken.1.here taken.3.1 done (c.redefine.ensures.refused h has)
+    redefines place change h c.args.worker.now.seat.me came went latch.ensures.inside taken.2 (follows taken.1) taken.1.named taken.3.0 c.redefine.result taken.1.here taken.3.1 done (c.redefine.ensures.refused h has)
 
 pub returns-clause-unchanged : goal.returns-clause-unchanged
 returns-clause-unchanged g c =
@@ -57,4 +57,4 @@ returns-clause-refused g c =
     let went : Mine = c.redefine.new.worker.seat.me in
     let has = subst (λ (q : ℕ). Holds q h h.book came) (sym latch.ensures.place) taken.2 in
     let put = subst (λ (q : ℕ). OnErr c.redefine.result (went ≡ unlatched q [] came)) latch.ensures.place c.redefine.ensures.unchanged in
-    refused place c.args.change.now h worker.seat.me came went latch.ensures.inside taken.2 (follows taken.1) worker.number c.redefine.result worker.numbered.0 put (c.redefine.ensures.refused h has) (c.redefine.ensures.drop h has)
+    refused place c.args.change.now h worker.seat.me came went latch.ensures.inside taken.2 (follows taken.1) taken.1.named worker.number c.redefine.result worker.numbered.0 put (c.redefine.ensures.refused h has) (c.redefine.ensures.drop h has)

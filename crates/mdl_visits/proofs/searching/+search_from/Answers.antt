@@ -1,15 +1,16 @@
 -- Each book is copied under its latch, whose record stays until the latches of the places behind it are given back.
-use Rattle.std.proofs.Common.{◌≡◌, ℕ, ◌+◌, List, [], Some, sym, ◌∙◌, subst, arith, rules}
+use Rattle.std.proofs.Common.{◌≡◌, ℕ, ◌+◌, List, [], Some, sym, ap, ◌∙◌, subst, arith, rules}
 use Rattle.std.specs.Prelude.{IfOk}
 use Rattle.std.proofs.lemmas.Result.{IfOk-weaker}
 use Rattle.mdl_steps.specs.Cells.{held_at}
 use Rattle.mdl_steps.specs.Plays.{Mine}
 use Rattle.mdl_steps.specs.Seats.{Holds, MayPut}
 use Rattle.mdl_visits.specs.declared.audited.Audited.{Audited}
-use Rattle.mdl_visits.specs.Searches.{Judges, Searches}
+use Rattle.mdl_visits.specs.Searches.{Judges, KnowsFall, Searches}
 use Rattle.mdl_visits.specs.Visits.{IsInside}
 use Rattle.mdl_visits.proofs.Gathering.{makes_same, may_put, rising_next, unlatched_at}
 use Rattle.mdl_visits.proofs.Holding.{back_heard, searches_more, searches_none}
+use Rattle.mdl_visits.proofs.Outcomes.{knows_on}
 use Rattle.mdl_visits.proofs.Words.{hears_none}
 use Rattle.mdl_visits.proofs.searching.+search_from.Goals as goal
 
@@ -93,3 +94,12 @@ returns-clause-searched g t c =
     latch.result.place c.args.audited.now.items c.add_book.new.audited.items c.search_from-outcome.new.audited.items at
     (subst (λ (x : Mine). held_at c.args.place x.0.latches ≡ Some h) (sym {A = Mine} same) taken.2.recorded) added more)
     mine
+
+pub returns-clause-own : goal.returns-clause-own
+returns-clause-own g t c =
+    let latch = c.await_latch-latch in
+    let searched : Mine = c.search_from-outcome.new.worker.seat.me in
+    let went : Mine = c.put_latch-2.new.self.seat.me in
+    let mine = subst (λ (n : ℕ). IfOk c.search_from-outcome.result (λ found. KnowsFall n found searched)) (c.add_book.ensures.seat.1 ∙ latch.ensures.seat.1) c.search_from-outcome.ensures.own in
+    IfOk-weaker c.search_from-outcome.result _ _
+    (λ found knows. knows_on c.args.worker.now.number found searched went (ap (λ (m : Mine). m.0.told) c.put_latch-2.ensures.made) knows) mine

@@ -1,14 +1,15 @@
 -- All of it happens while the directory's latch is held, by the keys that its record has.
-use Rattle.std.proofs.Common.{ℕ, List, sym, ◌∙◌, subst}
+use Rattle.std.proofs.Common.{ℕ, List, sym, ap, ◌∙◌, subst}
 use Rattle.std.specs.Prelude.{IfOk}
 use Rattle.std.proofs.lemmas.Result.{IfOk-weaker}
 use Rattle.mdl_steps.specs.Plays.{Mine}
 use Rattle.mdl_steps.specs.Seats.{HasDirectory}
 use Rattle.mdl_visits.specs.declared.audited.Audited.{Audited}
-use Rattle.mdl_visits.specs.Searches.{Searches}
+use Rattle.mdl_visits.specs.Searches.{KnowsFall, Searches}
 use Rattle.mdl_visits.specs.Visits.{and_made}
 use Rattle.mdl_visits.proofs.Holding.{searched, took_heard}
 use Rattle.mdl_visits.proofs.Lookups.{has_taken}
+use Rattle.mdl_visits.proofs.Outcomes.{knows_on}
 use Rattle.mdl_visits.proofs.searching.search_all.Goals as goal
 
 pub returns-clause-searched : goal.returns-clause-searched
@@ -35,3 +36,12 @@ returns-clause-searched g c =
       took_heard id k taken.0 m counted looked then hears went put c.requires.idle taken.2 taken.4,
       IfOk-weaker result _ _ (λ found more. searched id k taken.0 m counted looked then hears went put c.requires.idle taken.2 who c.key_count-last.result audited found count more) empty,
     )
+
+pub returns-clause-own : goal.returns-clause-own
+returns-clause-own g c =
+    let looked : Mine = c.search_from-outcome.new.worker.seat.me in
+    let went : Mine = c.put_directory.new.self.seat.me in
+    let mine = subst (λ (n : ℕ). IfOk c.search_from-outcome.result (λ found. KnowsFall n found looked)) (c.key_count-last.ensures.seat.1 ∙ c.await_directory-directory.ensures.seat.1)
+    c.search_from-outcome.ensures.own in
+    IfOk-weaker c.search_from-outcome.result _ _
+    (λ found knows. knows_on c.args.worker.now.number found looked went (ap (λ (m : Mine). m.0.told) c.put_directory.ensures.made) knows) mine
