@@ -37,7 +37,7 @@ lost_so a settled.Timeout ended tickets is = (cc, refl)
 lost_so a settled.Killed ended tickets is = (cc, refl)
 
 pub granted_so : (a : Ask) (how : Settled) (tickets : List Own) → lost_end how ≡ None
-    → (state_of how ≡ 2) × (ended_as.Granted a.number ≡ end_of a.number how) × (tickets ++ ticket_asked a ∷ [] ≡ tickets_after a how tickets)
+    → (state_of how ≡ 2) × (ended_as.Granted a.number ≡ end_of a.number how) × (tickets ++ ticket_asked a tickets ∷ [] ≡ tickets_after a how tickets)
 granted_so a settled.Granted tickets is = (refl, refl, refl)
 granted_so a settled.Victim tickets is = absurd (cc)
 granted_so a settled.Timeout tickets is = absurd (cc)

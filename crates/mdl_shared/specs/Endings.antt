@@ -7,15 +7,16 @@ use Rattle.mdl_calls.specs.declared.answers.Settled.{Settled}
 use Rattle.mdl_calls.specs.declared.answers.Settled.TheVariants as settled
 use Rattle.mdl_steps.specs.declared.view.Ask.{Ask}
 use Rattle.mdl_steps.specs.declared.view.Own.{Own}
+use Rattle.mdl_steps.specs.Cells.{note_at}
 use Rattle.mdl_steps.specs.Plays.{Mine}
 use Rattle.mdl_shared.specs.declared.member.Member.{Member}
 use Rattle.mdl_visits.specs.Grantings.{MadeWay}
 use Rattle.mdl_visits.specs.Polls.{SettlesNothing}
 use Rattle.mdl_visits.specs.WaitEndings.{without_wait}
 
--- the ticket that was waited for, as the session has it
-abbrev pub ticket_asked : Ask → Own
-ticket_asked a = record { number = a.number; place = a.place; mode = a.mode; noted = None }
+-- the ticket that was waited for, as the session has it beside these tickets
+abbrev pub ticket_asked : Ask → List Own → Own
+ticket_asked a tickets = record { number = a.number; place = a.place; mode = a.mode; noted = note_at a.place tickets }
 
 -- it has no wait from then on, and holds these tickets
 pub record EndsWith (tickets : List Own) (m m′ : Member) : Type 0 where
@@ -40,7 +41,7 @@ end_of id settled.Killed = ended.Killed
 
 -- the tickets that are held once it has
 abbrev pub tickets_after : Ask → Settled → List Own → List Own
-tickets_after a settled.Granted tickets = tickets ++ ticket_asked a ∷ []
+tickets_after a settled.Granted tickets = tickets ++ ticket_asked a tickets ∷ []
 tickets_after a _ tickets = tickets
 
 -- the end of a wait at a place settled no wait where it was granted. Where it was lost, way was made there without it

@@ -20,5 +20,7 @@ pub mod Members
 pub mod Modes
 pub mod OwnLists
 pub mod Passes
+pub mod Rememberings
+pub mod SessionViews
 pub mod Upgrades
 pub mod Waitings

@@ -1,5 +1,5 @@
 -- What a session keeps of its own between two calls.
-use Rattle.std.specs.Prelude.{◌≡◌, ◌++◌, ◌∷◌, [], ℕ, ◌^◌, Bool, ◌==◌, ◌&&◌, not, nat_le, nat_lt, List, Option, Some, None, find, filter, is_some, if◌then◌else◌}
+use Rattle.std.specs.Prelude.{◌≡◌, ◌++◌, ◌∷◌, [], ℕ, ◌^◌, Bool, true, false, ◌==◌, ◌&&◌, not, nat_le, nat_lt, List, All, Option, Some, None, find, filter, is_some, if◌then◌else◌}
 use Rattle.std.specs.List.{list_all, list_any}
 use Rattle.std.specs.Option.{option_map}
 use Rattle.mdl_key.specs.declared.mode.Mode.{Mode}
@@ -11,6 +11,7 @@ use Rattle.mdl_steps.specs.declared.view.Ask.{Ask}
 use Rattle.mdl_steps.specs.declared.view.Known.{Known}
 use Rattle.mdl_steps.specs.declared.view.Own.{Own}
 use Rattle.mdl_steps.specs.Deeds.{is_own}
+use Rattle.mdl_shared.specs.OwnLists.{key_known}
 use Rattle.mdl_visits.specs.Numbers.{numbered}
 
 -- a session's tickets have numbers below this
@@ -53,10 +54,23 @@ wish_fault (Some kind) asks mode next =
 abbrev pub place_known : KeyName → List Known → Option ℕ
 place_known key known = option_map (λ (k : Known). k.place) (find (λ (k : Known). key_eq k.key key) known)
 
--- a key is at this place by what the session knew of it, or was looked up and is the last that it knows
+-- a key is at this place by what the session knew of it, or was looked up and is the last that it knows, at a place that it didn't know
 abbrev pub LearnsPlace : KeyName → ℕ → Option ℕ → List Known → List Known → Type 0
 LearnsPlace key place (Some known) before after = (place ≡ known) × (after ≡ before)
-LearnsPlace key place None before after = after ≡ before ++ record { key = key; place = place } ∷ []
+LearnsPlace key place None before after = (is_known_place before place ≡ false) × (after ≡ before ++ record { key = key; place = place } ∷ [])
+
+-- whether two keys differ, and their places
+abbrev pub are_two : Known → Known → Bool
+are_two one other = not (key_eq one.key other.key) && not (one.place == other.place)
+
+-- whether no key is looked up twice, and no place
+abbrev pub are_apart : List Known → Bool
+are_apart [] = true
+are_apart (k ∷ later) = list_all (are_two k) later && are_apart later
+
+-- each of these keys is known at its place
+abbrev pub AreLearnt : List Known → List Known → Type 0
+AreLearnt tables known = All (λ (t : Known). key_known t.place known ≡ Some t.key) tables
 
 -- a ticket with a version noted under it, where it is at the place
 abbrev pub noting_at : ℕ → ℕ → Own → Own

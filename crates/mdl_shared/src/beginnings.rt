@@ -4,6 +4,7 @@ ghost use Rattle.std.specs.Arc.{arc_value};
 ghost use Rattle.mdl_key.specs.Words.{is_mode_of};
 ghost use Rattle.mdl_calls.specs.declared.answers.Begun.TheVariants.{Granted, Waiting};
 ghost use Rattle.mdl_calls.specs.declared.space_error.SpaceError.TheVariants as cause;
+ghost use Rattle.mdl_steps.specs.Cells.{note_at};
 ghost use Rattle.mdl_steps.specs.declared.view.Met.{Met};
 ghost use Rattle.mdl_shared.specs.Beginnings.{Begins};
 ghost use Rattle.mdl_visits.specs.WaitOpenings.{MeetsOpening};
@@ -42,7 +43,7 @@ impl Member {
         ensures reads { ReadsNothing self.old.worker.seat.me self.new.worker.seat.me }
         ensures settles { SettlesNothing self.old.worker.seat.me self.new.worker.seat.me }
         ensures granted { (id : ℕ) → result ≡ Ok (Granted id) → KeepsWait self.old self.new × (id ≡ self.old.next)
-            × (self.new.tickets.items ≡ self.old.tickets.items ++ record { number = id; place = place; mode = mode; noted = None } ∷ [])
+            × (self.new.tickets.items ≡ self.old.tickets.items ++ record { number = id; place = place; mode = mode; noted = note_at place self.old.tickets.items } ∷ [])
             × ((e : Met) × IsStepOf self.old.worker.seat.me self.new.worker.seat.me e × MeetsGrantable place self.old.worker.number mode e) }
         ensures next { (id : ℕ) → result ≡ Ok (Granted id) → self.new.next ≡ id + 1 }
         ensures waiting { (number : ℕ) → result ≡ Ok (Waiting number) → (number ≡ self.old.waits + 1) × Begins place mode self.old self.new
@@ -53,6 +54,7 @@ impl Member {
         ensures refused { IfErr result (λ why. (why ≡ cause.OutOfMemory)
             ⊎ ((why ≡ cause.Full) × ((e : Met) × IsStepOf self.old.worker.seat.me self.new.worker.seat.me e × MeetsFull place e))) }
     {
+        let noted = self.note_at(place);
         if self.tickets.reserve(1).is_err() {
             return Err(SpaceError::OutOfMemory);
         }
@@ -75,7 +77,7 @@ impl Member {
                     number,
                     place,
                     mode,
-                    noted: None,
+                    noted,
                 });
                 self.next += 1;
                 Ok(Begun::Granted(number))
@@ -105,7 +107,7 @@ impl<R: Wait> Session<R> {
         ensures reads { ReadsNothing self.old.member.worker.seat.me self.new.member.worker.seat.me }
         ensures settles { SettlesNothing self.old.member.worker.seat.me self.new.member.worker.seat.me }
         ensures granted { (id : ℕ) → result ≡ Ok (Granted id) → KeepsWait self.old.member self.new.member × (id ≡ self.old.member.next)
-            × (self.new.member.tickets.items ≡ self.old.member.tickets.items ++ record { number = id; place = place; mode = mode; noted = None } ∷ [])
+            × (self.new.member.tickets.items ≡ self.old.member.tickets.items ++ record { number = id; place = place; mode = mode; noted = note_at place self.old.member.tickets.items } ∷ [])
             × ((e : Met) × IsStepOf self.old.member.worker.seat.me self.new.member.worker.seat.me e × MeetsGrantable place self.old.member.worker.number mode e) }
         ensures next { (id : ℕ) → result ≡ Ok (Granted id) → self.new.member.next ≡ id + 1 }
         ensures waiting { (number : ℕ) → result ≡ Ok (Waiting number) → (number ≡ self.old.member.waits + 1) × Begins place mode self.old.member self.new.member

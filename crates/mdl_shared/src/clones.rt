@@ -1,6 +1,7 @@
 //! A second ticket is made of one.
 ghost use Rattle.std.specs.Prelude.{◌≡◌, ◌⊎◌, ◌+◌, ◌<◌, ◌++◌, ◌∷◌, [], Some, None, Err, IfOk, IfErr, IfSome, OnErr, true};
 ghost use Rattle.mdl_calls.specs.declared.space_error.SpaceError.TheVariants as cause;
+ghost use Rattle.mdl_steps.specs.Cells.{note_at};
 ghost use Rattle.mdl_steps.specs.declared.view.Met.{Met};
 ghost use Rattle.mdl_steps.specs.declared.view.Own.{Own};
 ghost use Rattle.mdl_shared.specs.Keepings.{KeepsWait};
@@ -35,12 +36,13 @@ impl Member {
         ensures wait { KeepsWait self.old self.new }
         ensures reads { ReadsNothing self.old.worker.seat.me self.new.worker.seat.me }
         ensures doubled { IfOk result (λ id. (id ≡ self.old.next) × (self.new.next ≡ id + 1)
-            × (self.new.tickets.items ≡ self.old.tickets.items ++ record { number = id; place = held.place; mode = mode; noted = None } ∷ [])
+            × (self.new.tickets.items ≡ self.old.tickets.items ++ record { number = id; place = held.place; mode = mode; noted = note_at held.place self.old.tickets.items } ∷ [])
             × ((e : Met) × IsStepOf self.old.worker.seat.me self.new.worker.seat.me e × MeetsOwn held.place self.old.worker.number held.number e)) }
         ensures unchanged { OnErr result ((self.new.tickets.items ≡ self.old.tickets.items) × (self.new.next ≡ self.old.next)) }
         ensures refused { IfErr result (λ why. (why ≡ cause.OutOfMemory)
             ⊎ ((why ≡ cause.Full) × ((e : Met) × IsStepOf self.old.worker.seat.me self.new.worker.seat.me e × MeetsFull held.place e))) }
     {
+        let noted = self.note_at(held.place);
         if self.tickets.reserve(1).is_err() {
             return Err(SpaceError::OutOfMemory);
         }
@@ -51,7 +53,7 @@ impl Member {
                     number,
                     place: held.place,
                     mode,
-                    noted: None,
+                    noted,
                 });
                 self.next += 1;
                 Ok(number)
@@ -71,7 +73,7 @@ impl<R: Wait> Session<R> {
         ensures reads { ReadsNothing self.old.member.worker.seat.me self.new.member.worker.seat.me }
         ensures cloned { IfOk result (λ new. (new ≡ self.old.member.next) × (self.new.member.next ≡ new + 1)
             × ((t : Own) × (numbered id self.old.member.tickets.items ≡ Some t)
-            × (self.new.member.tickets.items ≡ self.old.member.tickets.items ++ record { number = new; place = t.place; mode = mode; noted = None } ∷ [])
+            × (self.new.member.tickets.items ≡ self.old.member.tickets.items ++ record { number = new; place = t.place; mode = mode; noted = note_at t.place self.old.member.tickets.items } ∷ [])
             × ((e : Met) × IsStepOf self.old.member.worker.seat.me self.new.member.worker.seat.me e × MeetsOwn t.place self.old.member.worker.number id e))) }
         ensures unchanged { OnErr result ((self.new.member.tickets.items ≡ self.old.member.tickets.items) × (self.new.member.next ≡ self.old.member.next)) }
         ensures unfit { IfSome (clone_fault (numbered id self.old.member.tickets.items) self.old.member.asks mode self.old.member.known.items self.old.member.next) (λ why. result ≡ Err why) }

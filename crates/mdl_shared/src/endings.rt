@@ -43,16 +43,17 @@ impl Member {
         ensures reads { ReadsNothing self.old.worker.seat.me self.new.worker.seat.me }
         ensures settles { SettlesNothing self.old.worker.seat.me self.new.worker.seat.me }
         ensures goes { GoesOn self.old.worker.seat.me self.new.worker.seat.me }
-        ensures ended { EndsWith (self.old.tickets.items ++ ticket_asked ask ∷ []) self.old self.new }
+        ensures ended { EndsWith (self.old.tickets.items ++ ticket_asked ask self.old.tickets.items ∷ []) self.old self.new }
     {
         let slots = self.table.slot_count();
+        let noted = self.note_at(ask.place);
         self.worker
             .end_granted(&self.table.shared, slots, self.waits);
         self.tickets.push_reserved(Own {
             number: ask.number,
             place: ask.place,
             mode: ask.mode,
-            noted: None,
+            noted,
         });
         self.asks = None;
     }

@@ -1,6 +1,8 @@
 //! A session's own list of its tickets.
-ghost use Rattle.std.specs.Prelude.{◌≡◌, ◌≤◌, IfSome};
+ghost use Rattle.std.specs.Prelude.{◌≡◌, ◌≤◌, ◌==◌, IfSome, find};
 ghost use Rattle.std.specs.Vec.{vec_capacity, vec_len};
+ghost use Rattle.mdl_steps.specs.declared.view.Own.{Own};
+ghost use Rattle.mdl_steps.specs.Cells.{note_at};
 ghost use Rattle.mdl_visits.specs.Numbers.{numbered};
 ghost use Rattle.mdl_shared.specs.Modes.{in_mode_at, in_mode_if, is_fit};
 
@@ -20,6 +22,23 @@ impl Member {
             .iter()
             .copied()
             .find(|ticket| ticket.number == id)
+    }
+
+    // The first of the session's tickets at a place.
+    fn first_at(&self, place: usize) -> Option<Own>
+        ensures { result ≡ find (λ (t : Own). t.place == place) self.now.tickets.items }
+    {
+        self.tickets
+            .iter()
+            .copied()
+            .find(|ticket| ticket.place == place)
+    }
+
+    /// The version that is noted at a place, under the first of the session's tickets there.
+    pub(crate) fn note_at(&self, place: usize) -> Option<u64>
+        ensures { result ≡ note_at place self.now.tickets.items }
+    {
+        self.first_at(place).and_then(|ticket| ticket.noted)
     }
 
     /// Whether the session has looked up the key of a place, and the mode is one of its kind.

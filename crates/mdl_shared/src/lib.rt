@@ -44,6 +44,7 @@ mod clones;
 mod downgrades;
 mod endings;
 mod holdings;
+mod lock_space;
 mod manager;
 mod member;
 mod merges;

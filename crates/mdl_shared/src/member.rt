@@ -7,8 +7,9 @@ ghost use Rattle.mdl_steps.specs.Layout.{word_count};
 ghost use Rattle.mdl_steps.specs.Plays.{logged};
 ghost use Rattle.mdl_steps.specs.Seats.{IsSized};
 ghost use Rattle.mdl_visits.specs.Idle.{IsIdle, HasSlowAlone};
-ghost use Rattle.mdl_shared.specs.Members.{are_placed, are_within, most_numbers};
-ghost use Rattle.mdl_shared.specs.Waitings.{are_below, is_ask_placed};
+ghost use Rattle.mdl_shared.specs.Members.{are_apart, are_placed, are_within, most_numbers};
+ghost use Rattle.mdl_shared.specs.Rememberings.{Remembers};
+ghost use Rattle.mdl_shared.specs.Waitings.{are_below, are_rising, is_ask_last, is_ask_placed, is_ask_told};
 ghost use Rattle.mdl_visits.specs.Numbers.{is_ask_apart};
 
 use mdl_steps::{Ask, Known, Own, OwnedTable, Worker};
@@ -49,6 +50,11 @@ pub(crate) struct Member {
     ghost below: { are_below next tickets.items ≡ true },
     ghost room: { is_some asks ≡ true → vec_len tickets < vec_capacity tickets },
     ghost apart: { is_ask_apart next tickets.items asks ≡ true },
+    ghost rising: { are_rising tickets.items ≡ true },
+    ghost last: { is_ask_last next asks ≡ true },
+    ghost settled: { is_ask_told asks worker.seat.me.0.told ≡ true },
+    ghost keys_apart: { are_apart known.items ≡ true },
+    ghost remembers: { ∥ Remembers known.items tickets.items worker.seat.me.0.reads ∥₁ },
     ghost fewer: { (waits < next) × (waits < most_numbers) },
     ghost enrolled: { worker.number ≤ sessions },
     ghost words: { (arc_value table).shared.table_id.words ≡ word_count (arc_value table).shared.table_id.slots sessions },

@@ -1,12 +1,12 @@
 //! The places of keys, as a session looks them up.
-ghost use Rattle.std.specs.Prelude.{◌≡◌, ◌⊎◌, ℕ, ◌<◌, ◌++◌, ◌∷◌, [], Ok, Err, None, Some, IfOk, IfErr, OnErr};
+ghost use Rattle.std.specs.Prelude.{◌≡◌, ◌⊎◌, ℕ, ◌<◌, ◌++◌, ◌∷◌, [], Ok, Err, None, Some, false, IfOk, IfErr, OnErr};
 ghost use Rattle.std.specs.Arc.{arc_value};
 ghost use Rattle.mdl_calls.specs.declared.space_error.SpaceError.TheVariants as cause;
 ghost use Rattle.mdl_steps.specs.declared.view.Keys.{Keys};
 ghost use Rattle.mdl_visits.specs.declared.resolve_error.ResolveError.TheVariants.{NoPlace, OutOfMemory};
 ghost use Rattle.mdl_shared.specs.Keepings.{KeepsWait};
 ghost use Rattle.mdl_visits.specs.Lookups.{TookDirectory, IsAnswer};
-ghost use Rattle.mdl_shared.specs.Members.{LearnsPlace, place_known};
+ghost use Rattle.mdl_shared.specs.Members.{LearnsPlace, is_known_place, place_known};
 ghost use Rattle.mdl_visits.specs.Readings.{ReadsNothing};
 
 use crate::Session;
@@ -30,10 +30,12 @@ impl Member {
 
     // Looks a key up in the directory. All that takes memory of its own is done before.
     fn look_up<R: Wait>(&mut self, rt: &R, key: &Key) -> Result<usize, ResolveError>
+        requires unknown { place_known key.now self.old.known.items ≡ None }
         ensures same { (self.new.table ≡ self.old.table) × (self.new.worker.number ≡ self.old.worker.number) × (self.new.next ≡ self.old.next) × (self.new.tickets.items ≡ self.old.tickets.items) }
         ensures wait { KeepsWait self.old self.new }
         ensures reads { ReadsNothing self.old.worker.seat.me self.new.worker.seat.me }
         ensures known { IfOk result (λ place. (0 < place) × (place < (arc_value self.old.table).shared.table_id.slots)
+            × (is_known_place self.old.known.items place ≡ false)
             × (self.new.known.items ≡ self.old.known.items ++ record { key = key.now; place = place } ∷ [])) }
         ensures unchanged { OnErr result (self.new.known.items ≡ self.old.known.items) }
         ensures answer { IfOk result (λ place. (k left : Keys) × TookDirectory (arc_value self.old.table).shared.table_id.slots k left self.old.worker.seat.me self.new.worker.seat.me

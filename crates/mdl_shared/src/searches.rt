@@ -8,7 +8,7 @@ ghost use Rattle.mdl_shared.specs.Keepings.{SeesWait};
 ghost use Rattle.mdl_visits.specs.Lookups.{TookDirectory};
 ghost use Rattle.mdl_visits.specs.Polls.{SettlesNothing};
 ghost use Rattle.mdl_visits.specs.Readings.{ReadsNothing};
-ghost use Rattle.mdl_visits.specs.Searches.{Searched};
+ghost use Rattle.mdl_visits.specs.Searches.{KnowsFall, Searched};
 
 use crate::Session;
 use crate::member::Member;
@@ -20,12 +20,14 @@ use std::sync::Wait;
 impl Member {
     // Looks for a deadlock that the session waits in, and settles the wait of its victim.
     fn search<R: Wait>(&mut self, rt: &R) -> Result<Search, AllocError>
+        requires waiting { is_some self.old.asks ≡ true }
         ensures same { (self.new.table ≡ self.old.table) × (self.new.worker.number ≡ self.old.worker.number) × (self.new.next ≡ self.old.next)
             × (self.new.known.items ≡ self.old.known.items) × (self.new.tickets.items ≡ self.old.tickets.items) }
         ensures wait { SeesWait self.old self.new }
         ensures reads { ReadsNothing self.old.worker.seat.me self.new.worker.seat.me }
         ensures searched { (k : Keys) × TookDirectory (arc_value self.old.table).shared.table_id.slots k k self.old.worker.seat.me self.new.worker.seat.me
             × IfOk result (λ found. Searched (arc_value self.old.table).shared.table_id self.old.worker.number k found self.old.worker.seat.me self.new.worker.seat.me) }
+        ensures own { IfOk result (λ found. KnowsFall self.old.worker.number found self.new.worker.seat.me) }
         ensures nothing { OnErr result (SettlesNothing self.old.worker.seat.me self.new.worker.seat.me) }
     {
         let alloc = *self.known.allocator();
@@ -49,6 +51,7 @@ impl<R: Wait> Session<R> {
             × TookDirectory (arc_value self.old.member.table).shared.table_id.slots k k self.old.member.worker.seat.me self.new.member.worker.seat.me
             × IfOk result (λ found. Searched (arc_value self.old.member.table).shared.table_id self.old.member.worker.number k found
             self.old.member.worker.seat.me self.new.member.worker.seat.me) }
+        ensures own { IfOk result (λ found. KnowsFall self.old.member.worker.number found self.new.member.worker.seat.me) }
         ensures unchanged { OnErr result (SettlesNothing self.old.member.worker.seat.me self.new.member.worker.seat.me) }
         ensures refused { IfErr result (λ why. why ≡ cause.OutOfMemory) }
     {

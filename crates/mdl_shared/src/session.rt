@@ -16,7 +16,9 @@ pub struct Session<R> {
 pub struct HoldsTickets<R>(pub Session<R>);
 
 impl<R> Session<R> {
+    ghost use Rattle.mdl_session_laws.specs.SessionSpaces.{SpeaksFor};
     ghost use Rattle.mdl_shared.specs.Passes.{table_of, pass_table};
+    ghost use Rattle.mdl_shared.specs.SessionViews.{space_of};
 
     /// Opens the session of a pass, which is one of this manager's. It takes no memory.
     pub fn open(rt: R, manager: &Manager, pass: Pass) -> Session<R>
@@ -28,9 +30,10 @@ impl<R> Session<R> {
         Session { rt, member }
     }
 
-    /// The session's number: that of its pass.
+    /// The session's number: that of its pass. As a lock space the session speaks for it, and for no other.
     pub fn number(&self) -> u16
-        ensures { result ≡ self.now.member.worker.number }
+        ensures number { result ≡ self.now.member.worker.number }
+        ensures speaks { SpeaksFor (space_of self.now) result }
     {
         self.member.worker.number()
     }

@@ -10,7 +10,7 @@ ghost use Rattle.mdl_steps.specs.WaitStates.{lost_state};
 ghost use Rattle.mdl_shared.specs.Keepings.{SeesWait};
 ghost use Rattle.mdl_shared.specs.Limits.{is_within};
 ghost use Rattle.mdl_visits.specs.Polls.{MeetsOther, MeetsWait, MeetsWord, Settles, SettlesNothing, state_of};
-ghost use Rattle.mdl_shared.specs.Waitings.{wait_fault};
+ghost use Rattle.mdl_shared.specs.Waitings.{own_number, wait_fault};
 ghost use Rattle.mdl_visits.specs.Readings.{ReadsNothing};
 ghost use Rattle.mdl_visits.specs.Visits.{IsStepOf};
 
@@ -90,6 +90,9 @@ impl Member {
         ensures missed { result ≡ false → SettlesNothing self.old.worker.seat.me self.new.worker.seat.me
             × ((e : Met) × IsStepOf self.old.worker.seat.me self.new.worker.seat.me e
             × MeetsOther (arc_value self.old.table).shared.table_id.slots session (wait_in number 1) e) }
+        ensures own { session ≡ self.old.worker.number → result ≡ true → (own_number self.old.waits self.old.asks ≡ Some number) × (self.new.worker.seat.me.0.told ≡ Some 5) }
+        ensures settled { session ≡ self.old.worker.number → result ≡ false → own_number self.old.waits self.old.asks ≡ Some number
+            → (how : Settled) × (self.new.worker.seat.me.0.told ≡ Some (state_of how)) }
     {
         if !is_open(self.read_wait(session), number) {
             return false;
@@ -137,6 +140,10 @@ impl<R> Session<R> {
         ensures missed { result ≡ false → SettlesNothing self.old.member.worker.seat.me self.new.member.worker.seat.me
             × (is_within self.old.member.sessions target ≡ true → (e : Met) × IsStepOf self.old.member.worker.seat.me self.new.member.worker.seat.me e
             × MeetsOther (arc_value self.old.member.table).shared.table_id.slots target (wait_in number 1) e) }
+        ensures own { target ≡ self.old.member.worker.number → result ≡ true → (own_number self.old.member.waits self.old.member.asks ≡ Some number)
+            × (self.new.member.worker.seat.me.0.told ≡ Some 5) }
+        ensures settled { target ≡ self.old.member.worker.number → result ≡ false → own_number self.old.member.waits self.old.member.asks ≡ Some number
+            → (how : Settled) × (self.new.member.worker.seat.me.0.told ≡ Some (state_of how)) }
     {
         if target == 0 || usize::from(target) > self.member.sessions {
             return false;

@@ -8,6 +8,7 @@ ghost use Rattle.mdl_steps.specs.declared.view.Keys.{Keys};
 ghost use Rattle.mdl_steps.specs.declared.view.Known.{Known};
 ghost use Rattle.mdl_steps.specs.Schemas.{is_known, unknown};
 ghost use Rattle.mdl_shared.specs.Keepings.{KeepsWait};
+ghost use Rattle.mdl_shared.specs.Members.{AreLearnt};
 ghost use Rattle.mdl_visits.specs.Lookups.{TookDirectory};
 ghost use Rattle.mdl_visits.specs.Readings.{ReadsNothing};
 ghost use Rattle.mdl_visits.specs.Tables.{AreTables, HasAsked};
@@ -31,7 +32,8 @@ impl Member {
             × IfOk result (λ places. (tables : List Known)
             × AreTables schema.now k tables
             × HasAsked self.old.worker.number tables places.items self.old.worker.seat.me self.new.worker.seat.me
-            × (self.new.known.items ≡ self.old.known.items ++ unknown self.old.known.items tables)) }
+            × (self.new.known.items ≡ self.old.known.items ++ unknown self.old.known.items tables)
+            × AreLearnt tables self.new.known.items) }
         ensures unchanged { OnErr result (self.new.known.items ≡ self.old.known.items) }
     {
         let alloc = *self.known.allocator();
@@ -91,7 +93,8 @@ impl<R: Wait> Session<R> {
             × IfOk result (λ places. (tables : List Known)
             × AreTables schema.now k tables
             × HasAsked self.old.member.worker.number tables places.items self.old.member.worker.seat.me self.new.member.worker.seat.me
-            × (self.new.member.known.items ≡ self.old.member.known.items ++ unknown self.old.member.known.items tables)) }
+            × (self.new.member.known.items ≡ self.old.member.known.items ++ unknown self.old.member.known.items tables)
+            × AreLearnt tables self.new.member.known.items) }
         ensures unchanged { OnErr result (self.new.member.known.items ≡ self.old.member.known.items) }
         ensures refused { IsOkUnless result cause.OutOfMemory }
     {

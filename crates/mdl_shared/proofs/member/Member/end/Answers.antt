@@ -48,7 +48,7 @@ returns-clause-ended g c =
     let m : Mine = self.worker.seat.me in (
       how,
       so.1,
-      record { asks = e.asks; waits = e.waits ∙ c.poll.ensures.wait.1; held = e.held ∙ ap (λ (ts : List Own). ts ++ ticket_asked c.args.ask ∷ []) c.poll.ensures.same.4 ∙ so.2; unsettled = e.unsettled },
+      record { asks = e.asks; waits = e.waits ∙ c.poll.ensures.wait.1; held = e.held ∙ ap (λ (ts : List Own). ts ++ ticket_asked c.args.ask ts ∷ []) c.poll.ensures.same.4 ∙ so.2; unsettled = e.unsettled },
       (met.0, step_earlier met.0 m c.poll.new.self.worker.seat.me c.take_over.new.self.worker.seat.me met.1 c.take_over.ensures.goes, met.2),
     )
 

@@ -1,17 +1,21 @@
 -- The tickets are of a place whose key the session knows.
 use Rattle.std.specs.Prelude.{is_some, nat_lt}
-use Rattle.std.proofs.Common.{◌<◌, sym, ap, ◌∙◌, subst, ℕ, ◌≤◌, arith}
+use Rattle.std.proofs.Common.{◌<◌, List, sym, ap, ◌∙◌, subst, ℕ, ◌≤◌, arith}
 use Rattle.std.specs.Option.{option_map}
 use Rattle.mdl_steps.specs.declared.view.Own.{Own}
 use Rattle.mdl_steps.specs.Plays.{Mine}
 use Rattle.mdl_visits.specs.Idle.{IsIdle, HasSlowAlone}
 use Rattle.mdl_shared.specs.Members.{are_placed, is_known_place, without_at}
 use Rattle.mdl_shared.specs.Modes.{in_mode_at}
-use Rattle.mdl_shared.specs.Waitings.{are_below}
+use Rattle.mdl_shared.specs.Waitings.{are_below, are_rising, is_ask_told}
 use Rattle.mdl_visits.specs.Numbers.{is_ask_apart}
 use Rattle.mdl_shared.proofs.Awaiting.{altered, lost, apart_altered, apart_lost, waits_apart}
 use Rattle.mdl_shared.proofs.Fitting.{altered_placed}
 use Rattle.mdl_shared.proofs.Membership.{has_numbered, some_key, known_within, placed_at, still_placed}
+use Rattle.mdl_shared.proofs.Rising.{rising_altered, rising_lost}
+use Rattle.mdl_shared.specs.Rememberings.{Remembers}
+use Rattle.mdl_shared.proofs.Remembering.{remembers_altered, remembers_lost}
+use Rattle.mdl_shared.proofs.Props.{remembered}
 use Rattle.mdl_shared.proofs.member.Member.fold.Goals as goal
 
 pub fold-requires-clause-place : goal.fold-requires-clause-place
@@ -58,6 +62,14 @@ invariant_of-self g c =
       apart = ap (λ ts. is_ask_apart self.next ts self.asks) tickets
           ∙ apart_lost self.next (in_mode_at kept.place kept.number gone.mode self.tickets.items) kept.place gone.number self.asks
           (apart_altered self.next self.tickets.items kept.place kept.number gone.mode self.asks self.apart);
+      rising = ap are_rising tickets
+          ∙ rising_lost kept.place gone.number (in_mode_at kept.place kept.number gone.mode self.tickets.items) (rising_altered kept.place kept.number gone.mode self.tickets.items self.rising);
+      last = self.last;
+      settled = ap (λ (m : Mine). is_ask_told self.asks m.0.told) now ∙ self.settled;
+      keys_apart = self.keys_apart;
+      remembers = ∣ subst (λ (m : Mine). Remembers self.known.items c.strike.new.tickets.items m.0.reads) (sym now)
+          (subst (λ (ts : List Own). Remembers self.known.items ts self.worker.seat.me.0.reads) (sym (tickets)) (remembers_lost self.known.items (in_mode_at kept.place kept.number gone.mode self.tickets.items) self.worker.seat.me.0.reads
+          (remembers_altered self.known.items self.tickets.items self.worker.seat.me.0.reads (remembered self.remembers) kept.place kept.number gone.mode) kept.place gone.number)) ∣₁;
       fewer = self.fewer;
       enrolled = subst (λ (n : ℕ). n ≤ self.sessions) (sym c.fold.ensures.seat.1) self.enrolled;
       words = self.words;

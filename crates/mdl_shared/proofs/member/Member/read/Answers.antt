@@ -1,13 +1,18 @@
 -- The ticket is of a place whose key the session knows, and what it noted under its tickets its view has.
 use Rattle.std.specs.Prelude.{nat_lt}
-use Rattle.std.proofs.Common.{◌<◌, length, sym, ap, ◌∙◌, subst, ℕ, ◌≤◌, arith}
+use Rattle.std.proofs.Common.{◌<◌, List, [], ◌∷◌, ◌++◌, length, sym, ap, ◌∙◌, subst, ℕ, ◌≤◌, arith}
+use Rattle.mdl_steps.specs.declared.view.Own.{Own}
 use Rattle.mdl_steps.specs.Plays.{Mine, noting_version}
 use Rattle.mdl_visits.specs.Idle.{IsIdle}
 use Rattle.mdl_shared.specs.Members.{are_placed}
-use Rattle.mdl_shared.specs.Waitings.{are_below}
+use Rattle.mdl_shared.specs.Waitings.{are_below, are_rising, is_ask_told}
 use Rattle.mdl_visits.specs.Numbers.{is_ask_apart}
 use Rattle.mdl_shared.proofs.Awaiting.{noted as still_below, apart_noted}
 use Rattle.mdl_shared.proofs.Membership.{has_numbered, known_within, placed_at, noted_placed, none_noted}
+use Rattle.mdl_shared.proofs.Rising.{rising_noted}
+use Rattle.mdl_shared.specs.Rememberings.{Remembers}
+use Rattle.mdl_shared.proofs.Remembering.{follows_fits, follows_newest, remembers_read}
+use Rattle.mdl_shared.proofs.Props.{remembered}
 use Rattle.mdl_shared.proofs.member.Member.read.Goals as goal
 
 pub read_at-requires-clause-place : goal.read_at-requires-clause-place
@@ -24,6 +29,8 @@ invariant_of-self-2 g c =
     let learnt = c.in_ok-standing.ensures.learnt in
     let version = c.in_ok-standing.standing.version in
     let noted = c.note_all.ensures.noted in
+    let follows = c.in_ok-standing.ensures.follows in
+    let known = placed_at self.known.items self.tickets.items place c.args._id self.placed (has_numbered place c.args._id self.tickets.items c.requires.held) in
     let now = learnt.0.1 in record {
       seated = c.read_at.ensures.seat.0 ∙ self.seated;
       sized = self.sized;
@@ -41,6 +48,14 @@ invariant_of-self-2 g c =
       below = ap (are_below self.next) noted ∙ still_below (λ n. nat_lt n self.next) place version self.tickets.items self.below;
       room = λ some. let before = self.room some in let after = c.note_all.ensures.room in omega arith;
       apart = ap (λ ts. is_ask_apart self.next ts self.asks) noted ∙ apart_noted self.next self.tickets.items place version self.asks self.apart;
+      rising = ap are_rising noted ∙ rising_noted place version self.tickets.items self.rising;
+      last = self.last;
+      settled = ap (λ (m : Mine). is_ask_told self.asks m.0.told) now ∙ self.settled;
+      keys_apart = self.keys_apart;
+      remembers = ∣ subst (λ (m : Mine). Remembers self.known.items c.note_all.new.tickets.items m.0.reads) (sym now)
+          (subst (λ (ts : List Own). Remembers self.known.items ts (self.worker.seat.me.0.reads ++ record { place = place; standing = c.in_ok-standing.standing } ∷ [])) (sym noted)
+          (remembers_read self.known.items self.tickets.items self.worker.seat.me.0.reads (remembered self.remembers) place c.in_ok-standing.standing (follows_newest place version c.in_ok-standing.standing self.worker.seat.me follows (omega arith))
+          (follows_fits place c.in_ok-standing.standing self.worker.seat.me self.known.items self.known_is follows known))) ∣₁;
       fewer = self.fewer;
       enrolled = subst (λ (n : ℕ). n ≤ self.sessions) (sym c.read_at.ensures.seat.1) self.enrolled;
       words = self.words;

@@ -7,9 +7,13 @@ use Rattle.mdl_visits.specs.Idle.{IsIdle, HasSlowAlone}
 use Rattle.mdl_visits.specs.Leavings.{HasTicket}
 use Rattle.mdl_shared.specs.Members.{are_placed, is_known_place, without_at}
 use Rattle.mdl_visits.specs.Numbers.{numbered, is_ask_apart}
-use Rattle.mdl_shared.specs.Waitings.{are_below}
+use Rattle.mdl_shared.specs.Waitings.{are_below, are_rising}
 use Rattle.mdl_shared.proofs.Awaiting.{lost, apart_lost, some_there, waits_apart}
 use Rattle.mdl_shared.proofs.Membership.{has_numbered, some_key, known_within, placed_at, still_placed}
+use Rattle.mdl_shared.proofs.Rising.{rising_lost, told_stays}
+use Rattle.mdl_shared.specs.Rememberings.{Remembers}
+use Rattle.mdl_shared.proofs.Remembering.{remembers_lost}
+use Rattle.mdl_shared.proofs.Props.{remembered}
 use Rattle.mdl_shared.proofs.member.Member.release.Goals as goal
 
 pub release-requires-clause-place : goal.release-requires-clause-place
@@ -51,6 +55,12 @@ invariant_of-self g c =
       below = ap (are_below self.next) c.strike.ensures.struck ∙ lost (λ n. nat_lt n self.next) c.args.place c.args.id self.tickets.items self.below;
       room = λ some. let before = self.room some in let after = c.strike.ensures.room in omega arith;
       apart = ap (λ (ts : List Own). is_ask_apart self.next ts self.asks) c.strike.ensures.struck ∙ apart_lost self.next self.tickets.items c.args.place c.args.id self.asks self.apart;
+      rising = ap are_rising c.strike.ensures.struck ∙ rising_lost c.args.place c.args.id self.tickets.items self.rising;
+      last = self.last;
+      settled = told_stays self.asks self.worker.seat.me.0.asks self.worker.seat.me.0.told c.release.new.worker.seat.me.0.told self.asks_is c.release.ensures.released.way.unasked self.settled;
+      keys_apart = self.keys_apart;
+      remembers = ∣ subst (λ (m : Mine). Remembers self.known.items c.strike.new.tickets.items m.0.reads) (sym now)
+          (subst (λ (ts : List Own). Remembers self.known.items ts self.worker.seat.me.0.reads) (sym (c.strike.ensures.struck)) (remembers_lost self.known.items self.tickets.items self.worker.seat.me.0.reads (remembered self.remembers) c.args.place c.args.id)) ∣₁;
       fewer = self.fewer;
       enrolled = subst (λ (n : ℕ). n ≤ self.sessions) (sym c.release.ensures.seat.1) self.enrolled;
       words = self.words;

@@ -2,6 +2,8 @@
 use Rattle.std.proofs.Common.{sym, ap, ◌∙◌, subst, ℕ, ◌≤◌}
 use Rattle.mdl_steps.specs.Plays.{Mine}
 use Rattle.mdl_visits.specs.Idle.{IsIdle, HasSlowAlone}
+use Rattle.mdl_shared.proofs.Rising.{told_some}
+use Rattle.mdl_shared.specs.Rememberings.{Remembers}
 use Rattle.mdl_shared.proofs.member.Member.search.Goals as goal
 
 pub invariant_of-self : goal.invariant_of-self
@@ -24,6 +26,11 @@ invariant_of-self g c =
       below = self.below;
       room = self.room;
       apart = self.apart;
+      rising = self.rising;
+      last = self.last;
+      settled = told_some self.asks c.search_all.new.worker.seat.me.0.told c.requires.waiting;
+      keys_apart = self.keys_apart;
+      remembers = subst (λ (m : Mine). ∥ Remembers self.known.items self.tickets.items m.0.reads ∥₁) (sym now) self.remembers;
       fewer = self.fewer;
       enrolled = subst (λ (n : ℕ). n ≤ self.sessions) (sym c.search_all.ensures.seat.1) self.enrolled;
       words = self.words;

@@ -3,6 +3,8 @@ use Rattle.std.proofs.Common.{◌<◌, ◌≤◌, ℕ, sym, ap, ◌∙◌, subst
 use Rattle.mdl_steps.specs.Plays.{Mine}
 use Rattle.mdl_visits.specs.Idle.{IsIdle, HasSlowAlone}
 use Rattle.mdl_shared.proofs.Membership.{known_within}
+use Rattle.mdl_shared.proofs.Rising.{told_stays}
+use Rattle.mdl_shared.specs.Rememberings.{Remembers}
 use Rattle.mdl_shared.proofs.member.Member.serve.Goals as goal
 
 pub serve_place-requires-clause-place : goal.serve_place-requires-clause-place
@@ -30,6 +32,11 @@ invariant_of-self g c =
       below = self.below;
       room = self.room;
       apart = self.apart;
+      rising = self.rising;
+      last = self.last;
+      settled = told_stays self.asks self.worker.seat.me.0.asks self.worker.seat.me.0.told c.serve_place.new.worker.seat.me.0.told self.asks_is c.serve_place.ensures.served.way.unasked self.settled;
+      keys_apart = self.keys_apart;
+      remembers = subst (λ (m : Mine). ∥ Remembers self.known.items self.tickets.items m.0.reads ∥₁) (sym now) self.remembers;
       fewer = self.fewer;
       enrolled = subst (λ (n : ℕ). n ≤ self.sessions) (sym c.serve_place.ensures.seat.1) self.enrolled;
       words = self.words;

@@ -8,10 +8,14 @@ use Rattle.mdl_visits.specs.Leavings.{HasTicket}
 use Rattle.mdl_shared.specs.Members.{are_placed, kind_known}
 use Rattle.mdl_visits.specs.Numbers.{numbered, is_ask_apart}
 use Rattle.mdl_shared.specs.Modes.{in_mode_at}
-use Rattle.mdl_shared.specs.Waitings.{are_below}
+use Rattle.mdl_shared.specs.Waitings.{are_below, are_rising, is_ask_told}
 use Rattle.mdl_shared.proofs.Awaiting.{altered, apart_altered, some_there, waits_apart}
 use Rattle.mdl_shared.proofs.Fitting.{altered_placed}
 use Rattle.mdl_shared.proofs.Membership.{has_numbered, kind_place, kind_there, known_within}
+use Rattle.mdl_shared.proofs.Rising.{rising_altered}
+use Rattle.mdl_shared.specs.Rememberings.{Remembers}
+use Rattle.mdl_shared.proofs.Remembering.{remembers_altered}
+use Rattle.mdl_shared.proofs.Props.{remembered}
 use Rattle.mdl_shared.proofs.member.Member.strengthen.Goals as goal
 
 pub try_strengthen-requires-clause-place : goal.try_strengthen-requires-clause-place
@@ -51,6 +55,12 @@ invariant_of-self g c =
       below = ap (are_below self.next) c.set_mode.ensures.changed ∙ altered (λ n. nat_lt n self.next) c.args.place c.args.id c.args.mode self.tickets.items self.below;
       room = λ some. let before = self.room some in let after = c.set_mode.ensures.room in omega arith;
       apart = ap (λ (ts : List Own). is_ask_apart self.next ts self.asks) c.set_mode.ensures.changed ∙ apart_altered self.next self.tickets.items c.args.place c.args.id c.args.mode self.asks self.apart;
+      rising = ap are_rising c.set_mode.ensures.changed ∙ rising_altered c.args.place c.args.id c.args.mode self.tickets.items self.rising;
+      last = self.last;
+      settled = ap (λ (m : Mine). is_ask_told self.asks m.0.told) now ∙ self.settled;
+      keys_apart = self.keys_apart;
+      remembers = ∣ subst (λ (m : Mine). Remembers self.known.items c.set_mode.new.tickets.items m.0.reads) (sym now)
+          (subst (λ (ts : List Own). Remembers self.known.items ts self.worker.seat.me.0.reads) (sym (c.set_mode.ensures.changed)) (remembers_altered self.known.items self.tickets.items self.worker.seat.me.0.reads (remembered self.remembers) c.args.place c.args.id c.args.mode)) ∣₁;
       fewer = self.fewer;
       enrolled = subst (λ (n : ℕ). n ≤ self.sessions) (sym c.try_strengthen.ensures.seat.1) self.enrolled;
       words = self.words;

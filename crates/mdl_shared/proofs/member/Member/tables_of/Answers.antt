@@ -7,15 +7,19 @@ use Rattle.mdl_steps.specs.Plays.{Mine}
 use Rattle.mdl_steps.specs.Schemas.{is_known, unknown}
 use Rattle.mdl_visits.specs.Idle.{IsIdle, HasSlowAlone}
 use Rattle.mdl_visits.specs.Lookups.{TookDirectory}
-use Rattle.mdl_shared.specs.Members.{are_placed, are_within}
+use Rattle.mdl_shared.specs.Members.{AreLearnt, are_apart, are_placed, are_within}
 use Rattle.mdl_visits.specs.Tables.{AreWithin, HasAsked, knowing_all}
 use Rattle.mdl_visits.specs.Visits.{and_made}
-use Rattle.mdl_shared.specs.Waitings.{is_ask_placed}
+use Rattle.mdl_shared.specs.Waitings.{is_ask_placed, is_ask_told}
 use Rattle.mdl_shared.proofs.Awaiting.{awaited_and}
 use Rattle.mdl_visits.proofs.Asking.{asked_after, goes_on}
 use Rattle.mdl_visits.proofs.Listing.{took_earlier}
 use Rattle.mdl_visits.proofs.Lookups.{no_record}
 use Rattle.mdl_shared.proofs.Membership.{known_and, within_and}
+use Rattle.mdl_shared.proofs.KnownKeys.{all_learnt, apart_and}
+use Rattle.mdl_shared.specs.Rememberings.{Remembers}
+use Rattle.mdl_shared.proofs.Remembering.{remembers_more}
+use Rattle.mdl_shared.proofs.Props.{remembered}
 use Rattle.mdl_shared.proofs.member.Member.tables_of.Goals as goal
 
 pub invariant_of-self-2 : goal.invariant_of-self-2
@@ -47,6 +51,13 @@ invariant_of-self-2 g c =
       below = self.below;
       room = self.room;
       apart = self.apart;
+      rising = self.rising;
+      last = self.last;
+      settled = ap (λ (m : Mine). is_ask_told self.asks m.0.told) now ∙ self.settled;
+      keys_apart = ap are_apart learnt ∙ ap (λ (ks : List Known). are_apart (ks ++ unknown ks tables)) self.known_is
+          ∙ apart_and c.args.schema.now found.0 self.worker.seat.me.0 tables found.1.recorded.known found.2.0 (ap are_apart (sym self.known_is) ∙ self.keys_apart);
+      remembers = ∣ subst (λ (m : Mine). Remembers c.learn.new.known.items self.tickets.items m.0.reads) (sym now)
+          (subst (λ (ks : List Known). Remembers ks self.tickets.items self.worker.seat.me.0.reads) (sym learnt) (remembers_more self.known.items new self.tickets.items self.worker.seat.me.0.reads (remembered self.remembers))) ∣₁;
       fewer = self.fewer;
       enrolled = subst (λ (n : ℕ). n ≤ self.sessions) (sym (c.ask_all.ensures.seat.1 ∙ c.find_tables.ensures.seat.1)) self.enrolled;
       words = self.words;
@@ -65,13 +76,16 @@ returns-clause-told g c =
     let none : mid.0.directory ≡ None = ap (λ (m : Mine). m.0.directory) found.2.1.1 ∙ sym (no_record old.0.directory self.idle.1) in
     let asked : HasAsked self.worker.number tables places mid new =
     subst (λ (n : ℕ). HasAsked n tables places mid new) c.find_tables.ensures.seat.1
-    (subst (λ (ts : List Known). HasAsked c.find_tables.new.worker.number ts places mid new) c.deref-3.ensures.value c.ask_all.ensures.asked) in (
+    (subst (λ (ts : List Known). HasAsked c.find_tables.new.worker.number ts places mid new) c.deref-3.ensures.value c.ask_all.ensures.asked) in
+    let known = c.learn.ensures ∙ ap (λ (ks : List Known). ks ++ unknown ks tables) c.in_ok-tables.ensures.same in (
       found.0,
       took_earlier (arc_value self.table).shared.table_id.slots found.0 found.0 old mid new took c.ask_all.ensures.directory none,
       (
         tables,
         found.2.0,
         asked_after self.worker.number tables places old mid new (goes_on (knowing_all tables old) mid found.2.1) asked,
-        c.learn.ensures ∙ ap (λ (ks : List Known). ks ++ unknown ks tables) c.in_ok-tables.ensures.same,
+        known,
+        subst (AreLearnt tables) (sym (known ∙ ap (λ (ks : List Known). ks ++ unknown ks tables) self.known_is))
+            (all_learnt c.args.schema.now found.0 old.0 tables found.1.recorded.known found.2.0 found.1.recorded.distinct),
       ),
     )

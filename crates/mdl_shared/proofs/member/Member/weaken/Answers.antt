@@ -8,10 +8,14 @@ use Rattle.mdl_visits.specs.Idle.{IsIdle, HasSlowAlone}
 use Rattle.mdl_shared.specs.Members.{are_placed}
 use Rattle.mdl_visits.specs.Numbers.{numbered, is_ask_apart}
 use Rattle.mdl_shared.specs.Modes.{in_mode_at, is_fit}
-use Rattle.mdl_shared.specs.Waitings.{are_below}
+use Rattle.mdl_shared.specs.Waitings.{are_below, are_rising}
 use Rattle.mdl_shared.proofs.Awaiting.{altered, apart_altered, waits_apart}
 use Rattle.mdl_shared.proofs.Membership.{known_within}
 use Rattle.mdl_shared.proofs.Fitting.{altered_placed, fit_place, fit_there}
+use Rattle.mdl_shared.proofs.Rising.{rising_altered, told_stays}
+use Rattle.mdl_shared.specs.Rememberings.{Remembers}
+use Rattle.mdl_shared.proofs.Remembering.{remembers_altered}
+use Rattle.mdl_shared.proofs.Props.{remembered}
 use Rattle.mdl_shared.proofs.member.Member.weaken.Goals as goal
 
 pub weaken-requires-clause-place : goal.weaken-requires-clause-place
@@ -51,6 +55,12 @@ invariant_of-self g c =
       below = ap (are_below self.next) c.set_mode.ensures.changed ∙ altered (λ n. nat_lt n self.next) held.place held.number c.args.mode self.tickets.items self.below;
       room = λ some. let before = self.room some in let after = c.set_mode.ensures.room in omega arith;
       apart = ap (λ (ts : List Own). is_ask_apart self.next ts self.asks) c.set_mode.ensures.changed ∙ apart_altered self.next self.tickets.items held.place held.number c.args.mode self.asks self.apart;
+      rising = ap are_rising c.set_mode.ensures.changed ∙ rising_altered held.place held.number c.args.mode self.tickets.items self.rising;
+      last = self.last;
+      settled = told_stays self.asks self.worker.seat.me.0.asks self.worker.seat.me.0.told c.weaken.new.worker.seat.me.0.told self.asks_is c.weaken.ensures.weakened.way.unasked self.settled;
+      keys_apart = self.keys_apart;
+      remembers = ∣ subst (λ (m : Mine). Remembers self.known.items c.set_mode.new.tickets.items m.0.reads) (sym now)
+          (subst (λ (ts : List Own). Remembers self.known.items ts self.worker.seat.me.0.reads) (sym (c.set_mode.ensures.changed)) (remembers_altered self.known.items self.tickets.items self.worker.seat.me.0.reads (remembered self.remembers) held.place held.number c.args.mode)) ∣₁;
       fewer = self.fewer;
       enrolled = subst (λ (n : ℕ). n ≤ self.sessions) (sym c.weaken.ensures.seat.1) self.enrolled;
       words = self.words;

@@ -1,11 +1,12 @@
 -- The ticket waits at a place whose key the session knows.
-use Rattle.std.proofs.Common.{◌≡◌, ◌<◌, ◌≤◌, ℕ, true, refl, sym, ap, ◌∙◌, subst}
+use Rattle.std.proofs.Common.{◌≡◌, ◌<◌, ◌≤◌, ℕ, true, None, refl, sym, ap, ◌∙◌, subst}
 use Rattle.std.specs.Prelude.{Option}
 use Rattle.mdl_steps.specs.declared.view.Ask.{Ask}
 use Rattle.mdl_steps.specs.Plays.{Mine}
 use Rattle.mdl_visits.specs.Idle.{IsIdle, HasSlowAlone}
-use Rattle.mdl_shared.specs.Waitings.{is_ask_placed}
+use Rattle.mdl_shared.specs.Waitings.{is_ask_placed, is_ask_told}
 use Rattle.mdl_shared.proofs.Membership.{known_within}
+use Rattle.mdl_shared.specs.Rememberings.{Remembers}
 use Rattle.mdl_shared.proofs.member.Member.withdraw.Goals as goal
 
 pub withdraw-requires-clause-place : goal.withdraw-requires-clause-place
@@ -35,6 +36,11 @@ invariant_of-self g c =
       below = self.below;
       room = λ some. absurd (cc);
       apart = refl;
+      rising = self.rising;
+      last = refl;
+      settled = ap (is_ask_told None) (c.withdraw.ensures.ended.way.unasked refl);
+      keys_apart = self.keys_apart;
+      remembers = subst (λ (m : Mine). ∥ Remembers self.known.items self.tickets.items m.0.reads ∥₁) (sym now) self.remembers;
       fewer = self.fewer;
       enrolled = subst (λ (n : ℕ). n ≤ self.sessions) (sym c.withdraw.ensures.seat.1) self.enrolled;
       words = self.words;

@@ -1,0 +1,252 @@
+-- The keys that a session has looked up: no key twice and no place, whichever it looks up more, since the directory has each key at one place.
+use Rattle.std.proofs.Common.{◌≡◌, ℕ, zero, suc, ◌-◌, ◌<◌, ◌==◌, ◌||◌, Bool, true, false, not, List, [], ◌∷◌, ◌++◌, length, get_or, Some, None, refl, sym, ap, ◌∙◌, subst, inl, inr, arith}
+use Rattle.std.specs.Prelude.{All, AllPairs, Ok, Option, filter, slice_get, ◌⊎◌}
+use Rattle.std.specs.List.{list_all}
+use Rattle.std.specs.Ordering.{is_eq}
+use Rattle.std.specs.declared.cmp.Ordering.TheVariants.{Less}
+use Rattle.std.proofs.lemmas.Bool.{and_parts, and_from, eq-eqb, eqb-true}
+use Rattle.std.proofs.lemmas.Bool.Decides.{nat_tests}
+use Rattle.std.proofs.lemmas.List.Elements.{All-cons, All-head, All-nil, All-tail, All-weaker}
+use Rattle.std.proofs.lemmas.List.Folds.{list_all-append, list_any-append}
+use Rattle.mdl_key.specs.Words.{KeyName, key_eq}
+use Rattle.mdl_key.specs.Keys.{key_cmp}
+use Rattle.mdl_steps.specs.declared.view.Keys.{Keys}
+use Rattle.mdl_steps.specs.declared.view.Known.{Known}
+use Rattle.mdl_steps.specs.declared.view.View.{View}
+use Rattle.mdl_steps.specs.Lists.{Distinct, Each}
+use Rattle.mdl_steps.specs.Rule.{KnowsKeys, key_at}
+use Rattle.mdl_steps.specs.Schemas.{is_known, unknown}
+use Rattle.mdl_steps.proofs.KeyLemmas.{key-Decides}
+use Rattle.mdl_steps.proofs.Looking.{there}
+use Rattle.mdl_steps.proofs.NewKeys.{none_after}
+use Rattle.mdl_steps.proofs.Views.{by_bool}
+use Rattle.mdl_visits.specs.Lookups.{IsAnswer}
+use Rattle.mdl_visits.specs.Tables.{AreTables}
+use Rattle.mdl_visits.proofs.Sorting.{key-ties}
+use Rattle.mdl_shared.specs.Members.{AreLearnt, are_apart, are_two, is_known_place, place_known}
+use Rattle.mdl_shared.specs.OwnLists.{key_known}
+
+-- ---- one key more
+
+-- whose key and place weren't known
+pub apart_more : (known : List Known) (one : Known) → are_apart known ≡ true → place_known one.key known ≡ None → is_known_place known one.place ≡ false
+    → are_apart (known ++ one ∷ []) ≡ true
+apart_more [] one apart key place = refl
+apart_more (k ∷ ks) one apart key place =
+    grind (arith, nat_tests, list_all-append (are_two k) ks (one ∷ []), apart_more ks one)
+
+-- the directory has it at this place
+abbrev IsThere : List KeyName → Known → Type 0
+IsThere keys x = (0 < x.place) × (key_at keys x.place ≡ Some x.key)
+
+-- a place that is known is that of its key in the directory
+known_there : (keys : List KeyName) (known : List Known) (place : ℕ) → Each (IsThere keys) known → is_known_place known place ≡ true
+    → (0 < place) × (k : Known) × (k.place ≡ place) × (key_at keys place ≡ Some k.key) × (is_known known k.key ≡ true)
+known_there keys [] place each e = absurd (cc)
+known_there keys (k ∷ ks) place each e =
+    by_bool (k.place == place)
+    (λ hit.
+    let is = eqb-true k.place place hit in
+    let here = subst (λ (p : ℕ). (0 < p) × (key_at keys p ≡ Some k.key)) is each.0 in
+    let own : is_known (k ∷ ks) k.key ≡ true = rw ((key-Decides k.key k.key).1 refl) refl in
+    (here.0, k, is, here.1, own))
+    (λ miss.
+    let later = known_there keys ks place each.1 (rw miss at e) in
+    let still : is_known (k ∷ ks) later.1.key ≡ true = by_bool (key_eq k.key later.1.key) (λ same. rw same refl) (λ differ. rw differ later.4) in
+    (later.0, later.1, later.2, later.3, still))
+
+-- a key that has a place is known by it
+known_none : (known : List Known) (key : KeyName) → place_known key known ≡ None → is_known known key ≡ false
+known_none [] key e = refl
+known_none (k ∷ ks) key e = by_bool (key_eq k.key key) (λ hit. (let here = rw hit at e in absurd (cc))) (λ miss. rw miss (known_none ks key (rw miss at e)))
+
+-- a new key is at a place that the session didn't know: the directory had that key there, or none
+pub new_place : (slots place : ℕ) (key : KeyName) (k left : Keys) (v : View) → KnowsKeys k.keys v → IsAnswer slots key k left (Ok place) → place_known key v.known ≡ None
+    → is_known_place v.known place ≡ false
+new_place slots place key k left v each answer new =
+    by_bool (is_known_place v.known place)
+    (λ known. absurd (never (known_there k.keys v.known place each known) answer))
+    (λ un. un)
+  where
+    never : (0 < place) × (x : Known) × (x.place ≡ place) × (key_at k.keys place ≡ Some x.key) × (is_known v.known x.key ≡ true) → IsAnswer slots key k left (Ok place) → ⊥
+    never is (inl old) =
+        let at = there key k.keys place old.0 in
+        let same : is.1.key ≡ key = (let both = sym is.3 ∙ at.1 in cc) in
+        let known = ap (is_known v.known) (sym same) ∙ is.4 in
+        let none = known_none v.known key new in
+        (let both : true ≡ false = sym known ∙ none in cc)
+    never is (inr next) =
+        let where_is : place - 1 ≡ length k.keys = (let e = next.1 in omega arith) in
+        let none = sym is.3 ∙ ap (slice_get k.keys) where_is ∙ none_after k.keys in
+        absurd (cc)
+
+-- ---- several keys more
+
+-- two keys that differ have different places
+two_there : (keys : List KeyName) (one other : Known) → IsThere keys one → IsThere keys other → key_eq one.key other.key ≡ false → are_two one other ≡ true
+two_there keys one other here there_is differ =
+    by_bool (one.place == other.place)
+    (λ same.
+    let both = sym here.1 ∙ ap (key_at keys) (eqb-true one.place other.place same) ∙ there_is.1 in
+    let is : one.key ≡ other.key = cc in
+    let equal = (key-Decides one.key other.key).1 is in
+    (let never : true ≡ false = sym equal ∙ differ in absurd (cc)))
+    (λ two. rw differ (rw two refl))
+
+less_differ : (one other : KeyName) → key_cmp one other ≡ Less → key_eq one other ≡ false
+less_differ one other less = key-ties one other ∙ ap is_eq less
+
+-- each of the tables is another one
+tables_apart : (keys : List KeyName) (tables : List Known) → All (IsThere keys) tables → AllPairs (λ (one other : Known). key_cmp one.key other.key ≡ Less) tables → are_apart tables ≡ true
+tables_apart keys [] all less = refl
+tables_apart keys (t ∷ ts) all less =
+    and_from _ _
+    (later ts (All-tail (IsThere keys) t ts all) (λ j d short. less zero (suc j) d (omega arith) (omega (arith, short))))
+    (tables_apart keys ts (All-tail (IsThere keys) t ts all) (λ i j d before short. less (suc i) (suc j) d (omega (arith, before)) (omega (arith, short))))
+  where
+    here : IsThere keys t
+    here = All-head (IsThere keys) t ts all
+
+    later : (xs : List Known) → All (IsThere keys) xs → All (λ (x : Known). key_cmp t.key x.key ≡ Less) xs → list_all (are_two t) xs ≡ true
+    later [] each less = refl
+    later (x ∷ xs) each less =
+        and_from _ _
+        (two_there keys t x here (All-head (IsThere keys) x xs each) (less_differ t.key x.key (All-head (λ (y : Known). key_cmp t.key y.key ≡ Less) x xs less)))
+        (later xs (All-tail (IsThere keys) x xs each) (All-tail (λ (y : Known). key_cmp t.key y.key ≡ Less) x xs less))
+
+-- some of them
+kept_all : (test other : Known → Bool) (xs : List Known) → list_all test xs ≡ true → list_all test (filter other xs) ≡ true
+kept_all test other [] all = refl
+kept_all test other (x ∷ xs) all = grind (arith, nat_tests, kept_all test other xs)
+
+kept_apart : (test : Known → Bool) (xs : List Known) → are_apart xs ≡ true → are_apart (filter test xs) ≡ true
+kept_apart test [] all = refl
+kept_apart test (x ∷ xs) all = grind (arith, nat_tests, kept_apart test xs, kept_all (are_two x) test xs)
+
+passed : (test : Known → Bool) (xs : List Known) → list_all test (filter test xs) ≡ true
+passed test [] = refl
+passed test (x ∷ xs) = grind (arith, nat_tests, passed test xs)
+
+each_of : (P : Known → Type 0) (xs : List Known) → All P xs → Each P xs
+each_of P [] all = tt
+each_of P (x ∷ xs) all = (All-head P x xs all, each_of P xs (All-tail P x xs all))
+
+each_kept : (P : Known → Type 0) (test : Known → Bool) (xs : List Known) → Each P xs → Each P (filter test xs)
+each_kept P test [] each = tt
+each_kept P test (x ∷ xs) each = by_bool (test x) (λ kept. rw kept (each.0, each_kept P test xs each.1)) (λ gone. rw gone (each_kept P test xs each.1))
+
+each_and : (P : Known → Type 0) (xs ys : List Known) → Each P xs → Each P ys → Each P (xs ++ ys)
+each_and P [] ys first second = second
+each_and P (x ∷ xs) ys first second = (first.0, each_and P xs ys first.1 second)
+
+-- known keys and new ones
+across : (keys : List KeyName) (known fresh : List Known) → Each (IsThere keys) known → Each (IsThere keys) fresh → list_all (λ (x : Known). not (is_known known x.key)) fresh ≡ true
+    → list_all (λ k. list_all (are_two k) fresh) known ≡ true
+across keys [] fresh each new none = refl
+across keys (k ∷ ks) fresh each new none = and_from _ _ (here fresh new none) (across keys ks fresh each.1 new (others fresh none))
+  where
+    here : (xs : List Known) → Each (IsThere keys) xs → list_all (λ (x : Known). not (is_known (k ∷ ks) x.key)) xs ≡ true → list_all (are_two k) xs ≡ true
+    here [] there_are none = refl
+    here (x ∷ xs) there_are none =
+        let parts = and_parts (not (is_known (k ∷ ks) x.key)) (list_all (λ (y : Known). not (is_known (k ∷ ks) y.key)) xs) none in
+        let differ : key_eq k.key x.key ≡ false = by_bool (key_eq k.key x.key) (λ same. (let e = rw same at parts.0 in absurd (cc))) (λ no. no) in
+        and_from _ _ (two_there keys k x each.0 there_are.0 differ) (here xs there_are.1 parts.1)
+
+    others : (xs : List Known) → list_all (λ (x : Known). not (is_known (k ∷ ks) x.key)) xs ≡ true → list_all (λ (x : Known). not (is_known ks x.key)) xs ≡ true
+    others [] none = refl
+    others (x ∷ xs) none =
+        let parts = and_parts (not (is_known (k ∷ ks) x.key)) (list_all (λ (y : Known). not (is_known (k ∷ ks) y.key)) xs) none in
+        let un : not (is_known ks x.key) ≡ true = by_bool (key_eq k.key x.key) (λ same. (let e = rw same at parts.0 in absurd (cc))) (λ no. rw no at parts.0) in
+        and_from _ _ un (others xs parts.1)
+
+apart_append : (known more : List Known) → are_apart known ≡ true → are_apart more ≡ true → list_all (λ k. list_all (are_two k) more) known ≡ true → are_apart (known ++ more) ≡ true
+apart_append [] more one other two = other
+apart_append (k ∷ ks) more one other two = grind (arith, nat_tests, list_all-append (are_two k) ks more, apart_append ks more)
+
+-- ---- each is known at its place then
+
+unlike : (x : KeyName) (ys : List KeyName) (n : ℕ) (key : KeyName) → Each (λ y. (x ≡ y) → ⊥) ys → x ≡ key → slice_get ys n ≡ Some key → ⊥
+unlike x [] n key each is e = let never : ◌≡◌ {A = Option KeyName} None (Some key) = e in cc
+unlike x (y ∷ ys) zero key each is e = let same : y ≡ key = cc in each.0 (is ∙ sym same)
+unlike x (y ∷ ys) (suc n) key each is e = unlike x ys n key each.1 is e
+
+-- the directory has a key at one place
+one_index : (keys : List KeyName) (i j : ℕ) (key : KeyName) → Distinct keys → slice_get keys i ≡ Some key → slice_get keys j ≡ Some key → i ≡ j
+one_index [] i j key distinct one other = absurd (cc)
+one_index (x ∷ xs) zero zero key distinct one other = refl
+one_index (x ∷ xs) zero (suc j) key distinct one other = let is : x ≡ key = cc in absurd (unlike x xs j key distinct.0 is other)
+one_index (x ∷ xs) (suc i) zero key distinct one other = let is : x ≡ key = cc in absurd (unlike x xs i key distinct.0 is one)
+one_index (x ∷ xs) (suc i) (suc j) key distinct one other = ap suc (one_index xs i j key distinct.1 one other)
+
+one_place : (keys : List KeyName) (one other : Known) → Distinct keys → IsThere keys one → IsThere keys other → one.key ≡ other.key → one.place ≡ other.place
+one_place keys one other distinct here there_is same =
+    let is = one_index keys (one.place - 1) (other.place - 1) other.key distinct (here.1 ∙ ap Some same) there_is.1 in
+    let first = here.0 in
+    let second = there_is.0 in
+    omega arith
+
+-- a known place has the key that it has in the directory
+key_there : (keys : List KeyName) (known : List Known) (t : Known) → Each (IsThere keys) known → IsThere keys t → is_known_place known t.place ≡ true
+    → key_known t.place known ≡ Some t.key
+key_there keys [] t each is e = absurd (cc)
+key_there keys (k ∷ ks) t each is e =
+    by_bool (k.place == t.place)
+    (λ hit. let both = sym each.0.1 ∙ ap (key_at keys) (eqb-true k.place t.place hit) ∙ is.1 in rw hit both)
+    (λ miss. rw miss (key_there keys ks t each.1 is (rw miss at e)))
+
+-- a known key is at its place
+place_there : (keys : List KeyName) (known : List Known) (t : Known) → Distinct keys → Each (IsThere keys) known → IsThere keys t → is_known known t.key ≡ true
+    → is_known_place known t.place ≡ true
+place_there keys [] t distinct each is e = absurd (cc)
+place_there keys (k ∷ ks) t distinct each is e =
+    by_bool (key_eq k.key t.key)
+    (λ hit. let same = one_place keys k t distinct each.0 is ((key-Decides k.key t.key).0 hit) in rw (eq-eqb k.place t.place same) refl)
+    (λ miss. let later = place_there keys ks t distinct each.1 is (rw miss at e) in by_bool (k.place == t.place) (λ here. rw here refl) (λ there_not. rw there_not later))
+
+in_first : (known more : List Known) (place : ℕ) → is_known_place known place ≡ true → is_known_place (known ++ more) place ≡ true
+in_first known more place e = list_any-append (λ (k : Known). k.place == place) known more ∙ ap (λ b. b || is_known_place more place) e
+
+in_second : (known more : List Known) (place : ℕ) → is_known_place more place ≡ true → is_known_place (known ++ more) place ≡ true
+in_second known more place e =
+    list_any-append (λ (k : Known). k.place == place) known more ∙ by_bool (is_known_place known place) (λ here. rw here refl) (λ elsewhere. rw elsewhere e)
+
+-- it was known, or it is new
+abbrev IsHeld : List Known → List Known → Known → Type 0
+IsHeld known fresh t = (is_known known t.key ≡ true) ⊎ (is_known_place fresh t.place ≡ true)
+
+all_held : (known tables : List Known) → All (IsHeld known (unknown known tables)) tables
+all_held known [] = All-nil (IsHeld known [])
+all_held known (t ∷ ts) =
+    by_bool (is_known known t.key)
+    (λ old. rw old (All-cons (IsHeld known (unknown known ts)) t ts (inl old) (all_held known ts)))
+    (λ new. rw new (All-cons (IsHeld known (t ∷ unknown known ts)) t ts (inr (rw (eq-eqb t.place t.place refl) refl))
+    (All-weaker (IsHeld known (unknown known ts)) (IsHeld known (t ∷ unknown known ts)) (λ x held. one_more x held) ts (all_held known ts))))
+  where
+    one_more : (x : Known) → IsHeld known (unknown known ts) x → IsHeld known (t ∷ unknown known ts) x
+    one_more x (inl old) = inl old
+    one_more x (inr new) = inr (by_bool (t.place == x.place) (λ here. rw here refl) (λ elsewhere. rw elsewhere new))
+
+-- the session's keys, and the tables that it didn't know
+module _ (schema : List ℕ) (k : Keys) (v : View) (tables : List Known) (knows : KnowsKeys k.keys v) (are : AreTables schema k tables) where
+  all_there : All (IsThere k.keys) tables
+  all_there = λ i d short. ((are.each i d short).0, (are.each i d short).1)
+
+  new_there : Each (IsThere k.keys) (unknown v.known tables)
+  new_there = each_kept (IsThere k.keys) (λ (x : Known). not (is_known v.known x.key)) tables (each_of (IsThere k.keys) tables all_there)
+
+  pub apart_and : are_apart v.known ≡ true → are_apart (v.known ++ unknown v.known tables) ≡ true
+  apart_and apart =
+      apart_append v.known (unknown v.known tables) apart
+      (kept_apart (λ (x : Known). not (is_known v.known x.key)) tables (tables_apart k.keys tables all_there are.in_order))
+      (across k.keys v.known (unknown v.known tables) knows new_there (passed (λ (x : Known). not (is_known v.known x.key)) tables))
+
+  pub all_learnt : Distinct k.keys → AreLearnt tables (v.known ++ unknown v.known tables)
+  all_learnt distinct = λ i d short.
+      let t : Known = get_or tables i d in
+      let is = all_there i d short in
+      key_there k.keys (v.known ++ unknown v.known tables) t (each_and (IsThere k.keys) v.known (unknown v.known tables) knows new_there) is
+      (place_then distinct t is (all_held v.known tables i d short))
+    where
+      place_then : Distinct k.keys → (t : Known) → IsThere k.keys t → IsHeld v.known (unknown v.known tables) t → is_known_place (v.known ++ unknown v.known tables) t.place ≡ true
+      place_then distinct t is (inl old) = in_first v.known (unknown v.known tables) t.place (place_there k.keys v.known t distinct knows is old)
+      place_then distinct t is (inr new) = in_second v.known (unknown v.known tables) t.place new

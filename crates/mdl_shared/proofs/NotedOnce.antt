@@ -1,0 +1,50 @@
+-- The tickets of a place have one note.
+use Rattle.std.proofs.Common.{◌≡◌, ℕ, true, false, ◌==◌, List, [], ◌∷◌, Option, Some, None, refl, sym, ap, subst, ◌∙◌}
+use Rattle.std.specs.Prelude.{filter_map}
+use Rattle.std.proofs.lemmas.Bool.{eq-eqb, eqb-true, false≢true}
+use Rattle.mdl_steps.specs.declared.view.Own.{Own}
+use Rattle.mdl_steps.specs.Lists.{Each}
+use Rattle.mdl_steps.proofs.Views.{by_bool}
+use Rattle.mdl_shared.specs.declared.member.Member.{Member}
+use Rattle.mdl_shared.specs.Rememberings.{AreAlike}
+use Rattle.mdl_shared.specs.SessionViews.{note_of}
+use Rattle.mdl_shared.proofs.Props.{remembered}
+use Rattle.mdl_shared.proofs.SpaceNotes.{AllNoted, and_note, note-here, note-there, noted-in, noted_under}
+
+-- where no ticket has a note, nothing is noted
+none-noted : (place : ℕ) (tickets : List Own) → AllNoted place None tickets → noted_under place tickets ≡ None
+none-noted place tickets all = by (noted_under place tickets) (λ version is. noted-in place version None tickets all is)
+  where
+    by : (o : Option ℕ) → ((version : ℕ) → o ≡ Some version → None ≡ Some version) → o ≡ None
+    by None none = refl
+    by (Some version) none = let e = none version refl in cc
+
+-- each ticket has the note of the first
+alike-first : (t : Own) (place : ℕ) (tickets : List Own) → t.place ≡ place → Each (λ (x : Own). x.place ≡ t.place → x.noted ≡ t.noted) tickets → AllNoted place t.noted tickets
+alike-first t place [] here each = tt
+alike-first t place (x ∷ xs) here each = ((λ e. each.0 (e ∙ sym here)), alike-first t place xs here each.1)
+
+-- which is the one that is noted there
+first-under : (t : Own) (place : ℕ) (tickets : List Own) → (t.place == place) ≡ true → AllNoted place t.noted tickets → noted_under place (t ∷ tickets) ≡ t.noted
+first-under t place tickets here all = by t.noted all
+  where
+    by : (n : Option ℕ) → AllNoted place n tickets → and_note place t.place n (filter_map note_of tickets) ≡ n
+    by None all = none-noted place tickets all
+    by (Some version) all = note-here place t.place version (filter_map note_of tickets) here
+
+alike-noted : (place : ℕ) (tickets : List Own) → AreAlike tickets → AllNoted place (noted_under place tickets) tickets
+alike-noted place [] alike = tt
+alike-noted place (t ∷ ts) alike =
+    by_bool (t.place == place)
+    (λ here.
+    let later = alike-first t place ts (eqb-true t.place place here) alike.0 in
+    let is = first-under t place ts here later in
+    subst (λ o. AllNoted place o (t ∷ ts)) (sym is) ((λ e. refl), later))
+    (λ there.
+    let is = note-there place t.place t.noted (filter_map note_of ts) there in
+    subst (λ o. AllNoted place o (t ∷ ts)) (sym is)
+    ((λ e. absurd (false≢true (sym there ∙ eq-eqb t.place place e))), alike-noted place ts alike.1))
+
+-- each has the one that is noted there
+pub one-note : (m : Member) (place : ℕ) → AllNoted place (noted_under place m.tickets.items) m.tickets.items
+one-note m place = alike-noted place m.tickets.items (remembered m.remembers).alike

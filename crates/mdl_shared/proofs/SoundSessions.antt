@@ -1,0 +1,132 @@
+-- What is always so of a session between two calls is what is always so of it as a lock space.
+use Rattle.std.proofs.Common.{◌≡◌, ℕ, ◌+◌, ◌-◌, ◌<◌, Bool, true, false, not, ◌&&◌, ◌||◌, ◌==◌, nat_lt, List, [], ◌∷◌, map, is_some, Option, Some, None, MatchOption, IfSome, if◌then◌else◌, refl, sym, ap, subst, ◌∙◌, arith}
+use Rattle.std.specs.Prelude.{nat_le}
+use Rattle.std.specs.List.{list_all}
+use Rattle.std.specs.Option.{option_map, option_or}
+use Rattle.std.proofs.lemmas.Bool.{and_parts, eqb-true}
+use Rattle.std.proofs.lemmas.List.Folds.{list_all-map}
+use Rattle.mdl_key.specs.Words.{KeyName}
+use Rattle.mdl_defs.specs.declared.standing.Standing.{Standing}
+use Rattle.mdl_defs.specs.Standings.{MayStand}
+use Rattle.mdl_calls.specs.declared.answers.Held.{Held}
+use Rattle.mdl_calls.specs.declared.answers.Settled.{Settled}
+use Rattle.mdl_calls.specs.Words.{Wait, are_rising as are_rising_told}
+use Rattle.mdl_steps.specs.declared.view.Ask.{Ask}
+use Rattle.mdl_steps.specs.declared.view.Known.{Known}
+use Rattle.mdl_steps.specs.declared.view.Own.{Own}
+use Rattle.mdl_steps.specs.declared.view.Read.{Read}
+use Rattle.mdl_steps.specs.Cells.{own_at}
+use Rattle.mdl_steps.specs.Lists.{Each}
+use Rattle.mdl_steps.proofs.Views.{by_bool}
+use Rattle.mdl_session_laws.specs.SessionSpaces.{IsNoted, IsSound, Reading, are_below as are_below_told, are_placed as are_placed_told, first_free, is_known as is_known_in, is_newest as is_newest_in, last_read as last_read_in}
+use Rattle.mdl_visits.specs.Numbers.{all_numbers, is_ask_apart, is_no_number}
+use Rattle.mdl_shared.specs.declared.member.Member.{Member}
+use Rattle.mdl_shared.specs.Members.{are_placed, is_known_place}
+use Rattle.mdl_shared.specs.OwnLists.{key_known, told_of}
+use Rattle.mdl_shared.specs.Rememberings.{IsOfLast, Remembers, is_newest, last_read}
+use Rattle.mdl_shared.specs.SessionViews.{settled_told, space_of_member}
+use Rattle.mdl_shared.specs.Waitings.{are_below, are_rising, is_ask_placed}
+use Rattle.mdl_shared.proofs.KeyCalls.{apart-told, known-told}
+use Rattle.mdl_shared.proofs.MemberFacts.{ask-last, nothing-told}
+use Rattle.mdl_shared.proofs.Props.{remembered}
+use Rattle.mdl_shared.proofs.Rising.{below_asked}
+use Rattle.mdl_shared.proofs.SameSpace.{numbers_by, reading_of, wait_by}
+use Rattle.mdl_shared.proofs.SpaceLists.{key-told, known_of}
+use Rattle.mdl_shared.proofs.SpaceReads.{noted-each}
+
+-- ---- tickets
+
+-- numbers that rise
+rising-told : (tickets : List Own) → are_rising_told (map told_of tickets) ≡ are_rising tickets
+rising-told [] = refl
+rising-told (t ∷ ts) =
+    ap (λ b. b && are_rising_told (map told_of ts)) (list_all-map (λ (h : Held). nat_lt t.number h.id) told_of ts)
+    ∙ ap (λ b. all_numbers (λ n. nat_lt t.number n) ts && b) (rising-told ts)
+
+-- numbers below one
+below-told : (number : ℕ) (tickets : List Own) → are_below_told number (map told_of tickets) ≡ are_below number tickets
+below-told number tickets = list_all-map (λ (h : Held). nat_lt h.id number) told_of tickets
+
+-- places that are known
+placed-told : (known : List Known) (tickets : List Own) → are_placed_told (map known_of known) (map told_of tickets) ≡ are_placed known tickets
+placed-told known [] = refl
+placed-told known (t ∷ ts) =
+    ap (λ b. b && are_placed_told (map known_of known) (map told_of ts)) (known-told t.place known)
+    ∙ ap (λ b. is_known_place known t.place && b) (placed-told known ts)
+
+-- the tickets have numbers below the first that is free
+below-free : (m : Member) (asks : Option Ask) → m.asks ≡ asks
+    → are_below_told (first_free (is_some (wait_by m.waits asks)) (numbers_by m.next m.waits)) (map told_of m.tickets.items) ≡ true
+below-free m None asks =
+    let fewer = m.fewer.0 in
+    let all : (m.next - 1) + 1 ≡ m.next = omega arith in
+    ap (λ (n : ℕ). are_below_told n (map told_of m.tickets.items)) all ∙ below-told m.next m.tickets.items ∙ m.below
+below-free m (Some a) asks =
+    let last = ask-last m a asks in
+    let number : m.next - 1 ≡ a.number = omega arith in
+    let apart = subst (λ (o : Option Ask). is_ask_apart m.next m.tickets.items o ≡ true) asks m.apart in
+    let none = (and_parts (nat_lt a.number m.next) (is_no_number a.number m.tickets.items) apart).1 in
+    ap (λ (n : ℕ). are_below_told n (map told_of m.tickets.items)) number ∙ below-told a.number m.tickets.items
+    ∙ below_asked m.next a.number m.tickets.items last none m.below
+
+-- the place that is waited for is known
+awaited-told : (m : Member) (asks : Option Ask) → is_ask_placed m.known.items asks ≡ true
+    → IfSome (wait_by m.waits asks) (λ (w : Wait). is_known_in w.place (map known_of m.known.items) ≡ true)
+awaited-told m None at = tt
+awaited-told m (Some a) at = known-told a.place m.known.items ∙ at
+
+-- only a wait is settled
+settled-waits : (m : Member) (asks : Option Ask) → m.asks ≡ asks → is_some (settled_told m.worker.seat.me.0.told) ≡ true → is_some (wait_by m.waits asks) ≡ true
+settled-waits m None asks settled =
+    let nothing : is_some (settled_told m.worker.seat.me.0.told) ≡ false = ap (λ o. is_some (settled_told o)) (nothing-told m asks) in
+    let both = sym settled ∙ nothing in cc
+settled-waits m (Some a) asks settled = refl
+
+-- ---- what it read
+
+last-told : (place : ℕ) (reads : List Read) → last_read_in place (map reading_of reads) ≡ last_read place reads
+last-told place [] = refl
+last-told place (r ∷ rs) = ap (λ o. option_or o (if r.place == place then Some r.standing else None)) (last-told place rs)
+
+newest-told : (place version : ℕ) (reads : List Read) → is_newest_in place version (map reading_of reads) ≡ is_newest place version reads
+newest-told place version reads = list_all-map (λ (r : Reading). not (r.place == place) || nat_le r.standing.version version) reading_of reads
+
+-- what is so of each ticket is so of those at a place
+each-at : (place : ℕ) (reads : List Read) (tickets : List Own) → Each (IsOfLast reads) tickets
+    → Each (λ (t : Own). (v : ℕ) → t.noted ≡ Some v → option_map (λ (s : Standing). s.version) (last_read place reads) ≡ Some v) (own_at place tickets)
+each-at place reads [] each = tt
+each-at place reads (t ∷ ts) each =
+    by_bool (t.place == place)
+    (λ here.
+    rw here (
+      subst (λ p. (v : ℕ) → t.noted ≡ Some v → option_map (λ (s : Standing). s.version) (last_read p reads) ≡ Some v) (eqb-true t.place place here) each.0,
+      each-at place reads ts each.1,
+    ))
+    (λ there. rw there (each-at place reads ts each.1))
+
+-- ---- the whole
+
+-- by what it remembers
+sound-so : (m : Member) → Remembers m.known.items m.tickets.items m.worker.seat.me.0.reads → IsSound (space_of_member m)
+sound-so m remembers = record {
+  rising = rising-told m.tickets.items ∙ m.rising;
+  below = below-free m m.asks refl;
+  placed = placed-told m.known.items m.tickets.items ∙ m.placed;
+  awaited = awaited-told m m.asks m.awaited;
+  apart = apart-told m.known.items ∙ m.keys_apart;
+  settled = settled-waits m m.asks refl;
+  noted = λ place version noted.
+      ap (option_map (λ (s : Standing). s.version)) (last-told place m.worker.seat.me.0.reads)
+      ∙ noted-each (λ v. option_map (λ (s : Standing). s.version) (last_read place m.worker.seat.me.0.reads) ≡ Some v) place version m.tickets.items
+      (each-at place m.worker.seat.me.0.reads m.tickets.items remembers.noted) noted;
+  newest = λ place standing last.
+      newest-told place standing.version m.worker.seat.me.0.reads
+      ∙ remembers.newest place standing (sym (last-told place m.worker.seat.me.0.reads) ∙ last);
+  fits = λ place standing last.
+      subst (λ (o : Option KeyName). MatchOption o ⊥ (λ (key : KeyName). MayStand key.namespace standing)) (sym (key-told place m.known.items))
+      (remembers.fits place standing (sym (last-told place m.worker.seat.me.0.reads) ∙ last));
+}
+
+-- a session is sound
+pub sound : (m : Member) → IsSound (space_of_member m)
+sound m = sound-so m (remembered m.remembers)

@@ -1,0 +1,133 @@
+-- What a session read and noted at a place, in its own lists and in the space that it is as a lock space.
+use Rattle.std.proofs.Common.{◌≡◌, ◌≢◌, ℕ, zero, suc, ◌≤◌, Bool, true, false, not, ◌==◌, ◌||◌, List, [], ◌∷◌, ◌++◌, map, filter, find, Option, Some, None, inl, if◌then◌else◌, refl, sym, ap, subst, ◌∙◌, arith}
+use Rattle.std.specs.Prelude.{filter_map, nat_le}
+use Rattle.std.specs.List.{list_all}
+use Rattle.std.specs.Option.{option_map, option_or}
+use Rattle.std.proofs.lemmas.Bool.{and_from, eqb-true, false≢true, le-leb, or_left, or_right, not_from_false}
+use Rattle.std.proofs.lemmas.Bool.Decides.{nat_tests}
+use Rattle.std.proofs.lemmas.List.{map-append}
+use mathlib.Core.Option.{some}
+use lib.ListN.{get_elem?}
+use Rattle.mdl_key.specs.Words.{KeyName}
+use Rattle.mdl_defs.specs.declared.standing.Standing.{Standing}
+use Rattle.mdl_defs.specs.Standings.{MayStand}
+use Rattle.mdl_calls.specs.declared.answers.Held.{Held}
+use Rattle.mdl_steps.specs.declared.view.Known.{Known}
+use Rattle.mdl_steps.specs.declared.view.Own.{Own}
+use Rattle.mdl_steps.specs.declared.view.Read.{Read}
+use Rattle.mdl_steps.specs.Cells.{own_at, reads_at}
+use Rattle.mdl_steps.specs.Lists.{Each}
+use Rattle.mdl_steps.specs.Plays.{noting_version}
+use Rattle.mdl_steps.proofs.Views.{by_bool}
+use Rattle.mdl_session_laws.specs.SessionJoins.{Meets, NotesThere}
+use Rattle.mdl_session_laws.specs.SessionSpaces.{Note, Reading, is_newest, last_read, noted_at}
+use Rattle.mdl_visits.specs.Numbers.{numbered}
+use Rattle.mdl_visits.specs.Readings.{Follows, ReadsThere}
+use Rattle.mdl_shared.specs.declared.member.Member.{Member}
+use Rattle.mdl_shared.specs.OwnLists.{key_known, told_of}
+use Rattle.mdl_shared.specs.SessionViews.{note_of, space_of_member}
+use Rattle.mdl_shared.proofs.SameSpace.{reading_of}
+use Rattle.mdl_shared.proofs.SpaceLists.{key-told}
+use Rattle.mdl_shared.proofs.SpaceNotes.{and_note, note-here, note-there, noted_under, noting-elsewhere, noting-placed}
+
+-- ---- a ticket that is held
+
+-- it is one of the place's
+placed-some : (place id : ℕ) (tickets : List Own) (t : Own) → numbered id tickets ≡ Some t → t.place ≡ place
+    → list_all (λ (h : Held). not (h.place == place)) (map told_of tickets) ≡ false
+placed-some place id [] t its here = cc
+placed-some place id (x ∷ xs) t its here = grind (arith, nat_tests, placed-some place id xs t)
+
+-- ---- a key that is known
+
+-- it stands in the list, at its place
+pub known-there : (place : ℕ) (key : KeyName) (known : List Known) → key_known place known ≡ Some key
+    → (i : ℕ) × (k : Known) × (get_elem? known i ≡ some k) × (k.place ≡ place) × (k.key ≡ key)
+known-there place key [] e = cc
+known-there place key (k ∷ ks) e =
+    by_bool (k.place == place)
+    (λ hit. let here = rw hit at e in let is : k.key ≡ key = cc in (zero, k, refl, eqb-true k.place place hit, is))
+    (λ miss. let later = known-there place key ks (rw miss at e) in (suc later.0, later.1, later.2, later.3, later.4))
+
+-- ---- what was noted
+
+front-each : (P : ℕ → Type 0) (place at version : ℕ) (n : Option ℕ) (notes : List Note) → (at == place) ≡ true → ((v : ℕ) → n ≡ Some v → P v)
+    → (noted_at place notes ≡ Some version → P version) → and_note place at n notes ≡ Some version → P version
+front-each P place at version None notes here mine others e = others e
+front-each P place at version (Some v) notes here mine others e = mine version (sym (note-here place at v notes here) ∙ e)
+
+-- what is so of each version that is noted there is so of the first
+pub noted-each : (P : ℕ → Type 0) (place version : ℕ) (tickets : List Own) → Each (λ (t : Own). (v : ℕ) → t.noted ≡ Some v → P v) (own_at place tickets)
+    → noted_under place tickets ≡ Some version → P version
+noted-each P place version [] each e = cc
+noted-each P place version (t ∷ ts) each e =
+    by_bool (t.place == place)
+    (λ here.
+    let mine = rw here at each in
+    front-each P place t.place version t.noted (filter_map note_of ts) here mine.0 (noted-each P place version ts mine.1) e)
+    (λ there. noted-each P place version ts (rw there at each) (sym (note-there place t.place t.noted (filter_map note_of ts) there) ∙ e))
+
+-- ---- what was read
+
+-- nothing newer than this
+abbrev IsAfter : Standing → Read → Type 0
+IsAfter standing r = (r.standing.version ≤ standing.version) × (r.standing.version ≡ standing.version → r.standing ≡ standing)
+
+newest-each : (place : ℕ) (standing : Standing) (reads : List Read) → Each (IsAfter standing) (reads_at place reads)
+    → is_newest place standing.version (map reading_of reads) ≡ true
+newest-each place standing [] each = refl
+newest-each place standing (r ∷ rs) each =
+    by_bool (r.place == place)
+    (λ here.
+    let mine = rw here at each in
+    and_from _ _ (or_right (not (r.place == place)) _ (le-leb r.standing.version standing.version mine.0.0)) (newest-each place standing rs mine.1))
+    (λ there. and_from _ _ (or_left _ (nat_le r.standing.version standing.version) (not_from_false (r.place == place) there)) (newest-each place standing rs (rw there at each)))
+
+-- what was read last, where it has the same version
+last-each : (place : ℕ) (standing last : Standing) (reads : List Read) → Each (IsAfter standing) (reads_at place reads)
+    → last_read place (map reading_of reads) ≡ Some last → last.version ≡ standing.version → last ≡ standing
+last-each place standing last [] each e same = cc
+last-each place standing last (r ∷ rs) each e same =
+    by_bool (r.place == place)
+    (λ here.
+    let mine = rw here at each in
+    first (last_read place (map reading_of rs)) (λ it. last-each place standing last rs mine.1 it same)
+    (λ it. let is : r.standing ≡ last = cc in sym is ∙ mine.0.1 (ap (λ (x : Standing). x.version) is ∙ same))
+    (subst (λ b. option_or (last_read place (map reading_of rs)) (if b then Some r.standing else None) ≡ Some last) here e))
+    (λ there.
+    last-each place standing last rs (rw there at each)
+    (sym (or-none (last_read place (map reading_of rs)))
+    ∙ subst (λ b. option_or (last_read place (map reading_of rs)) (if b then Some r.standing else None) ≡ Some last) there e) same)
+  where
+    or-none : (o : Option Standing) → option_or o None ≡ o
+    or-none None = refl
+    or-none (Some x) = refl
+
+    first : {P : Type 0} (o : Option Standing) → (o ≡ Some last → P) → (Some r.standing ≡ Some last → P) → option_or o (Some r.standing) ≡ Some last → P
+    first None later now e = now e
+    first (Some x) later now e = later e
+
+-- ---- what is met at a place
+
+pub meets-there : (m : Member) (place : ℕ) (standing : Standing) → Follows place standing m.worker.seat.me → Meets place standing (space_of_member m)
+meets-there m place standing follows = record {
+  fits = λ key knows.
+      let there = known-there place key m.known.items (sym (key-told place m.known.items) ∙ knows) in
+      subst (λ (k : KeyName). MayStand k.namespace standing) there.4
+      (follows.fits there.0 there.1 (ap (λ ks. get_elem? ks there.0) (sym m.known_is) ∙ there.2) there.3);
+  noted = λ version is.
+      noted-each (λ v. v ≡ standing.version) place version m.tickets.items
+      (subst (λ ts. Each (λ (t : Own). (v : ℕ) → t.noted ≡ Some v → v ≡ standing.version) (own_at place ts)) (sym m.listed) follows.noted) is;
+  newest = newest-each place standing m.worker.seat.me.0.reads follows.reads;
+  same = λ last is same. last-each place standing last m.worker.seat.me.0.reads follows.reads is same;
+}
+
+-- it has been read, and is noted there
+pub notes-there : (m m′ : Member) (id place : ℕ) (t : Own) (standing : Standing) → numbered id m.tickets.items ≡ Some t → t.place ≡ place
+    → m′.tickets.items ≡ noting_version place standing.version m.tickets.items → ReadsThere place standing m.worker.seat.me m′.worker.seat.me
+    → NotesThere place standing (space_of_member m) (space_of_member m′)
+notes-there m m′ id place t standing its here noted reads = record {
+  last = inl (ap (map reading_of) reads ∙ map-append reading_of m.worker.seat.me.0.reads (record { place = place; standing = standing } ∷ []));
+  here = ap (noted_under place) noted ∙ noting-placed place standing.version m.tickets.items (placed-some place id m.tickets.items t its here);
+  elsewhere = λ other apart. ap (noted_under other) noted ∙ noting-elsewhere place standing.version other m.tickets.items apart;
+}

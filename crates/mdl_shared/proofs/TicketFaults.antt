@@ -1,0 +1,184 @@
+-- Why calls on held tickets are refused, in the words of a lock space.
+use Rattle.std.proofs.Common.{◌≡◌, ◌≢◌, ℕ, Bool, true, false, not, ◌==◌, ◌&&◌, ◌||◌, is_some, Option, Some, None, Result, Ok, Err, MatchOption, IfSome, List, map, filter, if◌then◌else◌, refl, sym, ap, subst, ◌∙◌}
+use Rattle.std.specs.Prelude.{OnOk, OnErr}
+use Rattle.std.specs.Option.{option_map}
+use Rattle.std.proofs.lemmas.Bool.{and_from, and_left, and_parts, and_right, eq-eqb, eqb-true, not-true, not_from_false}
+use Rattle.mdl_key.specs.declared.mode.Mode.{Mode}
+use Rattle.mdl_key.specs.declared.namespace.Kind.{Kind}
+use Rattle.mdl_key.specs.Refusals.{RefusesJust}
+use Rattle.mdl_key.specs.Words.{KeyName, is_mode_of, kind_of}
+use Rattle.mdl_system.specs.Strength.{covers, may_downgrade, may_upgrade}
+use Rattle.mdl_calls.specs.declared.answers.Held.{Held}
+use Rattle.mdl_calls.specs.declared.answers.Upgrade.{Upgrade}
+use Rattle.mdl_calls.specs.declared.answers.Upgrade.TheVariants as upgrade_as
+use Rattle.mdl_calls.specs.declared.space_error.SpaceError.{SpaceError}
+use Rattle.mdl_calls.specs.declared.space_error.SpaceError.TheVariants.{AlreadyWaiting, BadMode, NotHeld, NotUpgradable}
+use Rattle.mdl_calls.specs.Words.{Done, Upgraded, Would_wait, Release, Downgrade, Upgrade_now, Merge, IsCause, Knowledge, MayDowngrade, MayNotDowngrade, MayUpgrade, MayNotUpgrade, Mergeable, OfHeld, Own as Mine, done, giving_up, holds, is_number, is_waiting, may_merge as may_merge_told, upgrade_tried}
+use Rattle.mdl_calls.specs.Own.{merging, upgraded}
+use Rattle.mdl_steps.specs.declared.view.Ask.{Ask}
+use Rattle.mdl_steps.specs.declared.view.Own.{Own}
+use Rattle.mdl_session_laws.specs.SessionJoins.{Joins}
+use Rattle.mdl_session_laws.specs.SessionSpaces.{SpeaksFor, Knows}
+use Rattle.mdl_steps.proofs.Views.{by_bool}
+use Rattle.mdl_visits.specs.Numbers.{numbered}
+use Rattle.mdl_visits.specs.Readings.{ReadsNothing as ReadNothing}
+use Rattle.mdl_shared.specs.declared.member.Member.{Member}
+use Rattle.mdl_shared.specs.Members.{holding_fault, kind_known, without_at}
+use Rattle.mdl_shared.specs.Modes.{downgrade_fault, in_mode_at, is_fit, may_merge, merge_fault}
+use Rattle.mdl_shared.specs.OwnLists.{told_of}
+use Rattle.mdl_shared.specs.SessionViews.{space_of_member}
+use Rattle.mdl_shared.specs.Upgrades.{can_have, upgrade_fault}
+use Rattle.mdl_shared.proofs.Faults.{just-done, just-refused, test-failed, test-passed}
+use Rattle.mdl_shared.proofs.NotedOnce.{one-note}
+use Rattle.mdl_shared.proofs.SameSpace.{KeepsRest, Stays, joins-held, joins-still, numbers-same, refused, waits-asks}
+use Rattle.mdl_shared.proofs.SpaceLists.{fit-known, kind-of_key, ticket-told}
+use Rattle.mdl_shared.proofs.SpaceNotes.{AllNoted, noted-less, noted-moded, nothing-read, noted_under}
+use Rattle.mdl_shared.proofs.SpaceTickets.{given-up, holds-told, in-mode, in_mode_told, is_here, merged-told, of-held, only-one, same-mode}
+
+-- ---- tests
+
+-- where one of both is false, and it isn't this one, it is the other
+pub other-false : (x y : Bool) → (x && y) ≡ false → x ≡ true → y ≡ false
+other-false true y e is = e
+other-false false y e is = cc
+
+-- neither fault
+two-clear : (can waits : Bool) (one other : SpaceError) → (if not can then Some one else (if waits then Some other else None)) ≡ None → (can ≡ true) × (waits ≡ false)
+two-clear true false one other e = (refl, refl)
+two-clear true true one other e = cc
+two-clear false waits one other e = cc
+
+-- whether two tickets may be merged, as they are told
+merge-told : (kept gone : Own) → may_merge_told (told_of kept) (told_of gone) ≡ may_merge kept gone
+merge-told kept gone = and-same (not (kept.number == gone.number)) (kept.place == gone.place) (covers gone.mode kept.mode)
+  where
+    and-same : (x y z : Bool) → (x && y && z) ≡ (x && (y && z))
+    and-same true y z = refl
+    and-same false y z = refl
+
+-- ---- why they are refused
+
+-- no ticket has the number
+pub held-clear : (id : ℕ) (tickets : List Own) → holding_fault id tickets ≡ None → is_some (numbered id tickets) ≡ true
+held-clear id tickets e = test-passed (is_some (numbered id tickets)) NotHeld e
+
+pub held-fault : (id : ℕ) (tickets : List Own) (why : SpaceError) → holding_fault id tickets ≡ Some why → (is_some (numbered id tickets) ≡ false) × (why ≡ NotHeld)
+held-fault id tickets why e = test-failed (is_some (numbered id tickets)) NotHeld why e
+
+-- two tickets that are merged are at one place
+pub merge-here : (kept gone : Own) (asks : Option Ask) → merge_fault (Some kept) (Some gone) asks ≡ None → is_here kept.place gone ≡ true
+merge-here kept gone asks e = by (is_some asks) e
+  where
+    by : (waits : Bool) → (if waits then Some AlreadyWaiting else (if may_merge kept gone then None else Some BadMode)) ≡ None → is_here kept.place gone ≡ true
+    by true e = cc
+    by false e =
+        let may = test-passed (may_merge kept gone) BadMode e in
+        let rest = (and_parts (not (kept.number == gone.number)) (kept.place == gone.place && covers gone.mode kept.mode) may).1 in
+        let same = eqb-true kept.place gone.place (and_parts (kept.place == gone.place) (covers gone.mode kept.mode) rest).0 in
+        eq-eqb gone.place kept.place (sym same)
+
+module _ (m : Member) where
+  abbrev pub knows : Knowledge
+  knows = Knows (space_of_member m) m.worker.number
+
+  abbrev pub own : Mine
+  own = (space_of_member m).own
+
+  -- a downgrade
+  pub downgrade-clear : (id : ℕ) (mode : Mode) (t : Own) → numbered id m.tickets.items ≡ Some t → downgrade_fault (Some t) mode m.known.items ≡ None
+      → OfHeld id own (MayDowngrade knows mode)
+  downgrade-clear id mode t its e =
+      let b = test-passed (may_downgrade t.mode mode && is_fit t.place mode m.known.items) NotUpgradable e in
+      let parts = and_parts (may_downgrade t.mode mode) (is_fit t.place mode m.known.items) b in
+      of-held id m.tickets.items t (MayDowngrade knows mode) its (parts.0, fit-known t.place mode m.known.items true parts.1)
+
+  pub downgrade-cause : (who id : ℕ) (mode : Mode) (why : SpaceError) (o : Option Own) → numbered id m.tickets.items ≡ o → downgrade_fault o mode m.known.items ≡ Some why
+      → IsCause knows (Downgrade who id mode) why own
+  downgrade-cause who id mode why None its e =
+      let is : why ≡ NotHeld = cc in
+      subst (λ w. IsCause knows (Downgrade who id mode) w own) (sym is) (holds-told id m.tickets.items false (ap is_some its))
+  downgrade-cause who id mode why (Some t) its e =
+      let b = test-failed (may_downgrade t.mode mode && is_fit t.place mode m.known.items) NotUpgradable why e in
+      subst (λ w. IsCause knows (Downgrade who id mode) w own) (sym b.1)
+      (of-held id m.tickets.items t (MayNotDowngrade knows mode) its (λ may.
+      fit-known t.place mode m.known.items false (other-false (may_downgrade t.mode mode) (is_fit t.place mode m.known.items) b.0 may)))
+
+  -- an upgrade
+  may-have : (mode : Mode) (t : Own) → can_have mode t (kind_known t.place m.known.items) ≡ true → MayUpgrade knows mode (told_of t)
+  may-have mode t can = (
+    some-kind (kind_known t.place m.known.items) can,
+    λ key is. (and_parts (covers t.mode mode || may_upgrade t.mode mode) (is_mode_of (kind_of key.namespace) mode)
+        (subst (λ o. can_have mode t o ≡ true) (kind-of_key t.place m.known.items key is) can)).1,
+  )
+    where
+      some-kind : (o : Option Kind) → can_have mode t o ≡ true → (covers t.mode mode || may_upgrade t.mode mode) ≡ true
+      some-kind None e = cc
+      some-kind (Some kind) e = (and_parts (covers t.mode mode || may_upgrade t.mode mode) (is_mode_of kind mode) e).0
+
+  may-not_have : (mode : Mode) (t : Own) → can_have mode t (kind_known t.place m.known.items) ≡ false → MayNotUpgrade knows mode (told_of t)
+  may-not_have mode t can = λ may key is.
+      other-false (covers t.mode mode || may_upgrade t.mode mode) (is_mode_of (kind_of key.namespace) mode)
+      (subst (λ o. can_have mode t o ≡ false) (kind-of_key t.place m.known.items key is) can) may
+
+  pub upgrade-clear : (id : ℕ) (mode : Mode) (t : Own) → numbered id m.tickets.items ≡ Some t → upgrade_fault mode m.known.items m.asks (Some t) ≡ None
+      → (is_waiting own ≡ false) × OfHeld id own (MayUpgrade knows mode)
+  upgrade-clear id mode t its e =
+      let parts = two-clear (can_have mode t (kind_known t.place m.known.items)) (is_some m.asks) NotUpgradable AlreadyWaiting e in (
+        waits-asks m.asks m.waits ∙ parts.1,
+        of-held id m.tickets.items t (MayUpgrade knows mode) its (may-have mode t parts.0),
+      )
+
+  pub upgrade-cause : (who id : ℕ) (mode : Mode) (why : SpaceError) (o : Option Own) → numbered id m.tickets.items ≡ o
+      → upgrade_fault mode m.known.items m.asks o ≡ Some why → IsCause knows (Upgrade_now who id mode) why own
+  upgrade-cause who id mode why None its e =
+      let is : why ≡ NotHeld = cc in
+      subst (λ w. IsCause knows (Upgrade_now who id mode) w own) (sym is) (holds-told id m.tickets.items false (ap is_some its))
+  upgrade-cause who id mode why (Some t) its e = by (can_have mode t (kind_known t.place m.known.items)) refl (is_some m.asks) refl e
+    where
+      by : (can : Bool) → can_have mode t (kind_known t.place m.known.items) ≡ can → (waits : Bool) → is_some m.asks ≡ waits
+          → (if not can then Some NotUpgradable else (if waits then Some AlreadyWaiting else None)) ≡ Some why → IsCause knows (Upgrade_now who id mode) why own
+      by false can waits asks e =
+          let is : why ≡ NotUpgradable = cc in
+          subst (λ w. IsCause knows (Upgrade_now who id mode) w own) (sym is) (of-held id m.tickets.items t (MayNotUpgrade knows mode) its (may-not_have mode t can))
+      by true can true asks e =
+          let is : why ≡ AlreadyWaiting = cc in
+          subst (λ w. IsCause knows (Upgrade_now who id mode) w own) (sym is)
+          (waits-asks m.asks m.waits ∙ asks, of-held id m.tickets.items t (MayUpgrade knows mode) its (may-have mode t can))
+      by true can false asks e = cc
+
+  -- a merge
+  mergeable : (old new : ℕ) (kept gone : Own) (b : Bool) → numbered old m.tickets.items ≡ Some kept → numbered new m.tickets.items ≡ Some gone
+      → may_merge kept gone ≡ b → Mergeable b old new own
+  mergeable old new kept gone b one other may =
+      of-held old m.tickets.items kept (λ k. OfHeld new own (λ g. may_merge_told k g ≡ b)) one
+      (of-held new m.tickets.items gone (λ g. may_merge_told (told_of kept) g ≡ b) other (merge-told kept gone ∙ may))
+
+  pub merge-clear : (old new : ℕ) (kept gone : Own) → numbered old m.tickets.items ≡ Some kept → numbered new m.tickets.items ≡ Some gone
+      → merge_fault (Some kept) (Some gone) m.asks ≡ None → (is_waiting own ≡ false) × Mergeable true old new own
+  merge-clear old new kept gone one other e = by (is_some m.asks) refl e
+    where
+      by : (waits : Bool) → is_some m.asks ≡ waits → (if waits then Some AlreadyWaiting else (if may_merge kept gone then None else Some BadMode)) ≡ None
+          → (is_waiting own ≡ false) × Mergeable true old new own
+      by true asks e = cc
+      by false asks e = (waits-asks m.asks m.waits ∙ asks, mergeable old new kept gone true one other (test-passed (may_merge kept gone) BadMode e))
+
+  pub merge-cause : (who old new : ℕ) (why : SpaceError) (o p : Option Own) → numbered old m.tickets.items ≡ o → numbered new m.tickets.items ≡ p
+      → merge_fault o p m.asks ≡ Some why → IsCause knows (Merge who old new) why own
+  merge-cause who old new why None p one other e =
+      let is : why ≡ NotHeld = cc in
+      subst (λ w. IsCause knows (Merge who old new) w own) (sym is) (and_left _ (holds new own) (holds-told old m.tickets.items false (ap is_some one)))
+  merge-cause who old new why (Some kept) None one other e =
+      let is : why ≡ NotHeld = cc in
+      subst (λ w. IsCause knows (Merge who old new) w own) (sym is) (and_right (holds old own) _ (holds-told new m.tickets.items false (ap is_some other)))
+  merge-cause who old new why (Some kept) (Some gone) one other e = by (is_some m.asks) refl e
+    where
+      by : (waits : Bool) → is_some m.asks ≡ waits → (if waits then Some AlreadyWaiting else (if may_merge kept gone then None else Some BadMode)) ≡ Some why
+          → IsCause knows (Merge who old new) why own
+      by true asks e =
+          let is : why ≡ AlreadyWaiting = cc in
+          subst (λ w. IsCause knows (Merge who old new) w own) (sym is)
+          (and_from _ _ (holds-told old m.tickets.items true (ap is_some one)) (holds-told new m.tickets.items true (ap is_some other)), waits-asks m.asks m.waits ∙ asks)
+      by false asks e =
+          let b = test-failed (may_merge kept gone) BadMode why e in
+          subst (λ w. IsCause knows (Merge who old new) w own) (sym b.1)
+          (waits-asks m.asks m.waits ∙ asks, mergeable old new kept gone false one other b.0)

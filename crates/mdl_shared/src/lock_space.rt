@@ -1,0 +1,216 @@
+//! A session as a lock space, of which it speaks for itself alone.
+ghost use Rattle.mdl_session_laws.specs.SessionJoins.{Joins};
+ghost use Rattle.mdl_session_laws.specs.SessionSpaces.{SpeaksFor, own_of, numbers_of, Knows, IsSettledAs, HasRead, HasSeen, Pins, Owes};
+ghost use Rattle.mdl_session_laws.proofs.CallLaws.{session-allowed, session-keeps, session-changes, session-others, session-rising, session-draws, session-others_draw, session-fits, session-lists, session-explains, session-upgrades};
+ghost use Rattle.mdl_session_laws.proofs.KeyLaws.{session-resolves, session-remembers, session-one_key, session-one_place, session-tells_key, session-held_places, session-wait_place, session-tells_tables, session-resolved_pinned, session-pins_stay, session-pinned_known, session-held_pinned, session-wait_pinned, session-unpins_none, session-unpins_in_use, session-unpins};
+ghost use Rattle.mdl_session_laws.proofs.WaitLaws.{session-tells, session-waits_settled, session-settled_once, session-stays, session-agrees, session-victims, session-counts, session-kills, session-kills_or_settled};
+ghost use Rattle.mdl_session_laws.proofs.ReadLaws.{session-reads, session-redefines, session-redefines_so, session-reads_one, session-stands, session-reads_fit, session-sees, session-seen_stays, session-seen_below};
+ghost use Rattle.mdl_shared.specs.SessionViews.{space_of};
+
+use crate::Session;
+use mdl_calls::{
+    Attempt, Begun, Ended, Held, Place, Poll, Search, SpaceError, TicketId, TimedOut, Upgrade,
+};
+use mdl_defs::{Change, Standing};
+use mdl_key::{Key, Mode};
+use mdl_space::LockSpace;
+use std::sync::Wait;
+
+/// A session is a lock space for its own calls: of the others' it tells nothing. It gives its own number as `who`.
+impl<R: Wait> LockSpace for Session<R> {
+    ghost speaks_for = { λ s. SpeaksFor (space_of s) };
+
+    ghost own = { λ s. own_of (space_of s) };
+
+    ghost knows = { λ s. Knows (space_of s) };
+
+    ghost is_settled = { λ s. IsSettledAs (space_of s) };
+
+    ghost numbers = { λ s. numbers_of (space_of s) };
+
+    ghost has_read = { λ s. HasRead (space_of s) };
+
+    ghost has_seen = { λ s. HasSeen (space_of s) };
+
+    ghost pins = { λ s. Pins (space_of s) };
+
+    ghost owes = { λ s. Owes (space_of s) };
+
+    ghost joins = { λ s call answer t. Joins (space_of s) call answer (space_of t) };
+
+    fn resolve(&mut self, _who: u16, key: &Key) -> Result<Place, SpaceError> {
+        Session::resolve(self, key)
+    }
+
+    fn try_now(&mut self, _who: u16, place: Place, mode: Mode) -> Result<Attempt, SpaceError> {
+        Session::try_now(self, place, mode)
+    }
+
+    fn begin_wait(&mut self, _who: u16, place: Place, mode: Mode) -> Result<Begun, SpaceError> {
+        Session::begin_wait(self, place, mode)
+    }
+
+    fn search(&mut self, _who: u16) -> Result<Search, SpaceError> {
+        self.search_deadlock()
+    }
+
+    fn poll_wait(&mut self, _who: u16) -> Result<Poll, SpaceError> {
+        Session::poll_wait(self)
+    }
+
+    fn settle_timeout(&mut self, _who: u16) -> Result<TimedOut, SpaceError> {
+        Session::settle_timeout(self)
+    }
+
+    fn end_wait(&mut self, _who: u16) -> Result<Ended, SpaceError> {
+        Session::end_wait(self)
+    }
+
+    fn wait_of(&mut self, target: u16) -> Option<u64> {
+        Session::wait_of(self, target)
+    }
+
+    fn kill(&mut self, target: u16, number: u64) -> bool {
+        Session::kill(self, target, number)
+    }
+
+    fn release(&mut self, _who: u16, id: TicketId) -> Result<(), SpaceError> {
+        Session::release(self, id)
+    }
+
+    fn clone_ticket(
+        &mut self,
+        _who: u16,
+        id: TicketId,
+        mode: Mode,
+    ) -> Result<TicketId, SpaceError> {
+        Session::clone_ticket(self, id, mode)
+    }
+
+    fn upgrade_now(&mut self, _who: u16, id: TicketId, mode: Mode) -> Result<Upgrade, SpaceError> {
+        Session::upgrade_now(self, id, mode)
+    }
+
+    fn merge(&mut self, _who: u16, old: TicketId, new: TicketId) -> Result<(), SpaceError> {
+        Session::merge(self, old, new)
+    }
+
+    fn downgrade(&mut self, _who: u16, id: TicketId, mode: Mode) -> Result<(), SpaceError> {
+        Session::downgrade(self, id, mode)
+    }
+
+    fn read_definition(&mut self, _who: u16, id: TicketId) -> Result<Standing, SpaceError> {
+        Session::read_definition(self, id)
+    }
+
+    fn change_definition(
+        &mut self,
+        _who: u16,
+        id: TicketId,
+        change: &Change,
+    ) -> Result<u64, SpaceError> {
+        Session::change_definition(self, id, change)
+    }
+
+    fn key_of(&mut self, _who: u16, place: Place) -> Result<Key, SpaceError> {
+        Session::key_of(self, place)
+    }
+
+    fn tables_of(&mut self, _who: u16, schema: &str) -> Result<Vec<Place>, SpaceError> {
+        Session::tables_of(self, schema)
+    }
+
+    fn held(&self, _who: u16) -> Result<Vec<Held>, SpaceError> {
+        Session::held(self)
+    }
+
+    ghost allowed = { λ a b. session-allowed (space_of a) (space_of b) };
+
+    ghost keeps = { λ a b. session-keeps (space_of a) (space_of b) };
+
+    ghost changes = { λ a b. session-changes (space_of a) (space_of b) };
+
+    ghost others = { λ a b. session-others (space_of a) (space_of b) };
+
+    ghost rising = { λ a. session-rising (space_of a) };
+
+    ghost fits = { λ a b. session-fits (space_of a) (space_of b) };
+
+    ghost lists = { λ a b. session-lists (space_of a) (space_of b) };
+
+    ghost explains = { λ a b. session-explains (space_of a) (space_of b) };
+
+    ghost resolves = { λ a b. session-resolves (space_of a) (space_of b) };
+
+    ghost remembers = { λ a b. session-remembers (space_of a) (space_of b) };
+
+    ghost one_key = { λ a. session-one_key (space_of a) };
+
+    ghost one_place = { λ a. session-one_place (space_of a) };
+
+    ghost held_places = { λ a. session-held_places (space_of a) };
+
+    ghost wait_place = { λ a. session-wait_place (space_of a) };
+
+    ghost tells = { λ a b. session-tells (space_of a) (space_of b) };
+
+    ghost waits_settled = { λ a. session-waits_settled (space_of a) };
+
+    ghost settled_once = { λ a. session-settled_once (space_of a) };
+
+    ghost stays = { λ a b. session-stays (space_of a) (space_of b) };
+
+    ghost agrees = { λ a b. session-agrees (space_of a) (space_of b) };
+
+    ghost victims = { λ a b. session-victims (space_of a) (space_of b) };
+
+    ghost counts = { λ a b. session-counts (space_of a) (space_of b) };
+
+    ghost kills = { λ a b. session-kills (space_of a) (space_of b) };
+
+    ghost kills_or_settled = { λ a b. session-kills_or_settled (space_of a) (space_of b) };
+
+    ghost draws = { λ a b. session-draws (space_of a) (space_of b) };
+
+    ghost others_draw = { λ a b. session-others_draw (space_of a) (space_of b) };
+
+    ghost reads = { λ a b. session-reads (space_of a) (space_of b) };
+
+    ghost redefines = { λ a b. session-redefines (space_of a) (space_of b) };
+
+    ghost redefines_so = { λ a b. session-redefines_so (space_of a) (space_of b) };
+
+    ghost reads_one = { λ a. session-reads_one (space_of a) };
+
+    ghost stands = { λ a b. session-stands (space_of a) (space_of b) };
+
+    ghost reads_fit = { λ a. session-reads_fit (space_of a) };
+
+    ghost sees = { λ a. session-sees (space_of a) };
+
+    ghost seen_stays = { λ a b. session-seen_stays (space_of a) (space_of b) };
+
+    ghost seen_below = { λ a. session-seen_below (space_of a) };
+
+    ghost upgrades = { λ a b. session-upgrades (space_of a) (space_of b) };
+
+    ghost tells_key = { λ a b. session-tells_key (space_of a) (space_of b) };
+
+    ghost tells_tables = { λ a b. session-tells_tables (space_of a) (space_of b) };
+
+    ghost resolved_pinned = { λ a b. session-resolved_pinned (space_of a) (space_of b) };
+
+    ghost pins_stay = { λ a b. session-pins_stay (space_of a) (space_of b) };
+
+    ghost pinned_known = { λ a. session-pinned_known (space_of a) };
+
+    ghost held_pinned = { λ a. session-held_pinned (space_of a) };
+
+    ghost wait_pinned = { λ a. session-wait_pinned (space_of a) };
+
+    ghost unpins_none = { λ a b. session-unpins_none (space_of a) (space_of b) };
+
+    ghost unpins_in_use = { λ a b. session-unpins_in_use (space_of a) (space_of b) };
+
+    ghost unpins = { λ a b. session-unpins (space_of a) (space_of b) };
+}
