@@ -1,30 +1,28 @@
 -- The end of a session's wait.
-use Rattle.std.proofs.Common.{◌≡◌, ◌⊎◌, ℕ, ◌+◌, ◌-◌, Bool, true, false, is_some, Option, Some, None, Result, Ok, Err, IfSome, List, [], ◌∷◌, ◌++◌, map, inl, inr, refl, sym, ap, subst, ◌∙◌, arith}
+use Rattle.std.proofs.Common.{◌≡◌, ◌⊎◌, ℕ, ◌-◌, true, is_some, Option, Some, None, Result, Ok, Err, IfSome, [], ◌∷◌, ◌++◌, map, inl, inr, refl, sym, ap, subst, ◌∙◌, arith}
 use Rattle.std.specs.Prelude.{IfOk, IfErr, OnErr}
 use Rattle.mdl_calls.specs.declared.answers.Ended.{Ended}
-use Rattle.mdl_calls.specs.declared.answers.Ended.TheVariants as ended_as
 use Rattle.mdl_calls.specs.declared.answers.Settled.{Settled}
 use Rattle.mdl_calls.specs.declared.answers.Settled.TheVariants as settled_as
 use Rattle.mdl_calls.specs.declared.space_error.SpaceError.{SpaceError}
 use Rattle.mdl_calls.specs.declared.space_error.SpaceError.TheVariants.{NoWait, Unsettled}
 use Rattle.mdl_calls.specs.Own.{winning}
-use Rattle.mdl_calls.specs.Words.{Answer, Granted, Lost, Refused, Call, End_wait, Numbers, IsCause, ended, is_answer_of, is_waiting, own_after, ending}
+use Rattle.mdl_calls.specs.Words.{Granted, Lost, Refused, End_wait, ended, is_answer_of, is_waiting}
 use Rattle.mdl_steps.specs.declared.view.Ask.{Ask}
-use Rattle.mdl_steps.specs.declared.view.Own.{Own}
 use Rattle.mdl_session_laws.specs.SessionJoins.{Joins, met}
-use Rattle.mdl_session_laws.specs.SessionSpaces.{SpeaksFor, Knows}
+use Rattle.mdl_session_laws.specs.SessionSpaces.{SpeaksFor}
 use Rattle.mdl_visits.specs.Polls.{state_of}
 use Rattle.mdl_visits.specs.Readings.{ReadsNothing as ReadNothing}
 use Rattle.mdl_shared.specs.declared.member.Member.{Member}
 use Rattle.mdl_shared.specs.Endings.{EndsWith, end_of, tickets_after, ticket_asked}
 use Rattle.mdl_shared.specs.Keepings.{SeesWait}
 use Rattle.mdl_shared.specs.OwnLists.{told_of}
-use Rattle.mdl_shared.specs.SessionViews.{settled_of, settled_told, space_of_member}
+use Rattle.mdl_shared.specs.SessionViews.{settled_told, space_of_member}
 use Rattle.mdl_shared.specs.Waitings.{wait_fault}
 use Rattle.mdl_shared.proofs.MemberFacts.{ask-last}
 use Rattle.mdl_shared.proofs.NotedOnce.{one-note}
 use Rattle.mdl_shared.proofs.PollCalls.{asks-none, asks-some, same-settled}
-use Rattle.mdl_shared.proofs.SameSpace.{Stays, numbers-same, own_by, own_of, refused, settled-told, wait_by, waits-asks}
+use Rattle.mdl_shared.proofs.SameSpace.{numbers-same, own_by, own_of, refused, settled-told, wait_by, waits-asks}
 use Rattle.mdl_shared.proofs.SpaceLists.{known_of}
 use Rattle.mdl_shared.proofs.SpaceNotes.{AllNoted, noted-gained, nothing-read, noted_under}
 use Rattle.mdl_shared.proofs.SpaceTickets.{told-last}

@@ -1,5 +1,5 @@
 -- Why calls are refused, by what they answered.
-use Rattle.std.proofs.Common.{◌≡◌, ◌⊎◌, Bool, true, false, if◌then◌else◌, Option, Some, None, Result, Ok, Err, inl, inr, refl, sym, ap, ◌∙◌}
+use Rattle.std.proofs.Common.{◌≡◌, ◌⊎◌, Bool, true, false, if◌then◌else◌, Option, Some, None, Result, Ok, Err, inl, inr, refl}
 use Rattle.std.specs.Prelude.{OnOk, IfOk, IfErr}
 use Rattle.mdl_key.specs.Refusals.{Refuses, RefusesJust}
 use Rattle.mdl_calls.specs.declared.space_error.SpaceError.{SpaceError}

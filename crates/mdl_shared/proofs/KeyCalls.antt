@@ -1,7 +1,7 @@
 -- Calls by which a session learns keys: the place of a key, and the tables of a schema.
-use Rattle.std.proofs.Common.{◌≡◌, ◌⊎◌, ℕ, Bool, true, false, not, ◌&&◌, ◌||◌, ◌==◌, ◌<◌, length, get_or, if◌then◌else◌, is_some, Option, Some, None, Result, Ok, Err, List, [], ◌∷◌, ◌++◌, map, filter, inl, inr, refl, sym, ap, subst, ◌∙◌, arith}
+use Rattle.std.proofs.Common.{◌≡◌, ◌⊎◌, ℕ, Bool, true, false, ◌&&◌, ◌||◌, ◌==◌, ◌<◌, get_or, if◌then◌else◌, is_some, Option, Some, None, Result, Ok, Err, List, [], ◌∷◌, ◌++◌, map, filter, inl, inr, refl, sym, ap, subst, ◌∙◌, arith}
 use Rattle.std.specs.Prelude.{All, AllPairs, filter_map, IfOk, IfErr, IsOkUnless, OnErr, Vec}
-use Rattle.std.specs.List.{find, list_all, list_any}
+use Rattle.std.specs.List.{find, list_all}
 use Rattle.std.specs.Option.{option_map}
 use Rattle.std.specs.declared.cmp.Ordering.TheVariants.{Less}
 use Rattle.std.specs.Str.{bytes_eq}
@@ -11,28 +11,27 @@ use Rattle.std.proofs.lemmas.List.Kept.{AllPairs-filter}
 use Rattle.mdl_key.specs.declared.namespace.Namespace.{Namespace}
 use Rattle.mdl_key.specs.declared.namespace.Namespace.TheVariants as of
 use Rattle.mdl_key.specs.Keys.{key_cmp}
-use Rattle.mdl_key.specs.Words.{KeyName, key_eq}
+use Rattle.mdl_key.specs.Words.{KeyName}
 use Rattle.mdl_calls.specs.declared.space_error.SpaceError.{SpaceError}
 use Rattle.mdl_calls.specs.declared.space_error.SpaceError.TheVariants.{NoPlace, OutOfMemory}
-use Rattle.mdl_calls.specs.Words.{Answer, At_place, Refused, Tables, Call, Resolve, Tables_of, Draws, IsCause, IsExplained, caller, is_answer_of, is_table_of as is_table_told, own_after, placed, tables_told, told}
+use Rattle.mdl_calls.specs.Words.{Resolve, Tables_of, IsCause, is_table_of as is_table_told, placed, tables_told}
 use Rattle.mdl_calls.specs.Reads.{is_of_tables as is_of_tables_told}
 use Rattle.mdl_core.proofs.TicketLists.{pairs-map}
 use Rattle.mdl_steps.specs.declared.view.Keys.{Keys}
 use Rattle.mdl_steps.specs.declared.view.Known.{Known}
 use Rattle.mdl_steps.specs.Schemas.{is_of_tables, is_table_of, unknown}
-use Rattle.mdl_steps.proofs.Views.{by_bool}
-use Rattle.mdl_session_laws.specs.SessionJoins.{Joins, Learns, LearnsPlace as LearnsAt, LearnsTables, LetsRead, ReadsNothing, TellsTruly}
-use Rattle.mdl_session_laws.specs.SessionSpaces.{KnownKey, SpeaksFor, Knows, are_apart as are_apart_in, are_two as are_two_in, is_known as is_known_in, key_known as key_known_in, place_known as place_known_in}
+use Rattle.mdl_session_laws.specs.SessionJoins.{Joins, LearnsPlace as LearnsAt, LearnsTables}
+use Rattle.mdl_session_laws.specs.SessionSpaces.{KnownKey, SpeaksFor, Knows, are_apart as are_apart_in, are_two as are_two_in, is_known as is_known_in, key_known as key_known_in}
 use Rattle.mdl_session_laws.proofs.KeyLists.{place-of_key}
 use Rattle.mdl_session_laws.proofs.RefusedCalls.{reads-nothing}
 use Rattle.mdl_visits.specs.Readings.{ReadsNothing as ReadNothing}
 use Rattle.mdl_visits.specs.Tables.{AreTables, Asked, HasAsked, IsTable, told as asked_places}
 use Rattle.mdl_shared.specs.declared.member.Member.{Member}
-use Rattle.mdl_shared.specs.Keepings.{KeepsWait, SeesWait}
+use Rattle.mdl_shared.specs.Keepings.{SeesWait}
 use Rattle.mdl_shared.specs.Members.{AreLearnt, LearnsPlace, are_apart, are_two, is_known_place, place_known}
 use Rattle.mdl_shared.specs.OwnLists.{key_known}
 use Rattle.mdl_shared.specs.SessionViews.{note_of, space_of_member}
-use Rattle.mdl_shared.proofs.SameSpace.{Stays, keeps-settled, numbers-same, own-same, reading_of, refused}
+use Rattle.mdl_shared.proofs.SameSpace.{keeps-settled, numbers-same, own-same, reading_of, refused}
 use Rattle.mdl_shared.proofs.SpaceLists.{key-told, known_of, place-told}
 
 -- ---- look-ups

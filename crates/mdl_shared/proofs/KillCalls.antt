@@ -1,5 +1,5 @@
 -- Calls that settle waits as lost, those of others or the session's own: kills and searches for deadlocks.
-use Rattle.std.proofs.Common.{◌≡◌, ℕ, Bool, true, false, is_some, Option, Some, None, Result, Ok, Err, refl, sym, ap, subst, ◌∙◌}
+use Rattle.std.proofs.Common.{◌≡◌, ℕ, Bool, true, false, is_some, Some, Result, Ok, Err, refl, sym, ap, subst, ◌∙◌}
 use Rattle.std.specs.Prelude.{IfOk, IfErr}
 use Rattle.mdl_calls.specs.declared.answers.Search.{Search as Found}
 use Rattle.mdl_calls.specs.declared.answers.Search.TheVariants as found

@@ -9,7 +9,7 @@ use Rattle.mdl_calls.specs.declared.answers.TimedOut.{TimedOut}
 use Rattle.mdl_calls.specs.declared.answers.TimedOut.TheVariants.{ByThisCall, Already}
 use Rattle.mdl_calls.specs.declared.space_error.SpaceError.{SpaceError}
 use Rattle.mdl_calls.specs.declared.space_error.SpaceError.TheVariants.{NoWait}
-use Rattle.mdl_calls.specs.Words.{Pending, Is_settled, Timed_out, Poll_wait, Settle_timeout, Call, IsCause, is_waiting, polled, timed_out}
+use Rattle.mdl_calls.specs.Words.{Pending, Is_settled, Timed_out, Poll_wait, Settle_timeout, IsCause, polled, timed_out}
 use Rattle.mdl_steps.specs.declared.view.Ask.{Ask}
 use Rattle.mdl_session_laws.specs.SessionJoins.{Joins}
 use Rattle.mdl_session_laws.specs.SessionSpaces.{SpeaksFor, Knows}

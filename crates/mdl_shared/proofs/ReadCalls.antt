@@ -1,5 +1,5 @@
 -- Calls on what stands under keys: reads and changes.
-use Rattle.std.proofs.Common.{◌≡◌, ◌≢◌, ◌⊎◌, ℕ, ◌+◌, MatchOption, Bool, true, false, is_some, Option, Some, None, Result, Ok, Err, IfSome, List, map, inl, inr, if◌then◌else◌, refl, sym, ap, subst, ◌∙◌}
+use Rattle.std.proofs.Common.{◌≡◌, ◌⊎◌, ℕ, ◌+◌, MatchOption, true, false, is_some, Option, Some, None, Result, Ok, Err, IfSome, map, inl, inr, refl, sym, ap, subst, ◌∙◌}
 use Rattle.std.specs.Prelude.{IfOk, IfErr, OnErr}
 use Rattle.std.specs.Option.{option_map}
 use Rattle.std.proofs.lemmas.Bool.{false≢true}
@@ -16,18 +16,16 @@ use Rattle.mdl_defs.specs.Standings.{standing_after, standing_fault}
 use Rattle.mdl_calls.specs.declared.answers.Held.{Held}
 use Rattle.mdl_calls.specs.declared.space_error.SpaceError.{SpaceError}
 use Rattle.mdl_calls.specs.declared.space_error.SpaceError.TheVariants.{NotExclusive, NotHeld, OutOfMemory}
-use Rattle.mdl_calls.specs.Words.{Changed, Reads, Refused, Change_definition, Read_definition, IsCause, IsChangeOf, OfHeld, cause_of, change_takes_memory, read, redefined, ticket_held}
+use Rattle.mdl_calls.specs.Words.{Changed, Reads, Refused, Change_definition, Read_definition, IsCause, cause_of, change_takes_memory, read, redefined, ticket_held}
 use Rattle.mdl_calls.proofs.StandingLemmas.{drop-memory, redefined-cause}
 use Rattle.mdl_steps.specs.declared.view.Own.{Own}
-use Rattle.mdl_steps.specs.Plays.{Mine, noting_version}
-use Rattle.mdl_session_laws.specs.SessionJoins.{ChangesThere, IsRefusedFor as IsRefused, Joins, MeetsFault as Faulty, ReadsThere as Read_so, TellsTruly}
+use Rattle.mdl_steps.specs.Plays.{noting_version}
+use Rattle.mdl_session_laws.specs.SessionJoins.{ChangesThere, Joins, MeetsFault as Faulty, ReadsThere as Read_so, TellsTruly}
 use Rattle.mdl_session_laws.specs.SessionSpaces.{SpeaksFor, Knows, key_known as key_known_in}
 use Rattle.mdl_visits.specs.Numbers.{numbered}
 use Rattle.mdl_visits.specs.Readings.{Follows, ReadsNothing as ReadNothing, ReadsThere}
-use Rattle.mdl_visits.specs.Redefinitions.{IsNamed, IsRefusedAs, IsRefusedFor, MeetsFault, Redefines, exclusive_fault}
-use Rattle.mdl_visits.specs.Visits.{IsStepOf}
+use Rattle.mdl_visits.specs.Redefinitions.{IsNamed, IsRefusedAs, IsRefusedFor, Redefines, exclusive_fault}
 use Rattle.mdl_shared.specs.declared.member.Member.{Member}
-use Rattle.mdl_shared.specs.Keepings.{SeesWait}
 use Rattle.mdl_shared.specs.Members.{holding_fault}
 use Rattle.mdl_shared.specs.OwnLists.{told_of}
 use Rattle.mdl_shared.specs.SessionViews.{space_of_member}

@@ -1,17 +1,17 @@
 -- A call that leaves a session what it has, but for what it may have learnt of its wait.
-use Rattle.std.proofs.Common.{◌≡◌, ℕ, ◌-◌, ◌==◌, Bool, true, false, List, map, is_some, Option, Some, None, IfSome, if◌then◌else◌, refl, sym, ap, subst, ◌∙◌}
+use Rattle.std.proofs.Common.{◌≡◌, ℕ, ◌-◌, Bool, true, false, List, map, is_some, Option, Some, None, IfSome, refl, sym, ap, subst, ◌∙◌}
 use Rattle.std.specs.Option.{option_map}
 use Rattle.std.specs.Prelude.{filter_map}
 use Rattle.mdl_calls.specs.declared.answers.Held.{Held}
 use Rattle.mdl_calls.specs.declared.answers.Settled.{Settled}
 use Rattle.mdl_calls.specs.declared.answers.Settled.TheVariants as settled_as
 use Rattle.mdl_calls.specs.declared.space_error.SpaceError.{SpaceError}
-use Rattle.mdl_calls.specs.Words.{Answer, Call, Draws, IsCause, IsExplained, Numbers, Own as Mine, Refused, Wait, caller, is_answer_of, is_waiting, own_after, told}
+use Rattle.mdl_calls.specs.Words.{Answer, Call, Draws, IsCause, IsExplained, Numbers, Own as Mine, Refused, Wait, caller, is_answer_of, own_after, told}
 use Rattle.mdl_steps.specs.declared.view.Ask.{Ask}
 use Rattle.mdl_steps.specs.declared.view.Own.{Own}
 use Rattle.mdl_steps.specs.declared.view.Read.{Read}
 use Rattle.mdl_session_laws.specs.SessionJoins.{Joins, KeepsSettled, Learns, LetsRead, ReadsNothing, TellsTruly, ends_wait, gained_at, has_call, met}
-use Rattle.mdl_session_laws.specs.SessionSpaces.{Reading, Space, SpeaksFor, Knows, is_known}
+use Rattle.mdl_session_laws.specs.SessionSpaces.{Reading, SpeaksFor, Knows, is_known}
 use Rattle.mdl_session_laws.proofs.RefusedCalls.{KeepsAll, reads-nothing, refused-joins}
 use Rattle.mdl_visits.specs.Polls.{state_of}
 use Rattle.mdl_visits.specs.Readings.{ReadsNothing as ReadNothing}

@@ -1,7 +1,6 @@
 -- What is always so of a session between two calls is what is always so of it as a lock space.
-use Rattle.std.proofs.Common.{◌≡◌, ℕ, ◌+◌, ◌-◌, ◌<◌, Bool, true, false, not, ◌&&◌, ◌||◌, ◌==◌, nat_lt, List, [], ◌∷◌, map, is_some, Option, Some, None, MatchOption, IfSome, if◌then◌else◌, refl, sym, ap, subst, ◌∙◌, arith}
+use Rattle.std.proofs.Common.{◌≡◌, ℕ, ◌+◌, ◌-◌, true, false, not, ◌&&◌, ◌||◌, ◌==◌, nat_lt, List, [], ◌∷◌, map, is_some, Option, Some, None, MatchOption, IfSome, if◌then◌else◌, refl, sym, ap, subst, ◌∙◌, arith}
 use Rattle.std.specs.Prelude.{nat_le}
-use Rattle.std.specs.List.{list_all}
 use Rattle.std.specs.Option.{option_map, option_or}
 use Rattle.std.proofs.lemmas.Bool.{and_parts, eqb-true}
 use Rattle.std.proofs.lemmas.List.Folds.{list_all-map}
@@ -9,7 +8,6 @@ use Rattle.mdl_key.specs.Words.{KeyName}
 use Rattle.mdl_defs.specs.declared.standing.Standing.{Standing}
 use Rattle.mdl_defs.specs.Standings.{MayStand}
 use Rattle.mdl_calls.specs.declared.answers.Held.{Held}
-use Rattle.mdl_calls.specs.declared.answers.Settled.{Settled}
 use Rattle.mdl_calls.specs.Words.{Wait, are_rising as are_rising_told}
 use Rattle.mdl_steps.specs.declared.view.Ask.{Ask}
 use Rattle.mdl_steps.specs.declared.view.Known.{Known}
@@ -18,11 +16,11 @@ use Rattle.mdl_steps.specs.declared.view.Read.{Read}
 use Rattle.mdl_steps.specs.Cells.{own_at}
 use Rattle.mdl_steps.specs.Lists.{Each}
 use Rattle.mdl_steps.proofs.Views.{by_bool}
-use Rattle.mdl_session_laws.specs.SessionSpaces.{IsNoted, IsSound, Reading, are_below as are_below_told, are_placed as are_placed_told, first_free, is_known as is_known_in, is_newest as is_newest_in, last_read as last_read_in}
+use Rattle.mdl_session_laws.specs.SessionSpaces.{IsSound, Reading, are_below as are_below_told, are_placed as are_placed_told, first_free, is_known as is_known_in, is_newest as is_newest_in, last_read as last_read_in}
 use Rattle.mdl_visits.specs.Numbers.{all_numbers, is_ask_apart, is_no_number}
 use Rattle.mdl_shared.specs.declared.member.Member.{Member}
 use Rattle.mdl_shared.specs.Members.{are_placed, is_known_place}
-use Rattle.mdl_shared.specs.OwnLists.{key_known, told_of}
+use Rattle.mdl_shared.specs.OwnLists.{told_of}
 use Rattle.mdl_shared.specs.Rememberings.{IsOfLast, Remembers, is_newest, last_read}
 use Rattle.mdl_shared.specs.SessionViews.{settled_told, space_of_member}
 use Rattle.mdl_shared.specs.Waitings.{are_below, are_rising, is_ask_placed}

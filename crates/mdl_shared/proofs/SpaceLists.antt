@@ -1,17 +1,16 @@
 -- What a session keeps of its own is found in the space that it is as a lock space: its tickets by their numbers, the keys by their places.
-use Rattle.std.proofs.Common.{◌≡◌, ℕ, Bool, true, false, ◌==◌, List, [], ◌∷◌, map, find, is_some, Option, Some, None, MatchOption, if◌then◌else◌, refl, sym, ap, subst, ◌∙◌}
+use Rattle.std.proofs.Common.{◌≡◌, ℕ, Bool, true, false, ◌==◌, List, [], ◌∷◌, map, find, is_some, Option, Some, None, refl, sym, ap, ◌∙◌}
 use Rattle.std.specs.Option.{option_map, option_map_or}
 use Rattle.mdl_key.specs.declared.mode.Mode.{Mode}
 use Rattle.mdl_key.specs.declared.namespace.Kind.{Kind}
 use Rattle.mdl_key.specs.Words.{KeyName, is_mode_of, key_eq, kind_of}
-use Rattle.mdl_calls.specs.declared.answers.Held.{Held}
-use Rattle.mdl_calls.specs.Words.{IsFit, IsUnfit, IsUnknown, OfHeld, Own as Mine, holds, is_number, ticket_held}
+use Rattle.mdl_calls.specs.Words.{is_number}
 use Rattle.mdl_steps.specs.declared.view.Known.{Known}
 use Rattle.mdl_steps.specs.declared.view.Own.{Own}
-use Rattle.mdl_session_laws.specs.SessionSpaces.{KnownKey, Space, Knows, is_known as is_known_in, key_known as key_known_in, place_known as place_known_in}
+use Rattle.mdl_session_laws.specs.SessionSpaces.{KnownKey, is_known as is_known_in, key_known as key_known_in, place_known as place_known_in}
 use Rattle.mdl_steps.proofs.Views.{by_bool}
 use Rattle.mdl_visits.specs.Numbers.{numbered}
-use Rattle.mdl_shared.specs.Members.{kind_known, is_known_place, place_known}
+use Rattle.mdl_shared.specs.Members.{kind_known, place_known}
 use Rattle.mdl_shared.specs.Modes.{is_fit}
 use Rattle.mdl_shared.specs.OwnLists.{told_of, key_known}
 

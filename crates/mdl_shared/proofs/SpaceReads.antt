@@ -1,9 +1,9 @@
 -- What a session read and noted at a place, in its own lists and in the space that it is as a lock space.
-use Rattle.std.proofs.Common.{◌≡◌, ◌≢◌, ℕ, zero, suc, ◌≤◌, Bool, true, false, not, ◌==◌, ◌||◌, List, [], ◌∷◌, ◌++◌, map, filter, find, Option, Some, None, inl, if◌then◌else◌, refl, sym, ap, subst, ◌∙◌, arith}
+use Rattle.std.proofs.Common.{◌≡◌, ℕ, zero, suc, ◌≤◌, true, false, not, ◌==◌, List, [], ◌∷◌, map, Option, Some, None, inl, if◌then◌else◌, refl, sym, ap, subst, ◌∙◌, arith}
 use Rattle.std.specs.Prelude.{filter_map, nat_le}
 use Rattle.std.specs.List.{list_all}
-use Rattle.std.specs.Option.{option_map, option_or}
-use Rattle.std.proofs.lemmas.Bool.{and_from, eqb-true, false≢true, le-leb, or_left, or_right, not_from_false}
+use Rattle.std.specs.Option.{option_or}
+use Rattle.std.proofs.lemmas.Bool.{and_from, eqb-true, le-leb, or_left, or_right, not_from_false}
 use Rattle.std.proofs.lemmas.Bool.Decides.{nat_tests}
 use Rattle.std.proofs.lemmas.List.{map-append}
 use mathlib.Core.Option.{some}
@@ -20,7 +20,7 @@ use Rattle.mdl_steps.specs.Lists.{Each}
 use Rattle.mdl_steps.specs.Plays.{noting_version}
 use Rattle.mdl_steps.proofs.Views.{by_bool}
 use Rattle.mdl_session_laws.specs.SessionJoins.{Meets, NotesThere}
-use Rattle.mdl_session_laws.specs.SessionSpaces.{Note, Reading, is_newest, last_read, noted_at}
+use Rattle.mdl_session_laws.specs.SessionSpaces.{Note, is_newest, last_read, noted_at}
 use Rattle.mdl_visits.specs.Numbers.{numbered}
 use Rattle.mdl_visits.specs.Readings.{Follows, ReadsThere}
 use Rattle.mdl_shared.specs.declared.member.Member.{Member}

@@ -1,5 +1,5 @@
 -- Calls that only tell: what is held, the key of a place, the number of a wait.
-use Rattle.std.proofs.Common.{◌≡◌, ◌⊎◌, ℕ, Bool, true, false, is_some, Option, Some, None, Result, Ok, Err, List, map, refl, sym, ap, subst, ◌∙◌, inl, inr}
+use Rattle.std.proofs.Common.{◌≡◌, ◌⊎◌, ℕ, is_some, Option, Some, None, Result, Ok, Err, map, refl, sym, ap, subst, ◌∙◌, inl, inr}
 use Rattle.std.specs.Prelude.{IfOk, IfErr, Vec}
 use Rattle.std.specs.Option.{option_map}
 use Rattle.mdl_key.specs.Refusals.{Refuses}
@@ -7,7 +7,7 @@ use Rattle.mdl_key.specs.Words.{KeyName}
 use Rattle.mdl_calls.specs.declared.answers.Held.{Held}
 use Rattle.mdl_calls.specs.declared.space_error.SpaceError.{SpaceError}
 use Rattle.mdl_calls.specs.declared.space_error.SpaceError.TheVariants.{NoPlace, OutOfMemory}
-use Rattle.mdl_calls.specs.Words.{Has_wait, Holds, Key_is, IsCause, Key_of, List_held, Wait_of, Knowledge, keyed, listed, wait_number}
+use Rattle.mdl_calls.specs.Words.{Has_wait, Holds, Key_is, IsCause, Key_of, List_held, Wait_of, keyed, listed}
 use Rattle.mdl_steps.specs.declared.view.Ask.{Ask}
 use Rattle.mdl_session_laws.specs.SessionJoins.{Joins}
 use Rattle.mdl_session_laws.specs.SessionSpaces.{SpeaksFor, Knows}
@@ -15,7 +15,7 @@ use Rattle.mdl_shared.specs.declared.member.Member.{Member}
 use Rattle.mdl_shared.specs.OwnLists.{key_known, naming_fault, told_of}
 use Rattle.mdl_shared.specs.SessionViews.{space_of_member}
 use Rattle.mdl_shared.specs.Waitings.{own_number}
-use Rattle.mdl_shared.proofs.Faults.{done-clear, refused-for, test-failed}
+use Rattle.mdl_shared.proofs.Faults.{refused-for, test-failed}
 use Rattle.mdl_shared.proofs.SameSpace.{Stays, joins-still, refused, wait_by}
 use Rattle.mdl_shared.proofs.SpaceLists.{key-told}
 

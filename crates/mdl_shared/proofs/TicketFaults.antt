@@ -1,39 +1,27 @@
 -- Why calls on held tickets are refused, in the words of a lock space.
-use Rattle.std.proofs.Common.{◌≡◌, ◌≢◌, ℕ, Bool, true, false, not, ◌==◌, ◌&&◌, ◌||◌, is_some, Option, Some, None, Result, Ok, Err, MatchOption, IfSome, List, map, filter, if◌then◌else◌, refl, sym, ap, subst, ◌∙◌}
-use Rattle.std.specs.Prelude.{OnOk, OnErr}
-use Rattle.std.specs.Option.{option_map}
-use Rattle.std.proofs.lemmas.Bool.{and_from, and_left, and_parts, and_right, eq-eqb, eqb-true, not-true, not_from_false}
+use Rattle.std.proofs.Common.{◌≡◌, ℕ, Bool, true, false, not, ◌==◌, ◌&&◌, ◌||◌, is_some, Option, Some, None, List, if◌then◌else◌, refl, sym, ap, subst, ◌∙◌}
+use Rattle.std.proofs.lemmas.Bool.{and_from, and_left, and_parts, and_right, eq-eqb, eqb-true}
 use Rattle.mdl_key.specs.declared.mode.Mode.{Mode}
 use Rattle.mdl_key.specs.declared.namespace.Kind.{Kind}
-use Rattle.mdl_key.specs.Refusals.{RefusesJust}
-use Rattle.mdl_key.specs.Words.{KeyName, is_mode_of, kind_of}
+use Rattle.mdl_key.specs.Words.{is_mode_of, kind_of}
 use Rattle.mdl_system.specs.Strength.{covers, may_downgrade, may_upgrade}
-use Rattle.mdl_calls.specs.declared.answers.Held.{Held}
-use Rattle.mdl_calls.specs.declared.answers.Upgrade.{Upgrade}
-use Rattle.mdl_calls.specs.declared.answers.Upgrade.TheVariants as upgrade_as
 use Rattle.mdl_calls.specs.declared.space_error.SpaceError.{SpaceError}
 use Rattle.mdl_calls.specs.declared.space_error.SpaceError.TheVariants.{AlreadyWaiting, BadMode, NotHeld, NotUpgradable}
-use Rattle.mdl_calls.specs.Words.{Done, Upgraded, Would_wait, Release, Downgrade, Upgrade_now, Merge, IsCause, Knowledge, MayDowngrade, MayNotDowngrade, MayUpgrade, MayNotUpgrade, Mergeable, OfHeld, Own as Mine, done, giving_up, holds, is_number, is_waiting, may_merge as may_merge_told, upgrade_tried}
-use Rattle.mdl_calls.specs.Own.{merging, upgraded}
+use Rattle.mdl_calls.specs.Words.{Downgrade, Upgrade_now, Merge, IsCause, Knowledge, MayDowngrade, MayNotDowngrade, MayUpgrade, MayNotUpgrade, Mergeable, OfHeld, Own as Mine, holds, is_waiting, may_merge as may_merge_told}
 use Rattle.mdl_steps.specs.declared.view.Ask.{Ask}
 use Rattle.mdl_steps.specs.declared.view.Own.{Own}
-use Rattle.mdl_session_laws.specs.SessionJoins.{Joins}
-use Rattle.mdl_session_laws.specs.SessionSpaces.{SpeaksFor, Knows}
-use Rattle.mdl_steps.proofs.Views.{by_bool}
+use Rattle.mdl_session_laws.specs.SessionSpaces.{Knows}
 use Rattle.mdl_visits.specs.Numbers.{numbered}
-use Rattle.mdl_visits.specs.Readings.{ReadsNothing as ReadNothing}
 use Rattle.mdl_shared.specs.declared.member.Member.{Member}
-use Rattle.mdl_shared.specs.Members.{holding_fault, kind_known, without_at}
-use Rattle.mdl_shared.specs.Modes.{downgrade_fault, in_mode_at, is_fit, may_merge, merge_fault}
+use Rattle.mdl_shared.specs.Members.{holding_fault, kind_known}
+use Rattle.mdl_shared.specs.Modes.{downgrade_fault, is_fit, may_merge, merge_fault}
 use Rattle.mdl_shared.specs.OwnLists.{told_of}
 use Rattle.mdl_shared.specs.SessionViews.{space_of_member}
 use Rattle.mdl_shared.specs.Upgrades.{can_have, upgrade_fault}
-use Rattle.mdl_shared.proofs.Faults.{just-done, just-refused, test-failed, test-passed}
-use Rattle.mdl_shared.proofs.NotedOnce.{one-note}
-use Rattle.mdl_shared.proofs.SameSpace.{KeepsRest, Stays, joins-held, joins-still, numbers-same, refused, waits-asks}
-use Rattle.mdl_shared.proofs.SpaceLists.{fit-known, kind-of_key, ticket-told}
-use Rattle.mdl_shared.proofs.SpaceNotes.{AllNoted, noted-less, noted-moded, nothing-read, noted_under}
-use Rattle.mdl_shared.proofs.SpaceTickets.{given-up, holds-told, in-mode, in_mode_told, is_here, merged-told, of-held, only-one, same-mode}
+use Rattle.mdl_shared.proofs.Faults.{test-failed, test-passed}
+use Rattle.mdl_shared.proofs.SameSpace.{waits-asks}
+use Rattle.mdl_shared.proofs.SpaceLists.{fit-known, kind-of_key}
+use Rattle.mdl_shared.proofs.SpaceTickets.{holds-told, is_here, of-held}
 
 -- ---- tests
 

@@ -1,5 +1,5 @@
 -- Calls that ask for tickets: wishes, waits that begin, and clones.
-use Rattle.std.proofs.Common.{◌≡◌, ◌⊎◌, ℕ, ◌+◌, ◌-◌, ◌<◌, ◌≤◌, Bool, true, false, is_some, Option, Some, None, Result, Ok, Err, IfSome, List, [], ◌∷◌, ◌++◌, map, inl, inr, refl, sym, ap, subst, ◌∙◌, arith}
+use Rattle.std.proofs.Common.{◌≡◌, ◌⊎◌, ℕ, ◌+◌, ◌-◌, ◌<◌, true, false, Option, Some, None, Result, Ok, Err, IfSome, List, [], ◌∷◌, ◌++◌, map, refl, sym, ap, subst, ◌∙◌, arith}
 use Rattle.std.specs.Prelude.{IfOk, IfErr, OnErr}
 use Rattle.std.specs.Option.{option_map}
 use Rattle.mdl_key.specs.declared.mode.Mode.{Mode}
@@ -7,12 +7,11 @@ use Rattle.mdl_calls.specs.declared.answers.Attempt.{Attempt}
 use Rattle.mdl_calls.specs.declared.answers.Attempt.TheVariants as attempt_at
 use Rattle.mdl_calls.specs.declared.answers.Begun.{Begun}
 use Rattle.mdl_calls.specs.declared.answers.Begun.TheVariants as begun_as
-use Rattle.mdl_calls.specs.declared.answers.Held.{Held}
 use Rattle.mdl_calls.specs.declared.answers.Settled.{Settled}
 use Rattle.mdl_calls.specs.declared.space_error.SpaceError.{SpaceError}
 use Rattle.mdl_calls.specs.declared.space_error.SpaceError.TheVariants.{Full, OutOfMemory}
 use Rattle.mdl_calls.specs.Own.{DrawsTicket, cloning, gaining, ticket_drawn, wait_drawn}
-use Rattle.mdl_calls.specs.Words.{Answer, Granted, Waits, Would_wait, Call, Begin_wait, Clone_ticket, Try_now, Draws, IsCause, IsExplained, attempted, begun, caller, cloned, is_answer_of, own_after, told}
+use Rattle.mdl_calls.specs.Words.{Granted, Waits, Would_wait, Call, Begin_wait, Clone_ticket, Try_now, Draws, IsCause, IsExplained, attempted, begun, caller, cloned, is_answer_of, own_after, told}
 use Rattle.mdl_steps.specs.declared.view.Own.{Own}
 use Rattle.mdl_steps.specs.Cells.{note_at}
 use Rattle.mdl_session_laws.specs.SessionJoins.{Joins, Learns, LetsRead, ReadsNothing, TellsTruly, ends_wait, gained_at, has_call, met}
@@ -25,10 +24,10 @@ use Rattle.mdl_shared.specs.Keepings.{KeepsWait, SeesWait}
 use Rattle.mdl_shared.specs.Members.{kind_known, wish_fault}
 use Rattle.mdl_shared.specs.Modes.{clone_fault}
 use Rattle.mdl_shared.specs.OwnLists.{told_of}
-use Rattle.mdl_shared.specs.SessionViews.{note_of, settled_told, space_of_member}
+use Rattle.mdl_shared.specs.SessionViews.{settled_told, space_of_member}
 use Rattle.mdl_shared.proofs.MemberFacts.{nothing-told}
 use Rattle.mdl_shared.proofs.NotedOnce.{one-note}
-use Rattle.mdl_shared.proofs.SameSpace.{KeepsRest, Stays, joins-held, joins-still, keeps-sees, no-asks, numbers_by, own_by, own_of, refused, settled-told, wait_by, waits-asks}
+use Rattle.mdl_shared.proofs.SameSpace.{KeepsRest, Stays, joins-held, joins-still, keeps-sees, no-asks, numbers_by, own_by, refused, waits-asks}
 use Rattle.mdl_shared.proofs.SpaceLists.{known_of, ticket-told}
 use Rattle.mdl_shared.proofs.SpaceNotes.{AllNoted, noted-gained, nothing-read, noted_under}
 use Rattle.mdl_shared.proofs.SpaceTickets.{told-last}

@@ -1,5 +1,5 @@
 -- What a session of a shared space is to those that stand on lock spaces, by what it keeps of its own between two calls.
-use Rattle.std.specs.Prelude.{ℕ, ◌-◌, ◌==◌, List, map, filter_map, Option, Some, None, if◌then◌else◌}
+use Rattle.std.specs.Prelude.{ℕ, ◌-◌, ◌==◌, map, filter_map, Option, Some, None, if◌then◌else◌}
 use Rattle.std.specs.Option.{option_map}
 use Rattle.mdl_calls.specs.declared.answers.Settled.{Settled}
 use Rattle.mdl_calls.specs.declared.answers.Settled.TheVariants.{Granted, Victim, Timeout, Killed}

@@ -1,5 +1,5 @@
 //! Sessions, which make the calls.
-ghost use Rattle.std.specs.Prelude.{◌≡◌, ◌<◌, ◌⊎◌, None, true, is_some, length, MatchResult};
+ghost use Rattle.std.specs.Prelude.{◌≡◌, ◌<◌, ◌⊎◌, [], None, true, is_some, length, MatchResult};
 
 use crate::member::Member;
 use crate::{Manager, Pass};
@@ -23,7 +23,8 @@ impl<R> Session<R> {
     /// Opens the session of a pass, which is one of this manager's. It takes no memory.
     pub fn open(rt: R, manager: &Manager, pass: Pass) -> Session<R>
         requires theirs { pass_table pass ≡ table_of manager.now }
-        ensures { (result.rt ≡ rt) × (result.member ≡ pass.member) }
+        ensures opened { (result.rt ≡ rt) × (result.member ≡ pass.member) }
+        ensures nothing { (space_of result).own ≡ record { held = []; wait = None } }
     {
         let _manager = manager;
         let Pass { member } = pass;
