@@ -36,6 +36,8 @@ mod searches;
 #[cfg(test)]
 mod sessions;
 #[cfg(test)]
+mod spaces;
+#[cfg(test)]
 mod stress;
 #[cfg(test)]
 mod tables;
