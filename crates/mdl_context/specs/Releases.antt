@@ -5,7 +5,7 @@
 use Rattle.std.specs.Prelude.{ℕ, List, [], ◌∷◌, filter, not, Option, Some, None, is_some, Ok, Err, if◌then◌else◌}
 use Rattle.mdl_key.specs.declared.mode.Duration.TheVariants.{Statement}
 use Rattle.mdl_key.specs.Keys.{KeyName}
-use Rattle.mdl_calls.specs.Words.{Release, Program, Give, Ask, ◌>>◌}
+use Rattle.mdl_calls.specs.Words.{Release, Program, Give, Ask, ◌>>=◌, ◌>>◌}
 use Rattle.mdl_context.specs.declared.context_error.ContextError.{ContextError}
 use Rattle.mdl_context.specs.declared.context_error.ContextError.TheVariants.{StaleSavepoint, NotHeld, Waiting}
 use Rattle.mdl_context.specs.declared.kept.Kept.{Kept}
@@ -66,3 +66,7 @@ ending_statement context = unless (waiting_fault context) context (giving_up (he
 -- a transaction ends
 abbrev pub ending_transaction : ContextView → Program (Outcome (Unit {0}))
 ending_transaction context = unless (waiting_fault context) context (giving_up (of_transaction context.kept) context)
+
+-- all tickets are given up: those that end with the transaction first, and then the others
+abbrev pub giving_up_all : ContextView → Program (Outcome (Unit {0}))
+giving_up_all context = giving_up (of_transaction context.kept) context >>= (λ outcome. giving_up outcome.1.kept outcome.1)

@@ -2,6 +2,7 @@ pub mod Endings
 pub mod ErrorNumbers
 pub mod Gets
 pub mod KeyOrder
+pub mod Leavings
 pub mod LockLists
 pub mod MemoryLaws
 pub mod Playing

@@ -4,6 +4,7 @@ ghost use Rattle.mdl_calls.specs.Words.{Runs};
 ghost use Rattle.mdl_context.specs.Contexts.{Attends, LeavesOthers};
 ghost use Rattle.mdl_stmt.specs.Endings.{closing};
 ghost use Rattle.mdl_stmt.specs.Gets.{ran};
+ghost use Rattle.mdl_stmt.specs.Leavings.{leaving};
 ghost use Rattle.mdl_stmt.specs.Playing.{play, starting, going_on};
 ghost use Rattle.mdl_stmt.specs.Stages.{session_of, rest_of};
 ghost use Rattle.mdl_stmt.specs.States.{at_first};
@@ -99,6 +100,23 @@ impl<'s, S: LockSpace> Runner<'s, S> {
             Ok(Resume::Lost(how)) => self.end_with(space, ending_of_loss(how)),
             Err(error) => self.end_with(space, ending_of_error(error)),
         }
+    }
+
+    /// Ends the session: a statement that waits is lost, and all that the session holds is given up. It takes no memory.
+    ///
+    /// After MySQL 5.7, `THD::cleanup` of `sql/sql_class.cc`.
+    pub fn leave(self, space: &mut S)
+        requires attends { Attends S.speaks_for S.own S.knows space.old self.context }
+        ensures run { Runs S.joins space.old (leaving (session_of self)) tt space.new }
+        ensures nothing { S.own space.new self.context.who ≡ record { held = []; wait = None } }
+        ensures speaks { S.speaks_for space.new self.context.who }
+        ensures others { LeavesOthers S.speaks_for S.own S.knows self.context.who space.old space.new }
+    {
+        let mut context = self.player.context;
+        if context.wish().is_some() {
+            let _end = context.give_up(space);
+        }
+        context.finish_all(space);
     }
 
     // Ends the statement that waited.

@@ -1,9 +1,9 @@
 //! How a session gives tickets up.
-ghost use Rattle.std.specs.Prelude.{◌≡◌, None, Ok};
+ghost use Rattle.std.specs.Prelude.{◌≡◌, [], None, Ok};
 ghost use Rattle.mdl_key.specs.Refusals.{RefusesJust};
 ghost use Rattle.mdl_calls.specs.Words.{Runs};
 ghost use Rattle.mdl_context.specs.Contexts.{beyond, beyond_mark, held_for, of_transaction, without, Attends, LeavesOthers};
-ghost use Rattle.mdl_context.specs.Releases.{releasing_all, giving_up, waiting_fault, release_fault, rollback_fault, releasing, releasing_name, rolling_back, ending_statement, ending_transaction};
+ghost use Rattle.mdl_context.specs.Releases.{releasing_all, giving_up, waiting_fault, release_fault, rollback_fault, releasing, releasing_name, rolling_back, ending_statement, ending_transaction, giving_up_all};
 ghost use Rattle.mdl_key.specs.declared.mode.Duration.TheVariants.{Statement};
 
 use crate::going::Going;
@@ -171,6 +171,24 @@ impl<S: LockSpace> Context<S> {
         ensures wait { self.new.wait ≡ None }
     {
         self.return_to(space, START);
+    }
+
+    /// Gives up all that the session holds, of a session that is known to have no wait: the tickets of the statement, those
+    /// of the transaction, and then the explicit ones. It takes no memory.
+    ///
+    /// After MySQL 5.7, `THD::cleanup` of `sql/sql_class.cc`.
+    pub fn finish_all(&mut self, space: &mut S)
+        requires attends { Attends S.speaks_for S.own S.knows space.old self.old }
+        requires idle { self.old.wait ≡ None }
+        ensures run { Runs S.joins space.old (giving_up_all self.old) (Ok tt, self.new) space.new }
+        ensures kept { self.new.kept ≡ [] }
+        ensures attends { Attends S.speaks_for S.own S.knows space.new self.new }
+        ensures others { LeavesOthers S.speaks_for S.own S.knows self.old.who space.old space.new }
+        ensures who { self.new.who ≡ self.old.who }
+        ensures wait { self.new.wait ≡ None }
+    {
+        self.return_to(space, START);
+        self.release_beyond(space, Duration::Explicit, 0);
     }
 
     // Releases the tickets of a duration behind so many.
