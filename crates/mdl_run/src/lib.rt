@@ -1,6 +1,8 @@
 //! Sessions of one lock space, each on a thread of its own.
 #![tactic(auto)]
 
-mod trial;
+mod run;
+mod stand_in;
+mod turns;
 
-pub use trial::{Gate, counted_there};
+pub use stand_in::{Gate, Manager, Pass, Reply};
