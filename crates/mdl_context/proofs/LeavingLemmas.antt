@@ -1,5 +1,5 @@
 -- A session gives up all that it has: first what ends with the transaction, and then only explicit tickets are left.
-use Rattle.std.proofs.Common.{◌≡◌, ℕ, Bool, List, [], ◌∷◌, Ok, refl, sym, ap, ◌∙◌, subst, arith}
+use Rattle.std.proofs.Common.{◌≡◌, ℕ, Bool, List, [], ◌∷◌, Ok, refl, sym, ap, ◌∙◌, arith}
 use Rattle.std.specs.Prelude.{not, filter}
 use Rattle.mdl_key.specs.declared.mode.Duration.TheVariants.{Explicit}
 use Rattle.mdl_calls.specs.Words.{Answer, Call, Runs, Give, ◌>>◌}

@@ -1,5 +1,5 @@
 -- How a session ends, from what it did one after the other.
-use Rattle.std.proofs.Common.{◌≡◌, Bool, true, false, Option, Some, None, Result, Ok, refl}
+use Rattle.std.proofs.Common.{◌≡◌, true, false, Option, Some, None, Result, Ok, refl}
 use Rattle.std.specs.Prelude.{is_some}
 use Rattle.mdl_calls.specs.Words.{Answer, Call, Runs, Give, ◌>>◌}
 use Rattle.mdl_calls.proofs.RunLemmas.{runs_bind}
