@@ -16,6 +16,7 @@
 //! ```
 #![tactic(auto)]
 
+mod finals;
 mod first_space;
 mod hall;
 mod replaying;
