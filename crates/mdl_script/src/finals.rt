@@ -72,3 +72,6 @@ fn push_shape(out: &mut String, definition: &Definition) -> Result<(), AllocErro
         Definition::Table(columns) => push_columns(out, columns.as_slice()),
     }
 }
+
+#[cfg(test)]
+mod tests;
