@@ -16,11 +16,14 @@
 //! ```
 #![tactic(auto)]
 
+mod finals;
 mod first_space;
 mod hall;
+mod laws;
 mod replaying;
 mod told;
 
+pub use laws::runs_have_one_text;
 pub use mdl_lines::{Fault, LineError};
 pub use mdl_syntax::{Line, Script, Statement, parse};
 pub use replaying::replay;
