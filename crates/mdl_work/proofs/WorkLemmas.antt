@@ -1,0 +1,142 @@
+-- How a session's waits, statements and lines follow one after the other.
+use Rattle.std.proofs.Common.{◌≡◌, ◌<◌, ◌+◌, ℕ, zero, suc, Bool, true, false, if◌then◌else◌, List, [], ◌∷◌, ◌++◌, length, get_or, drop, map, Option, Some, None, Result, Ok, Err, refl, sym, ap, ◌∙◌, subst, inl, inr}
+use Rattle.std.specs.Prelude.{◌==◌}
+use Rattle.std.specs.Option.{option_map}
+use Rattle.mdl_key.specs.Keys.{KeyName}
+use Rattle.mdl_calls.specs.declared.answers.Poll.{Poll}
+use Rattle.mdl_calls.specs.declared.answers.Poll.TheVariants as poll
+use Rattle.mdl_calls.specs.declared.space_error.SpaceError.{SpaceError}
+use Rattle.mdl_calls.specs.Words.{Answer, Call, Done, Unpin, Pending, Poll_wait, Settle_timeout, Own, caller, own_after, polled, Program, Give, Runs, ◌>>=◌, ◌>>◌}
+use Rattle.mdl_calls.proofs.RunLemmas.{runs_bind}
+use Rattle.mdl_context.specs.Contexts.{ContextView, Attends}
+use Rattle.mdl_context.proofs.AttendLemmas.{attends-still}
+use Rattle.mdl_context.proofs.OthersLemmas.{IsFor}
+use Rattle.mdl_syntax.specs.declared.script.Line.{Line}
+use Rattle.mdl_stmt.specs.declared.reply.Progress.{Progress}
+use Rattle.mdl_stmt.specs.declared.reply.Progress.TheVariants as progress
+use Rattle.mdl_stmt.specs.declared.reply.Reply.{Reply}
+use Rattle.mdl_stmt.specs.Endings.{Pause, Ends, Faults}
+use Rattle.mdl_stmt.specs.Gets.{paused}
+use Rattle.mdl_stmt.specs.Playing.{going_on, starting}
+use Rattle.mdl_stmt.specs.Sessions.{Session}
+use Rattle.mdl_work.specs.Works.{Worked, behind, finishing, going_further, lines_of, most_waits, noted, starved, waiting_out, while_pending, working}
+
+-- ---- waits
+
+-- all looks are made for the session
+pub for_waiting_out : (who polls : ℕ) → IsFor who (waiting_out who polls)
+unfolding waiting_out
+for_waiting_out who zero = (refl, λ answer. tt)
+for_waiting_out who (suc polls) = (refl, looked) where
+  looked : (answer : Answer) → IsFor who (while_pending (waiting_out who polls) answer)
+  looked Pending = for_waiting_out who polls
+  looked answer = tt
+
+module _ {S : Type 0} (joins : S → Call → Answer → S → Type 0) where
+  -- the wait isn't settled: it is looked at again
+  pub looked-pending : (who polls : ℕ) (a b c : S) → joins a (Poll_wait who) Pending b → Runs joins b (waiting_out who polls) tt c → Runs joins a (waiting_out who (suc polls)) tt c
+  unfolding waiting_out
+  looked-pending who polls a b c step run = (Pending, b, step, run)
+
+  -- it is settled, or there is none
+  pub looked-settled : (who polls : ℕ) (found : Result Poll SpaceError) (a b : S) → (found ≡ Ok poll.Pending → ⊥) → joins a (Poll_wait who) (polled found) b →
+      Runs joins a (waiting_out who (suc polls)) tt b
+  unfolding waiting_out
+  looked-settled who polls (Ok poll.Pending) a b settled step = absurd (settled refl)
+  looked-settled who polls (Ok (poll.Settled how)) a b settled step = (_, b, step, (refl, refl))
+  looked-settled who polls (Err refusal) a b settled step = (_, b, step, (refl, refl))
+
+  -- patience is at an end
+  pub patience-over : (who : ℕ) (answer : Answer) (a b : S) → joins a (Settle_timeout who) answer b → Runs joins a (waiting_out who zero) tt b
+  unfolding waiting_out
+  patience-over who answer a b step = (answer, b, step, (refl, refl))
+
+module _ {S : Type 0} {speaks_for : S → ℕ → Type 0} {own : S → ℕ → Own} {knows : S → ℕ → ℕ → KeyName → Type 0} {joins : S → Call → Answer → S → Type 0}
+    (keeps : (a b : S) (call : Call) (answer : Answer) (w : ℕ) → speaks_for a w → joins a call answer b → speaks_for b w)
+    (changes : (a b : S) (call : Call) (answer : Answer) (who : ℕ) → caller call ≡ Some who → joins a call answer b → own b who ≡ own_after call answer (own a who))
+    (remembers : (a b : S) (call : Call) (answer : Answer) (w place : ℕ) (key : KeyName) → speaks_for a w → (call ≡ Unpin w place → answer ≡ Done → ⊥) → joins a call answer b
+    → knows a w place key → knows b w place key) where
+  -- a session that waits its wait out has what it had
+  pub attends-waited : (polls : ℕ) (context : ContextView) (a b : S) → Attends speaks_for own knows a context → Runs joins a (waiting_out context.who polls) tt b →
+      Attends speaks_for own knows b context
+  unfolding waiting_out
+  attends-waited zero context a b attends (answer, mid, step, same, here) =
+      subst (λ (s : S). Attends speaks_for own knows s context) here
+      (attends-still keeps changes remembers a mid (Settle_timeout context.who) answer context attends refl refl refl step)
+  attends-waited (suc polls) context a b attends (answer, mid, step, run) =
+      looked answer (attends-still keeps changes remembers a mid (Poll_wait context.who) answer context attends refl refl refl step) run where
+    looked : (told : Answer) → Attends speaks_for own knows mid context → Runs joins mid (while_pending (waiting_out context.who polls) told) tt b →
+        Attends speaks_for own knows b context
+    looked Pending then more = attends-waited polls context mid b then more
+    looked told then (same, here) = subst (λ (s : S). Attends speaks_for own knows s context) here then
+
+-- ---- statements
+
+module _ {S : Type 0} (joins : S → Call → Answer → S → Type 0) where
+  -- a statement that waits goes further
+  pub goes-further : (patience waits : ℕ) (progress : Progress) (session : Session) (next end : Pause) (a b c : S) → ((reply : Reply) → progress ≡ progress.Done reply → ⊥) →
+      Runs joins a (going_further patience session) next b → Runs joins b (finishing patience waits next) end c → Runs joins a (finishing patience (suc waits) (paused progress session)) end c
+  unfolding finishing
+  goes-further patience waits (progress.Waiting key mode) session next end a b c waiting run later =
+      runs_bind joins (going_further patience session) (finishing patience waits) a b c next end run later
+  goes-further patience waits progress.Pending session next end a b c waiting run later =
+      runs_bind joins (going_further patience session) (finishing patience waits) a b c next end run later
+  goes-further patience waits (progress.Done reply) session next end a b c waiting run later = absurd (waiting reply refl)
+
+  -- one that is over stays so
+  pub stays-ended : (patience waits : ℕ) (reply : Reply) (session : Session) (a : S) → Runs joins a (finishing patience waits (Ends reply session)) (Ends reply session) a
+  unfolding finishing
+  stays-ended patience zero reply session a = (refl, refl)
+  stays-ended patience (suc waits) reply session a = (refl, refl)
+
+  pub stays-starved : (patience waits : ℕ) (session : Session) (a : S) → Runs joins a (finishing patience waits (Faults session)) (Faults session) a
+  unfolding finishing
+  stays-starved patience zero session a = (refl, refl)
+  stays-starved patience (suc waits) session a = (refl, refl)
+
+  -- one that still waits is cut off
+  pub is-cut-off : (patience : ℕ) (progress : Progress) (session : Session) (a : S) → ((reply : Reply) → progress ≡ progress.Done reply → ⊥) →
+      Runs joins a (finishing patience zero (paused progress session)) (Faults session) a
+  unfolding finishing
+  is-cut-off patience (progress.Waiting key mode) session a waiting = (refl, refl)
+  is-cut-off patience progress.Pending session a waiting = (refl, refl)
+  is-cut-off patience (progress.Done reply) session a waiting = absurd (waiting reply refl)
+
+-- ---- lines
+
+-- these answers, and those that follow
+abbrev pub ahead : List (ℕ × Reply) → Worked → Worked
+ahead answers worked = record { answers = option_map (λ more. answers ++ more) worked.answers; session = worked.session }
+
+module _ {S : Type 0} (joins : S → Call → Answer → S → Type 0) where
+  -- a statement, brought to its end
+  abbrev pub making : ℕ → Line → Session → Program Pause
+  making patience line session = starting line.statement session >>= finishing patience most_waits
+
+  -- no line is left
+  pub none-left : (patience : ℕ) (session : Session) (a : S) → Runs joins a (working patience [] session) (record { answers = Some []; session = session }) a
+  unfolding working
+  none-left patience session a = (refl, refl)
+
+  -- a line was answered, and the rest follows
+  pub one-answered : (patience : ℕ) (line : Line) (lines : List Line) (before after : Session) (reply : Reply) (worked : Worked) (a b c : S) →
+      Runs joins a (making patience line before) (Ends reply after) b → Runs joins b (working patience lines after) worked c →
+      Runs joins a (working patience (line ∷ lines) before) (behind (line.number, reply) worked) c
+  unfolding working
+  one-answered patience line lines before after reply worked a b c run later =
+      runs_bind joins (making patience line before) (noted line.number (working patience lines)) a b c (Ends reply after) _ run
+      (inr (runs_bind joins (working patience lines after) (λ (more : Worked). Give (behind (line.number, reply) more)) b c c worked _ later (refl, refl)))
+
+  -- its answer couldn't be kept
+  pub one-unkept : (patience : ℕ) (line : Line) (lines : List Line) (before after : Session) (reply : Reply) (a b : S) →
+      Runs joins a (making patience line before) (Ends reply after) b → Runs joins a (working patience (line ∷ lines) before) (starved after) b
+  unfolding working
+  one-unkept patience line lines before after reply a b run =
+      runs_bind joins (making patience line before) (noted line.number (working patience lines)) a b b (Ends reply after) _ run (inl (refl, refl))
+
+  -- its statement found no memory
+  pub one-starved : (patience : ℕ) (line : Line) (lines : List Line) (before after : Session) (a b : S) →
+      Runs joins a (making patience line before) (Faults after) b → Runs joins a (working patience (line ∷ lines) before) (starved after) b
+  unfolding working
+  one-starved patience line lines before after a b run =
+      runs_bind joins (making patience line before) (noted line.number (working patience lines)) a b b (Faults after) _ run (refl, refl)
