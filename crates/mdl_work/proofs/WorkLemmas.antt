@@ -3,10 +3,7 @@ use Rattle.std.proofs.Common.{◌≡◌, ◌<◌, ◌+◌, ℕ, zero, suc, Bool,
 use Rattle.std.specs.Prelude.{◌==◌}
 use Rattle.std.specs.Option.{option_map}
 use Rattle.mdl_key.specs.Keys.{KeyName}
-use Rattle.mdl_calls.specs.declared.answers.Poll.{Poll}
-use Rattle.mdl_calls.specs.declared.answers.Poll.TheVariants as poll
-use Rattle.mdl_calls.specs.declared.space_error.SpaceError.{SpaceError}
-use Rattle.mdl_calls.specs.Words.{Answer, Call, Done, Unpin, Pending, Poll_wait, Settle_timeout, Own, caller, own_after, polled, Program, Give, Runs, ◌>>=◌, ◌>>◌}
+use Rattle.mdl_calls.specs.Words.{Answer, Call, Done, Unpin, Pending, Poll_wait, Settle_timeout, Own, caller, own_after, Program, Give, Runs, ◌>>=◌, ◌>>◌}
 use Rattle.mdl_calls.proofs.RunLemmas.{runs_bind}
 use Rattle.mdl_context.specs.Contexts.{ContextView, Attends}
 use Rattle.mdl_context.proofs.AttendLemmas.{attends-still}
@@ -23,14 +20,16 @@ use Rattle.mdl_work.specs.Works.{Worked, behind, finishing, going_further, lines
 
 -- ---- waits
 
--- all looks are made for the session
+-- a wait was looked at for the session
+for_looked : (who : ℕ) (more : Program (Unit {0})) → IsFor who more → (answer : Answer) → IsFor who (while_pending more answer)
+for_looked who more made Pending = made
+for_looked who more made answer = tt
+
+-- all looks are made for it
 pub for_waiting_out : (who polls : ℕ) → IsFor who (waiting_out who polls)
 unfolding waiting_out
 for_waiting_out who zero = (refl, λ answer. tt)
-for_waiting_out who (suc polls) = (refl, looked) where
-  looked : (answer : Answer) → IsFor who (while_pending (waiting_out who polls) answer)
-  looked Pending = for_waiting_out who polls
-  looked answer = tt
+for_waiting_out who (suc polls) = (refl, for_looked who (waiting_out who polls) (for_waiting_out who polls))
 
 module _ {S : Type 0} (joins : S → Call → Answer → S → Type 0) where
   -- the wait isn't settled: it is looked at again
@@ -39,12 +38,11 @@ module _ {S : Type 0} (joins : S → Call → Answer → S → Type 0) where
   looked-pending who polls a b c step run = (Pending, b, step, run)
 
   -- it is settled, or there is none
-  pub looked-settled : (who polls : ℕ) (found : Result Poll SpaceError) (a b : S) → (found ≡ Ok poll.Pending → ⊥) → joins a (Poll_wait who) (polled found) b →
+  pub looked-over : (who polls : ℕ) (answer : Answer) (a b : S) → ((more : Program (Unit {0})) → while_pending more answer ≡ Give tt) → joins a (Poll_wait who) answer b →
       Runs joins a (waiting_out who (suc polls)) tt b
   unfolding waiting_out
-  looked-settled who polls (Ok poll.Pending) a b settled step = absurd (settled refl)
-  looked-settled who polls (Ok (poll.Settled how)) a b settled step = (_, b, step, (refl, refl))
-  looked-settled who polls (Err refusal) a b settled step = (_, b, step, (refl, refl))
+  looked-over who polls answer a b over step =
+      (answer, b, step, subst (λ (p : Program (Unit {0})). Runs joins b p tt b) (sym (over (waiting_out who polls))) (refl, refl))
 
   -- patience is at an end
   pub patience-over : (who : ℕ) (answer : Answer) (a b : S) → joins a (Settle_timeout who) answer b → Runs joins a (waiting_out who zero) tt b
@@ -56,19 +54,21 @@ module _ {S : Type 0} {speaks_for : S → ℕ → Type 0} {own : S → ℕ → O
     (changes : (a b : S) (call : Call) (answer : Answer) (who : ℕ) → caller call ≡ Some who → joins a call answer b → own b who ≡ own_after call answer (own a who))
     (remembers : (a b : S) (call : Call) (answer : Answer) (w place : ℕ) (key : KeyName) → speaks_for a w → (call ≡ Unpin w place → answer ≡ Done → ⊥) → joins a call answer b
     → knows a w place key → knows b w place key) where
+  -- a wait was looked at: what is so now stays so if more follows, or nothing does
+  after-looked : (P : S → Type 0) (more : Program (Unit {0})) (answer : Answer) (a b : S) → P a → (Runs joins a more tt b → P b) → Runs joins a (while_pending more answer) tt b → P b
+  after-looked P more Pending a b now later run = later run
+  after-looked P more answer a b now later (same, here) = subst P here now
+
   -- a session that waits its wait out has what it had
   pub attends-waited : (polls : ℕ) (context : ContextView) (a b : S) → Attends speaks_for own knows a context → Runs joins a (waiting_out context.who polls) tt b →
       Attends speaks_for own knows b context
   unfolding waiting_out
-  attends-waited zero context a b attends (answer, mid, step, same, here) =
+  attends-waited zero context a b attends (answer, mid, step, (same, here)) =
       subst (λ (s : S). Attends speaks_for own knows s context) here
       (attends-still keeps changes remembers a mid (Settle_timeout context.who) answer context attends refl refl refl step)
   attends-waited (suc polls) context a b attends (answer, mid, step, run) =
-      looked answer (attends-still keeps changes remembers a mid (Poll_wait context.who) answer context attends refl refl refl step) run where
-    looked : (told : Answer) → Attends speaks_for own knows mid context → Runs joins mid (while_pending (waiting_out context.who polls) told) tt b →
-        Attends speaks_for own knows b context
-    looked Pending then more = attends-waited polls context mid b then more
-    looked told then (same, here) = subst (λ (s : S). Attends speaks_for own knows s context) here then
+      let now = attends-still keeps changes remembers a mid (Poll_wait context.who) answer context attends refl refl refl step in
+      after-looked (λ (s : S). Attends speaks_for own knows s context) (waiting_out context.who polls) answer mid b now (attends-waited polls context mid b now) run
 
 -- ---- statements
 

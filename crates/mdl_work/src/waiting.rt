@@ -14,7 +14,8 @@ pub(crate) fn wait_out<S: LockSpace>(space: &mut S, who: u16, patience: u32)
     for _poll in 0..patience {
         match space.poll_wait(who) {
             Ok(Poll::Pending) => thread::yield_now(),
-            _ => return,
+            Ok(Poll::Settled(_how)) => return,
+            Err(_refusal) => return,
         }
     }
     let _settled = space.settle_timeout(who);
