@@ -1,6 +1,7 @@
 -- How a session's waits, statements and lines follow one after the other.
-use Rattle.std.proofs.Common.{◌≡◌, ◌<◌, ◌+◌, ℕ, zero, suc, Bool, true, false, if◌then◌else◌, List, [], ◌∷◌, ◌++◌, length, get_or, drop, map, Option, Some, None, Result, Ok, Err, refl, sym, ap, ◌∙◌, subst, inl, inr}
-use Rattle.std.specs.Prelude.{◌==◌}
+use Rattle.std.proofs.Common.{◌≡◌, ◌<◌, ◌+◌, ℕ, zero, suc, Bool, true, false, if◌then◌else◌, List, [], ◌∷◌, ◌++◌, length, get_or, drop, Option, Some, None, Result, Ok, Err, refl, sym, ap, ◌∙◌, subst, inl, inr}
+use Rattle.std.proofs.lemmas.Bool.{eq-eqb, ne_eqb}
+use Rattle.std.proofs.lemmas.List.{append-nil, append_assoc, drop_more}
 use Rattle.std.specs.Option.{option_map}
 use Rattle.mdl_key.specs.Keys.{KeyName}
 use Rattle.mdl_calls.specs.Words.{Answer, Call, Done, Unpin, Pending, Poll_wait, Settle_timeout, Own, caller, own_after, Program, Give, Runs, ◌>>=◌, ◌>>◌}
@@ -10,13 +11,12 @@ use Rattle.mdl_context.proofs.AttendLemmas.{attends-still}
 use Rattle.mdl_context.proofs.OthersLemmas.{IsFor}
 use Rattle.mdl_syntax.specs.declared.script.Line.{Line}
 use Rattle.mdl_stmt.specs.declared.reply.Progress.{Progress}
-use Rattle.mdl_stmt.specs.declared.reply.Progress.TheVariants as progress
+use Rattle.mdl_stmt.specs.declared.reply.Progress.TheVariants as came
 use Rattle.mdl_stmt.specs.declared.reply.Reply.{Reply}
 use Rattle.mdl_stmt.specs.Endings.{Pause, Ends, Faults}
 use Rattle.mdl_stmt.specs.Gets.{paused}
-use Rattle.mdl_stmt.specs.Playing.{going_on, starting}
 use Rattle.mdl_stmt.specs.Sessions.{Session}
-use Rattle.mdl_work.specs.Works.{Worked, behind, finishing, going_further, lines_of, most_waits, noted, starved, waiting_out, while_pending, working}
+use Rattle.mdl_work.specs.Works.{Worked, behind, finishing, going_further, lines_of, making, noted, starved, waiting_out, while_pending, working}
 
 -- ---- waits
 
@@ -74,14 +74,14 @@ module _ {S : Type 0} {speaks_for : S → ℕ → Type 0} {own : S → ℕ → O
 
 module _ {S : Type 0} (joins : S → Call → Answer → S → Type 0) where
   -- a statement that waits goes further
-  pub goes-further : (patience waits : ℕ) (progress : Progress) (session : Session) (next end : Pause) (a b c : S) → ((reply : Reply) → progress ≡ progress.Done reply → ⊥) →
+  pub goes-further : (patience waits : ℕ) (progress : Progress) (session : Session) (next end : Pause) (a b c : S) → ((reply : Reply) → progress ≡ came.Done reply → ⊥) →
       Runs joins a (going_further patience session) next b → Runs joins b (finishing patience waits next) end c → Runs joins a (finishing patience (suc waits) (paused progress session)) end c
   unfolding finishing
-  goes-further patience waits (progress.Waiting key mode) session next end a b c waiting run later =
+  goes-further patience waits (came.Waiting key mode) session next end a b c waiting run later =
       runs_bind joins (going_further patience session) (finishing patience waits) a b c next end run later
-  goes-further patience waits progress.Pending session next end a b c waiting run later =
+  goes-further patience waits came.Pending session next end a b c waiting run later =
       runs_bind joins (going_further patience session) (finishing patience waits) a b c next end run later
-  goes-further patience waits (progress.Done reply) session next end a b c waiting run later = absurd (waiting reply refl)
+  goes-further patience waits (came.Done reply) session next end a b c waiting run later = absurd (waiting reply refl)
 
   -- one that is over stays so
   pub stays-ended : (patience waits : ℕ) (reply : Reply) (session : Session) (a : S) → Runs joins a (finishing patience waits (Ends reply session)) (Ends reply session) a
@@ -95,12 +95,12 @@ module _ {S : Type 0} (joins : S → Call → Answer → S → Type 0) where
   stays-starved patience (suc waits) session a = (refl, refl)
 
   -- one that still waits is cut off
-  pub is-cut-off : (patience : ℕ) (progress : Progress) (session : Session) (a : S) → ((reply : Reply) → progress ≡ progress.Done reply → ⊥) →
+  pub is-cut-off : (patience : ℕ) (progress : Progress) (session : Session) (a : S) → ((reply : Reply) → progress ≡ came.Done reply → ⊥) →
       Runs joins a (finishing patience zero (paused progress session)) (Faults session) a
   unfolding finishing
-  is-cut-off patience (progress.Waiting key mode) session a waiting = (refl, refl)
-  is-cut-off patience progress.Pending session a waiting = (refl, refl)
-  is-cut-off patience (progress.Done reply) session a waiting = absurd (waiting reply refl)
+  is-cut-off patience (came.Waiting key mode) session a waiting = (refl, refl)
+  is-cut-off patience came.Pending session a waiting = (refl, refl)
+  is-cut-off patience (came.Done reply) session a waiting = absurd (waiting reply refl)
 
 -- ---- lines
 
@@ -109,10 +109,6 @@ abbrev pub ahead : List (ℕ × Reply) → Worked → Worked
 ahead answers worked = record { answers = option_map (λ more. answers ++ more) worked.answers; session = worked.session }
 
 module _ {S : Type 0} (joins : S → Call → Answer → S → Type 0) where
-  -- a statement, brought to its end
-  abbrev pub making : ℕ → Line → Session → Program Pause
-  making patience line session = starting line.statement session >>= finishing patience most_waits
-
   -- no line is left
   pub none-left : (patience : ℕ) (session : Session) (a : S) → Runs joins a (working patience [] session) (record { answers = Some []; session = session }) a
   unfolding working
@@ -120,23 +116,63 @@ module _ {S : Type 0} (joins : S → Call → Answer → S → Type 0) where
 
   -- a line was answered, and the rest follows
   pub one-answered : (patience : ℕ) (line : Line) (lines : List Line) (before after : Session) (reply : Reply) (worked : Worked) (a b c : S) →
-      Runs joins a (making patience line before) (Ends reply after) b → Runs joins b (working patience lines after) worked c →
+      Runs joins a (making patience line.statement before) (Ends reply after) b → Runs joins b (working patience lines after) worked c →
       Runs joins a (working patience (line ∷ lines) before) (behind (line.number, reply) worked) c
   unfolding working
   one-answered patience line lines before after reply worked a b c run later =
-      runs_bind joins (making patience line before) (noted line.number (working patience lines)) a b c (Ends reply after) _ run
+      runs_bind joins (making patience line.statement before) (noted line.number (working patience lines)) a b c (Ends reply after) _ run
       (inr (runs_bind joins (working patience lines after) (λ (more : Worked). Give (behind (line.number, reply) more)) b c c worked _ later (refl, refl)))
 
   -- its answer couldn't be kept
   pub one-unkept : (patience : ℕ) (line : Line) (lines : List Line) (before after : Session) (reply : Reply) (a b : S) →
-      Runs joins a (making patience line before) (Ends reply after) b → Runs joins a (working patience (line ∷ lines) before) (starved after) b
+      Runs joins a (making patience line.statement before) (Ends reply after) b → Runs joins a (working patience (line ∷ lines) before) (starved after) b
   unfolding working
   one-unkept patience line lines before after reply a b run =
-      runs_bind joins (making patience line before) (noted line.number (working patience lines)) a b b (Ends reply after) _ run (inl (refl, refl))
+      runs_bind joins (making patience line.statement before) (noted line.number (working patience lines)) a b b (Ends reply after) _ run (inl (refl, refl))
 
   -- its statement found no memory
   pub one-starved : (patience : ℕ) (line : Line) (lines : List Line) (before after : Session) (a b : S) →
-      Runs joins a (making patience line before) (Faults after) b → Runs joins a (working patience (line ∷ lines) before) (starved after) b
+      Runs joins a (making patience line.statement before) (Faults after) b → Runs joins a (working patience (line ∷ lines) before) (starved after) b
   unfolding working
   one-starved patience line lines before after a b run =
-      runs_bind joins (making patience line before) (noted line.number (working patience lines)) a b b (Faults after) _ run (refl, refl)
+      runs_bind joins (making patience line.statement before) (noted line.number (working patience lines)) a b b (Faults after) _ run (refl, refl)
+
+-- ---- answers
+
+-- none of them
+pub ahead-none : (worked : Worked) → ahead [] worked ≡ worked
+ahead-none worked = ap (λ (answers : Option (List (ℕ × Reply))). record { answers = answers; session = worked.session }) (same worked.answers) where
+  same : (answers : Option (List (ℕ × Reply))) → option_map (λ (more : List (ℕ × Reply)). [] ++ more) answers ≡ answers
+  same None = refl
+  same (Some more) = refl
+
+-- one more of them
+pub ahead-behind : (answers : List (ℕ × Reply)) (answer : ℕ × Reply) (worked : Worked) → ahead answers (behind answer worked) ≡ ahead (answers ++ answer ∷ []) worked
+ahead-behind answers answer worked =
+    ap (λ (all : Option (List (ℕ × Reply))). record { answers = all; session = worked.session }) (same worked.answers) where
+  same : (rest : Option (List (ℕ × Reply))) →
+      option_map (λ (more : List (ℕ × Reply)). answers ++ more) (option_map (λ (more : List (ℕ × Reply)). answer ∷ more) rest)
+      ≡ option_map (λ (more : List (ℕ × Reply)). (answers ++ answer ∷ []) ++ more) rest
+  same None = refl
+  same (Some more) = ap (λ (all : List (ℕ × Reply)). Some all) (sym (append_assoc answers (answer ∷ []) more))
+
+-- and nothing behind them
+pub ahead-all : (answers : List (ℕ × Reply)) (session : Session) →
+    ahead answers (record { answers = Some []; session = session }) ≡ record { answers = Some answers; session = session }
+ahead-all answers session = ap (λ (all : List (ℕ × Reply)). record { answers = Some all; session = session }) (append-nil answers)
+
+-- ---- the lines of a session
+
+-- one of them comes next
+pub next-own : (who : ℕ) (lines : List Line) (i : ℕ) (line d : Line) → i < length lines → line ≡ get_or lines i d → line.session ≡ who →
+    lines_of who (drop i lines) ≡ line ∷ lines_of who (drop (i + 1) lines)
+next-own who lines i line d inside item own =
+    ap (λ (left : List Line). lines_of who left) (drop_more lines i d inside ∙ ap (λ (x : Line). x ∷ drop (i + 1) lines) (sym item))
+    ∙ ap (λ (b : Bool). if b then line ∷ lines_of who (drop (i + 1) lines) else lines_of who (drop (i + 1) lines)) (eq-eqb line.session who own)
+
+-- one of another session does
+pub next-other : (who : ℕ) (lines : List Line) (i : ℕ) (line d : Line) → i < length lines → line ≡ get_or lines i d → (line.session ≡ who → ⊥) →
+    lines_of who (drop i lines) ≡ lines_of who (drop (i + 1) lines)
+next-other who lines i line d inside item other =
+    ap (λ (left : List Line). lines_of who left) (drop_more lines i d inside ∙ ap (λ (x : Line). x ∷ drop (i + 1) lines) (sym item))
+    ∙ ap (λ (b : Bool). if b then line ∷ lines_of who (drop (i + 1) lines) else lines_of who (drop (i + 1) lines)) (ne_eqb line.session who other)

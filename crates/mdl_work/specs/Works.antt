@@ -5,6 +5,7 @@ use Rattle.std.specs.Prelude.{ℕ, zero, suc, ◌==◌, List, [], ◌∷◌, fil
 use Rattle.std.specs.Option.{option_map}
 use Rattle.mdl_calls.specs.Words.{Answer, Pending, Poll_wait, Settle_timeout, Program, Give, Ask, Grow, ◌>>=◌, ◌>>◌}
 use Rattle.mdl_syntax.specs.declared.script.Line.{Line}
+use Rattle.mdl_syntax.specs.declared.statement.Statement.{Statement}
 use Rattle.mdl_stmt.specs.declared.reply.Reply.{Reply}
 use Rattle.mdl_stmt.specs.Endings.{Pause, Ends, Begins_to_wait, Waits_on, Faults}
 use Rattle.mdl_stmt.specs.MemoryLaws.{session_at}
@@ -60,6 +61,10 @@ unfoldable pub finishing : ℕ → ℕ → Pause → Program Pause
 finishing patience zero pause = Give (cut_off pause)
 finishing patience (suc waits) pause = finishing_from patience (finishing patience waits) pause
 
+-- a statement is made, and brought to its end
+abbrev pub making : ℕ → Statement → Session → Program Pause
+making patience statement session = starting statement session >>= finishing patience most_waits
+
 -- ---- lines
 
 -- what a session has answered, each answer under the number of its line, unless memory was wanting; and the session then
@@ -83,4 +88,4 @@ noted number more pause = Give (starved (session_at pause))
 -- the statements of lines are made one after the other, until memory is wanting
 unfoldable pub working : ℕ → List Line → Session → Program Worked
 working patience [] session = Give (record { answers = Some []; session = session })
-working patience (line ∷ lines) session = starting line.statement session >>= finishing patience most_waits >>= noted line.number (working patience lines)
+working patience (line ∷ lines) session = making patience line.statement session >>= noted line.number (working patience lines)

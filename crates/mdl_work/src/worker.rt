@@ -1,12 +1,11 @@
 //! A session at work on its lines.
-ghost use Rattle.std.specs.Prelude.{◌≡◌, map, None, IsSome, OnOk};
-ghost use Rattle.mdl_calls.specs.Words.{Runs, ◌>>=◌};
+ghost use Rattle.std.specs.Prelude.{◌≡◌, map, None, IsSome, IfOk, OnOk};
+ghost use Rattle.mdl_calls.specs.Words.{Runs};
 ghost use Rattle.mdl_context.specs.Contexts.{Attends, LeavesOthers};
 ghost use Rattle.mdl_stmt.specs.Gets.{paused, ran};
-ghost use Rattle.mdl_stmt.specs.Playing.{starting};
 ghost use Rattle.mdl_stmt.specs.Stages.{session_of};
 ghost use Rattle.mdl_work.specs.Paces.{LeftWhileWaiting, came_to, worked_as};
-ghost use Rattle.mdl_work.specs.Works.{finishing, going_further, lines_of, most_waits, working};
+ghost use Rattle.mdl_work.specs.Works.{finishing, going_further, lines_of, making, most_waits, working};
 
 use crate::Gate;
 use crate::waiting::wait_out;
@@ -39,7 +38,7 @@ impl<'s, S: LockSpace> Worker<'s, S> {
         requires who { self.old.runner.context.who ≡ self.old.who }
         requires idle { self.old.runner.work ≡ None }
         ensures run { Runs S.joins space.old (working self.old.patience (lines_of self.old.who lines.now) (session_of self.old.runner)) (worked_as result (session_of self.new.runner)) space.new }
-        ensures lines { OnOk result (map (λ answer. answer.0) result.items ≡ map (λ line. line.number) (lines_of self.old.who lines.now)) }
+        ensures lines { IfOk result (λ answers. map (λ answer. answer.0) answers.items ≡ map (λ line. line.number) (lines_of self.old.who lines.now)) }
         ensures attends { Attends S.speaks_for S.own S.knows space.new self.new.runner.context }
         ensures others { LeavesOthers S.speaks_for S.own S.knows self.old.who space.old space.new }
         ensures who { self.new.runner.context.who ≡ self.old.who }
@@ -61,7 +60,7 @@ impl<'s, S: LockSpace> Worker<'s, S> {
         requires attends { Attends S.speaks_for S.own S.knows space.old self.old.runner.context }
         requires who { self.old.runner.context.who ≡ self.old.who }
         requires idle { self.old.runner.work ≡ None }
-        ensures run { Runs S.joins space.old (starting statement.now (session_of self.old.runner) >>= finishing self.old.patience most_waits)
+        ensures run { Runs S.joins space.old (making self.old.patience statement.now (session_of self.old.runner))
             (came_to result (session_of self.new.runner)) space.new }
         ensures attends { Attends S.speaks_for S.own S.knows space.new self.new.runner.context }
         ensures others { LeavesOthers S.speaks_for S.own S.knows self.old.who space.old space.new }

@@ -10,15 +10,15 @@ use Rattle.mdl_work.proofs.worker.Worker.answer_lines.Given as goal
 
 abbrev pub invariant-loop-line : goal.invariant-loop-line
 invariant-loop-line g l =
-    let who = l.fn.self.who in
-    let rest = lines_of who (drop l.line-index l.lines) in
-    let whole = lines_of who l.lines in
+    let session = l.fn.self.who in
+    let rest = lines_of session (drop l.line-index l.lines) in
+    let whole = lines_of session l.lines in
     record {
       attends : Attends g.S.LockSpace.speaks_for g.S.LockSpace.own g.S.LockSpace.knows l.space l.self.runner.context;
-      others : LeavesOthers g.S.LockSpace.speaks_for g.S.LockSpace.own g.S.LockSpace.knows who l.fn.space l.space;
-      who : l.self.runner.context.who ≡ who;
+      others : LeavesOthers g.S.LockSpace.speaks_for g.S.LockSpace.own g.S.LockSpace.knows session l.fn.space l.space;
+      who : l.self.runner.context.who ≡ session;
       idle : l.self.runner.work ≡ None;
-      same : l.self.who ≡ who;
+      same : l.self.who ≡ session;
       patience : l.self.patience ≡ l.fn.self.patience;
       numbers : map (λ answer. answer.0) l.answers.items ++ map (λ (line : Line). line.number) rest ≡ map (λ (line : Line). line.number) whole;
       run : (worked : Worked) (b : g.row.S.Denot) → Runs g.S.LockSpace.joins l.space (working l.fn.self.patience rest (session_of l.self.runner)) worked b
