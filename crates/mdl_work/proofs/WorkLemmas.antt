@@ -1,7 +1,7 @@
 -- How a session's waits, statements and lines follow one after the other.
-use Rattle.std.proofs.Common.{◌≡◌, ◌<◌, ◌+◌, ℕ, zero, suc, Bool, true, false, if◌then◌else◌, List, [], ◌∷◌, ◌++◌, length, get_or, drop, Option, Some, None, Result, Ok, Err, refl, sym, ap, ◌∙◌, subst, inl, inr}
+use Rattle.std.proofs.Common.{◌≡◌, ◌<◌, ◌+◌, ℕ, zero, suc, Bool, true, false, if◌then◌else◌, List, [], ◌∷◌, ◌++◌, length, get_or, drop, map, Option, Some, None, Result, Ok, Err, refl, sym, ap, ◌∙◌, subst, inl, inr}
 use Rattle.std.proofs.lemmas.Bool.{eq-eqb, ne_eqb}
-use Rattle.std.proofs.lemmas.List.{append-nil, append_assoc, drop_more}
+use Rattle.std.proofs.lemmas.List.{append-nil, append_assoc, drop_more, map-append}
 use Rattle.std.specs.Option.{option_map}
 use Rattle.mdl_key.specs.Keys.{KeyName}
 use Rattle.mdl_calls.specs.Words.{Answer, Call, Done, Unpin, Pending, Poll_wait, Settle_timeout, Own, caller, own_after, Program, Give, Runs, ◌>>=◌, ◌>>◌}
@@ -139,13 +139,6 @@ module _ {S : Type 0} (joins : S → Call → Answer → S → Type 0) where
 
 -- ---- answers
 
--- none of them
-pub ahead-none : (worked : Worked) → ahead [] worked ≡ worked
-ahead-none worked = ap (λ (answers : Option (List (ℕ × Reply))). record { answers = answers; session = worked.session }) (same worked.answers) where
-  same : (answers : Option (List (ℕ × Reply))) → option_map (λ (more : List (ℕ × Reply)). [] ++ more) answers ≡ answers
-  same None = refl
-  same (Some more) = refl
-
 -- one more of them
 pub ahead-behind : (answers : List (ℕ × Reply)) (answer : ℕ × Reply) (worked : Worked) → ahead answers (behind answer worked) ≡ ahead (answers ++ answer ∷ []) worked
 ahead-behind answers answer worked =
@@ -176,3 +169,54 @@ pub next-other : (who : ℕ) (lines : List Line) (i : ℕ) (line d : Line) → i
 next-other who lines i line d inside item other =
     ap (λ (left : List Line). lines_of who left) (drop_more lines i d inside ∙ ap (λ (x : Line). x ∷ drop (i + 1) lines) (sym item))
     ∙ ap (λ (b : Bool). if b then line ∷ lines_of who (drop (i + 1) lines) else lines_of who (drop (i + 1) lines)) (ne_eqb line.session who other)
+
+-- ---- one line after the other
+
+module _ {S : Type 0} (joins : S → Call → Answer → S → Type 0) where
+  -- whatever follows from here, behind the answers so far, follows from the start
+  abbrev pub Follows : Program Worked → S → Program Worked → S → List (ℕ × Reply) → Type 0
+  Follows whole start rest a answers = (worked : Worked) (b : S) → Runs joins a rest worked b → Runs joins start whole (ahead answers worked) b
+
+  pub follows-answered : (patience : ℕ) (line : Line) (left rest : List Line) (before after : Session) (reply : Reply) (answers : List (ℕ × Reply)) (whole : Program Worked) (start a mid : S) →
+      left ≡ line ∷ rest → Follows whole start (working patience left before) a answers → Runs joins a (making patience line.statement before) (Ends reply after) mid →
+      Follows whole start (working patience rest after) mid (answers ++ (line.number, reply) ∷ [])
+  follows-answered patience line left rest before after reply answers whole start a mid same so run worked b later =
+      subst (λ (w : Worked). Runs joins start whole w b) (ahead-behind answers (line.number, reply) worked)
+      (so (behind (line.number, reply) worked) b
+      (subst (λ (lines : List Line). Runs joins a (working patience lines before) (behind (line.number, reply) worked) b) (sym same)
+      (one-answered joins patience line rest before after reply worked a mid b run later)))
+
+  pub follows-unkept : (patience : ℕ) (line : Line) (left rest : List Line) (before after : Session) (reply : Reply) (answers : List (ℕ × Reply)) (whole : Program Worked) (start a mid : S) →
+      left ≡ line ∷ rest → Follows whole start (working patience left before) a answers → Runs joins a (making patience line.statement before) (Ends reply after) mid →
+      Runs joins start whole (starved after) mid
+  follows-unkept patience line left rest before after reply answers whole start a mid same so run =
+      so (starved after) mid
+      (subst (λ (lines : List Line). Runs joins a (working patience lines before) (starved after) mid) (sym same)
+      (one-unkept joins patience line rest before after reply a mid run))
+
+  pub follows-starved : (patience : ℕ) (line : Line) (left rest : List Line) (before after : Session) (answers : List (ℕ × Reply)) (whole : Program Worked) (start a mid : S) →
+      left ≡ line ∷ rest → Follows whole start (working patience left before) a answers → Runs joins a (making patience line.statement before) (Faults after) mid →
+      Runs joins start whole (starved after) mid
+  follows-starved patience line left rest before after answers whole start a mid same so run =
+      so (starved after) mid
+      (subst (λ (lines : List Line). Runs joins a (working patience lines before) (starved after) mid) (sym same)
+      (one-starved joins patience line rest before after a mid run))
+
+  -- no line is left
+  pub follows-all : (patience : ℕ) (left : List Line) (session : Session) (answers : List (ℕ × Reply)) (whole : Program Worked) (start a : S) →
+      left ≡ [] → Follows whole start (working patience left session) a answers → Runs joins start whole (record { answers = Some answers; session = session }) a
+  follows-all patience left session answers whole start a none so =
+      let nothing : Worked = record { answers = Some []; session = session } in
+      subst (λ (w : Worked). Runs joins start whole w a) (ahead-all answers session)
+      (so nothing a (subst (λ (lines : List Line). Runs joins a (working patience lines session) nothing a) (sym none) (none-left joins patience session a)))
+
+-- the numbers of the answers, and of the lines that are left
+pub numbers-on : (line : Line) (left rest : List Line) (reply : Reply) (answers : List (ℕ × Reply)) (whole : List ℕ) → left ≡ line ∷ rest →
+    map (λ (answer : ℕ × Reply). answer.0) answers ++ map (λ (one : Line). one.number) left ≡ whole →
+    map (λ (answer : ℕ × Reply). answer.0) (answers ++ (line.number, reply) ∷ []) ++ map (λ (one : Line). one.number) rest ≡ whole
+numbers-on line left rest reply answers whole same so =
+    let numbers : List ℕ = map (λ (answer : ℕ × Reply). answer.0) answers in
+    let more : List ℕ = map (λ (one : Line). one.number) rest in
+    ap (λ (first : List ℕ). first ++ more) (map-append (λ (answer : ℕ × Reply). answer.0) answers ((line.number, reply) ∷ []))
+    ∙ append_assoc numbers (line.number ∷ []) more
+    ∙ sym (ap (λ (lines : List Line). numbers ++ map (λ (one : Line). one.number) lines) same) ∙ so
