@@ -1,0 +1,8 @@
+//! Sessions that work off their lines of a script, each over any lock space.
+#![tactic(auto)]
+
+mod gate;
+mod waiting;
+mod worker;
+
+pub use gate::{Gate, OpenGate};
