@@ -5,3 +5,5 @@ pub mod OrderedBooks
 pub mod SettleLemmas
 pub mod SoundLemmas
 pub mod StepLemmas
+pub mod ThreadLemmas
+pub mod TurnLemmas

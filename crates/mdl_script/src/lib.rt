@@ -20,8 +20,11 @@ mod finals;
 mod first_space;
 mod hall;
 mod laws;
+mod on_thread;
 mod replaying;
+mod run;
 mod told;
+mod turns;
 
 pub use laws::runs_have_one_text;
 pub use mdl_lines::{Fault, LineError};
