@@ -1,5 +1,6 @@
 -- How a session's waits, statements and lines follow one after the other.
 use Rattle.std.proofs.Common.{◌≡◌, ◌<◌, ◌+◌, ℕ, zero, suc, Bool, true, false, if◌then◌else◌, List, [], ◌∷◌, ◌++◌, length, get_or, drop, map, Option, Some, None, Result, Ok, Err, refl, sym, ap, ◌∙◌, subst, inl, inr}
+use Rattle.std.specs.Prelude.{IfOk, OnErr, Vec}
 use Rattle.std.proofs.lemmas.Bool.{eq-eqb, ne_eqb}
 use Rattle.std.proofs.lemmas.List.{append-nil, append_assoc, drop_more, map-append}
 use Rattle.std.specs.Option.{option_map}
@@ -15,8 +16,10 @@ use Rattle.mdl_stmt.specs.declared.reply.Progress.TheVariants as came
 use Rattle.mdl_stmt.specs.declared.reply.Reply.{Reply}
 use Rattle.mdl_stmt.specs.Endings.{Pause, Ends, Faults}
 use Rattle.mdl_stmt.specs.Gets.{paused}
+use Rattle.mdl_stmt.specs.Leavings.{leaving}
 use Rattle.mdl_stmt.specs.Sessions.{Session}
-use Rattle.mdl_work.specs.Works.{Worked, behind, finishing, going_further, lines_of, making, noted, starved, waiting_out, while_pending, working}
+use Rattle.mdl_work.specs.Paces.{worked_as}
+use Rattle.mdl_work.specs.Works.{Worked, behind, finishing, going_further, lines_of, making, newcomer, noted, starved, waiting_out, while_pending, working, working_off}
 
 -- ---- waits
 
@@ -220,3 +223,16 @@ numbers-on line left rest reply answers whole same so =
     ap (λ (first : List ℕ). first ++ more) (map-append (λ (answer : ℕ × Reply). answer.0) answers ((line.number, reply) ∷ []))
     ∙ append_assoc numbers (line.number ∷ []) more
     ∙ sym (ap (λ (lines : List Line). numbers ++ map (λ (one : Line). one.number) lines) same) ∙ so
+
+-- ---- from the first line to the end
+
+-- lines were worked off, and then all was given up
+pub worked-off : {S E Z : Type 0} (joins : S → Call → Answer → S → Type 0) (patience : ℕ) (lines : List Line) (before after : Session) (result : Result (Vec (ℕ × Reply) Z) E) (a mid b : S) →
+    Runs joins a (working patience lines before) (worked_as result after) mid → Runs joins mid (leaving after) tt b →
+    IfOk result (λ answers. Runs joins a (working_off patience lines before) (Some answers.items) b) × OnErr result (Runs joins a (working_off patience lines before) None b)
+worked-off joins patience lines before after (Ok answers) a mid b run left = (
+  runs_bind joins (working patience lines before) (λ (worked : Worked). leaving worked.session >> Give worked.answers) a mid b (record { answers = Some answers.items; session = after }) (Some answers.items) run
+  (runs_bind joins (leaving after) (λ _. Give (Some answers.items)) mid b b tt (Some answers.items) left (refl, refl)), tt)
+worked-off joins patience lines before after (Err error) a mid b run left = (
+  tt, runs_bind joins (working patience lines before) (λ (worked : Worked). leaving worked.session >> Give worked.answers) a mid b (starved after) None run
+  (runs_bind joins (leaving after) (λ _. Give None) mid b b tt None left (refl, refl)))

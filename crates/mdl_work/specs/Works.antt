@@ -8,6 +8,7 @@ use Rattle.mdl_syntax.specs.declared.script.Line.{Line}
 use Rattle.mdl_syntax.specs.declared.statement.Statement.{Statement}
 use Rattle.mdl_stmt.specs.declared.reply.Reply.{Reply}
 use Rattle.mdl_stmt.specs.Endings.{Pause, Ends, Begins_to_wait, Waits_on, Faults}
+use Rattle.mdl_stmt.specs.Leavings.{leaving}
 use Rattle.mdl_stmt.specs.MemoryLaws.{session_at}
 use Rattle.mdl_stmt.specs.Playing.{going_on, starting}
 use Rattle.mdl_stmt.specs.Sessions.{Session}
@@ -89,3 +90,7 @@ noted number more pause = Give (starved (session_at pause))
 unfoldable pub working : ℕ → List Line → Session → Program Worked
 working patience [] session = Give (record { answers = Some []; session = session })
 working patience (line ∷ lines) session = making patience line.statement session >>= noted line.number (working patience lines)
+
+-- a session works off its lines, and then gives up all that it has
+abbrev pub working_off : ℕ → List Line → Session → Program (Option (List (ℕ × Reply)))
+working_off patience lines session = working patience lines session >>= (λ worked. leaving worked.session >> Give worked.answers)

@@ -4,5 +4,7 @@
 mod gate;
 mod waiting;
 mod worker;
+mod working;
 
 pub use gate::{Gate, OpenGate};
+pub use working::{work, work_lines};

@@ -1,11 +1,12 @@
 //! A session at work on its lines.
-ghost use Rattle.std.specs.Prelude.{◌≡◌, map, None, IsSome, IfOk, OnOk};
+ghost use Rattle.std.specs.Prelude.{◌≡◌, [], map, None, IsSome, IfOk, OnOk};
 ghost use Rattle.mdl_calls.specs.Words.{Runs};
 ghost use Rattle.mdl_context.specs.Contexts.{Attends, LeavesOthers};
 ghost use Rattle.mdl_stmt.specs.Gets.{paused, ran};
+ghost use Rattle.mdl_stmt.specs.Leavings.{leaving};
 ghost use Rattle.mdl_stmt.specs.Stages.{session_of};
 ghost use Rattle.mdl_work.specs.Paces.{LeftWhileWaiting, came_to, worked_as};
-ghost use Rattle.mdl_work.specs.Works.{finishing, going_further, lines_of, making, most_waits, working};
+ghost use Rattle.mdl_work.specs.Works.{finishing, going_further, lines_of, making, most_waits, newcomer, working};
 
 use crate::Gate;
 use crate::waiting::wait_out;
@@ -26,6 +27,20 @@ pub(crate) struct Worker<'s, S: LockSpace> {
 }
 
 impl<'s, S: LockSpace> Worker<'s, S> {
+    /// A session that was asked for nothing yet. It takes no memory.
+    pub(crate) fn new(alloc: Global, who: u16, patience: u32) -> Worker<'s, S>
+        ensures session { session_of result.runner ≡ newcomer who }
+        ensures idle { result.runner.work ≡ None }
+        ensures who { result.who ≡ who }
+        ensures patience { result.patience ≡ patience }
+    {
+        Worker {
+            runner: Runner::new(alloc, who),
+            who,
+            patience,
+        }
+    }
+
     /// Makes the session's statements among these lines, in order, and keeps what they answer.
     pub(crate) fn answer_lines<G: Gate>(
         &mut self,
@@ -53,6 +68,17 @@ impl<'s, S: LockSpace> Worker<'s, S> {
             }
         }
         Ok(answers)
+    }
+
+    /// Ends the session: all that it has is given up. It takes no memory.
+    pub(crate) fn leave(self, space: &mut S)
+        requires attends { Attends S.speaks_for S.own S.knows space.old self.runner.context }
+        ensures run { Runs S.joins space.old (leaving (session_of self.entry.runner)) tt space.new }
+        ensures nothing { S.own space.new self.entry.runner.context.who ≡ record { held = []; wait = None } }
+        ensures speaks { S.speaks_for space.new self.entry.runner.context.who }
+        ensures others { LeavesOthers S.speaks_for S.own S.knows self.entry.runner.context.who space.old space.new }
+    {
+        self.runner.leave(space);
     }
 
     /// Makes a statement, and waits whatever it waits for.

@@ -25,7 +25,8 @@ returns-in_err-progress-clause-run g c =
 pub finish-requires-clause-left : goal.finish-requires-clause-left
 finish-requires-clause-left g c =
     let session = session_of c.args.self.now.runner in
-    each_reply g.S.LockSpace.joins LeftWhileWaiting (starting c.args.statement.now session) _ _ _ (left_starting c.args.statement.now session) c.in_ok-progress.ensures.run
+    let pause = paused c.in_ok-progress.progress (session_of c.start.new.self) in
+    each_reply g.S.LockSpace.joins LeftWhileWaiting (starting c.args.statement.now session) _ _ pause (left_starting c.args.statement.now session) c.in_ok-progress.ensures.run
 
 pub returns-clause-run : goal.returns-clause-run
 returns-clause-run g c =
