@@ -1,10 +1,11 @@
 # The two commands of the README, `make run` and `make test`, and what else can be asked for: `make help` lists it.
 
-# The script that `make run` and `make try` run. By its ending it is one of statements (NAME.replay), of a scoped lock
-# (NAME.scoped.lock), or of an object lock (NAME.lock). With OPTIONS=--scoped it is one of a scoped lock whatever its ending, and with
-# SUBCOMMAND=replay or SUBCOMMAND=lock any ending will do.
+# The script that `make run` and `make try` run. By its ending it is one of statements (NAME.replay), one whose sessions run on threads
+# (NAME.run), of a scoped lock (NAME.scoped.lock), or of an object lock (NAME.lock). With OPTIONS=--scoped it is one of a scoped lock
+# whatever its ending, with SUBCOMMAND=replay, SUBCOMMAND=run or SUBCOMMAND=lock any ending will do, and OPTIONS="--patience 5" is the
+# patience of a run on threads.
 SCRIPT = crates/mdlsim/stdin
-SUBCOMMAND = $(if $(filter %.replay,$(SCRIPT)),replay,lock)
+SUBCOMMAND = $(if $(filter %.replay,$(SCRIPT)),replay,$(if $(filter %.run,$(SCRIPT)),run,lock))
 OPTIONS = $(if $(filter %.scoped.lock,$(SCRIPT)),--scoped)
 
 # Where `make install` puts the program and its manual page.
@@ -17,7 +18,7 @@ BENCH = crates/mdl_bench/out/mdl_bench
 .PHONY: help run try script test layout docs bench examples growths build install clean kit
 
 help:
-	@echo 'make run [SCRIPT=FILE]     builds mdlsim, proved, and prints its answers to a script: NAME.replay, NAME.lock or NAME.scoped.lock'
+	@echo 'make run [SCRIPT=FILE]     builds mdlsim, proved, and prints its answers to a script: NAME.replay, NAME.run, NAME.lock or NAME.scoped.lock'
 	@echo 'make try [SCRIPT=FILE]     answers a script without the proof, in a minute or two, and leaves no program'
 	@echo 'make try SUBCOMMAND=matrix prints which modes clash and who waits behind whom, without the proof'
 	@echo 'make test                  the gate: proves everything from nothing, and runs all tests'
@@ -39,10 +40,10 @@ try: script kit
 
 # What would be found out only after the build: the subcommand is there, the script can be read, and its ending says what it is.
 script:
-	@case "$(SUBCOMMAND)" in replay | lock | matrix) ;; *) echo "there is no $(SUBCOMMAND): SUBCOMMAND is replay, lock or matrix" >&2; exit 1 ;; esac
+	@case "$(SUBCOMMAND)" in replay | run | lock | matrix) ;; *) echo "there is no $(SUBCOMMAND): SUBCOMMAND is replay, run, lock or matrix" >&2; exit 1 ;; esac
 	@{ test -r "$(SCRIPT)" && test ! -d "$(SCRIPT)"; } || { echo "$(SCRIPT) isn't there, or can't be read" >&2; exit 1; }
-	@case "$(origin SUBCOMMAND) $(SCRIPT)" in "command line "* | "file crates/mdlsim/stdin" | *.lock | *.replay) ;; \
-	*) echo "$(SCRIPT): a script ends with .lock or .replay" >&2; exit 1 ;; esac
+	@case "$(origin SUBCOMMAND) $(SCRIPT)" in "command line "* | "file crates/mdlsim/stdin" | *.lock | *.replay | *.run) ;; \
+	*) echo "$(SCRIPT): a script ends with .lock, .replay or .run" >&2; exit 1 ;; esac
 
 # The gate: the files are in the layout, the docs agree with the tree, the examples have their answers, refused growths lose nothing, and
 # everything is proved and tested from nothing. Of the growths every third is refused here; `make growths` refuses each.

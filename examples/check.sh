@@ -3,7 +3,8 @@
 # refused lines of one.
 # Before that it looks whether each example says in two lines of comment what to look for and stands in the list of examples/README.md, and
 # whether each script that is shown there, or in the README at the top, is one of the examples, line by line and answer by answer.
-# A script NAME.lock is one of an object lock, NAME.scoped.lock one of a scoped lock, and NAME.replay one of statements.
+# A script NAME.lock is one of an object lock, NAME.scoped.lock one of a scoped lock, NAME.replay one of statements, and NAME.run one whose
+# sessions run on threads.
 # mdlsim is built here once, without its proof, which `rt ci` gives.
 # Usage: sh examples/check.sh            all examples, those of the pages too
 #        sh examples/check.sh SCRIPT     one of them
@@ -20,7 +21,8 @@ lay() {
         *.scoped.lock) printf 'lock\n--scoped\n' ;;
         *.lock) printf 'lock\n' ;;
         *.replay) printf 'replay\n' ;;
-        *) echo "$1: a script ends with .lock or .replay" >&2; return 1 ;;
+        *.run) printf 'run\n' ;;
+        *) echo "$1: a script ends with .lock, .replay or .run" >&2; return 1 ;;
     esac > "$made/cases/$name.args"
     for file in "$1" "${1%.*}.answers"; do
         if [ ! -r "$file" ]; then
@@ -79,7 +81,7 @@ refused() {
 }
 
 if [ $# -eq 0 ]; then
-    set -- "$examples"/*.lock "$examples"/*.replay
+    set -- "$examples"/*.lock "$examples"/*.replay "$examples"/*.run
     for script in "$@"; do
         look_at_example "$script" || exit 1
     done

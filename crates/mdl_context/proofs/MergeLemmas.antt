@@ -1,6 +1,6 @@
 -- A ticket that isn't kept, beside those that are: what a session has after it was merged into one of them, or released.
-use Rattle.std.proofs.Common.{◌≡◌, ◌≢◌, ℕ, ◌<◌, Bool, true, false, List, [], ◌∷◌, ◌++◌, Option, Some, None, Result, Ok, Err, refl, sym, ap, ◌∙◌, subst, arith}
-use Rattle.std.specs.Prelude.{not, ◌&&◌, ◌==◌, map, filter, find, is_some, MatchOption, IfErr, if◌then◌else◌}
+use Rattle.std.proofs.Common.{◌≡◌, ℕ, ◌<◌, true, false, List, [], ◌∷◌, ◌++◌, Option, Some, None, Result, Ok, Err, refl, sym, ap, ◌∙◌, arith}
+use Rattle.std.specs.Prelude.{not, ◌==◌, map, filter, find, is_some, MatchOption, IfErr, if◌then◌else◌}
 use Rattle.std.specs.Option.{option_map}
 use Rattle.std.proofs.lemmas.Bool.Decides.{nat_tests}
 use Rattle.mdl_key.specs.declared.mode.Mode.{Mode}
@@ -15,7 +15,7 @@ use Rattle.mdl_system.specs.Strength.{covers}
 use Rattle.mdl_context.specs.declared.kept.Kept.{Kept}
 use Rattle.mdl_context.specs.Contexts.{ContextView, Serves, AreRising, held_of, ticket_kept, wish_here, wish_there}
 use Rattle.mdl_context.specs.Holdings.{in_mode, without_number}
-use Rattle.mdl_context.specs.Upgrades.{with_ticket, own_merged, is_merge_refusal}
+use Rattle.mdl_context.specs.Upgrades.{with_ticket, is_merge_refusal}
 use Rattle.mdl_context.proofs.BeyondLemmas.{held-without}
 use Rattle.mdl_context.proofs.FrontLemmas.{Above}
 

@@ -1,6 +1,6 @@
 -- Tickets in another mode.
-use Rattle.std.proofs.Common.{◌≡◌, ℕ, zero, suc, ◌<◌, Bool, true, false, List, [], ◌∷◌, length, get_or, Option, Some, None, refl, sym, ap, ◌∙◌, arith}
-use Rattle.std.specs.Prelude.{position, map, slice_set, if◌then◌else◌}
+use Rattle.std.proofs.Common.{◌≡◌, ℕ, zero, suc, ◌<◌, Bool, true, false, List, [], ◌∷◌, length, get_or, Some, None, refl, sym, arith}
+use Rattle.std.specs.Prelude.{position, slice_set, if◌then◌else◌}
 use Rattle.std.proofs.lemmas.Bool.Decides.{nat_tests}
 use Rattle.std.proofs.lemmas.List.Quantifiers.{position-Some}
 use Rattle.mdl_key.specs.declared.mode.Mode.{Mode}
@@ -11,7 +11,7 @@ use Rattle.mdl_context.specs.Contexts.{AreRising, has_number}
 use Rattle.mdl_context.specs.Holdings.{is_ticket, in_mode, numbers_among}
 use Rattle.mdl_context.proofs.FrontLemmas.{Above}
 use Rattle.mdl_context.proofs.PlaceLemmas.{numbers-changed}
-use Rattle.mdl_context.proofs.SearchLemmas.{no_ticket, placed, rises}
+use Rattle.mdl_context.proofs.SearchLemmas.{placed, rises}
 
 -- a ticket, in another mode where it has the number
 abbrev pub changed : ℕ → (Mode → Mode) → Kept → Kept

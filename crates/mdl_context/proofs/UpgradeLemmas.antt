@@ -1,11 +1,11 @@
 -- A context goes on to attend to its session as the mode of a ticket changes, and runs of upgrades.
-use Rattle.std.proofs.Common.{◌≡◌, ℕ, ◌<◌, Bool, true, false, List, [], ◌∷◌, ◌++◌, length, Option, Some, None, Result, Ok, Err, inl, inr, refl, sym, ap, ◌∙◌, subst, arith}
-use Rattle.std.specs.Prelude.{All, map, find, is_some, slice_index_or, ◌||◌, ◌==◌, MatchOption, if◌then◌else◌}
+use Rattle.std.proofs.Common.{◌≡◌, ℕ, ◌<◌, Bool, true, false, List, [], ◌∷◌, ◌++◌, length, Option, Some, None, Result, Ok, Err, inr, refl, sym, ap, ◌∙◌, subst, arith}
+use Rattle.std.specs.Prelude.{map, find, is_some, slice_index_or, ◌||◌, ◌==◌, MatchOption}
 use Rattle.std.specs.Option.{IfSome, option_map}
 use Rattle.std.proofs.lemmas.Bool.{eqb-true}
 use Rattle.std.proofs.lemmas.Bool.Decides.{nat_tests}
 use Rattle.std.proofs.lemmas.List.{get_or_append_left, length-append, map-append}
-use Rattle.std.proofs.lemmas.List.Elements.{All-map, All-push}
+use Rattle.std.proofs.lemmas.List.Elements.{All-map}
 use Rattle.mdl_key.specs.declared.mode.Mode.{Mode}
 use Rattle.mdl_key.specs.Keys.{KeyName}
 use Rattle.mdl_book.proofs.TicketLemmas.{find-contains, find-passes}
@@ -16,7 +16,7 @@ use Rattle.mdl_calls.specs.declared.space_error.SpaceError.{SpaceError}
 use Rattle.mdl_calls.specs.Causes.{Knowledge, IsClear, IsFit, Mergeable}
 use Rattle.mdl_calls.specs.Own.{changing, upgraded, waiting}
 use Rattle.mdl_calls.specs.Own as owned
-use Rattle.mdl_calls.specs.Words.{Answer, Done, Upgraded, Would_wait, Call, Upgrade_now, Downgrade, Unpin, caller, Own, IsRising, own_after, gaining, giving_up, is_number, ticket_held, Runs, Give, Ask}
+use Rattle.mdl_calls.specs.Words.{Answer, Done, Call, Upgrade_now, Unpin, caller, Own, IsRising, own_after, gaining, giving_up, is_number, ticket_held, Runs, Give, Ask}
 use Rattle.mdl_calls.proofs.RunLemmas.{runs_bind}
 use Rattle.mdl_context.specs.declared.asking.Got.{Got}
 use Rattle.mdl_context.specs.declared.asking.Got.TheVariants as got

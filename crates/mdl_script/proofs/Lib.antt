@@ -1,6 +1,9 @@
 pub mod FirstLemmas
 pub mod HallLemmas
 pub mod ListLemmas
+pub mod OrderedBooks
 pub mod SettleLemmas
 pub mod SoundLemmas
 pub mod StepLemmas
+pub mod ThreadLemmas
+pub mod TurnLemmas

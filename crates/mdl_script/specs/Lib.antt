@@ -1,4 +1,9 @@
+pub mod Answers
+pub mod Finals
 pub mod Halls
 pub mod Output
+pub mod RunLaws
+pub mod RunTexts
 pub mod Texts
+pub mod Turns
 pub mod Worlds

@@ -16,11 +16,17 @@
 //! ```
 #![tactic(auto)]
 
+mod finals;
 mod first_space;
 mod hall;
+mod laws;
+mod on_thread;
 mod replaying;
+mod run;
 mod told;
+mod turns;
 
+pub use laws::runs_have_one_text;
 pub use mdl_lines::{Fault, LineError};
 pub use mdl_syntax::{Line, Script, Statement, parse};
 pub use replaying::replay;

@@ -3,6 +3,7 @@ ghost use Rattle.std.specs.Prelude.{◌≡◌, ◌++◌, ◌∷◌, [], OnOk, fl
 ghost use Rattle.std.specs.Fmt.{decimal};
 ghost use Rattle.std.specs.List.{join_by};
 ghost use Rattle.std.specs.String.{string_bytes};
+ghost use Rattle.mdl_script.specs.RunTexts.{answer_line, answers_text};
 ghost use Rattle.mdl_script.specs.Texts.{columns_text, end_line, error_text, heading, news_text, reply_text, table_text, tables_text, told_line, wait_text};
 
 use itoa::Buffer;
@@ -50,6 +51,29 @@ pub fn push_end(out: &mut String, who: u16) -> Result<(), AllocError>
         Ok(()) => Ok(()),
         Err(_) => Err(AllocError),
     }
+}
+
+/// Puts the lines of all answers to a session last in a text.
+pub(crate) fn push_answers(
+    out: &mut String,
+    who: u16,
+    answers: &[(u64, Reply)],
+) -> Result<(), AllocError>
+    ensures { OnOk result (string_bytes out.new ≡ string_bytes out.old ++ answers_text who answers.now) }
+{
+    for (line, reply) in answers {
+        push_answer(out, *line, who, reply)?;
+    }
+    Ok(())
+}
+
+// The line of an answer to a session, asked by the line of this number.
+fn push_answer(out: &mut String, line: u64, who: u16, reply: &Reply) -> Result<(), AllocError>
+    ensures { OnOk result (string_bytes out.new ≡ string_bytes out.old ++ answer_line who (line, reply.now)) }
+{
+    push_heading(out, line, who)?;
+    push_reply(out, reply)?;
+    out.push('\n')
 }
 
 // The numbers of a line and of its session, each with a space behind it.
@@ -139,7 +163,7 @@ fn push_table(out: &mut String, table: &TableShown) -> Result<(), AllocError>
 }
 
 // Columns, parted by commas and in parentheses.
-fn push_columns(out: &mut String, columns: &[Column]) -> Result<(), AllocError>
+pub(crate) fn push_columns(out: &mut String, columns: &[Column]) -> Result<(), AllocError>
     ensures { OnOk result (string_bytes out.new ≡ string_bytes out.old ++ columns_text columns.now) }
 {
     out.push('(')?;
@@ -168,3 +192,6 @@ fn push_behind_commas(out: &mut String, columns: &[Column]) -> Result<(), AllocE
     }
     Ok(())
 }
+
+#[cfg(test)]
+mod tests;

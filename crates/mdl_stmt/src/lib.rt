@@ -43,6 +43,7 @@ mod error_number;
 mod explicit;
 mod flushing;
 mod key_lists;
+mod leaving;
 mod lock_list;
 mod lock_loops;
 mod locking;

@@ -10,6 +10,7 @@ ghost use Rattle.mdl_stmt.specs.Stages.{session_of, rest_of};
 ghost use Rattle.mdl_stmt.specs.States.{at_first};
 
 use crate::ending::{Ending, Played};
+use crate::leaving::give_all_up;
 use crate::player::{Player, ending_of_error, ending_of_loss};
 use crate::stage::Stage;
 use crate::{OutOfMemory, Progress};
@@ -107,16 +108,14 @@ impl<'s, S: LockSpace> Runner<'s, S> {
     /// After MySQL 5.7, `THD::cleanup` of `sql/sql_class.cc`.
     pub fn leave(self, space: &mut S)
         requires attends { Attends S.speaks_for S.own S.knows space.old self.context }
-        ensures run { Runs S.joins space.old (leaving (session_of self)) tt space.new }
-        ensures nothing { S.own space.new self.context.who ≡ record { held = []; wait = None } }
-        ensures speaks { S.speaks_for space.new self.context.who }
-        ensures others { LeavesOthers S.speaks_for S.own S.knows self.context.who space.old space.new }
+        ensures run { Runs S.joins space.old (leaving (session_of self.entry)) tt space.new }
+        ensures nothing { S.own space.new self.entry.context.who ≡ record { held = []; wait = None } }
+        ensures speaks { S.speaks_for space.new self.entry.context.who }
+        ensures others { LeavesOthers S.speaks_for S.own S.knows self.entry.context.who space.old space.new }
     {
-        let mut context = self.player.context;
-        if context.wish().is_some() {
-            let _end = context.give_up(space);
-        }
-        context.finish_all(space);
+        let Runner { player, work: _ } = self;
+        let mut context = player.context;
+        give_all_up(&mut context, space);
     }
 
     // Ends the statement that waited.

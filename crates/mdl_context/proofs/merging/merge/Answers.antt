@@ -1,6 +1,5 @@
 -- The new ticket is merged, or released.
-use Rattle.std.proofs.Common.{refl, sym, ap, ◌∙◌}
-use Rattle.std.specs.Prelude.{IfErr}
+use Rattle.std.proofs.Common.{refl, ap, ◌∙◌}
 use Rattle.mdl_calls.specs.Causes.{Knowledge}
 use Rattle.mdl_calls.specs.Own.{holds, giving_up}
 use Rattle.mdl_context.proofs.MergeLemmas.{holds-second, refused-merge}

@@ -2,7 +2,6 @@
 use Rattle.std.proofs.Common.{◌≡◌, refl, sym, ap, ◌∙◌}
 use Rattle.mdl_context.specs.Contexts.{ContextView}
 use Rattle.mdl_context.proofs.AttendLemmas.{attends-still}
-use Rattle.mdl_context.proofs.OthersLemmas.{leaves, for_downgrading}
 use Rattle.mdl_context.proofs.UpgradeLemmas.{attends-in_mode}
 use Rattle.mdl_context.proofs.context.Context.downgrade.Goals as goal
 

@@ -1,5 +1,4 @@
 -- To ask for a place changes nothing that the session has, and then the place is known.
-use Rattle.mdl_context.specs.Wishes.{wish_of}
 use Rattle.std.proofs.Common.{rules, ◌≡◌, [], ◌∷◌, ◌++◌, refl, sym, ap, ◌∙◌, subst}
 use Rattle.mdl_context.specs.Contexts.{ContextView, Attends, place_known}
 use Rattle.mdl_context.specs.Requests.{remembering}

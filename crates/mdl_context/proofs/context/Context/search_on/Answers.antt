@@ -1,6 +1,5 @@
 -- The searches run as said, and then the wait is looked after, or given up.
 use Rattle.std.proofs.Common.{◌≡◌, ap}
-use Rattle.mdl_context.specs.declared.context_error.ContextError.TheVariants.{Space}
 use Rattle.mdl_context.specs.Contexts.{ContextView}
 use Rattle.mdl_context.proofs.BeyondLemmas.{same-context}
 use Rattle.mdl_context.proofs.SoughtLemmas.{run-over, run-cut_off, run-failed}

@@ -1,5 +1,5 @@
 -- The mode is changed here as it is there, or a second ticket is asked for, or nothing is changed.
-use Rattle.std.proofs.Common.{◌≡◌, Some, None, Ok, Err, refl, sym, ap, ◌∙◌, subst}
+use Rattle.std.proofs.Common.{◌≡◌, Ok, Err, refl, sym, ap, ◌∙◌, subst}
 use Rattle.mdl_calls.specs.Causes.{Knowledge}
 use Rattle.mdl_calls.specs.Words.{Refused, Upgraded, Would_wait, Runs}
 use Rattle.mdl_calls.specs.Own.{upgraded}

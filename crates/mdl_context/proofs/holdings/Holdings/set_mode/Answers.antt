@@ -1,5 +1,5 @@
 -- No number and no place is changed.
-use Rattle.std.proofs.Common.{◌≡◌, Some, None, sym, ap, ◌∙◌, refl, length}
+use Rattle.std.proofs.Common.{◌≡◌, Some, None, sym, ap, ◌∙◌, refl}
 use Rattle.std.specs.Prelude.{position, slice_set}
 use Rattle.std.proofs.lemmas.List.{length-set}
 use Rattle.mdl_context.specs.Contexts.{AreRising}

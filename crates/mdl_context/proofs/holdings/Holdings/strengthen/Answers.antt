@@ -1,10 +1,8 @@
 -- No number and no place is changed.
-use Rattle.std.proofs.Common.{◌≡◌, true, false, Some, None, sym, ap, ◌∙◌, refl, length, get_or}
-use Rattle.std.specs.Prelude.{position, slice_set, not}
-use Rattle.std.proofs.lemmas.List.{length-set, set-get_or}
+use Rattle.std.proofs.Common.{◌≡◌, Some, None, sym, ap, ◌∙◌, refl}
+use Rattle.std.specs.Prelude.{position, slice_set}
+use Rattle.std.proofs.lemmas.List.{length-set}
 use Rattle.mdl_calls.specs.Own.{upgraded}
-use Rattle.mdl_system.specs.Strength.{covers}
-use Rattle.mdl_context.specs.declared.kept.Kept.{Kept}
 use Rattle.mdl_context.specs.Contexts.{AreRising}
 use Rattle.mdl_context.specs.Holdings.{is_ticket, in_mode}
 use Rattle.mdl_context.proofs.ModeLemmas.{in_mode-at, in_mode-none, numbers-in_mode, upgraded-weaker, upgraded-covered}

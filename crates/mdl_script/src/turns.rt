@@ -1,0 +1,177 @@
+//! The turns of a run: the sessions that a script names, in rising order, each with the thread that it is on.
+ghost use Rattle.std.specs.Prelude.{◌≡◌, ◌≢◌, [], ◌∷◌, ◌==◌, ℕ, true, All, IfOk, OnOk, map, position};
+ghost use Rattle.std.specs.List.Sorted.{IsPermutation};
+ghost use Rattle.std.specs.String.{string_bytes};
+ghost use Rattle.mdl_shared.specs.Passes.{pass_number, pass_table, table_of};
+ghost use Rattle.mdl_script.specs.Answers.{AreAnswers};
+ghost use Rattle.mdl_script.specs.RunTexts.{named_sessions};
+ghost use Rattle.mdl_script.specs.Turns.{GainsAnswers, IsAbout, IsTurn, has_pass};
+
+use crate::run::{Run, is_named};
+use crate::on_thread::work_pass;
+use crate::told::push_answers;
+use mdl_shared::Pass;
+use mdl_stmt::Reply;
+use mdl_syntax::Script;
+use mdl_work::Gate;
+use std::alloc::AllocError;
+use std::sync::Wait;
+use std::thread::{Promise, PromisedHandle, Scope, Threads};
+
+const SESSIONS: u16 = 64;
+
+/// What a session answers, or that memory ran out.
+pub(crate) type Answered = Result<Vec<(u64, Reply)>, AllocError>;
+
+/// The answers of a session to its lines of a script.
+#[derive(Clone, Copy)]
+pub(crate) struct AnswersOf<'s> {
+    pub(crate) who: u16,
+    pub(crate) script: &'s Script,
+    pub(crate) patience: u32,
+}
+
+impl<'s> Promise<Answered> for AnswersOf<'s> {
+    ghost kept_by = { λ p r. IfOk r (λ answers. AreAnswers p.patience p.script.now p.who answers.items) };
+}
+
+/// A session, and its thread, unless it has its turn in the thread that started the others.
+#[derive(Drop)]
+pub(crate) struct Turn<'s> {
+    pub(crate) who: u16,
+    pub(crate) thread: Option<PromisedHandle<Answered, AnswersOf<'s>>>,
+}
+
+/// Takes the pass of a session from others.
+fn take(passes: &mut Vec<Pass>, who: u16) -> Pass
+    requires { has_pass passes.old.items who ≡ true }
+    ensures number { pass_number result ≡ who }
+    ensures rest { IsPermutation passes.old.items (result ∷ passes.new.items) }
+{
+    match place_of(passes, who) {
+        Some(place) => passes.swap_remove(place),
+        None => unreachable!(),
+    }
+}
+
+/// The place of the pass of a session.
+fn place_of(passes: &[Pass], who: u16) -> Option<usize>
+    ensures { result ≡ position (λ pass. pass_number pass == who) passes.now }
+{
+    passes.iter().position(|pass| pass.number() == who)
+}
+
+/// Starts the session of a pass on a thread of its own.
+fn start_thread<'s, E, R: Threads + Wait + Sync, G: Gate + Sync>(
+    scope: &Scope<'s, E>,
+    run: &Run<'s, R, G>,
+    pass: Pass,
+) -> Result<PromisedHandle<Answered, AnswersOf<'s>>, AllocError>
+    requires theirs { pass_table pass ≡ table_of run.now.manager.now }
+    ensures { IfOk result (λ thread. IsAbout run.now.patience run.now.script.now (pass_number pass) thread.promise) }
+{
+    // The thread has each of these by itself: of a struct that has them by a lifetime, the proof keeps nothing.
+    let (rt, gate, manager, script) = (run.rt, run.gate, run.manager, run.script);
+    let (alloc, patience) = (run.alloc, run.patience);
+    let promise = AnswersOf {
+        who: pass.number(),
+        script,
+        patience,
+    };
+    let thread = scope.spawn_with(promise, move || {
+        work_pass(rt, alloc, manager, pass, script, patience, gate)
+    })?;
+    Ok(thread)
+}
+
+/// Starts the turn of a session.
+fn start_turn<'s, E, R: Threads + Wait + Sync, G: Gate + Sync>(
+    scope: &Scope<'s, E>,
+    run: &Run<'s, R, G>,
+    passes: &mut Vec<Pass>,
+    mine: u16,
+    who: u16,
+) -> Result<Turn<'s>, AllocError>
+    requires theirs { All (λ pass. pass_table pass ≡ table_of run.now.manager.now) passes.old.items }
+    requires there { who ≢ mine → has_pass passes.old.items who ≡ true }
+    ensures who { IfOk result (λ turn. turn.who ≡ who) }
+    ensures turn { IfOk result (λ turn. IsTurn run.now.patience run.now.script.now mine turn) }
+    ensures theirs { All (λ pass. pass_table pass ≡ table_of run.now.manager.now) passes.new.items }
+    ensures others { (other : ℕ) → other ≢ who → has_pass passes.new.items other ≡ has_pass passes.old.items other }
+{
+    if who == mine {
+        return Ok(Turn { who, thread: None });
+    }
+    let pass = take(passes, who);
+    let thread = start_thread(scope, run, pass)?;
+    Ok(Turn {
+        who,
+        thread: Some(thread),
+    })
+}
+
+/// Starts the turns of all sessions that the script names.
+pub(crate) fn start_all<'s, E, R: Threads + Wait + Sync, G: Gate + Sync>(
+    scope: &Scope<'s, E>,
+    run: &Run<'s, R, G>,
+    mut passes: Vec<Pass>,
+    mine: u16,
+) -> Result<Vec<Turn<'s>>, AllocError>
+    requires theirs { All (λ pass. pass_table pass ≡ table_of run.now.manager.now) passes.items }
+    requires there { All (λ who. who ≢ mine → has_pass passes.items who ≡ true) (named_sessions run.now.script.now) }
+    ensures sessions { IfOk result (λ turns. map (λ turn. turn.who) turns.items ≡ named_sessions run.now.script.now) }
+    ensures turns { IfOk result (λ turns. All (IsTurn run.now.patience run.now.script.now mine) turns.items) }
+{
+    let mut turns = Vec::new(run.alloc);
+    for who in 1..SESSIONS + 1 {
+        if is_named(run.script, who) {
+            turns.push(start_turn(scope, run, &mut passes, mine, who)?)?;
+        }
+    }
+    Ok(turns)
+}
+
+/// A session, and what it answered.
+#[derive(Drop)]
+pub(crate) struct Transcript {
+    pub(crate) who: u16,
+    pub(crate) answers: Vec<(u64, Reply)>,
+}
+
+/// Waits for the end of a turn, and tells its session's answers. `own` is what the session has answered that is on no other thread.
+fn push_turn<R: Threads, G>(
+    out: &mut String,
+    run: &Run<R, G>,
+    turn: Turn<'_>,
+    own: &Transcript,
+) -> Result<(), AllocError>
+    requires turn { IsTurn run.now.patience run.now.script.now own.now.who turn }
+    requires own { AreAnswers run.now.patience run.now.script.now own.now.who own.now.answers.items }
+    ensures { OnOk result (GainsAnswers run.now.patience run.now.script.now (turn.entry.who ∷ []) (string_bytes out.old) (string_bytes out.new)) }
+{
+    let Turn { who, thread } = turn;
+    match thread {
+        Some(thread) => {
+            let answers = thread.join(run.rt)?;
+            push_answers(out, who, &answers)
+        }
+        None => push_answers(out, who, &own.answers),
+    }
+}
+
+/// The same of all turns.
+pub(crate) fn push_turns<R: Threads, G>(
+    out: &mut String,
+    run: &Run<R, G>,
+    turns: Vec<Turn<'_>>,
+    own: &Transcript,
+) -> Result<(), AllocError>
+    requires turns { All (IsTurn run.now.patience run.now.script.now own.now.who) turns.items }
+    requires own { AreAnswers run.now.patience run.now.script.now own.now.who own.now.answers.items }
+    ensures { OnOk result (GainsAnswers run.now.patience run.now.script.now (map (λ turn. turn.who) turns.entry.items) (string_bytes out.old) (string_bytes out.new)) }
+{
+    for turn in turns {
+        push_turn(out, run, turn, own)?;
+    }
+    Ok(())
+}

@@ -1,0 +1,20 @@
+-- A wait is given up first, where there is one.
+use Rattle.std.proofs.Common.{sym, ◌∙◌, ap}
+use Rattle.std.specs.Prelude.{is_some}
+use Rattle.mdl_stmt.proofs.LeaveLemmas.{run-idle, run-waiting}
+use Rattle.mdl_stmt.proofs.leaving.give_all_up.Goals.{then-is_some, else-is_some}
+use Rattle.mdl_stmt.proofs.leaving.give_all_up.Goals as goal
+
+pub returns-clause-run : goal.returns-clause-run
+returns-clause-run g c =
+    elim c.if-is_some.branch [
+      | then-is_some w ↦
+          run-waiting g.S.LockSpace.joins c.args.context.now c.if-is_some.context c.finish_all.new.self w.give_up-end.result c.args.space.now c.if-is_some.space c.finish_all.new.space
+          (ap is_some (sym c.wish.ensures) ∙ sym c.is_some.ensures ∙ w.if-is_some.true)
+          (rw (w.context-is, w.space-is) w.give_up-end.ensures.run)
+          c.finish_all.ensures.run
+      | else-is_some w ↦
+          run-idle g.S.LockSpace.joins c.args.context.now c.finish_all.new.self c.args.space.now c.finish_all.new.space
+          (ap is_some (sym c.wish.ensures) ∙ sym c.is_some.ensures ∙ w.if-is_some.false)
+          (rw (w.context-is, w.space-is) at c.finish_all.ensures.run)
+    ]

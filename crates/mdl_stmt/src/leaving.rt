@@ -1,0 +1,24 @@
+//! How a session ends.
+ghost use Rattle.std.specs.Prelude.{◌≡◌, None, []};
+ghost use Rattle.mdl_calls.specs.Words.{Runs};
+ghost use Rattle.mdl_context.specs.Contexts.{Attends, LeavesOthers};
+ghost use Rattle.mdl_stmt.specs.Leavings.{leaving_from};
+
+use mdl_context::Context;
+use mdl_space::LockSpace;
+
+// Gives up the wait of a context, where there is one, and then all that it holds.
+pub(crate) fn give_all_up<S: LockSpace>(context: &mut Context<S>, space: &mut S)
+    requires { Attends S.speaks_for S.own S.knows space.old context.old }
+    ensures run { Runs S.joins space.old (leaving_from context.old.wait context.old) tt space.new }
+    ensures kept { context.new.kept ≡ [] }
+    ensures wait { context.new.wait ≡ None }
+    ensures attends { Attends S.speaks_for S.own S.knows space.new context.new }
+    ensures others { LeavesOthers S.speaks_for S.own S.knows context.old.who space.old space.new }
+    ensures who { context.new.who ≡ context.old.who }
+{
+    if context.wish().is_some() {
+        let _end = context.give_up(space);
+    }
+    context.finish_all(space);
+}

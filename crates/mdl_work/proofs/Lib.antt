@@ -1,0 +1,2 @@
+pub mod PauseLemmas
+pub mod WorkLemmas

@@ -1,0 +1,238 @@
+-- How a session's waits, statements and lines follow one after the other.
+use Rattle.std.proofs.Common.{◌≡◌, ◌<◌, ◌+◌, ℕ, zero, suc, Bool, true, false, if◌then◌else◌, List, [], ◌∷◌, ◌++◌, length, get_or, drop, map, Option, Some, None, Result, Ok, Err, refl, sym, ap, ◌∙◌, subst, inl, inr}
+use Rattle.std.specs.Prelude.{IfOk, OnErr, Vec}
+use Rattle.std.proofs.lemmas.Bool.{eq-eqb, ne_eqb}
+use Rattle.std.proofs.lemmas.List.{append-nil, append_assoc, drop_more, map-append}
+use Rattle.std.specs.Option.{option_map}
+use Rattle.mdl_key.specs.Keys.{KeyName}
+use Rattle.mdl_calls.specs.Words.{Answer, Call, Done, Unpin, Pending, Poll_wait, Settle_timeout, Own, caller, own_after, Program, Give, Runs, ◌>>=◌, ◌>>◌}
+use Rattle.mdl_calls.proofs.RunLemmas.{runs_bind}
+use Rattle.mdl_context.specs.Contexts.{ContextView, Attends}
+use Rattle.mdl_context.proofs.AttendLemmas.{attends-still}
+use Rattle.mdl_context.proofs.OthersLemmas.{IsFor}
+use Rattle.mdl_syntax.specs.declared.script.Line.{Line}
+use Rattle.mdl_stmt.specs.declared.reply.Progress.{Progress}
+use Rattle.mdl_stmt.specs.declared.reply.Progress.TheVariants as came
+use Rattle.mdl_stmt.specs.declared.reply.Reply.{Reply}
+use Rattle.mdl_stmt.specs.Endings.{Pause, Ends, Faults}
+use Rattle.mdl_stmt.specs.Gets.{paused}
+use Rattle.mdl_stmt.specs.Leavings.{leaving}
+use Rattle.mdl_stmt.specs.Sessions.{Session}
+use Rattle.mdl_work.specs.Paces.{worked_as}
+use Rattle.mdl_work.specs.Works.{Worked, behind, finishing, going_further, lines_of, making, newcomer, noted, starved, waiting_out, while_pending, working, working_off}
+
+-- ---- waits
+
+-- a wait was looked at for the session
+for_looked : (who : ℕ) (more : Program (Unit {0})) → IsFor who more → (answer : Answer) → IsFor who (while_pending more answer)
+for_looked who more made Pending = made
+for_looked who more made answer = tt
+
+-- all looks are made for it
+pub for_waiting_out : (who polls : ℕ) → IsFor who (waiting_out who polls)
+unfolding waiting_out
+for_waiting_out who zero = (refl, λ answer. tt)
+for_waiting_out who (suc polls) = (refl, for_looked who (waiting_out who polls) (for_waiting_out who polls))
+
+module _ {S : Type 0} (joins : S → Call → Answer → S → Type 0) where
+  -- the wait isn't settled: it is looked at again
+  pub looked-pending : (who polls : ℕ) (a b c : S) → joins a (Poll_wait who) Pending b → Runs joins b (waiting_out who polls) tt c → Runs joins a (waiting_out who (suc polls)) tt c
+  unfolding waiting_out
+  looked-pending who polls a b c step run = (Pending, b, step, run)
+
+  -- it is settled, or there is none
+  pub looked-over : (who polls : ℕ) (answer : Answer) (a b : S) → ((more : Program (Unit {0})) → while_pending more answer ≡ Give tt) → joins a (Poll_wait who) answer b →
+      Runs joins a (waiting_out who (suc polls)) tt b
+  unfolding waiting_out
+  looked-over who polls answer a b over step =
+      (answer, b, step, subst (λ (p : Program (Unit {0})). Runs joins b p tt b) (sym (over (waiting_out who polls))) (refl, refl))
+
+  -- patience is at an end
+  pub patience-over : (who : ℕ) (answer : Answer) (a b : S) → joins a (Settle_timeout who) answer b → Runs joins a (waiting_out who zero) tt b
+  unfolding waiting_out
+  patience-over who answer a b step = (answer, b, step, (refl, refl))
+
+module _ {S : Type 0} {speaks_for : S → ℕ → Type 0} {own : S → ℕ → Own} {knows : S → ℕ → ℕ → KeyName → Type 0} {joins : S → Call → Answer → S → Type 0}
+    (keeps : (a b : S) (call : Call) (answer : Answer) (w : ℕ) → speaks_for a w → joins a call answer b → speaks_for b w)
+    (changes : (a b : S) (call : Call) (answer : Answer) (who : ℕ) → caller call ≡ Some who → joins a call answer b → own b who ≡ own_after call answer (own a who))
+    (remembers : (a b : S) (call : Call) (answer : Answer) (w place : ℕ) (key : KeyName) → speaks_for a w → (call ≡ Unpin w place → answer ≡ Done → ⊥) → joins a call answer b
+    → knows a w place key → knows b w place key) where
+  -- a wait was looked at: what is so now stays so if more follows, or nothing does
+  after-looked : (P : S → Type 0) (more : Program (Unit {0})) (answer : Answer) (a b : S) → P a → (Runs joins a more tt b → P b) → Runs joins a (while_pending more answer) tt b → P b
+  after-looked P more Pending a b now later run = later run
+  after-looked P more answer a b now later (same, here) = subst P here now
+
+  -- a session that waits its wait out has what it had
+  pub attends-waited : (polls : ℕ) (context : ContextView) (a b : S) → Attends speaks_for own knows a context → Runs joins a (waiting_out context.who polls) tt b →
+      Attends speaks_for own knows b context
+  unfolding waiting_out
+  attends-waited zero context a b attends (answer, mid, step, (same, here)) =
+      subst (λ (s : S). Attends speaks_for own knows s context) here
+      (attends-still keeps changes remembers a mid (Settle_timeout context.who) answer context attends refl refl refl step)
+  attends-waited (suc polls) context a b attends (answer, mid, step, run) =
+      let now = attends-still keeps changes remembers a mid (Poll_wait context.who) answer context attends refl refl refl step in
+      after-looked (λ (s : S). Attends speaks_for own knows s context) (waiting_out context.who polls) answer mid b now (attends-waited polls context mid b now) run
+
+-- ---- statements
+
+module _ {S : Type 0} (joins : S → Call → Answer → S → Type 0) where
+  -- a statement that waits goes further
+  pub goes-further : (patience waits : ℕ) (progress : Progress) (session : Session) (next end : Pause) (a b c : S) → ((reply : Reply) → progress ≡ came.Done reply → ⊥) →
+      Runs joins a (going_further patience session) next b → Runs joins b (finishing patience waits next) end c → Runs joins a (finishing patience (suc waits) (paused progress session)) end c
+  unfolding finishing
+  goes-further patience waits (came.Waiting key mode) session next end a b c waiting run later =
+      runs_bind joins (going_further patience session) (finishing patience waits) a b c next end run later
+  goes-further patience waits came.Pending session next end a b c waiting run later =
+      runs_bind joins (going_further patience session) (finishing patience waits) a b c next end run later
+  goes-further patience waits (came.Done reply) session next end a b c waiting run later = absurd (waiting reply refl)
+
+  -- one that is over stays so
+  pub stays-ended : (patience waits : ℕ) (reply : Reply) (session : Session) (a : S) → Runs joins a (finishing patience waits (Ends reply session)) (Ends reply session) a
+  unfolding finishing
+  stays-ended patience zero reply session a = (refl, refl)
+  stays-ended patience (suc waits) reply session a = (refl, refl)
+
+  pub stays-starved : (patience waits : ℕ) (session : Session) (a : S) → Runs joins a (finishing patience waits (Faults session)) (Faults session) a
+  unfolding finishing
+  stays-starved patience zero session a = (refl, refl)
+  stays-starved patience (suc waits) session a = (refl, refl)
+
+  -- one that still waits is cut off
+  pub is-cut-off : (patience : ℕ) (progress : Progress) (session : Session) (a : S) → ((reply : Reply) → progress ≡ came.Done reply → ⊥) →
+      Runs joins a (finishing patience zero (paused progress session)) (Faults session) a
+  unfolding finishing
+  is-cut-off patience (came.Waiting key mode) session a waiting = (refl, refl)
+  is-cut-off patience came.Pending session a waiting = (refl, refl)
+  is-cut-off patience (came.Done reply) session a waiting = absurd (waiting reply refl)
+
+-- ---- lines
+
+-- these answers, and those that follow
+abbrev pub ahead : List (ℕ × Reply) → Worked → Worked
+ahead answers worked = record { answers = option_map (λ more. answers ++ more) worked.answers; session = worked.session }
+
+module _ {S : Type 0} (joins : S → Call → Answer → S → Type 0) where
+  -- no line is left
+  pub none-left : (patience : ℕ) (session : Session) (a : S) → Runs joins a (working patience [] session) (record { answers = Some []; session = session }) a
+  unfolding working
+  none-left patience session a = (refl, refl)
+
+  -- a line was answered, and the rest follows
+  pub one-answered : (patience : ℕ) (line : Line) (lines : List Line) (before after : Session) (reply : Reply) (worked : Worked) (a b c : S) →
+      Runs joins a (making patience line.statement before) (Ends reply after) b → Runs joins b (working patience lines after) worked c →
+      Runs joins a (working patience (line ∷ lines) before) (behind (line.number, reply) worked) c
+  unfolding working
+  one-answered patience line lines before after reply worked a b c run later =
+      runs_bind joins (making patience line.statement before) (noted line.number (working patience lines)) a b c (Ends reply after) _ run
+      (inr (runs_bind joins (working patience lines after) (λ (more : Worked). Give (behind (line.number, reply) more)) b c c worked _ later (refl, refl)))
+
+  -- its answer couldn't be kept
+  pub one-unkept : (patience : ℕ) (line : Line) (lines : List Line) (before after : Session) (reply : Reply) (a b : S) →
+      Runs joins a (making patience line.statement before) (Ends reply after) b → Runs joins a (working patience (line ∷ lines) before) (starved after) b
+  unfolding working
+  one-unkept patience line lines before after reply a b run =
+      runs_bind joins (making patience line.statement before) (noted line.number (working patience lines)) a b b (Ends reply after) _ run (inl (refl, refl))
+
+  -- its statement found no memory
+  pub one-starved : (patience : ℕ) (line : Line) (lines : List Line) (before after : Session) (a b : S) →
+      Runs joins a (making patience line.statement before) (Faults after) b → Runs joins a (working patience (line ∷ lines) before) (starved after) b
+  unfolding working
+  one-starved patience line lines before after a b run =
+      runs_bind joins (making patience line.statement before) (noted line.number (working patience lines)) a b b (Faults after) _ run (refl, refl)
+
+-- ---- answers
+
+-- one more of them
+pub ahead-behind : (answers : List (ℕ × Reply)) (answer : ℕ × Reply) (worked : Worked) → ahead answers (behind answer worked) ≡ ahead (answers ++ answer ∷ []) worked
+ahead-behind answers answer worked =
+    ap (λ (all : Option (List (ℕ × Reply))). record { answers = all; session = worked.session }) (same worked.answers) where
+  same : (rest : Option (List (ℕ × Reply))) →
+      option_map (λ (more : List (ℕ × Reply)). answers ++ more) (option_map (λ (more : List (ℕ × Reply)). answer ∷ more) rest)
+      ≡ option_map (λ (more : List (ℕ × Reply)). (answers ++ answer ∷ []) ++ more) rest
+  same None = refl
+  same (Some more) = ap (λ (all : List (ℕ × Reply)). Some all) (sym (append_assoc answers (answer ∷ []) more))
+
+-- and nothing behind them
+pub ahead-all : (answers : List (ℕ × Reply)) (session : Session) →
+    ahead answers (record { answers = Some []; session = session }) ≡ record { answers = Some answers; session = session }
+ahead-all answers session = ap (λ (all : List (ℕ × Reply)). record { answers = Some all; session = session }) (append-nil answers)
+
+-- ---- the lines of a session
+
+-- one of them comes next
+pub next-own : (who : ℕ) (lines : List Line) (i : ℕ) (line d : Line) → i < length lines → line ≡ get_or lines i d → line.session ≡ who →
+    lines_of who (drop i lines) ≡ line ∷ lines_of who (drop (i + 1) lines)
+next-own who lines i line d inside item own =
+    ap (λ (left : List Line). lines_of who left) (drop_more lines i d inside ∙ ap (λ (x : Line). x ∷ drop (i + 1) lines) (sym item))
+    ∙ ap (λ (b : Bool). if b then line ∷ lines_of who (drop (i + 1) lines) else lines_of who (drop (i + 1) lines)) (eq-eqb line.session who own)
+
+-- one of another session does
+pub next-other : (who : ℕ) (lines : List Line) (i : ℕ) (line d : Line) → i < length lines → line ≡ get_or lines i d → (line.session ≡ who → ⊥) →
+    lines_of who (drop i lines) ≡ lines_of who (drop (i + 1) lines)
+next-other who lines i line d inside item other =
+    ap (λ (left : List Line). lines_of who left) (drop_more lines i d inside ∙ ap (λ (x : Line). x ∷ drop (i + 1) lines) (sym item))
+    ∙ ap (λ (b : Bool). if b then line ∷ lines_of who (drop (i + 1) lines) else lines_of who (drop (i + 1) lines)) (ne_eqb line.session who other)
+
+-- ---- one line after the other
+
+module _ {S : Type 0} (joins : S → Call → Answer → S → Type 0) where
+  -- whatever follows from here, behind the answers so far, follows from the start
+  abbrev pub Follows : Program Worked → S → Program Worked → S → List (ℕ × Reply) → Type 0
+  Follows whole start rest a answers = (worked : Worked) (b : S) → Runs joins a rest worked b → Runs joins start whole (ahead answers worked) b
+
+  pub follows-answered : (patience : ℕ) (line : Line) (left rest : List Line) (before after : Session) (reply : Reply) (answers : List (ℕ × Reply)) (whole : Program Worked) (start a mid : S) →
+      left ≡ line ∷ rest → Follows whole start (working patience left before) a answers → Runs joins a (making patience line.statement before) (Ends reply after) mid →
+      Follows whole start (working patience rest after) mid (answers ++ (line.number, reply) ∷ [])
+  follows-answered patience line left rest before after reply answers whole start a mid same so run worked b later =
+      subst (λ (w : Worked). Runs joins start whole w b) (ahead-behind answers (line.number, reply) worked)
+      (so (behind (line.number, reply) worked) b
+      (subst (λ (lines : List Line). Runs joins a (working patience lines before) (behind (line.number, reply) worked) b) (sym same)
+      (one-answered joins patience line rest before after reply worked a mid b run later)))
+
+  pub follows-unkept : (patience : ℕ) (line : Line) (left rest : List Line) (before after : Session) (reply : Reply) (answers : List (ℕ × Reply)) (whole : Program Worked) (start a mid : S) →
+      left ≡ line ∷ rest → Follows whole start (working patience left before) a answers → Runs joins a (making patience line.statement before) (Ends reply after) mid →
+      Runs joins start whole (starved after) mid
+  follows-unkept patience line left rest before after reply answers whole start a mid same so run =
+      so (starved after) mid
+      (subst (λ (lines : List Line). Runs joins a (working patience lines before) (starved after) mid) (sym same)
+      (one-unkept joins patience line rest before after reply a mid run))
+
+  pub follows-starved : (patience : ℕ) (line : Line) (left rest : List Line) (before after : Session) (answers : List (ℕ × Reply)) (whole : Program Worked) (start a mid : S) →
+      left ≡ line ∷ rest → Follows whole start (working patience left before) a answers → Runs joins a (making patience line.statement before) (Faults after) mid →
+      Runs joins start whole (starved after) mid
+  follows-starved patience line left rest before after answers whole start a mid same so run =
+      so (starved after) mid
+      (subst (λ (lines : List Line). Runs joins a (working patience lines before) (starved after) mid) (sym same)
+      (one-starved joins patience line rest before after a mid run))
+
+  -- no line is left
+  pub follows-all : (patience : ℕ) (left : List Line) (session : Session) (answers : List (ℕ × Reply)) (whole : Program Worked) (start a : S) →
+      left ≡ [] → Follows whole start (working patience left session) a answers → Runs joins start whole (record { answers = Some answers; session = session }) a
+  follows-all patience left session answers whole start a none so =
+      let nothing : Worked = record { answers = Some []; session = session } in
+      subst (λ (w : Worked). Runs joins start whole w a) (ahead-all answers session)
+      (so nothing a (subst (λ (lines : List Line). Runs joins a (working patience lines session) nothing a) (sym none) (none-left joins patience session a)))
+
+-- the numbers of the answers, and of the lines that are left
+pub numbers-on : (line : Line) (left rest : List Line) (reply : Reply) (answers : List (ℕ × Reply)) (whole : List ℕ) → left ≡ line ∷ rest →
+    map (λ (answer : ℕ × Reply). answer.0) answers ++ map (λ (one : Line). one.number) left ≡ whole →
+    map (λ (answer : ℕ × Reply). answer.0) (answers ++ (line.number, reply) ∷ []) ++ map (λ (one : Line). one.number) rest ≡ whole
+numbers-on line left rest reply answers whole same so =
+    let numbers : List ℕ = map (λ (answer : ℕ × Reply). answer.0) answers in
+    let more : List ℕ = map (λ (one : Line). one.number) rest in
+    ap (λ (first : List ℕ). first ++ more) (map-append (λ (answer : ℕ × Reply). answer.0) answers ((line.number, reply) ∷ []))
+    ∙ append_assoc numbers (line.number ∷ []) more
+    ∙ sym (ap (λ (lines : List Line). numbers ++ map (λ (one : Line). one.number) lines) same) ∙ so
+
+-- ---- from the first line to the end
+
+-- lines were worked off, and then all was given up
+pub worked-off : {S E Z : Type 0} (joins : S → Call → Answer → S → Type 0) (patience : ℕ) (lines : List Line) (before after : Session) (result : Result (Vec (ℕ × Reply) Z) E) (a mid b : S) →
+    Runs joins a (working patience lines before) (worked_as result after) mid → Runs joins mid (leaving after) tt b →
+    IfOk result (λ answers. Runs joins a (working_off patience lines before) (Some answers.items) b) × OnErr result (Runs joins a (working_off patience lines before) None b)
+worked-off joins patience lines before after (Ok answers) a mid b run left = (
+  runs_bind joins (working patience lines before) (λ (worked : Worked). leaving worked.session >> Give worked.answers) a mid b (record { answers = Some answers.items; session = after }) (Some answers.items) run
+  (runs_bind joins (leaving after) (λ _. Give (Some answers.items)) mid b b tt (Some answers.items) left (refl, refl)), tt)
+worked-off joins patience lines before after (Err error) a mid b run left = (
+  tt, runs_bind joins (working patience lines before) (λ (worked : Worked). leaving worked.session >> Give worked.answers) a mid b (starved after) None run
+  (runs_bind joins (leaving after) (λ _. Give None) mid b b tt None left (refl, refl)))

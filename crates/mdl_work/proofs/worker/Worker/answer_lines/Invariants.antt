@@ -1,0 +1,26 @@
+-- To work off the lines that are left from here, behind the answers so far, is to work all off from the start.
+use Rattle.std.proofs.Common.{◌≡◌, ◌++◌, None, drop, map}
+use Rattle.mdl_calls.specs.Words.{Runs}
+use Rattle.mdl_context.specs.Contexts.{Attends, LeavesOthers}
+use Rattle.mdl_syntax.specs.declared.script.Line.{Line}
+use Rattle.mdl_stmt.specs.Stages.{session_of}
+use Rattle.mdl_work.specs.Works.{Worked, lines_of, working}
+use Rattle.mdl_work.proofs.WorkLemmas.{ahead}
+use Rattle.mdl_work.proofs.worker.Worker.answer_lines.Given as goal
+
+abbrev pub invariant-loop-line : goal.invariant-loop-line
+invariant-loop-line g l =
+    let session = l.fn.self.who in
+    let rest = lines_of session (drop l.line-index l.lines) in
+    let whole = lines_of session l.lines in
+    record {
+      attends : Attends g.S.LockSpace.speaks_for g.S.LockSpace.own g.S.LockSpace.knows l.space l.self.runner.context;
+      others : LeavesOthers g.S.LockSpace.speaks_for g.S.LockSpace.own g.S.LockSpace.knows session l.fn.space l.space;
+      who : l.self.runner.context.who ≡ session;
+      idle : l.self.runner.work ≡ None;
+      same : l.self.who ≡ session;
+      patience : l.self.patience ≡ l.fn.self.patience;
+      numbers : map (λ answer. answer.0) l.answers.items ++ map (λ (line : Line). line.number) rest ≡ map (λ (line : Line). line.number) whole;
+      run : (worked : Worked) (b : g.row.S.Denot) → Runs g.S.LockSpace.joins l.space (working l.fn.self.patience rest (session_of l.self.runner)) worked b
+          → Runs g.S.LockSpace.joins l.fn.space (working l.fn.self.patience whole (session_of l.fn.self.runner)) (ahead l.answers.items worked) b;
+    }

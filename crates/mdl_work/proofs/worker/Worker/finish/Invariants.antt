@@ -1,0 +1,23 @@
+-- To bring a statement to its end from here, with the waits that are left, is to bring it there from the start.
+use Rattle.std.proofs.Common.{◌≡◌, ◌-◌}
+use Rattle.mdl_calls.specs.Words.{Runs}
+use Rattle.mdl_context.specs.Contexts.{Attends, LeavesOthers}
+use Rattle.mdl_stmt.specs.Endings.{Pause}
+use Rattle.mdl_stmt.specs.Gets.{paused}
+use Rattle.mdl_stmt.specs.Stages.{session_of}
+use Rattle.mdl_work.specs.Paces.{LeftWhileWaiting}
+use Rattle.mdl_work.specs.Works.{finishing, most_waits}
+use Rattle.mdl_work.proofs.worker.Worker.finish.Given as goal
+
+abbrev pub invariant-loop-wait : goal.invariant-loop-wait
+invariant-loop-wait g l = record {
+  attends : Attends g.S.LockSpace.speaks_for g.S.LockSpace.own g.S.LockSpace.knows l.space l.self.runner.context;
+  others : LeavesOthers g.S.LockSpace.speaks_for g.S.LockSpace.own g.S.LockSpace.knows l.fn.self.who l.fn.space l.space;
+  who : l.self.runner.context.who ≡ l.fn.self.who;
+  left : LeftWhileWaiting (paused l.progress (session_of l.self.runner));
+  same : l.self.who ≡ l.fn.self.who;
+  patience : l.self.patience ≡ l.fn.self.patience;
+  run : (end : Pause) (b : g.row.S.Denot)
+      → Runs g.S.LockSpace.joins l.space (finishing l.fn.self.patience (most_waits - l._wait) (paused l.progress (session_of l.self.runner))) end b
+      → Runs g.S.LockSpace.joins l.fn.space (finishing l.fn.self.patience most_waits (paused l.fn.progress (session_of l.fn.self.runner))) end b;
+}

@@ -1,0 +1,20 @@
+//! Who is told of a session's statements.
+
+/// Told before and after each statement of a session.
+pub trait Gate {
+    /// The statement of this line is about to start.
+    fn before(&self, session: u16, line: u64);
+
+    /// The statement of this line is over: it was answered, or found no memory.
+    fn after(&self, session: u16, line: u64);
+}
+
+/// A gate that does nothing.
+#[derive(Clone, Copy, Debug, PartialEq, Eq)]
+pub struct OpenGate;
+
+impl Gate for OpenGate {
+    fn before(&self, _session: u16, _line: u64) {}
+
+    fn after(&self, _session: u16, _line: u64) {}
+}

@@ -1,0 +1,145 @@
+//! A session at work on its lines.
+ghost use Rattle.std.specs.Prelude.{◌≡◌, [], map, None, IsSome, IfOk, OnOk};
+ghost use Rattle.mdl_calls.specs.Words.{Runs};
+ghost use Rattle.mdl_context.specs.Contexts.{Attends, LeavesOthers};
+ghost use Rattle.mdl_stmt.specs.Gets.{paused, ran};
+ghost use Rattle.mdl_stmt.specs.Leavings.{leaving};
+ghost use Rattle.mdl_stmt.specs.Stages.{session_of};
+ghost use Rattle.mdl_work.specs.Paces.{LeftWhileWaiting, came_to, worked_as};
+ghost use Rattle.mdl_work.specs.Works.{finishing, going_further, lines_of, making, most_waits, newcomer, working};
+
+use crate::Gate;
+use crate::waiting::wait_out;
+use mdl_space::LockSpace;
+use mdl_stmt::{OutOfMemory, Progress, Reply, Runner};
+use mdl_syntax::{Line, Statement};
+use std::alloc::{AllocError, Global};
+
+// As often as a statement can begin to wait.
+const MOST_WAITS: u16 = 261;
+
+/// A session, its number, and its patience with a wait.
+#[derive(Drop)]
+pub(crate) struct Worker<'s, S: LockSpace> {
+    runner: Runner<'s, S>,
+    who: u16,
+    patience: u32,
+}
+
+impl<'s, S: LockSpace> Worker<'s, S> {
+    /// A session that was asked for nothing yet. It takes no memory.
+    pub(crate) fn new(alloc: Global, who: u16, patience: u32) -> Worker<'s, S>
+        ensures session { session_of result.runner ≡ newcomer who }
+        ensures idle { result.runner.work ≡ None }
+        ensures who { result.who ≡ who }
+        ensures patience { result.patience ≡ patience }
+    {
+        Worker {
+            runner: Runner::new(alloc, who),
+            who,
+            patience,
+        }
+    }
+
+    /// Makes the session's statements among these lines, in order, and keeps what they answer.
+    pub(crate) fn answer_lines<G: Gate>(
+        &mut self,
+        alloc: Global,
+        space: &mut S,
+        lines: &'s [Line],
+        gate: &G,
+    ) -> Result<Vec<(u64, Reply)>, AllocError>
+        requires attends { Attends S.speaks_for S.own S.knows space.old self.old.runner.context }
+        requires who { self.old.runner.context.who ≡ self.old.who }
+        requires idle { self.old.runner.work ≡ None }
+        ensures run { Runs S.joins space.old (working self.old.patience (lines_of self.old.who lines.now) (session_of self.old.runner)) (worked_as result (session_of self.new.runner)) space.new }
+        ensures lines { IfOk result (λ answers. map (λ answer. answer.0) answers.items ≡ map (λ line. line.number) (lines_of self.old.who lines.now)) }
+        ensures attends { Attends S.speaks_for S.own S.knows space.new self.new.runner.context }
+        ensures others { LeavesOthers S.speaks_for S.own S.knows self.old.who space.old space.new }
+        ensures who { self.new.runner.context.who ≡ self.old.who }
+    {
+        let mut answers = Vec::new(alloc);
+        for line in lines {
+            if line.session == self.who {
+                gate.before(self.who, line.number);
+                let reply = self.answer(space, &line.statement);
+                gate.after(self.who, line.number);
+                answers.push((line.number, reply?))?;
+            }
+        }
+        Ok(answers)
+    }
+
+    /// Ends the session: all that it has is given up. It takes no memory.
+    pub(crate) fn leave(self, space: &mut S)
+        requires attends { Attends S.speaks_for S.own S.knows space.old self.runner.context }
+        ensures run { Runs S.joins space.old (leaving (session_of self.entry.runner)) tt space.new }
+        ensures nothing { S.own space.new self.entry.runner.context.who ≡ record { held = []; wait = None } }
+        ensures speaks { S.speaks_for space.new self.entry.runner.context.who }
+        ensures others { LeavesOthers S.speaks_for S.own S.knows self.entry.runner.context.who space.old space.new }
+    {
+        self.runner.leave(space);
+    }
+
+    /// Makes a statement, and waits whatever it waits for.
+    fn answer(&mut self, space: &mut S, statement: &'s Statement) -> Result<Reply, OutOfMemory>
+        requires attends { Attends S.speaks_for S.own S.knows space.old self.old.runner.context }
+        requires who { self.old.runner.context.who ≡ self.old.who }
+        requires idle { self.old.runner.work ≡ None }
+        ensures run { Runs S.joins space.old (making self.old.patience statement.now (session_of self.old.runner))
+            (came_to result (session_of self.new.runner)) space.new }
+        ensures attends { Attends S.speaks_for S.own S.knows space.new self.new.runner.context }
+        ensures others { LeavesOthers S.speaks_for S.own S.knows self.old.who space.old space.new }
+        ensures who { self.new.runner.context.who ≡ self.old.who }
+        ensures idle { OnOk result (self.new.runner.work ≡ None) }
+        ensures same { self.new.who ≡ self.old.who }
+        ensures patience { self.new.patience ≡ self.old.patience }
+    {
+        let progress = self.runner.start(space, statement)?;
+        self.finish(space, progress)
+    }
+
+    /// Brings a statement that came so far to its end.
+    fn finish(&mut self, space: &mut S, progress: Progress) -> Result<Reply, OutOfMemory>
+        requires attends { Attends S.speaks_for S.own S.knows space.old self.old.runner.context }
+        requires who { self.old.runner.context.who ≡ self.old.who }
+        requires left { LeftWhileWaiting (paused progress (session_of self.old.runner)) }
+        ensures run { Runs S.joins space.old (finishing self.old.patience most_waits (paused progress (session_of self.old.runner)))
+            (came_to result (session_of self.new.runner)) space.new }
+        ensures attends { Attends S.speaks_for S.own S.knows space.new self.new.runner.context }
+        ensures others { LeavesOthers S.speaks_for S.own S.knows self.old.who space.old space.new }
+        ensures who { self.new.runner.context.who ≡ self.old.who }
+        ensures idle { OnOk result (self.new.runner.work ≡ None) }
+        ensures same { self.new.who ≡ self.old.who }
+        ensures patience { self.new.patience ≡ self.old.patience }
+    {
+        let mut progress = progress;
+        for _wait in 0..MOST_WAITS {
+            if let Progress::Done(reply) = progress {
+                return Ok(reply);
+            }
+            progress = self.go_further(space)?;
+        }
+        match progress {
+            Progress::Done(reply) => Ok(reply),
+            _ => Err(OutOfMemory),
+        }
+    }
+
+    /// Waits the wait of a statement out, and goes on with it.
+    fn go_further(&mut self, space: &mut S) -> Result<Progress, OutOfMemory>
+        requires attends { Attends S.speaks_for S.own S.knows space.old self.old.runner.context }
+        requires who { self.old.runner.context.who ≡ self.old.who }
+        requires waits { IsSome self.old.runner.work }
+        ensures run { Runs S.joins space.old (going_further self.old.patience (session_of self.old.runner)) (ran result (session_of self.new.runner)) space.new }
+        ensures attends { Attends S.speaks_for S.own S.knows space.new self.new.runner.context }
+        ensures others { LeavesOthers S.speaks_for S.own S.knows self.old.who space.old space.new }
+        ensures who { self.new.runner.context.who ≡ self.old.who }
+        ensures left { LeftWhileWaiting (ran result (session_of self.new.runner)) }
+        ensures same { self.new.who ≡ self.old.who }
+        ensures patience { self.new.patience ≡ self.old.patience }
+    {
+        wait_out(space, self.who, self.patience);
+        self.runner.go_on(space)
+    }
+}

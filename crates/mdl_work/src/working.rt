@@ -1,0 +1,63 @@
+//! Sessions work off their lines, and then they are gone.
+ghost use Rattle.std.specs.Prelude.{◌≡◌, [], map, None, Some, IfOk, OnErr};
+ghost use Rattle.mdl_calls.specs.Words.{Runs};
+ghost use Rattle.mdl_context.specs.Contexts.{LeavesOthers};
+ghost use Rattle.mdl_work.specs.Works.{lines_of, newcomer, working_off};
+
+use crate::Gate;
+use crate::worker::Worker;
+use mdl_space::LockSpace;
+use mdl_stmt::Reply;
+use mdl_syntax::{Line, Script};
+use std::alloc::{AllocError, Global};
+
+/// Works off a session's lines of a script, one statement after the other, over any lock space in which the session has nothing yet.
+///
+/// Each of its statements is made; it waits whatever it waits for, looking at the wait as often as `patience` says before that times
+/// out. What a statement answers is kept under the number of its line. At the end the session gives up all that it has.
+///
+/// Where memory is wanting, in a statement or to keep its answer, no further statement is made, the session gives up all that it has,
+/// and its answers are lost.
+pub fn work<S: LockSpace, G: Gate>(
+    alloc: Global,
+    space: &mut S,
+    who: u16,
+    script: &Script,
+    patience: u32,
+    gate: &G,
+) -> Result<Vec<(u64, Reply)>, AllocError>
+    requires speaks { S.speaks_for space.old who }
+    requires nothing { S.own space.old who ≡ record { held = []; wait = None } }
+    ensures answered { IfOk result (λ answers. Runs S.joins space.old (working_off patience (lines_of who script.now) (newcomer who)) (Some answers.items) space.new) }
+    ensures starved { OnErr result (Runs S.joins space.old (working_off patience (lines_of who script.now) (newcomer who)) None space.new) }
+    ensures lines { IfOk result (λ answers. map (λ answer. answer.0) answers.items ≡ map (λ line. line.number) (lines_of who script.now)) }
+    ensures nothing { S.own space.new who ≡ record { held = []; wait = None } }
+    ensures speaks { S.speaks_for space.new who }
+    ensures others { LeavesOthers S.speaks_for S.own S.knows who space.old space.new }
+{
+    work_lines(alloc, space, who, script.lines(), patience, gate)
+}
+
+/// The same of lines, among which those of other sessions are left to these.
+pub fn work_lines<S: LockSpace, G: Gate>(
+    alloc: Global,
+    space: &mut S,
+    who: u16,
+    lines: &[Line],
+    patience: u32,
+    gate: &G,
+) -> Result<Vec<(u64, Reply)>, AllocError>
+    requires speaks { S.speaks_for space.old who }
+    requires nothing { S.own space.old who ≡ record { held = []; wait = None } }
+    ensures answered { IfOk result (λ answers. Runs S.joins space.old (working_off patience (lines_of who lines.now) (newcomer who)) (Some answers.items) space.new) }
+    ensures starved { OnErr result (Runs S.joins space.old (working_off patience (lines_of who lines.now) (newcomer who)) None space.new) }
+    ensures lines { IfOk result (λ answers. map (λ answer. answer.0) answers.items ≡ map (λ line. line.number) (lines_of who lines.now)) }
+    ensures nothing { S.own space.new who ≡ record { held = []; wait = None } }
+    ensures speaks { S.speaks_for space.new who }
+    ensures others { LeavesOthers S.speaks_for S.own S.knows who space.old space.new }
+{
+    let mut worker = Worker::new(alloc, who, patience);
+    let answers = worker.answer_lines(alloc, space, lines, gate);
+    worker.leave(space);
+    answers
+}
