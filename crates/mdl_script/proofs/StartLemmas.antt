@@ -5,10 +5,12 @@ use Rattle.std.proofs.lemmas.Bool.Decides.{eqb_tells}
 use Rattle.std.proofs.lemmas.List.{append-nil, map-append}
 use Rattle.std.proofs.lemmas.List.Elements.{All-append, All-cons, All-head, All-nil, All-tail, filter-append}
 use Rattle.mdl_syntax.specs.declared.script.Line.{Line}
-use Rattle.mdl_run.specs.declared.stand_in.Pass.{Pass}
-use Rattle.mdl_run.specs.declared.turns.Turn.{Turn}
-use Rattle.mdl_run.specs.Texts.{is_named, named_sessions}
-use Rattle.mdl_run.specs.Turns.{IsTurn, has_pass}
+use Rattle.atomic_table.specs.Seated.{TableId}
+use Rattle.mdl_shared.specs.declared.pass.Pass.{Pass}
+use Rattle.mdl_shared.specs.Passes.{pass_number, pass_table}
+use Rattle.mdl_script.specs.declared.turns.Turn.{Turn}
+use Rattle.mdl_script.specs.RunTexts.{is_named, named_sessions}
+use Rattle.mdl_script.specs.Turns.{IsTurn, has_pass}
 
 -- ---- numbers in order
 
@@ -51,21 +53,21 @@ each_named P lines who all is least most = all-passing P (is_named lines) 1 64 w
 -- ---- turns
 
 -- the turns of the sessions below one are started, and the passes of all others are left
-pub record AreStarted (patience : ℕ) (lines : List Line) (mine table : ℕ) (all : List Pass) (who : ℕ) (turns : List Turn) (passes : List Pass) : Type 0 where
+pub record AreStarted (patience : ℕ) (lines : List Line) (mine : ℕ) (table : TableId) (all : List Pass) (who : ℕ) (turns : List Turn) (passes : List Pass) : Type 0 where
   pub sessions : map (λ (turn : Turn). turn.who) turns ≡ filter (is_named lines) (range_with_len 1 (who - 1))
   pub are_turns : All (IsTurn patience lines mine) turns
-  pub theirs : All (λ (pass : Pass). pass.table ≡ table) passes
+  pub theirs : All (λ (pass : Pass). pass_table pass ≡ table) passes
   pub left : (other : ℕ) → who ≤ other → has_pass passes other ≡ has_pass all other
 
 -- none is, at first
-pub started_none : (patience : ℕ) (lines : List Line) (mine table : ℕ) (all : List Pass) → All (λ (pass : Pass). pass.table ≡ table) all →
+pub started_none : (patience : ℕ) (lines : List Line) (mine : ℕ) (table : TableId) (all : List Pass) → All (λ (pass : Pass). pass_table pass ≡ table) all →
     AreStarted patience lines mine table all 1 [] all
 started_none patience lines mine table all are = record { sessions = refl; are_turns = All-nil _; theirs = are; left = λ other above. refl }
 
 -- one more is
-pub started_more : (patience : ℕ) (lines : List Line) (mine table : ℕ) (all : List Pass) (who : ℕ) (turns : List Turn) (passes left : List Pass) (turn : Turn) →
+pub started_more : (patience : ℕ) (lines : List Line) (mine : ℕ) (table : TableId) (all : List Pass) (who : ℕ) (turns : List Turn) (passes left : List Pass) (turn : Turn) →
     AreStarted patience lines mine table all who turns passes → 1 ≤ who → is_named lines who ≡ true →
-    turn.who ≡ who → IsTurn patience lines mine turn → All (λ (pass : Pass). pass.table ≡ table) left →
+    turn.who ≡ who → IsTurn patience lines mine turn → All (λ (pass : Pass). pass_table pass ≡ table) left →
     ((other : ℕ) → other ≢ who → has_pass left other ≡ has_pass passes other) →
     AreStarted patience lines mine table all (who + 1) (turns ++ turn ∷ []) left
 started_more patience lines mine table all who turns passes left turn was least named here is are others = record {
@@ -80,7 +82,7 @@ started_more patience lines mine table all who turns passes left turn was least 
 }
 
 -- one that isn't named has no turn
-pub started_past : (patience : ℕ) (lines : List Line) (mine table : ℕ) (all : List Pass) (who : ℕ) (turns : List Turn) (passes : List Pass) →
+pub started_past : (patience : ℕ) (lines : List Line) (mine : ℕ) (table : TableId) (all : List Pass) (who : ℕ) (turns : List Turn) (passes : List Pass) →
     AreStarted patience lines mine table all who turns passes → 1 ≤ who → is_named lines who ≡ false →
     AreStarted patience lines mine table all (who + 1) turns passes
 started_past patience lines mine table all who turns passes was least unnamed = record {
@@ -94,14 +96,14 @@ started_past patience lines mine table all who turns passes was least unnamed = 
 }
 
 -- all are, in the end
-pub started_all : (patience : ℕ) (lines : List Line) (mine table : ℕ) (all : List Pass) (who : ℕ) (turns : List Turn) (passes : List Pass) →
+pub started_all : (patience : ℕ) (lines : List Line) (mine : ℕ) (table : TableId) (all : List Pass) (who : ℕ) (turns : List Turn) (passes : List Pass) →
     AreStarted patience lines mine table all who turns passes → 65 ≤ who → who ≤ 65 → map (λ (turn : Turn). turn.who) turns ≡ named_sessions lines
 unfolding named_sessions
 started_all patience lines mine table all who turns passes was least most =
     let count : who - 1 ≡ 64 = omega (arith, least, most) in was.sessions ∙ ap (λ n. filter (is_named lines) (range_with_len 1 n)) count
 
 -- the same of what is the same
-pub started_as : (patience : ℕ) (lines : List Line) (mine table : ℕ) (all : List Pass) (who : ℕ) (turns later : List Turn) (passes left : List Pass) →
+pub started_as : (patience : ℕ) (lines : List Line) (mine : ℕ) (table : TableId) (all : List Pass) (who : ℕ) (turns later : List Turn) (passes left : List Pass) →
     AreStarted patience lines mine table all who turns passes → later ≡ turns → left ≡ passes → AreStarted patience lines mine table all who later left
 started_as patience lines mine table all who turns later passes left was same alike =
     subst (λ xs. AreStarted patience lines mine table all who xs left) (sym same)

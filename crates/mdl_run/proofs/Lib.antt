@@ -1,2 +1,0 @@
-pub mod TurnLemmas
-pub mod StartLemmas

@@ -1,7 +1,0 @@
--- The turns of the sessions so far have been started, and there are passes for those that are left.
-use Rattle.mdl_run.proofs.StartLemmas.{AreStarted}
-use Rattle.mdl_run.proofs.turns.start_all.Given as goal
-
-abbrev pub invariant-loop-who : goal.invariant-loop-who
-invariant-loop-who g l =
-    AreStarted l.run.patience l.run.script.now l.mine l.run.manager.now.table l.fn.passes.items l.who l.turns.items l.passes.items
