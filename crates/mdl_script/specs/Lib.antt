@@ -3,6 +3,7 @@ pub mod Finals
 pub mod Halls
 pub mod Output
 pub mod RunLaws
+pub mod Runs
 pub mod RunTexts
 pub mod Texts
 pub mod Turns

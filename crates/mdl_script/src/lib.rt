@@ -16,6 +16,7 @@
 //! ```
 #![tactic(auto)]
 
+mod asking;
 mod finals;
 mod first_space;
 mod hall;
@@ -23,11 +24,14 @@ mod laws;
 mod on_thread;
 mod replaying;
 mod run;
+mod running;
 mod told;
 mod turns;
 
 pub use laws::runs_have_one_text;
 pub use mdl_lines::{Fault, LineError};
 pub use mdl_syntax::{Line, Script, Statement, parse};
+pub use mdl_work::{Gate, OpenGate, work};
 pub use replaying::replay;
+pub use running::{run_on, run_threads};
 pub use told::{News, Told};

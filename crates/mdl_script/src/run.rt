@@ -7,6 +7,7 @@ use mdl_syntax::Script;
 use std::alloc::Global;
 
 /// What the sessions of a run share: what they wait by, the table, the script, their patience with a wait, and who is told.
+#[derive(Drop)]
 pub(crate) struct Run<'a, R, G> {
     pub(crate) rt: &'a R,
     pub(crate) alloc: Global,

@@ -1,0 +1,66 @@
+//! The session that asks: it makes the first schema, has its own turn, and looks at all in the end.
+ghost use Rattle.std.specs.Prelude.{◌≡◌, IfOk};
+ghost use Rattle.mdl_session_laws.specs.SessionSpaces.{SpeaksFor};
+ghost use Rattle.mdl_shared.specs.SessionViews.{space_of};
+ghost use Rattle.mdl_script.specs.Answers.{AreAnswers, nothing};
+
+use crate::run::Run;
+use crate::turns::Transcript;
+use mdl_shared::{Audited, Session};
+use mdl_syntax::{Line, Name, Statement};
+use mdl_work::{Gate, OpenGate, work, work_lines};
+use std::alloc::AllocError;
+use std::sync::Wait;
+
+// The schema of tables that are named without one.
+const FIRST_SCHEMA: &str = "test";
+
+/// Makes the first schema, unless it is there already. No answer is told.
+pub(crate) fn make_first_schema<R: Wait, G>(
+    run: &Run<R, G>,
+    asker: &mut Session<&R>,
+    who: u16,
+) -> Result<(), AllocError>
+    requires speaks { SpeaksFor (space_of asker.old) who }
+    requires nothing { (space_of asker.old).own ≡ nothing }
+    ensures nothing { (space_of asker.new).own ≡ nothing }
+    ensures speaks { SpeaksFor (space_of asker.new) who }
+{
+    let Ok(name) = Name::new(run.alloc, FIRST_SCHEMA) else {
+        return Err(AllocError);
+    };
+    let line = Line {
+        number: 1,
+        session: who,
+        statement: Statement::CreateSchema(name),
+    };
+    let _answers = work_lines(run.alloc, asker, who, &[line], run.patience, &OpenGate)?;
+    Ok(())
+}
+
+/// Works off the asker's own lines, where it has some.
+pub(crate) fn take_turn<R: Wait, G: Gate>(
+    run: &Run<R, G>,
+    asker: &mut Session<&R>,
+    who: u16,
+) -> Result<Transcript, AllocError>
+    requires speaks { SpeaksFor (space_of asker.old) who }
+    requires nothing { (space_of asker.old).own ≡ nothing }
+    ensures nothing { (space_of asker.new).own ≡ nothing }
+    ensures who { IfOk result (λ own. own.who ≡ who) }
+    ensures answered { IfOk result (λ own. AreAnswers run.now.patience run.now.script.now who own.answers.items) }
+{
+    let answers = work(run.alloc, asker, who, run.script, run.patience, run.gate)?;
+    Ok(Transcript { who, answers })
+}
+
+/// The books of all keys.
+pub(crate) fn books<R: Wait>(asker: &mut Session<&R>) -> Result<Vec<Audited>, AllocError>
+    requires nothing { (space_of asker.old).own ≡ nothing }
+    ensures nothing { (space_of asker.new).own ≡ nothing }
+{
+    match asker.audit() {
+        Ok(books) => Ok(books),
+        Err(_refusal) => Err(AllocError),
+    }
+}

@@ -1,0 +1,131 @@
+//! Plays a script of statements with a thread for each of its sessions.
+ghost use Rattle.std.specs.Prelude.{◌≡◌, ◌≢◌, ◌≤◌, true, All, IfOk, length};
+ghost use Rattle.std.specs.String.{string_bytes};
+ghost use Rattle.mdl_session_laws.specs.SessionSpaces.{SpeaksFor};
+ghost use Rattle.mdl_shared.specs.Passes.{pass_number, pass_table, table_of};
+ghost use Rattle.mdl_shared.specs.SessionViews.{space_of};
+ghost use Rattle.mdl_script.specs.Answers.{nothing};
+ghost use Rattle.mdl_script.specs.RunTexts.{named_sessions};
+ghost use Rattle.mdl_script.specs.Runs.{IsRunOf};
+ghost use Rattle.mdl_script.specs.Turns.{has_pass};
+
+use crate::asking::{books, make_first_schema, take_turn};
+use crate::finals::push_finals;
+use crate::on_thread::close;
+use crate::run::Run;
+use crate::turns::{push_turns, start_all};
+use mdl_shared::{Manager, Pass, Session};
+use mdl_syntax::Script;
+use mdl_work::Gate;
+use std::alloc::{AllocError, Global};
+use std::sync::Wait;
+use std::thread;
+use std::thread::{Scope, Threads};
+
+// As many places and sessions as there can be.
+const PLACES: u16 = 256;
+
+const SESSIONS: u16 = 64;
+
+/// Plays a script over a lock table that is there already: each session that the script names works off its own lines, on a thread of
+/// its own. The answer is what [`run_threads`] says.
+///
+/// The passes are used up. The session of the first one has its turn in the thread of the caller; before that it makes the schema
+/// `test`, unless that stands, and when all others have ended it looks at all books.
+pub fn run_on<R: Threads + Wait + Sync, G: Gate + Sync>(
+    rt: &R,
+    alloc: Global,
+    manager: &Manager,
+    passes: Vec<Pass>,
+    script: &Script,
+    patience: u32,
+    gate: &G,
+) -> Result<String, AllocError>
+    requires some { 1 ≤ length passes.items }
+    requires theirs { All (λ pass. pass_table pass ≡ table_of manager.now) passes.items }
+    requires there { All (λ who. has_pass passes.items who ≡ true) (named_sessions script.now) }
+    ensures { IfOk result (λ text. IsRunOf patience script.now (string_bytes text)) }
+{
+    let mut others = passes;
+    let first = others.swap_remove(0);
+    let run = Run {
+        rt,
+        alloc,
+        manager,
+        script,
+        patience,
+        gate,
+    };
+    thread::scope(
+        thread::scope_env(),
+        rt,
+        move |scope| -> Result<String, AllocError>
+            ensures { IfOk result (λ text. IsRunOf patience script.entry.now (string_bytes text)) }
+        {
+            text_in(scope, &run, first, others)
+        },
+    )
+}
+
+// The text of a run. The session of the first pass has its turn here, the others on threads of the scope.
+fn text_in<'s, E, R: Threads + Wait + Sync, G: Gate + Sync>(
+    scope: &Scope<'s, E>,
+    run: &Run<'s, R, G>,
+    first: Pass,
+    others: Vec<Pass>,
+) -> Result<String, AllocError>
+    requires first { pass_table first ≡ table_of run.now.manager.now }
+    requires theirs { All (λ pass. pass_table pass ≡ table_of run.now.manager.now) others.items }
+    requires there { All (λ who. who ≢ pass_number first → has_pass others.items who ≡ true) (named_sessions run.now.script.now) }
+    ensures { IfOk result (λ text. IsRunOf run.now.patience run.now.script.now (string_bytes text)) }
+{
+    let mut asker = Session::open(run.rt, run.manager, first);
+    let who = asker.number();
+    let text = text_by(scope, run, others, &mut asker, who);
+    close(asker);
+    text
+}
+
+// The same by the session that asks. It has nothing in the end, whether or not memory was wanting.
+fn text_by<'s, E, R: Threads + Wait + Sync, G: Gate + Sync>(
+    scope: &Scope<'s, E>,
+    run: &Run<'s, R, G>,
+    others: Vec<Pass>,
+    asker: &mut Session<&R>,
+    who: u16,
+) -> Result<String, AllocError>
+    requires theirs { All (λ pass. pass_table pass ≡ table_of run.now.manager.now) others.items }
+    requires there { All (λ other. other ≢ who → has_pass others.items other ≡ true) (named_sessions run.now.script.now) }
+    requires speaks { SpeaksFor (space_of asker.old) who }
+    requires nothing { (space_of asker.old).own ≡ nothing }
+    ensures text { IfOk result (λ text. IsRunOf run.now.patience run.now.script.now (string_bytes text)) }
+    ensures nothing { (space_of asker.new).own ≡ nothing }
+{
+    make_first_schema(run, asker, who)?;
+    let turns = start_all(scope, run, others, who)?;
+    let own = take_turn(run, asker, who)?;
+    let mut text = String::new(run.alloc);
+    push_turns(&mut text, run, turns, &own)?;
+    push_finals(&mut text, books(asker)?)?;
+    Ok(text)
+}
+
+/// Plays a script over a lock table of its own, in which nothing is defined yet: each session that the script names works off its own
+/// lines, on a thread of its own, with this patience with each wait, counted in looks at it.
+///
+/// The answer is a text: session by session, in rising order, a line for each answer, and then one for each key that has a definition
+/// in the end, in the order of keys. Where memory is wanting, or a thread can't be started, there is none.
+pub fn run_threads<R: Threads + Wait + Sync, G: Gate + Sync>(
+    rt: &R,
+    alloc: Global,
+    script: &Script,
+    patience: u32,
+    gate: &G,
+) -> Result<String, AllocError>
+    ensures { IfOk result (λ text. IsRunOf patience script.now (string_bytes text)) }
+{
+    let Ok((manager, passes)) = Manager::new(alloc, PLACES, SESSIONS) else {
+        return Err(AllocError);
+    };
+    run_on(rt, alloc, &manager, passes, script, patience, gate)
+}
