@@ -7,7 +7,7 @@ use Rattle.std.proofs.lemmas.List.Elements.{All-append, All-cons, All-head, All-
 use Rattle.mdl_syntax.specs.declared.script.Line.{Line}
 use Rattle.atomic_table.specs.Seated.{TableId}
 use Rattle.mdl_shared.specs.declared.pass.Pass.{Pass}
-use Rattle.mdl_shared.specs.Passes.{pass_number, pass_table}
+use Rattle.mdl_shared.specs.Passes.{pass_table}
 use Rattle.mdl_script.specs.declared.turns.Turn.{Turn}
 use Rattle.mdl_script.specs.RunTexts.{is_named, named_sessions}
 use Rattle.mdl_script.specs.Turns.{IsTurn, has_pass}

@@ -1,6 +1,6 @@
 -- What a session of the shared table did, by what it has of the table.
 use Rattle.std.proofs.Common.{◌≡◌, inl, inr, ap, ℕ, List, map, Vec, Some, Result, Ok, Err, IfOk}
-use Rattle.mdl_calls.specs.Words.{Answer, Call, Program, Give, Ask, Grow, Runs}
+use Rattle.mdl_calls.specs.Words.{Program, Give, Ask, Grow, Runs}
 use Rattle.mdl_session_laws.specs.SessionJoins.{Joins}
 use Rattle.mdl_session_laws.specs.SessionSpaces.{Space, SpeaksFor}
 use Rattle.mdl_stmt.specs.declared.reply.Reply.{Reply}
