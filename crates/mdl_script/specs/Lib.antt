@@ -8,3 +8,4 @@ pub mod RunTexts
 pub mod Texts
 pub mod Turns
 pub mod Worlds
+pub mod Books

@@ -3,6 +3,7 @@ ghost use Rattle.std.specs.Prelude.{◌≡◌, IfOk};
 ghost use Rattle.mdl_session_laws.specs.SessionSpaces.{SpeaksFor};
 ghost use Rattle.mdl_shared.specs.SessionViews.{space_of};
 ghost use Rattle.mdl_script.specs.Answers.{AreAnswers, nothing};
+ghost use Rattle.mdl_script.specs.Books.{AreOfOneAudit};
 
 use crate::run::Run;
 use crate::turns::Transcript;
@@ -58,6 +59,7 @@ pub(crate) fn take_turn<R: Wait, G: Gate>(
 pub(crate) fn books<R: Wait>(asker: &mut Session<&R>) -> Result<Vec<Audited>, AllocError>
     requires nothing { (space_of asker.old).own ≡ nothing }
     ensures nothing { (space_of asker.new).own ≡ nothing }
+    ensures audited { IfOk result (λ books. AreOfOneAudit books.items) }
 {
     match asker.audit() {
         Ok(books) => Ok(books),
