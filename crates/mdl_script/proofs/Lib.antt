@@ -7,3 +7,4 @@ pub mod SoundLemmas
 pub mod StepLemmas
 pub mod ThreadLemmas
 pub mod TurnLemmas
+pub mod StartLemmas

@@ -7,8 +7,8 @@ ghost use Rattle.mdl_script.specs.Answers.{AreAnswers};
 ghost use Rattle.mdl_script.specs.RunTexts.{named_sessions};
 ghost use Rattle.mdl_script.specs.Turns.{GainsAnswers, IsAbout, IsTurn, has_pass};
 
-use crate::run::{Run, is_named};
 use crate::on_thread::work_pass;
+use crate::run::{Run, is_named};
 use crate::told::push_answers;
 use mdl_shared::Pass;
 use mdl_stmt::Reply;

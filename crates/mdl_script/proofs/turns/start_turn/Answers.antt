@@ -1,5 +1,4 @@
 -- The pass that is taken is one of the manager's, and so are those that are left.
-use Rattle.mdl_script.specs.declared.stand_in.Pass.{Pass}
 use Rattle.mdl_script.proofs.TurnLemmas.{passes_left, theirs_left}
 use Rattle.mdl_script.proofs.turns.start_turn.Goals as goal
 

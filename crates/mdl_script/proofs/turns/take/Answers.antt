@@ -1,6 +1,5 @@
 -- There is a pass of the number, and it is found.
-use Rattle.std.proofs.Common.{rules, arith, sym, ap, ◌∙◌, ◌==◌, refl, subst}
-use Rattle.std.proofs.lemmas.List.Quantifiers.{position-Some}
+use Rattle.std.proofs.Common.{rules}
 use Rattle.std.proofs.lemmas.List.Sorted.{IsPermutation-swap_remove}
 use Rattle.mdl_script.proofs.TurnLemmas.{place_none, place_some}
 use Rattle.mdl_script.proofs.turns.take.Goals as goal

@@ -1,0 +1,110 @@
+-- Turns that are started one after the other.
+use Rattle.std.proofs.Common.{◌≡◌, ◌∙◌, ◌≢◌, ◌≤◌, ◌<◌, ◌+◌, ◌-◌, ap, map, sym, subst, refl, ℕ, zero, suc, List, ◌++◌, [], ◌∷◌, Bool, true, false, All, filter, cond, arith, inl, inr}
+use Rattle.std.specs.List.{range_with_len}
+use Rattle.std.proofs.lemmas.Bool.Decides.{eqb_tells}
+use Rattle.std.proofs.lemmas.List.{append-nil, map-append}
+use Rattle.std.proofs.lemmas.List.Elements.{All-append, All-cons, All-head, All-nil, All-tail, filter-append}
+use Rattle.mdl_syntax.specs.declared.script.Line.{Line}
+use Rattle.atomic_table.specs.Seated.{TableId}
+use Rattle.mdl_shared.specs.declared.pass.Pass.{Pass}
+use Rattle.mdl_shared.specs.Passes.{pass_number, pass_table}
+use Rattle.mdl_script.specs.declared.turns.Turn.{Turn}
+use Rattle.mdl_script.specs.RunTexts.{is_named, named_sessions}
+use Rattle.mdl_script.specs.Turns.{IsTurn, has_pass}
+
+-- ---- numbers in order
+
+range-more : (a n m : ℕ) → a + n ≡ m → range_with_len a n ++ m ∷ [] ≡ range_with_len a (suc n)
+range-more a zero m same = let here : m ≡ a = omega (arith, same) in ap (λ k. k ∷ []) here
+range-more a (suc n) m same = ap (λ xs. a ∷ xs) (range-more (a + 1) n m (omega (arith, same)))
+
+one-kept : (p : ℕ → Bool) (m : ℕ) → p m ≡ true → filter p (m ∷ []) ≡ m ∷ []
+one-kept p m is = ap (λ b. cond b (m ∷ []) []) is
+
+one-left : (p : ℕ → Bool) (m : ℕ) → p m ≡ false → filter p (m ∷ []) ≡ []
+one-left p m is = ap (λ b. cond b (m ∷ []) []) is
+
+ranges-so : (who : ℕ) → 1 ≤ who → range_with_len 1 (who - 1) ++ who ∷ [] ≡ range_with_len 1 (who + 1 - 1)
+ranges-so who least =
+    let count : suc (who - 1) ≡ who + 1 - 1 = omega (arith, least) in
+    range-more 1 (who - 1) who (omega (arith, least)) ∙ ap (range_with_len 1) count
+
+-- what holds of all numbers of a row that pass a test holds of each
+all-passing : (P : ℕ → Type 0) (p : ℕ → Bool) (a n x : ℕ) → All P (filter p (range_with_len a n)) → p x ≡ true → a ≤ x → x < a + n → P x
+all-passing P p a zero x all is least most = absurd (omega arith)
+all-passing P p a (suc n) x all is least most = by (λ later past. all-passing P p (a + 1) n x later is past (omega (arith, most))) (p a) refl all
+  where
+    by : (All P (filter p (range_with_len (a + 1) n)) → a + 1 ≤ x → P x) → (b : Bool) → p a ≡ b
+        → All P (cond b (a ∷ filter p (range_with_len (a + 1) n)) (filter p (range_with_len (a + 1) n))) → P x
+    by more true e kept = elim (eqb_tells a x) [
+      | inl same ↦ subst P same.1 (All-head P a (filter p (range_with_len (a + 1) n)) kept)
+      | inr other ↦ (let differs = other.1 in more (All-tail P a (filter p (range_with_len (a + 1) n)) kept) (omega (arith, least, differs)))
+    ]
+    by more false e kept = elim (eqb_tells a x) [
+      | inl same ↦ absurd (let f : true ≡ false = sym is ∙ (ap p (sym same.1) ∙ e) in cc)
+      | inr other ↦ (let differs = other.1 in more kept (omega (arith, least, differs)))
+    ]
+
+-- what holds of all sessions that are named holds of each
+pub each_named : (P : ℕ → Type 0) (lines : List Line) (who : ℕ) → All P (named_sessions lines) → is_named lines who ≡ true → 1 ≤ who → who < 65 → P who
+unfolding named_sessions
+each_named P lines who all is least most = all-passing P (is_named lines) 1 64 who all is least (omega (arith, most))
+
+-- ---- turns
+
+-- the turns of the sessions below one are started, and the passes of all others are left
+pub record AreStarted (patience : ℕ) (lines : List Line) (mine : ℕ) (table : TableId) (all : List Pass) (who : ℕ) (turns : List Turn) (passes : List Pass) : Type 0 where
+  pub sessions : map (λ (turn : Turn). turn.who) turns ≡ filter (is_named lines) (range_with_len 1 (who - 1))
+  pub are_turns : All (IsTurn patience lines mine) turns
+  pub theirs : All (λ (pass : Pass). pass_table pass ≡ table) passes
+  pub left : (other : ℕ) → who ≤ other → has_pass passes other ≡ has_pass all other
+
+-- none is, at first
+pub started_none : (patience : ℕ) (lines : List Line) (mine : ℕ) (table : TableId) (all : List Pass) → All (λ (pass : Pass). pass_table pass ≡ table) all →
+    AreStarted patience lines mine table all 1 [] all
+started_none patience lines mine table all are = record { sessions = refl; are_turns = All-nil _; theirs = are; left = λ other above. refl }
+
+-- one more is
+pub started_more : (patience : ℕ) (lines : List Line) (mine : ℕ) (table : TableId) (all : List Pass) (who : ℕ) (turns : List Turn) (passes left : List Pass) (turn : Turn) →
+    AreStarted patience lines mine table all who turns passes → 1 ≤ who → is_named lines who ≡ true →
+    turn.who ≡ who → IsTurn patience lines mine turn → All (λ (pass : Pass). pass_table pass ≡ table) left →
+    ((other : ℕ) → other ≢ who → has_pass left other ≡ has_pass passes other) →
+    AreStarted patience lines mine table all (who + 1) (turns ++ turn ∷ []) left
+started_more patience lines mine table all who turns passes left turn was least named here is are others = record {
+  sessions =
+      map-append (λ (t : Turn). t.who) turns (turn ∷ []) ∙ (ap (λ n. map (λ (t : Turn). t.who) turns ++ n ∷ []) here
+      ∙ (ap (λ xs. xs ++ who ∷ []) was.sessions
+      ∙ (ap (λ xs. filter (is_named lines) (range_with_len 1 (who - 1)) ++ xs) (sym (one-kept (is_named lines) who named))
+      ∙ (sym (filter-append (is_named lines) (range_with_len 1 (who - 1)) (who ∷ [])) ∙ ap (filter (is_named lines)) (ranges-so who least)))));
+  are_turns = All-append (IsTurn patience lines mine) turns (turn ∷ []) was.are_turns (All-cons (IsTurn patience lines mine) turn [] is (All-nil _));
+  theirs = are;
+  left = λ other above. others other (λ same. absurd (omega (arith, same, above))) ∙ was.left other (omega (arith, above));
+}
+
+-- one that isn't named has no turn
+pub started_past : (patience : ℕ) (lines : List Line) (mine : ℕ) (table : TableId) (all : List Pass) (who : ℕ) (turns : List Turn) (passes : List Pass) →
+    AreStarted patience lines mine table all who turns passes → 1 ≤ who → is_named lines who ≡ false →
+    AreStarted patience lines mine table all (who + 1) turns passes
+started_past patience lines mine table all who turns passes was least unnamed = record {
+  sessions =
+      was.sessions ∙ (sym (append-nil _)
+      ∙ (ap (λ xs. filter (is_named lines) (range_with_len 1 (who - 1)) ++ xs) (sym (one-left (is_named lines) who unnamed))
+      ∙ (sym (filter-append (is_named lines) (range_with_len 1 (who - 1)) (who ∷ [])) ∙ ap (filter (is_named lines)) (ranges-so who least))));
+  are_turns = was.are_turns;
+  theirs = was.theirs;
+  left = λ other above. was.left other (omega (arith, above));
+}
+
+-- all are, in the end
+pub started_all : (patience : ℕ) (lines : List Line) (mine : ℕ) (table : TableId) (all : List Pass) (who : ℕ) (turns : List Turn) (passes : List Pass) →
+    AreStarted patience lines mine table all who turns passes → 65 ≤ who → who ≤ 65 → map (λ (turn : Turn). turn.who) turns ≡ named_sessions lines
+unfolding named_sessions
+started_all patience lines mine table all who turns passes was least most =
+    let count : who - 1 ≡ 64 = omega (arith, least, most) in was.sessions ∙ ap (λ n. filter (is_named lines) (range_with_len 1 n)) count
+
+-- the same of what is the same
+pub started_as : (patience : ℕ) (lines : List Line) (mine : ℕ) (table : TableId) (all : List Pass) (who : ℕ) (turns later : List Turn) (passes left : List Pass) →
+    AreStarted patience lines mine table all who turns passes → later ≡ turns → left ≡ passes → AreStarted patience lines mine table all who later left
+started_as patience lines mine table all who turns later passes left was same alike =
+    subst (λ xs. AreStarted patience lines mine table all who xs left) (sym same)
+    (subst (λ xs. AreStarted patience lines mine table all who turns xs) (sym alike) was)
