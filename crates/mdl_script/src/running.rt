@@ -48,20 +48,20 @@ pub fn run_on<R: Threads + Wait + Sync, G: Gate + Sync>(
 {
     let mut others = passes;
     let first = others.swap_remove(0);
-    let run = Run {
-        rt,
-        alloc,
-        manager,
-        script,
-        patience,
-        gate,
-    };
     thread::scope(
         thread::scope_env(),
         rt,
         move |scope| -> Result<String, AllocError>
             ensures { IfOk result (λ text. IsRunOf patience script.entry.now (string_bytes text)) }
         {
+            let run = Run {
+                rt,
+                alloc,
+                manager,
+                script,
+                patience,
+                gate,
+            };
             text_in(scope, &run, first, others)
         },
     )
