@@ -5,6 +5,7 @@ pub mod OrderedBooks
 pub mod SettleLemmas
 pub mod SoundLemmas
 pub mod StepLemmas
+pub mod TextLemmas
 pub mod ThreadLemmas
 pub mod TurnLemmas
 pub mod StartLemmas
