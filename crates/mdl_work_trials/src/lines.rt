@@ -33,7 +33,8 @@ fn each_answers_its_own_lines(rt: HostRuntime) {
 // What the first session has locked, and its transaction, it has given up at its end.
 #[test]
 fn whoever_is_done_has_nothing(rt: HostRuntime) {
-    let text = b"1 CREATE SCHEMA shop\n1 CREATE TABLE shop.orders id\n1 BEGIN\n1 INSERT shop.orders\n\
+    let text =
+        b"1 CREATE SCHEMA shop\n1 CREATE TABLE shop.orders id\n1 BEGIN\n1 INSERT shop.orders\n\
         2 DROP TABLE shop.orders\n2 CREATE TABLE shop.orders id\n2 LOCK TABLES shop.orders WRITE\n";
     let one = [(1, DONE), (2, DONE), (3, DONE), (4, DONE)];
     let two = [(5, DONE), (6, DONE), (7, DONE)];

@@ -16,13 +16,21 @@ fn against_a_lock(alloc: Global, text: &[u8], patience: u32, want: &[(u64, Told)
     let Ok(mut space) = new_space(alloc) else {
         return false;
     };
-    answers_so(alloc, &mut space, 1, TABLES, 0, &OpenGate, &[(1, DONE), (2, DONE)])
-        && holds(alloc, &mut space, BUT)
+    answers_so(
+        alloc,
+        &mut space,
+        1,
+        TABLES,
+        0,
+        &OpenGate,
+        &[(1, DONE), (2, DONE)],
+    ) && holds(alloc, &mut space, BUT)
         && answers_so(alloc, &mut space, 1, text, patience, &OpenGate, want)
 }
 
 // The lock never comes free, so each wait times out, and its session goes on.
-const TEXT: &[u8] = b"1 SELECT shop.orders\n1 BEGIN\n1 INSERT shop.orders\n1 ROLLBACK\n1 DROP SCHEMA shop\n1 COMMIT\n";
+const TEXT: &[u8] =
+    b"1 SELECT shop.orders\n1 BEGIN\n1 INSERT shop.orders\n1 ROLLBACK\n1 DROP SCHEMA shop\n1 COMMIT\n";
 
 const WANT: &[(u64, Told)] = &[
     (1, TIMED_OUT),

@@ -66,10 +66,8 @@ pub(crate) fn answers_so<G: Gate>(
 // Whether answers are these.
 fn are_told(answers: &[(u64, Reply)], want: &[(u64, Told)]) -> bool {
     answers.len() == want.len()
-        && answers
-            .iter()
-            .zip(want)
-            .all(|(answer, want)| answer.0 == want.0 && Told::of(&answer.1) == want.1)
+        && answers.iter().zip(want).all(|(answer, want)| answer.0 == want.0
+            && Told::of(&answer.1) == want.1)
 }
 
 /// Whether session 2 makes a statement at once. It keeps what it locks.
