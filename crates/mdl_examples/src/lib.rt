@@ -44,3 +44,5 @@ mod system;
 mod visits;
 #[cfg(test)]
 mod word;
+#[cfg(test)]
+mod work;

@@ -1,9 +1,9 @@
 -- Something is left of a statement just where it waits.
-use Rattle.std.proofs.Common.{ℕ, Option, Some, None, Result, Ok, Err, refl}
-use Rattle.std.specs.Prelude.{List, IsSome}
+use Rattle.std.proofs.Common.{ℕ, Option, Some, None, Ok, Err, refl}
+use Rattle.std.specs.Prelude.{List}
 use Rattle.mdl_key.specs.Keys.{KeyName}
 use Rattle.mdl_defs.specs.declared.standing.Standing.{Standing}
-use Rattle.mdl_calls.specs.Words.{Answer, Has_wait, Reads, Changed, Tables, Key_is, Program, Give, Ask, Grow, ◌>>=◌, Each}
+use Rattle.mdl_calls.specs.Words.{Answer, Reads, Changed, Tables, Key_is, Program, Give, Each}
 use Rattle.mdl_calls.proofs.FaithfulLemmas.{each_then}
 use Rattle.mdl_context.specs.declared.request.Acquire.{Acquire}
 use Rattle.mdl_context.specs.declared.request.Acquire.TheVariants as acquire

@@ -1,11 +1,11 @@
 -- How a session's waits, statements and lines follow one after the other.
-use Rattle.std.proofs.Common.{◌≡◌, ◌<◌, ◌+◌, ℕ, zero, suc, Bool, true, false, if◌then◌else◌, List, [], ◌∷◌, ◌++◌, length, get_or, drop, map, Option, Some, None, Result, Ok, Err, refl, sym, ap, ◌∙◌, subst, inl, inr}
+use Rattle.std.proofs.Common.{◌≡◌, ◌<◌, ◌+◌, ℕ, zero, suc, Bool, if◌then◌else◌, List, [], ◌∷◌, ◌++◌, length, get_or, drop, map, Option, Some, None, Result, Ok, Err, refl, sym, ap, ◌∙◌, subst, inl, inr}
 use Rattle.std.specs.Prelude.{IfOk, OnErr, Vec}
 use Rattle.std.proofs.lemmas.Bool.{eq-eqb, ne_eqb}
 use Rattle.std.proofs.lemmas.List.{append-nil, append_assoc, drop_more, map-append}
 use Rattle.std.specs.Option.{option_map}
 use Rattle.mdl_key.specs.Keys.{KeyName}
-use Rattle.mdl_calls.specs.Words.{Answer, Call, Done, Unpin, Pending, Poll_wait, Settle_timeout, Own, caller, own_after, Program, Give, Runs, ◌>>=◌, ◌>>◌}
+use Rattle.mdl_calls.specs.Words.{Answer, Call, Done, Unpin, Pending, Poll_wait, Settle_timeout, Own, caller, own_after, Program, Give, Runs, ◌>>◌}
 use Rattle.mdl_calls.proofs.RunLemmas.{runs_bind}
 use Rattle.mdl_context.specs.Contexts.{ContextView, Attends}
 use Rattle.mdl_context.proofs.AttendLemmas.{attends-still}
@@ -19,7 +19,7 @@ use Rattle.mdl_stmt.specs.Gets.{paused}
 use Rattle.mdl_stmt.specs.Leavings.{leaving}
 use Rattle.mdl_stmt.specs.Sessions.{Session}
 use Rattle.mdl_work.specs.Paces.{worked_as}
-use Rattle.mdl_work.specs.Works.{Worked, behind, finishing, going_further, lines_of, making, newcomer, noted, starved, waiting_out, while_pending, working, working_off}
+use Rattle.mdl_work.specs.Works.{Worked, behind, finishing, going_further, lines_of, making, noted, starved, waiting_out, while_pending, working, working_off}
 
 -- ---- waits
 
@@ -146,11 +146,11 @@ module _ {S : Type 0} (joins : S → Call → Answer → S → Type 0) where
 pub ahead-behind : (answers : List (ℕ × Reply)) (answer : ℕ × Reply) (worked : Worked) → ahead answers (behind answer worked) ≡ ahead (answers ++ answer ∷ []) worked
 ahead-behind answers answer worked =
     ap (λ (all : Option (List (ℕ × Reply))). record { answers = all; session = worked.session }) (same worked.answers) where
-  same : (rest : Option (List (ℕ × Reply))) →
-      option_map (λ (more : List (ℕ × Reply)). answers ++ more) (option_map (λ (more : List (ℕ × Reply)). answer ∷ more) rest)
-      ≡ option_map (λ (more : List (ℕ × Reply)). (answers ++ answer ∷ []) ++ more) rest
-  same None = refl
-  same (Some more) = ap (λ (all : List (ℕ × Reply)). Some all) (sym (append_assoc answers (answer ∷ []) more))
+      same : (rest : Option (List (ℕ × Reply))) →
+          option_map (λ (more : List (ℕ × Reply)). answers ++ more) (option_map (λ (more : List (ℕ × Reply)). answer ∷ more) rest)
+          ≡ option_map (λ (more : List (ℕ × Reply)). (answers ++ answer ∷ []) ++ more) rest
+      same None = refl
+      same (Some more) = ap (λ (all : List (ℕ × Reply)). Some all) (sym (append_assoc answers (answer ∷ []) more))
 
 -- and nothing behind them
 pub ahead-all : (answers : List (ℕ × Reply)) (session : Session) →
@@ -232,7 +232,11 @@ pub worked-off : {S E Z : Type 0} (joins : S → Call → Answer → S → Type 
     IfOk result (λ answers. Runs joins a (working_off patience lines before) (Some answers.items) b) × OnErr result (Runs joins a (working_off patience lines before) None b)
 worked-off joins patience lines before after (Ok answers) a mid b run left = (
   runs_bind joins (working patience lines before) (λ (worked : Worked). leaving worked.session >> Give worked.answers) a mid b (record { answers = Some answers.items; session = after }) (Some answers.items) run
-  (runs_bind joins (leaving after) (λ _. Give (Some answers.items)) mid b b tt (Some answers.items) left (refl, refl)), tt)
+      (runs_bind joins (leaving after) (λ _. Give (Some answers.items)) mid b b tt (Some answers.items) left (refl, refl)),
+  tt,
+)
 worked-off joins patience lines before after (Err error) a mid b run left = (
-  tt, runs_bind joins (working patience lines before) (λ (worked : Worked). leaving worked.session >> Give worked.answers) a mid b (starved after) None run
-  (runs_bind joins (leaving after) (λ _. Give None) mid b b tt None left (refl, refl)))
+  tt,
+  runs_bind joins (working patience lines before) (λ (worked : Worked). leaving worked.session >> Give worked.answers) a mid b (starved after) None run
+      (runs_bind joins (leaving after) (λ _. Give None) mid b b tt None left (refl, refl)),
+)

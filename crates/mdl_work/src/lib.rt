@@ -1,4 +1,22 @@
 //! Sessions that work off their lines of a script, each over any lock space.
+//!
+//! # Example
+//!
+//! ```
+//! use mdl_space::CoreSpace;
+//! use mdl_stmt::Reply;
+//! use mdl_syntax::parse;
+//! use mdl_work::{OpenGate, work};
+//!
+//! let alloc = rt.alloc();
+//! let text = b"1 CREATE SCHEMA shop\n2 BEGIN\n1 DROP SCHEMA shop\n";
+//! let script = parse(alloc, text)?;
+//! let mut space = CoreSpace::new(alloc, 256, 64)?;
+//! let answers = work(alloc, &mut space, 1, &script, 100, &OpenGate)?;
+//! // Lines 1 and 3 are those of session 1.
+//! assert_eq!(rt; answers.len(), 2);
+//! assert!(rt; matches!(answers.last(), Some((_, Reply::Ok))));
+//! ```
 #![tactic(auto)]
 
 mod gate;

@@ -1,8 +1,7 @@
 -- The statement starts, and is then brought to its end.
-use Rattle.std.proofs.Common.{◌≡◌, ℕ, Err, rules, subst}
+use Rattle.std.proofs.Common.{◌≡◌, Err, rules}
 use Rattle.mdl_calls.proofs.FaithfulLemmas.{each_reply}
 use Rattle.mdl_calls.proofs.RunLemmas.{runs_bind}
-use Rattle.mdl_context.specs.Contexts.{LeavesOthers}
 use Rattle.mdl_stmt.specs.Endings.{Faults}
 use Rattle.mdl_stmt.specs.Gets.{paused}
 use Rattle.mdl_stmt.specs.Playing.{starting}

@@ -1,14 +1,13 @@
 -- Each line leaves one line fewer, and one answer more where it is the session's.
-use Rattle.std.proofs.Common.{◌≡◌, ◌+◌, ◌++◌, ◌∷◌, [], ℕ, List, Err, drop, length, map, rules, refl, sym, ap, ◌∙◌, subst, arith}
+use Rattle.std.proofs.Common.{◌≡◌, ℕ, List, Err, drop, length, rules, sym, ap, ◌∙◌, subst, arith}
 use Rattle.std.proofs.Math.Seq.{drop-length}
 use Rattle.mdl_calls.specs.Words.{Runs}
 use Rattle.mdl_context.specs.Contexts.{LeavesOthers}
 use Rattle.mdl_context.proofs.OthersLemmas.{both-leave}
-use Rattle.mdl_stmt.specs.declared.reply.Reply.{Reply}
 use Rattle.mdl_syntax.specs.declared.script.Line.{Line}
 use Rattle.mdl_stmt.specs.Endings.{Ends, Faults}
 use Rattle.mdl_stmt.specs.Stages.{session_of}
-use Rattle.mdl_work.specs.Works.{lines_of, making, working}
+use Rattle.mdl_work.specs.Works.{lines_of, making}
 use Rattle.mdl_work.proofs.WorkLemmas.{follows-all, follows-answered, follows-starved, follows-unkept, next-other, next-own, numbers-on}
 use Rattle.mdl_work.proofs.worker.Worker.answer_lines.Goals as goal
 use Rattle.mdl_work.proofs.worker.Worker.answer_lines.Goals.{then-line-self+in_ok-reply+in_ok-push, else-line-self}
@@ -51,34 +50,34 @@ loop-line-preserved g c =
     let before = session_of c.loop-line.self.runner in
     let so-far = c.loop-line.answers.items in
     elim c.if-line-self.branch [
-      then-line-self+in_ok-reply+in_ok-push w ↦
-        let reply = w.in_ok-reply.field-0 in
-        let after = session_of w.answer-reply.new.self.runner in
-        let next = next-own self.who lines c.loop-line.line-index line line c.loop-line-test.true c.line-item.is (w.if-line-self.true ∙ kept.same) in
-        let made = subst (λ (n : ℕ). Runs joins c.loop-line.space (making n line.statement before) (Ends reply after) w.answer-reply.new.space) kept.patience w.in_ok-reply.ensures.run in
-        rw (w.self-is, w.space-is, w.answers-is, w.in_ok-push.ensures.items) (record {
-          attends = w.answer-reply.ensures.attends;
-          others = both-leave lock.speaks_for lock.own lock.knows self.who _ _ _ kept.others
-              (subst (λ (v : ℕ). LeavesOthers lock.speaks_for lock.own lock.knows v c.loop-line.space w.answer-reply.new.space) kept.same w.answer-reply.ensures.others);
-          who = w.answer-reply.ensures.who ∙ kept.same;
-          idle = w.in_ok-reply.ensures.idle;
-          same = w.answer-reply.ensures.same ∙ kept.same;
-          patience = w.answer-reply.ensures.patience ∙ kept.patience;
-          numbers = numbers-on line _ _ reply so-far _ next kept.numbers;
-          run = follows-answered joins self.patience line _ _ before after reply so-far _ _ _ _ next kept.run made;
-        })
-    | else-line-self w ↦
-        let next = next-other self.who lines c.loop-line.line-index line line c.loop-line-test.true c.line-item.is (λ own. w.if-line-self.false (own ∙ sym kept.same)) in
-        rw (w.self-is, w.space-is, w.answers-is, ← next) (record {
-          attends = kept.attends;
-          others = kept.others;
-          who = kept.who;
-          idle = kept.idle;
-          same = kept.same;
-          patience = kept.patience;
-          numbers = kept.numbers;
-          run = kept.run;
-        })
+      | then-line-self+in_ok-reply+in_ok-push w ↦
+          let reply = w.in_ok-reply.field-0 in
+          let after = session_of w.answer-reply.new.self.runner in
+          let next = next-own self.who lines c.loop-line.line-index line line c.loop-line-test.true c.line-item.is (w.if-line-self.true ∙ kept.same) in
+          let made = subst (λ (n : ℕ). Runs joins c.loop-line.space (making n line.statement before) (Ends reply after) w.answer-reply.new.space) kept.patience w.in_ok-reply.ensures.run in
+          rw (w.self-is, w.space-is, w.answers-is, w.in_ok-push.ensures.items) (record {
+            attends = w.answer-reply.ensures.attends;
+            others = both-leave lock.speaks_for lock.own lock.knows self.who _ _ _ kept.others
+                (subst (λ (v : ℕ). LeavesOthers lock.speaks_for lock.own lock.knows v c.loop-line.space w.answer-reply.new.space) kept.same w.answer-reply.ensures.others);
+            who = w.answer-reply.ensures.who ∙ kept.same;
+            idle = w.in_ok-reply.ensures.idle;
+            same = w.answer-reply.ensures.same ∙ kept.same;
+            patience = w.answer-reply.ensures.patience ∙ kept.patience;
+            numbers = numbers-on line _ _ reply so-far _ next kept.numbers;
+            run = follows-answered joins self.patience line _ _ before after reply so-far _ _ _ _ next kept.run made;
+          })
+      | else-line-self w ↦
+          let next = next-other self.who lines c.loop-line.line-index line line c.loop-line-test.true c.line-item.is (λ own. w.if-line-self.false (own ∙ sym kept.same)) in
+          rw (w.self-is, w.space-is, w.answers-is, ← next) (record {
+            attends = kept.attends;
+            others = kept.others;
+            who = kept.who;
+            idle = kept.idle;
+            same = kept.same;
+            patience = kept.patience;
+            numbers = kept.numbers;
+            run = kept.run;
+          })
     ]
 
 pub returns-clause-run : goal.returns-clause-run

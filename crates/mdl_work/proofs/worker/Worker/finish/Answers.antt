@@ -5,7 +5,7 @@ use Rattle.mdl_context.specs.Contexts.{LeavesOthers}
 use Rattle.mdl_context.proofs.OthersLemmas.{both-leave}
 use Rattle.mdl_stmt.specs.declared.reply.Progress.{Progress}
 use Rattle.mdl_stmt.specs.Endings.{Ends, Faults}
-use Rattle.mdl_stmt.specs.Gets.{paused, ran}
+use Rattle.mdl_stmt.specs.Gets.{paused}
 use Rattle.mdl_stmt.specs.Stages.{session_of}
 use Rattle.mdl_work.specs.Works.{finishing, going_further, most_waits}
 use Rattle.mdl_work.proofs.WorkLemmas.{goes-further, is-cut-off, stays-ended, stays-starved}

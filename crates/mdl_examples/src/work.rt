@@ -1,0 +1,19 @@
+//! `mdl_work`: a session works off its lines of a script.
+use mdl_space::CoreSpace;
+use mdl_stmt::Reply;
+use mdl_syntax::parse;
+use mdl_work::{OpenGate, work};
+use std::test::Fail;
+
+#[test]
+fn a_session_works_off_its_lines(rt: HostRuntime) -> Result<(), Fail> {
+    let alloc = rt.alloc();
+    let text = b"1 CREATE SCHEMA shop\n2 BEGIN\n1 DROP SCHEMA shop\n";
+    let script = parse(alloc, text)?;
+    let mut space = CoreSpace::new(alloc, 256, 64)?;
+    let answers = work(alloc, &mut space, 1, &script, 100, &OpenGate)?;
+    // Lines 1 and 3 are those of session 1.
+    assert_eq!(rt; answers.len(), 2);
+    assert!(rt; matches!(answers.last(), Some((_, Reply::Ok))));
+    Ok(())
+}

@@ -1,0 +1,89 @@
+//! A lock space of two sessions, one of which works off its lines.
+ghost use Rattle.std.specs.Prelude.{IfOk};
+ghost use Rattle.mdl_work_trials.specs.Rooms.{IsFree, LeavesFree};
+
+use mdl_space::{CoreSpace, NewError};
+use mdl_stmt::{Progress, Reply, Runner};
+use mdl_syntax::parse;
+use mdl_work::{Gate, work};
+use std::alloc::Global;
+
+/// What a statement answers.
+#[derive(Clone, Copy, Debug, PartialEq, Eq)]
+pub(crate) enum Told {
+    Done,
+    /// So many tables.
+    Shows(usize),
+    Fails(u16),
+}
+
+impl Told {
+    fn of(reply: &Reply) -> Told {
+        match reply {
+            Reply::Ok => Told::Done,
+            Reply::Columns(tables) => Told::Shows(tables.as_slice().len()),
+            Reply::Error(error) => Told::Fails(error.number()),
+        }
+    }
+}
+
+// Places for the keys of a script, and two sessions.
+const PLACES: u16 = 16;
+
+const SESSIONS: u16 = 2;
+
+/// A space in which nobody has asked for anything.
+pub(crate) fn new_space(alloc: Global) -> Result<CoreSpace, NewError>
+    ensures one { IfOk result (λ space. IsFree space 1) }
+    ensures two { IfOk result (λ space. IsFree space 2) }
+{
+    CoreSpace::new(alloc, PLACES, SESSIONS)
+}
+
+/// Whether a session answers so as it works off its lines.
+pub(crate) fn answers_so<G: Gate>(
+    alloc: Global,
+    space: &mut CoreSpace,
+    who: u16,
+    text: &[u8],
+    patience: u32,
+    gate: &G,
+    want: &[(u64, Told)],
+) -> bool
+    requires { IsFree space.old who }
+    ensures free { IsFree space.new who }
+    ensures others { LeavesFree who space.old space.new }
+{
+    let Ok(script) = parse(alloc, text) else {
+        return false;
+    };
+    match work(alloc, space, who, &script, patience, gate) {
+        Ok(answers) => are_told(&answers, want),
+        Err(_) => false,
+    }
+}
+
+// Whether answers are these.
+fn are_told(answers: &[(u64, Reply)], want: &[(u64, Told)]) -> bool {
+    answers.len() == want.len()
+        && answers.iter().zip(want).all(|(answer, want)| answer.0 == want.0
+            && Told::of(&answer.1) == want.1)
+}
+
+/// Whether session 2 makes a statement at once. It keeps what it locks.
+pub(crate) fn holds(alloc: Global, space: &mut CoreSpace, text: &[u8]) -> bool
+    requires { IsFree space.old 2 }
+    ensures { LeavesFree 2 space.old space.new }
+{
+    let Ok(script) = parse(alloc, text) else {
+        return false;
+    };
+    let [line] = script.lines() else {
+        return false;
+    };
+    let mut runner = Runner::new(alloc, 2);
+    matches!(
+        runner.start(space, &line.statement),
+        Ok(Progress::Done(Reply::Ok))
+    )
+}
