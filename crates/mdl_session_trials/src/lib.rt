@@ -2,7 +2,7 @@
 //!
 //! Everything here is for tests. A `seat` is a session with its context, and `acts` names what that may be asked for; `upgrades` tells of two
 //! such sessions. A `desk` is a session with its `statements`: `scripts` are those of one, and `turns` those of two. Once each has nothing it is
-//! closed (`closing`).
+//! closed (`closing`). `waits` has neither: there three sessions make calls of their own.
 #![tactic(auto)]
 
 #[cfg(test)]
@@ -21,3 +21,5 @@ mod statements;
 mod turns;
 #[cfg(test)]
 mod upgrades;
+#[cfg(test)]
+mod waits;
