@@ -1,12 +1,14 @@
 //! Tests of contexts and statements over sessions of the lock space that threads share, on one thread.
 //!
 //! Everything here is for tests. A `seat` is a session with its context, and `acts` names what that may be asked for; `upgrades` tells of two
-//! such sessions. A `desk` is a session with its `statements`: `scripts` are those of one, and `turns` those of two. Once each has nothing it is
-//! closed (`closing`). `waits` has neither: there three sessions make calls of their own.
+//! such sessions. A `desk` is a session with its `statements`: `turns` are those of two, and `scripts` those of one, which come to the same in
+//! the space of one thread (`alone`). In `waits` three sessions make calls of their own. What has nothing in the end is closed (`closing`).
 #![tactic(auto)]
 
 #[cfg(test)]
 mod acts;
+#[cfg(test)]
+mod alone;
 #[cfg(test)]
 mod closing;
 #[cfg(test)]

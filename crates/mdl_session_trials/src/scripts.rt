@@ -1,12 +1,9 @@
 //! Statements of one session, which come to the same over the space of one thread and over a session of one that threads share.
-ghost use Rattle.mdl_context.specs.Contexts.{Attends};
-
+use crate::alone::Alone;
 use crate::desk::Desk;
 use crate::statements::Outcome::{Done, Fails, Reads};
 use crate::statements::{Outcome, say};
 use mdl_shared::Manager;
-use mdl_space::{CoreSpace, LockSpace};
-use mdl_stmt::Runner;
 use mdl_syntax::{Line, parse};
 use std::alloc::{AllocError, Global};
 use std::process::Abort;
@@ -29,13 +26,9 @@ fn text_of(alloc: Global, rows: &[Row]) -> Result<String, AllocError> {
 }
 
 // Over the space of one thread: the first statement that comes to something else, if there is one.
-fn first_wrong_alone<'s>(alloc: Global, lines: &'s [Line], rows: &[Row]) -> Option<usize> {
-    let Ok(mut space) = CoreSpace::new(alloc, PLACES, 1) else {
-        return Some(rows.len());
-    };
-    let mut runner = Runner::new(alloc, 1);
+fn first_wrong_alone<'s>(alone: &mut Alone<'s>, lines: &'s [Line], rows: &[Row]) -> Option<usize> {
     for (at, (line, (_, wanted))) in lines.iter().zip(rows).enumerate() {
-        if say(&mut space, &mut runner, &line.statement) != *wanted {
+        if alone.say(&line.statement) != *wanted {
             return Some(at);
         }
     }
@@ -70,12 +63,23 @@ fn are_right_of_a_session<R: Wait + Abort + AllocGlobal>(
     Ok(())
 }
 
+// The rows are right of the space of one thread.
+fn are_right_alone<R: Abort + AllocGlobal>(
+    rt: &R,
+    lines: &[Line],
+    rows: &[Row],
+) -> Result<(), Fail> {
+    let mut alone = Alone::new(rt.alloc(), PLACES)?;
+    assert_eq!(rt; first_wrong_alone(&mut alone, lines, rows), None);
+    Ok(())
+}
+
 // The rows are right of both.
 fn are_right<R: Wait + Abort + AllocGlobal>(rt: &R, rows: &[Row]) -> Result<(), Fail> {
     let alloc = rt.alloc();
     let script = parse(alloc, text_of(alloc, rows)?.as_bytes())?;
     assert_eq!(rt; script.lines().len(), rows.len());
-    assert_eq!(rt; first_wrong_alone(alloc, script.lines(), rows), None);
+    are_right_alone(rt, script.lines(), rows)?;
     are_right_of_a_session(rt, script.lines(), rows)
 }
 
