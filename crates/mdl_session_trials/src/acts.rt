@@ -1,5 +1,4 @@
 //! What a context is asked to do, and what comes of it.
-ghost use Rattle.std.specs.Prelude.{◌≡◌};
 ghost use Rattle.mdl_context.specs.Contexts.{Attends};
 
 use mdl_context::{Acquire, Context, ContextError, Kept, Request, Resume};
