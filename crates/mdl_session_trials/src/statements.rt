@@ -1,0 +1,67 @@
+//! What comes of the statements of a session, in any lock space.
+ghost use Rattle.mdl_context.specs.Contexts.{Attends};
+
+use mdl_space::LockSpace;
+use mdl_stmt::{OutOfMemory, Progress, Reply, Runner, Statement};
+
+/// What comes of a statement, or of going on with one.
+#[derive(Clone, Copy, PartialEq, Eq)]
+pub(crate) enum Outcome {
+    Done,
+    /// The version of the last table that it read, and the number of its columns.
+    Reads(u64, usize),
+    Fails(u16),
+    /// It begins to wait.
+    Waits,
+    /// It waits still.
+    Pending,
+    /// A session that waits starts nothing, and one that doesn't has nothing to go on with.
+    OutOfTurn,
+    NoMemory,
+}
+
+/// Starts a statement.
+pub(crate) fn say<'s, S: LockSpace>(
+    space: &mut S,
+    runner: &mut Runner<'s, S>,
+    statement: &'s Statement,
+) -> Outcome
+    requires { Attends S.speaks_for S.own S.knows space.old runner.old.context }
+    ensures { Attends S.speaks_for S.own S.knows space.new runner.new.context }
+{
+    if runner.is_waiting() {
+        return Outcome::OutOfTurn;
+    }
+    outcome_of(runner.start(space, statement))
+}
+
+/// Goes on with the statement that waits.
+pub(crate) fn go_on<'s, S: LockSpace>(space: &mut S, runner: &mut Runner<'s, S>) -> Outcome
+    requires { Attends S.speaks_for S.own S.knows space.old runner.old.context }
+    ensures { Attends S.speaks_for S.own S.knows space.new runner.new.context }
+{
+    if !runner.is_waiting() {
+        return Outcome::OutOfTurn;
+    }
+    outcome_of(runner.go_on(space))
+}
+
+fn outcome_of(progress: Result<Progress, OutOfMemory>) -> Outcome {
+    match progress {
+        Ok(Progress::Done(reply)) => outcome_of_reply(&reply),
+        Ok(Progress::Waiting(_, _)) => Outcome::Waits,
+        Ok(Progress::Pending) => Outcome::Pending,
+        Err(_) => Outcome::NoMemory,
+    }
+}
+
+fn outcome_of_reply(reply: &Reply) -> Outcome {
+    match reply {
+        Reply::Ok => Outcome::Done,
+        Reply::Error(error) => Outcome::Fails(error.number()),
+        Reply::Columns(tables) => match tables.as_slice().last() {
+            Some(table) => Outcome::Reads(table.version, table.columns.as_slice().len()),
+            None => Outcome::Reads(0, 0),
+        },
+    }
+}
