@@ -58,8 +58,8 @@ pub trait Rounds<R> {
     fn round(&mut self, rt: &R, turns: u32) -> Result<Spent, Failure>;
 }
 
-// The figures that are timed in rounds are the least of so many, since other work on the machine can only add to them.
-const ROUNDS: u32 = 20;
+/// The figures that are timed in rounds are the least of so many, since other work on the machine can only add to them.
+pub const ROUNDS: u32 = 20;
 
 /// Times rounds of so many turns, and prints the least of them. With none it makes one turn, which shows that it works, and prints
 /// nothing.
@@ -150,8 +150,8 @@ fn time_idle<R: Clock, W: Work>(
     Ok(tenths_each(spent, turns, figure))
 }
 
-// A line for a reader, and two for a program.
-fn print<R: Print>(rt: &R, figure: Figure, spent: Spent) -> Result<(), Failure> {
+/// Prints a line for a reader, and two for a program.
+pub fn print<R: Print>(rt: &R, figure: Figure, spent: Spent) -> Result<(), Failure> {
     let Figure {
         name,
         size,

@@ -1,6 +1,6 @@
 //! Sessions on threads of their own have a lock one after another.
 use crate::failure::Failure;
-use crate::figure::{Figure, Rounds, Spent, tenths};
+use crate::figure::{Figure, ROUNDS, Spent, print, tenths};
 use crate::guest::Guest;
 use crate::queue::Queue;
 use mdl_key::Mode;
@@ -12,37 +12,42 @@ use std::thread;
 use std::thread::Threads;
 use std::time::{Clock, Duration, Instant};
 
-/// So many threads, which have a lock in X one after another.
-#[derive(Clone, Copy)]
-pub struct Passing {
-    pub alloc: Global,
-    pub threads: u16,
+/// Times rounds in which so many threads have a lock in X one after another, and prints the least. Where no figures are wanted it makes one,
+/// which shows that it works, and prints nothing.
+pub fn time_passing<R: Threads + Wait + Sync + Clock + Print>(
+    rt: &R,
+    alloc: Global,
+    threads: u16,
+    quick: bool,
+) -> Result<(), Failure> {
+    let mut least = round(rt, alloc, threads)?;
+    if quick {
+        return Ok(());
+    }
+    for _round in 1..ROUNDS {
+        least = least.or_less(round(rt, alloc, threads)?);
+    }
+    let figure = Figure {
+        workload: "shared",
+        name: "threads_pass_on_x",
+        size: threads,
+        calls: 1,
+        answers: 1,
+        beside: "for threads that do nothing",
+    };
+    print(rt, figure, least)
 }
 
-impl<R: Threads + Wait + Sync + Clock> Rounds<R> for Passing {
-    fn figure(&self) -> Figure {
-        Figure {
-            workload: "shared",
-            name: "threads_pass_on_x",
-            size: self.threads,
-            calls: 1,
-            answers: 1,
-            beside: "for threads that do nothing",
-        }
-    }
-
-    fn round(&mut self, rt: &R, turns: u32) -> Result<Spent, Failure> {
-        let mut work = Duration::ZERO;
-        let mut idle = Duration::ZERO;
-        for _turn in 0..turns {
-            work = work.saturating_add(served(rt, self.alloc, self.threads)?);
-            idle = idle.saturating_add(started(rt, self.threads)?);
-        }
-        Ok(Spent {
-            work: tenths(work, u64::from(turns)),
-            idle: tenths(idle, u64::from(turns)),
-        })
-    }
+// What it takes until all have had the lock, and what as many threads take that do nothing.
+fn round<R: Threads + Wait + Sync + Clock>(
+    rt: &R,
+    alloc: Global,
+    threads: u16,
+) -> Result<Spent, Failure> {
+    Ok(Spent {
+        work: tenths(served(rt, alloc, threads)?, 1),
+        idle: tenths(started(rt, threads)?, 1),
+    })
 }
 
 // How long it takes until all have had the lock.
@@ -52,7 +57,8 @@ fn served<R: Threads + Wait + Sync + Clock>(
     waiters: u16,
 ) -> Result<Duration, Failure> {
     let mut queue = Queue::new(rt, alloc, waiters)?;
-    queue.holder.take(queue.place, Mode::X)?;
+    let place = queue.place;
+    queue.holder.take(place, Mode::X)?;
     let served = AtomicU32::new(0);
     let began = Instant::now(rt)?;
     serve_all(rt, queue, &served)?;

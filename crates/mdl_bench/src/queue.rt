@@ -45,9 +45,10 @@ impl<'r, R: Wait> Queue<'r, R> {
 
     /// The holder takes the lock, and all others begin to wait for it in a mode.
     pub fn fill(&mut self, mode: Mode) -> Result<(), Failure> {
-        self.holder.take(self.place, Mode::X)?;
+        let place = self.place;
+        self.holder.take(place, Mode::X)?;
         for waiter in self.waiters.iter_mut() {
-            waiter.wait_for(self.place, mode)?;
+            waiter.wait_for(place, mode)?;
         }
         Ok(())
     }

@@ -4,7 +4,7 @@ use crate::failure::Failure;
 use crate::figure::time_rounds;
 use crate::granting::Granting;
 use crate::links::Links;
-use crate::passing::Passing;
+use crate::passing::time_passing;
 use crate::polling::Polling;
 use crate::unless;
 use std::alloc::Global;
@@ -21,8 +21,8 @@ const GRANTED: [(u16, u32); 2] = [(8, 1_000), (63, 200)];
 // The sessions that wait for one another, and how often in each round a deadlock is looked for.
 const LINKED: [(u16, u32); 3] = [(2, 1_000), (8, 1_000), (63, 500)];
 
-// The threads that have a lock one after another, and how often in each round they do.
-const PASSED: (u16, u32) = (63, 1);
+// The threads that have a lock one after another.
+const THREADS: u16 = 63;
 
 /// Times all of it. Where no figures are wanted it makes one turn of each, which shows that it works, and prints nothing.
 pub fn time_waits<R: Threads + Wait + Sync + Clock + Print>(
@@ -37,8 +37,7 @@ pub fn time_waits<R: Threads + Wait + Sync + Clock + Print>(
     for (waiters, turns) in LINKED {
         time_searches(rt, alloc, waiters, unless(quick, turns))?;
     }
-    let (threads, turns) = PASSED;
-    time_rounds(rt, unless(quick, turns), &mut Passing { alloc, threads })
+    time_passing(rt, alloc, THREADS, quick)
 }
 
 fn time_polls<R: Wait + Clock + Print>(rt: &R, alloc: Global, quick: bool) -> Result<(), Failure> {
