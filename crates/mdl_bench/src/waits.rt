@@ -16,10 +16,10 @@ use std::time::Clock;
 const POLLED: u32 = 100_000;
 
 // The waits that one release grants, and how often in each round that is done.
-const GRANTED: [(u16, u32); 2] = [(8, 1_000), (63, 200)];
+const GRANTED: [(u16, u32); 2] = [(8, 200), (63, 50)];
 
 // The sessions that wait for one another, and how often in each round a deadlock is looked for.
-const LINKED: [(u16, u32); 3] = [(2, 1_000), (8, 1_000), (63, 500)];
+const LINKED: [(u16, u32); 3] = [(2, 100), (8, 100), (63, 50)];
 
 // The threads that have a lock one after another.
 const THREADS: u16 = 63;
