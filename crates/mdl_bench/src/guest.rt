@@ -69,22 +69,8 @@ impl<'r, R: Wait> Guest<'r, R> {
         }
     }
 
-    /// Comes by a lock, and waits for it where it isn't free. Other threads go on meanwhile.
-    pub fn acquire(&mut self, place: Place, mode: Mode) -> Result<(), Failure> {
-        match self.session.begin_wait(place, mode)? {
-            Begun::Granted(id) => {
-                self.ticket = Some(id);
-                Ok(())
-            }
-            Begun::Waiting(_) => {
-                self.wait()?;
-                self.come_by()
-            }
-        }
-    }
-
-    // Waits until its wait is settled.
-    fn wait(&mut self) -> Result<(), Failure> {
+    /// Waits until its wait is settled. Other threads go on meanwhile.
+    pub fn wait(&mut self) -> Result<(), Failure> {
         for _ in self.rt.forever() {
             if !self.is_pending()? {
                 return Ok(());

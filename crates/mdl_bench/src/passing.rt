@@ -38,7 +38,7 @@ pub fn time_passing<R: Threads + Wait + Sync + Clock + Print>(
     print(rt, figure, least)
 }
 
-// What it takes until all have had the lock, and what as many threads take that do nothing.
+// What it takes until all that wait for the lock have had it, and what as many threads take that do nothing.
 fn round<R: Threads + Wait + Sync + Clock>(
     rt: &R,
     alloc: Global,
@@ -50,7 +50,14 @@ fn round<R: Threads + Wait + Sync + Clock>(
     })
 }
 
-// How long it takes until all have had the lock.
+// How many threads wait for the lock or have waited for it, and how many have had it.
+#[derive(Drop)]
+struct Counts {
+    begun: AtomicU32,
+    served: AtomicU32,
+}
+
+// How long it takes from when the lock is given up until all threads have had it.
 fn served<R: Threads + Wait + Sync + Clock>(
     rt: &R,
     alloc: Global,
@@ -59,23 +66,25 @@ fn served<R: Threads + Wait + Sync + Clock>(
     let mut queue = Queue::new(rt, alloc, waiters)?;
     let place = queue.place;
     queue.holder.take(place, Mode::X)?;
-    let served = AtomicU32::new(0);
-    let began = Instant::now(rt)?;
-    serve_all(rt, queue, &served)?;
-    let spent = began.elapsed(rt)?;
-    if served.load(Ordering::SeqCst) == u32::from(waiters) {
+    let counts = Counts {
+        begun: AtomicU32::new(0),
+        served: AtomicU32::new(0),
+    };
+    let spent = serve_all(rt, queue, &counts, waiters)?.elapsed(rt)?;
+    if counts.served.load(Ordering::SeqCst) == u32::from(waiters) {
         Ok(spent)
     } else {
         Err(Failure::Unexpected)
     }
 }
 
-// All are started, and then the lock is given up, for which they wait. Each that has had it is counted.
-fn serve_all<R: Threads + Wait + Sync>(
+// All threads begin to wait for the lock, and then it is given up: when that was. All have had it.
+fn serve_all<R: Threads + Wait + Sync + Clock>(
     rt: &R,
     queue: Queue<'_, R>,
-    served: &AtomicU32,
-) -> Result<(), Failure> {
+    counts: &Counts,
+    threads: u16,
+) -> Result<Instant, Failure> {
     let Queue {
         mut holder,
         waiters,
@@ -83,19 +92,46 @@ fn serve_all<R: Threads + Wait + Sync>(
     } = queue;
     thread::scope(thread::scope_env(), rt, move |scope| {
         for waiter in waiters {
-            if scope.spawn(move || serve(waiter, place, served)).is_err() {
+            if scope.spawn(move || serve(waiter, place, counts)).is_err() {
                 return Err(Failure::Memory);
             }
         }
-        holder.give_up()
+        await_count(rt, &counts.begun, u32::from(threads));
+        let began = Instant::now(rt)?;
+        holder.give_up()?;
+        Ok(began)
     })
 }
 
-// A session has the lock once, and gives it up.
-fn serve<R: Wait>(mut waiter: Guest<'_, R>, place: Place, served: &AtomicU32) {
-    if waiter.acquire(place, Mode::X).is_ok() && waiter.give_up().is_ok() {
-        served.fetch_add(1, Ordering::SeqCst);
+// Waits until so many are counted. Other threads go on meanwhile.
+fn await_count<R: Wait>(rt: &R, count: &AtomicU32, wanted: u32) {
+    for _ in rt.forever() {
+        if count.load(Ordering::SeqCst) == wanted {
+            return;
+        }
+        thread::yield_now();
     }
+}
+
+// A session has the lock once, and is counted then.
+fn serve<R: Wait>(mut waiter: Guest<'_, R>, place: Place, counts: &Counts) {
+    if have_once(&mut waiter, place, &counts.begun).is_ok() {
+        counts.served.fetch_add(1, Ordering::SeqCst);
+    }
+}
+
+// A session waits for the lock, has it, and gives it up. It is counted as soon as it waits, or has failed to.
+fn have_once<R: Wait>(
+    waiter: &mut Guest<'_, R>,
+    place: Place,
+    begun: &AtomicU32,
+) -> Result<(), Failure> {
+    let asked = waiter.wait_for(place, Mode::X);
+    begun.fetch_add(1, Ordering::SeqCst);
+    asked?;
+    waiter.wait()?;
+    waiter.come_by()?;
+    waiter.give_up()
 }
 
 // How long it takes to start so many threads that do nothing, until all are done.
