@@ -16,6 +16,7 @@ pub struct Polling<'r, R: Wait> {
 }
 
 impl<'r, R: Wait> Polling<'r, R> {
+    /// The session waits to read.
     pub fn new(rt: &'r R, alloc: Global) -> Result<Polling<'r, R>, Failure> {
         let mut queue = Queue::new(rt, alloc, 1)?;
         queue.fill(Mode::SR)?;
