@@ -1,4 +1,4 @@
-//! The atomic steps by which a lock of the table that threads share is taken in X and given up, and nothing else.
+//! The atomic steps by which a lock of the table that threads share is taken in X and given up, and by which all its latches are, and nothing else.
 use std::alloc::{AllocError, Global};
 use std::sync::atomic::{AtomicU64, Ordering};
 use std::thread;
@@ -6,9 +6,6 @@ use std::thread::Threads;
 
 // The words of a place, of which the first is its latch and the second its lock's word.
 const A_PLACE: usize = 8;
-
-// As many words as the table has of four places.
-const WORDS: usize = 5 * A_PLACE;
 
 // Both flags of a lock's word.
 const FLAGS: u64 = 3 << 60;
@@ -20,10 +17,10 @@ pub struct Words {
 }
 
 impl Words {
-    /// All of them are 0.
-    pub fn new(alloc: Global) -> Result<Words, AllocError> {
+    /// As many as so many places have. All of them are 0.
+    pub fn new(alloc: Global, places: usize) -> Result<Words, AllocError> {
         let mut all = Vec::new(alloc);
-        for _word in 0..WORDS {
+        for _word in 0..places.saturating_mul(A_PLACE) {
             all.push(AtomicU64::new(0))?;
         }
         Ok(Words { all })
@@ -93,4 +90,18 @@ fn steps_of_two<R: Threads + Sync>(
         move || steps(words, places.1, turns),
     );
     early == turns && late == turns
+}
+
+/// Takes the latches of all places, and puts them again: 1 where all were free.
+pub fn latch_all(words: &Words) -> u64 {
+    let mut free = true;
+    for place in words.all.chunks(A_PLACE) {
+        free &= place.first().is_some_and(take_latch);
+    }
+    for place in words.all.chunks(A_PLACE) {
+        if let Some(latch) = place.first() {
+            latch.store(0, Ordering::SeqCst);
+        }
+    }
+    u64::from(free)
 }

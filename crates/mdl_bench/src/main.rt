@@ -1,5 +1,5 @@
-//! `mdl_bench` times the calls of one lock's book, of a lock space, of a session's context and of sessions on threads, and the search for
-//! deadlocks.
+//! `mdl_bench` times the calls of one lock's book, of a lock space, of a session's context and of sessions on threads, the search for
+//! deadlocks, and waits.
 //!
 //! It prints three lines for each figure: one for a reader, with what the loop around the calls costs alone, and these two for
 //! a program. Each call's answers are added up and held to what they must come to. With the argument `quick` it makes one turn
@@ -12,20 +12,28 @@ mod crowd;
 mod failure;
 mod field;
 mod figure;
+mod granting;
+mod guest;
+mod links;
+mod passing;
+mod polling;
+mod queue;
 mod session;
 mod shared;
 mod table;
 mod tangle;
+mod waits;
 
 use chain::Chain;
 use crowd::{A_TURN, Asking, Finding};
 use failure::Failure;
 use field::Field;
-use figure::{Figure, time};
+use figure::{Figure, LOOPS, time};
 use session::Session;
 use shared::time_sharing;
 use std::process::ExitCode;
 use tangle::{Shape, Tangle};
+use waits::time_waits;
 
 // The tickets of a book, and how often a thousand wishes are asked, or waiters looked for.
 const CROWDS: [u16; 4] = [10, 100, 1_000, 60_000];
@@ -62,9 +70,9 @@ const TANGLED: [(u16, u32); 3] = [(2, 200_000), (8, 50_000), (64, 5_000)];
 
 fn main(rt: HostRuntime) -> ExitCode {
     let outcome = match is_quick(&rt) {
-        Ok(quick) => {
-            time_all(&rt, quick).and_then(|()| time_sharing(&rt, rt.alloc(), unless(quick, SHARED)))
-        }
+        Ok(quick) => time_all(&rt, quick)
+            .and_then(|()| time_sharing(&rt, rt.alloc(), unless(quick, SHARED)))
+            .and_then(|()| time_waits(&rt, rt.alloc(), quick)),
         Err(failure) => Err(failure),
     };
     match outcome {
@@ -120,6 +128,7 @@ fn time_asking(rt: &HostRuntime, turns: Option<u32>, tickets: u16) -> Result<(),
                 size: tickets,
                 calls: u32::from(A_TURN),
                 answers: asking.answers(),
+                beside: LOOPS,
             };
             time(rt, turns, figure, &mut asking)
         }
@@ -134,6 +143,7 @@ fn time_finding(rt: &HostRuntime, turns: Option<u32>, tickets: u16) -> Result<()
         size: tickets,
         calls: u32::from(A_TURN),
         answers: u64::from(A_TURN / 2),
+        beside: LOOPS,
     };
     match Finding::new(rt.alloc(), tickets) {
         Ok(mut finding) => time(rt, turns, figure, &mut finding),
@@ -148,6 +158,7 @@ fn time_chain(rt: &HostRuntime, turns: Option<u32>, waiters: u16) -> Result<(), 
         size: waiters,
         calls: 1,
         answers: u64::from(waiters),
+        beside: LOOPS,
     };
     let mut chain = Chain {
         alloc: rt.alloc(),
@@ -164,6 +175,7 @@ fn once(workload: &'static str, name: &'static str, size: u16) -> Figure {
         size,
         calls: 1,
         answers: 1,
+        beside: LOOPS,
     }
 }
 
@@ -220,6 +232,7 @@ fn time_search(
         size: sessions,
         calls: 1,
         answers: u64::from(shape.victim(sessions)),
+        beside: LOOPS,
     };
     match Tangle::new(rt.alloc(), shape, sessions) {
         Ok(mut tangle) => time(rt, turns, figure, &mut tangle),

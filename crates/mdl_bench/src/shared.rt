@@ -21,6 +21,9 @@ const PLACES: u16 = 256;
 
 const SESSIONS: u16 = 64;
 
+// The places whose words there are for the atomic steps: those that four threads make are at the last four.
+const STEPPED: usize = 5;
+
 // The figures are the least of so many rounds, since other work on the machine can only add to them.
 const ROUNDS: u32 = 20;
 
@@ -129,7 +132,7 @@ fn round_alone<R: Wait + Clock + CpuClock>(
     let start = Start::now(rt)?;
     let taken = takings(rt, &manager, pass, &key, turns);
     let calls = start.cost(rt, 1, turns)?;
-    let words = Words::new(alloc)?;
+    let words = Words::new(alloc, STEPPED)?;
     let start = Start::now(rt)?;
     let made = steps(&words, 1, turns);
     let steps = start.cost(rt, 1, turns)?;
@@ -155,7 +158,7 @@ fn round_of_four<R: Threads + Wait + Sync + Clock + CpuClock>(
     let start = Start::now(rt)?;
     let taken = takings_of_four(rt, &manager, (one, two), (three, four), &keys, turns);
     let calls = start.cost(rt, 4, turns)?;
-    let words = Words::new(alloc)?;
+    let words = Words::new(alloc, STEPPED)?;
     let start = Start::now(rt)?;
     let made = steps_of_four(rt, &words, turns);
     let steps = start.cost(rt, 4, turns)?;

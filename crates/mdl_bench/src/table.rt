@@ -1,4 +1,4 @@
-//! The lock of a table.
+//! Tables, and the lock of one.
 use crate::failure::Failure;
 use mdl_book::Book;
 use mdl_key::Key;
@@ -10,4 +10,10 @@ pub fn new_book(alloc: Global) -> Result<Book, Failure> {
         Ok(key) => Ok(Book::new(alloc, key)),
         Err(_) => Err(Failure::Unmade),
     }
+}
+
+/// The key of one of many tables.
+pub fn table(alloc: Global, index: u16) -> Result<Key, Failure> {
+    let name = format!(in alloc; "t{index}")?;
+    Ok(Key::table(alloc, "test", name.as_str())?)
 }
