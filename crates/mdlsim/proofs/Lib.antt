@@ -1,3 +1,8 @@
 pub mod CommandWords
 pub mod FoundRuns
+pub mod LevelWords
 pub mod LongOptions
+pub mod PatienceFound
+pub mod PatienceReads
+pub mod PatienceWords
+pub mod ScopedWords

@@ -1,11 +1,12 @@
 //! What the command line asks for.
-ghost use Rattle.std.specs.Prelude.{◌≡◌, IfErr, IfOk, Some, codes, drop, map};
-ghost use Rattle.clap.specs.Words.{app_of, found_of, kind_of, one_text};
+ghost use Rattle.std.specs.Prelude.{◌≡◌, ℕ, List, IfErr, IfOk, Some, codes, drop, map};
+ghost use Rattle.clap.specs.Words.{app_of, found_of, kind_of, one_text, without_minus};
 ghost use Rattle.mdl_program.specs.declared.program.Run.{Run};
-ghost use Rattle.mdlsim.specs.CommandLine.{Asks, Finds, mdlsim};
+ghost use Rattle.mdlsim.specs.CommandLine as spec;
+ghost use Rattle.mdlsim.specs.CommandLine.{Asks, Finds, WritesPatience, mdlsim};
 
 use clap::error::ErrorKind;
-use clap::{Arg, ArgAction, ArgMatches, Command, Error};
+use clap::{Arg, ArgAction, ArgMatches, Command, Error, value_parser};
 use mdl_key::Kind;
 pub use mdl_program::Run;
 use std::alloc::{AllocError, Global};
@@ -30,6 +31,7 @@ fn run_found(matches: &ArgMatches) -> Run
         Some(("lock", options)) => Run::Lock(kind_found(options)),
         Some(("matrix", _)) => Run::Matrix,
         Some(("replay", _)) => Run::Replay,
+        Some(("run", options)) => Run::Threads(patience_found(options)),
         _ => unreachable!(),
     }
 }
@@ -43,6 +45,19 @@ fn kind_found(options: &ArgMatches) -> Kind
         Kind::Scoped
     } else {
         Kind::Object
+    }
+}
+
+// The patience that the options of `run` ask for.
+fn patience_found(options: &ArgMatches) -> u32
+    requires { (text : List ℕ) × (patience : ℕ) × WritesPatience text patience
+        × (one_text (found_of options.now) (codes "patience") ≡ Some (without_minus text)) }
+    ensures { (text : List ℕ) → (patience : ℕ) → WritesPatience text patience
+        → (one_text (found_of options.now) (codes "patience") ≡ Some (without_minus text)) → result ≡ patience }
+{
+    match options.get_one("patience") {
+        Some(patience) => patience,
+        None => unreachable!(),
     }
 }
 
@@ -63,11 +78,31 @@ fn program<'a>(alloc: Global) -> Result<Command<'a>, AllocError>
     let replay = Command::new(alloc, "replay").about(
         "Plays a script of statements read from standard input",
     );
+    let run = run_subcommand(alloc)?;
     Command::new(alloc, "mdlsim")
         .subcommand_required(true)
         .subcommand(lock)?
         .subcommand(matrix)?
-        .subcommand(replay)
+        .subcommand(replay)?
+        .subcommand(run)
+}
+
+// The subcommand `run`, with its option.
+fn run_subcommand<'a>(alloc: Global) -> Result<Command<'a>, AllocError>
+    ensures { IfOk result (λ c. app_of c ≡ spec.run_subcommand) }
+{
+    let patience = Arg::new(alloc, "patience")
+        .long("patience")
+        .value_name("N")
+        .action(ArgAction::Set)
+        .value_parser(value_parser!(u32))
+        .default_value("1000000")
+        .help("How often a statement that waits looks again before it times out");
+    Command::new(alloc, "run")
+        .about(
+            "Plays a script of statements read from standard input, each session on a thread of its own",
+        )
+        .arg(patience)
 }
 
 #[cfg(test)]
