@@ -43,7 +43,7 @@ top_passes (x ∷ xs) seen = top_passes xs (seen ++ x ∷ [])
 pub threads_words : (words : List Text) (n : ℕ) → Asks words (Threads n)
     → (options : List Text) × (end : List Text) × AskForPatience n options × IsEnd end × (words ≡ run ∷ (options ++ end))
 threads_words words n (inl (options, is, asks)) = (options, [], asks, inl refl, is ∙ ap (λ xs. run ∷ xs) (sym (append-nil options)))
-threads_words words n (inr (front, closes, options, is, asks)) = (options, dash ∷ [], asks, inr refl, closes ∙ ap (λ xs. xs ++ dash ∷ []) is)
+threads_words words n (inr (front, closes, (options, is, asks))) = (options, dash ∷ [], asks, inr refl, closes ∙ ap (λ xs. xs ++ dash ∷ []) is)
 
 -- ---- what is taken
 
@@ -148,10 +148,12 @@ replay_first rest e = plain_first Replay replay rest refl (plain_asks replay res
 
 run_first : (rest : List Text) → built_fault (built mdlsim) nothing_held (run ∷ rest) ≡ [] → (run : Run) × Asks (codes "run" ∷ rest) run
 unfolding walked
-run_first rest e = elim (run_asks rest (below run rest refl e)) [
-  | (n, inl asks) ↦ (Threads n, inl (rest, refl, asks))
-  | (n, inr (front, closes, asks)) ↦ (Threads n, inr (run ∷ front, ap (λ xs. run ∷ xs) closes, front, refl, asks))
-]
+run_first rest e =
+    let (n, asks) = run_asks rest (below run rest refl e) in
+    elim asks [
+      | inl open ↦ (Threads n, inl (rest, refl, open))
+      | inr closed ↦ (Threads n, inr (run ∷ closed.0, ap (λ xs. run ∷ xs) closed.1, (closed.0, refl, closed.2)))
+    ]
 
 asks_from : (words : List Text) → built_fault (built mdlsim) nothing_held words ≡ [] → (run : Run) × Asks words run
 unfolding walk_fault defaults_fault

@@ -66,7 +66,8 @@ module _ (rules : List Rule) (short : (x : ℕ) → arg_by_short rules x ≡ hel
   pub bundle_refused : (x : ℕ) (xs : Text) (c : ℕ) → slice_get (chars (x ∷ xs)) 0 ≡ Some c → bundle_fault rules false (x ∷ xs) now ≡ [] → ⊥
   unfolding flags_fault
   bundle_refused x xs c is e =
-      short_refused (104 == c) _ _ (rw (short c) at subst (λ o. bundle_step_fault rules false o (x ∷ xs) 0 now (flags_fault rules false (length xs)) ≡ []) is e)
+      let met = subst {A = Option ℕ} (λ o. bundle_step_fault rules false o (x ∷ xs) 0 now (flags_fault rules false (length xs)) ≡ []) is e in
+      short_refused (104 == c) _ _ (rw (short c) at met)
 
   bundle_plain : (flags : Text) → bundle_fault rules false flags now ≡ [] → bundle rules flags now ≡ (now, plain)
   unfolding flags_fault bundle_met

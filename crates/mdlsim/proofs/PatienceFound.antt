@@ -7,13 +7,13 @@ use Rattle.std.specs.Str.{bytes_eq}
 use Rattle.std.specs.Str.Parse.{starts_with_minus}
 use Rattle.clap.specs.Lexer.{long_of, long_of_rest, short_of, short_of_rest, strip_byte, without_minus}
 use Rattle.clap.specs.ValueTests.{accepts}
-use Rattle.clap.specs.Walk.{Held, Step, Text, Walk, finished, idle, long_or_other, nothing_held, one_of, option, plain_word, rows_after, short_or_plain, trailing, walked}
+use Rattle.clap.specs.Walk.{Held, Text, Walk, finished, idle, nothing_held, one_of, option, rows_after, short_or_plain, walked}
 use Rattle.clap.specs.Takes.{bundle_passes, default_passes, flag_word_passes, is_valid, level_passes, settle_passes, step_passes, turn_passes, walk_passes}
 use Rattle.clap.proofs.OnLiterals.{clap_on_literals}
 use Rattle.clap.proofs.ValueTestLemmas.{Accepts-accepts, accepts-Accepts}
 use Rattle.mdlsim.specs.CommandLine.{AskForPatience, WritesPatience}
 use Rattle.mdlsim.proofs.LevelWords.{IsEnd, dash, held, start}
-use Rattle.mdlsim.proofs.PatienceWords.{at, flags, given, has, number, patience, patience_word, run_level, taken_up}
+use Rattle.mdlsim.proofs.PatienceWords.{at, flags, given, has, met_by, number, patience, patience_word, run_level, taken_up}
 
 -- what is held at the end of the words passes
 abbrev ends_well : Held → Bool
@@ -51,12 +51,10 @@ text_walked t e = taken_up [] t (no_dash t e) (no_long t e) (ap (λ o. short_or_
 
 text_passes : (t : Text) → starts_with_minus t ≡ false → turn_passes run_level [] waits t ≡ true
 text_passes t e =
-    ap₂ (λ b o. (b || flag_word_passes flags false o t waits.held) && step_passes run_level 1 (met b o).0 (met b o).1) (no_dash t e) (no_long t e)
+    ap₂ (λ b o. (b || flag_word_passes flags false o t waits.held) && step_passes run_level 1 (met_by waits.held t b o).0 (met_by waits.held t b o).1)
+    (no_dash t e) (no_long t e)
     ∙ ap (λ o. option_map_or (λ f. bundle_passes flags false f waits.held) o true
     && step_passes run_level 1 (short_or_plain flags (option patience) t o waits.held).0 (short_or_plain flags (option patience) t o waits.held).1) (no_short t e)
-  where
-    abbrev met : Bool → Option (Text × Option Text) → Held × Step
-    met b o = if b then (waits.held, trailing 1) else long_or_other flags (option patience) t o waits.held
 
 -- ---- the words behind `run`
 
@@ -71,20 +69,20 @@ usual_found end (inr dashed) = (ap (λ words. level_passes run_level [] nothing_
 
 one_word_found : (t : Text) (end : List Text) → accepts false number t ≡ true → IsEnd end → IsFound t ((codes "--patience=" ++ t) ∷ end)
 unfolding clap_on_literals
-one_word_found t end accepts (inl none) = rw none (rw accepts refl, refl)
-one_word_found t end accepts (inr dashed) = rw dashed (rw accepts refl, refl)
+one_word_found t end fits (inl none) = rw none (rw fits refl, refl)
+one_word_found t end fits (inr dashed) = rw dashed (rw fits refl, refl)
 
 two_words_found : (t : Text) (end : List Text) → accepts false number t ≡ true → starts_with_minus t ≡ false → IsEnd end → IsFound t (patience_word ∷ t ∷ end)
 unfolding clap_on_literals
-two_words_found t end accepts minus (inl none) =
+two_words_found t end fits minus (inl none) =
     let is : fold (walked flags []) start (patience_word ∷ t ∷ end) ≡ filled_with t = rw none (text_walked t minus) in
-    (level_from (patience_word ∷ t ∷ end) (filled_with t) (rw none (ap (λ b. b && true) (text_passes t minus))) is (rw accepts refl),
+    (level_from (patience_word ∷ t ∷ end) (filled_with t) (rw none (ap (λ b. b && true) (text_passes t minus))) is (rw fits refl),
     ap (λ (w : Walk). one_of patience (finished flags w.held)) is)
-two_words_found t end accepts minus (inr dashed) =
+two_words_found t end fits minus (inr dashed) =
     let closed = record (filled_with t) { is_trailing = true } in
     let is : fold (walked flags []) start (patience_word ∷ t ∷ end) ≡ closed = rw dashed (ap (λ w. walked flags [] w dash) (text_walked t minus)) in
     (level_from (patience_word ∷ t ∷ end) closed
-    (rw dashed (ap₂ (λ b w. b && (turn_passes run_level [] w dash && true)) (text_passes t minus) (text_walked t minus))) is (rw accepts refl),
+    (rw dashed (ap₂ (λ b w. b && (turn_passes run_level [] w dash && true)) (text_passes t minus) (text_walked t minus))) is (rw fits refl),
     ap (λ (w : Walk). one_of patience (finished flags w.held)) is)
 
 pub patience_found : (n : ℕ) (options end : List Text) → AskForPatience n options → IsEnd end

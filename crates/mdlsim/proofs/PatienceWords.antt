@@ -150,20 +150,20 @@ late_text t u (w ∷ rest) e = elim (idle_turn (given t) (has (u ∷ [])) w (beh
   | inr (None, is, free) ↦ refuses _ _ free
 ]
 
+-- what a word is where `--patience` waits for its text, from whether it is `--`, and its name where it is a long option
+abbrev pub met_by : Held → Text → Bool → Option (Text × Option Text) → Held × Step
+met_by h w b o = if b then (h, trailing 1) else long_or_other flags (option patience) w o h
+
 -- a word that is no flag is the text that `--patience` waits for
 pub taken_up : (rows : List Row) (w : Text) → bytes_eq w dash ≡ false → long_of w ≡ None
     → short_or_plain flags (option patience) w (short_of w) (held rows (has [])) ≡ plain_word flags (option patience) w (held rows (has []))
     → walked flags [] (at rows (has []) (option patience)) w ≡ at rows (has (w ∷ [])) idle
 unfolding walked
 taken_up rows w no_dash no_long plain =
-    ap₂ (λ b o. after_step flags w now (met b o).0 (met b o).1) no_dash no_long
-    ∙ ap (λ (p : Held × Step). after_step flags w now p.0 p.1) plain
-  where
-    abbrev now : Walk
-    now = at rows (has []) (option patience)
-
-    abbrev met : Bool → Option (Text × Option Text) → Held × Step
-    met b o = if b then (now.held, trailing 1) else long_or_other flags (option patience) w o now.held
+    let now = held rows (has []) in
+    let walk = at rows (has []) (option patience) in
+    ap₂ (λ b o. after_step flags w walk (met_by now w b o).0 (met_by now w b o).1) no_dash no_long
+    ∙ ap (λ (p : Held × Step). after_step flags w walk p.0 p.1) plain
 
 late : (t : Text) (rest : List Text) → faults (at (given t) (has []) (option patience)) rest ≡ [] → ⊥
 unfolding walk_fault
@@ -198,29 +198,29 @@ first_char y ys digit = let low : nat_lt y 128 ≡ true = lt-ltb y 128 (omega (a
 -- a number behind a `-` is taken for short options, which `run` has not
 minus_refused : (rows : List Row) (pending : Option (Text × List Text)) (xs : Text) → accepts false number (45 ∷ xs) ≡ true
     → option_map_or (λ flags_of. bundle_fault flags false flags_of (held rows pending)) (short_of (45 ∷ xs)) [] ≡ [] → ⊥
-minus_refused rows pending [] accepts e = cc
-minus_refused rows pending (y ∷ ys) accepts e =
-    let digit = (accepts-Accepts false number (45 ∷ y ∷ ys) accepts).0.1.0 in
+minus_refused rows pending [] fits e = cc
+minus_refused rows pending (y ∷ ys) fits e =
+    let digit = (accepts-Accepts false number (45 ∷ y ∷ ys) fits).0.1.0 in
     let no_hyphen : (y == 45) ≡ false = ne_eqb _ _ (λ is. omega (arith, digit_from_value y digit)) in
     bundle_refused flags (λ x. refl) rows pending y ys y (first_char y ys digit) (rw no_hyphen at e)
 
 no_minus : (t : Text) → accepts false number t ≡ true → IsPlain (held [] (has [])) (option patience) t → starts_with_minus t ≡ false
-no_minus [] accepts plain = refl
-no_minus (x ∷ xs) accepts plain = go (x == 45) refl
+no_minus [] fits plain = refl
+no_minus (x ∷ xs) fits plain = go (x == 45) refl
   where
     go : (b : Bool) → (x == 45) ≡ b → b ≡ false
     go false is = refl
     go true is =
         let hyphen = (Decides-eqb x 45).0 is in
-        absurd (minus_refused [] (has []) xs (subst (λ y. accepts false number (y ∷ xs) ≡ true) hyphen accepts)
+        absurd (minus_refused [] (has []) xs (subst (λ y. accepts false number (y ∷ xs) ≡ true) hyphen fits)
         (subst (λ y. option_map_or (λ flags_of. bundle_fault flags false flags_of (held [] (has []))) (short_of (y ∷ xs)) [] ≡ []) hyphen plain.2))
 
 -- such a text writes a number
 written : (t : Text) → accepts false number t ≡ true → (n : ℕ) × WritesPatience t n
-written t accepts =
-    let takes = accepts-Accepts false number t accepts in
+written t fits =
+    let takes = accepts-Accepts false number t fits in
     let n = number_of (signed_digits_value 10 t) takes.2 in
-    (n.0, takes, n.1)
+    (n.0, (takes, n.1))
   where
     number_of : (z : ℤ) → pos 0 ≤ℤ z → (n : ℕ) × (z ≡ pos n)
     number_of (pos n) le = (n, refl)
@@ -276,8 +276,8 @@ abbrev pub AskForSome : List Text → Type 0
 AskForSome words = (n : ℕ) × (AskForPatience n words ⊎ ((front : List Text) × (words ≡ front ++ dash ∷ []) × AskForPatience n front))
 
 text_asks : (t : Text) (words front rest : List Text) → words ≡ front ++ rest → accepts false number t ≡ true → GivePatience t front → IsEnd rest → AskForSome words
-text_asks t words front rest is accepts gives end =
-    let n = written t accepts in
+text_asks t words front rest is fits gives end =
+    let n = written t fits in
     elim end [
       | inl none ↦ (n.0, inl (subst (AskForPatience n.0) (sym (is ∙ ap (λ xs. front ++ xs) none ∙ append-nil front)) (inr (t, n.1, gives))))
       | inr dashed ↦ (n.0, inr (front, is ∙ ap (λ xs. front ++ xs) dashed, inr (t, n.1, gives)))
@@ -296,8 +296,8 @@ words_ask (w ∷ rest) e =
           (one_word t rest (subst (λ x. faults (walked flags [] start x) rest ≡ []) spelt next.1))
       | inr (None, is, free) ↦
           let spelt = spelled w patience is in
-          let (t, more, then, accepts, minus, end) = second_word rest (subst (λ x. faults (walked flags [] start x) rest ≡ []) spelt next.1) in
-          text_asks t (w ∷ rest) (w ∷ t ∷ []) more (ap (λ xs. w ∷ xs) then) accepts (inr (ap (λ x. x ∷ t ∷ []) spelt, minus)) end
+          let (t, more, words_are, fits, minus, end) = second_word rest (subst (λ x. faults (walked flags [] start x) rest ≡ []) spelt next.1) in
+          text_asks t (w ∷ rest) (w ∷ t ∷ []) more (ap (λ xs. w ∷ xs) words_are) fits (inr (ap (λ x. x ∷ t ∷ []) spelt, minus)) end
     ]
 
 pub run_asks : (words : List Text) → level_fault run_level [] nothing_held words false [] ≡ [] → AskForSome words

@@ -65,26 +65,31 @@ fn patience_found(options: &ArgMatches) -> u32
 fn program<'a>(alloc: Global) -> Result<Command<'a>, AllocError>
     ensures { IfOk result (λ c. app_of c ≡ mdlsim) }
 {
-    let scoped = Arg::new(alloc, "scoped")
-        .long("scoped")
-        .action(ArgAction::SetTrue)
-        .help("Drives a scoped lock instead of an object lock");
-    let lock = Command::new(alloc, "lock")
-        .about("Drives one lock by a script read from standard input")
-        .arg(scoped)?;
     let matrix = Command::new(alloc, "matrix").about(
         "Prints which modes clash, and which wait behind which",
     );
     let replay = Command::new(alloc, "replay").about(
         "Plays a script of statements read from standard input",
     );
-    let run = run_subcommand(alloc)?;
     Command::new(alloc, "mdlsim")
         .subcommand_required(true)
-        .subcommand(lock)?
+        .subcommand(lock_subcommand(alloc)?)?
         .subcommand(matrix)?
         .subcommand(replay)?
-        .subcommand(run)
+        .subcommand(run_subcommand(alloc)?)
+}
+
+// The subcommand `lock`, with its flag.
+fn lock_subcommand<'a>(alloc: Global) -> Result<Command<'a>, AllocError>
+    ensures { IfOk result (λ c. app_of c ≡ spec.lock_subcommand) }
+{
+    let scoped = Arg::new(alloc, "scoped")
+        .long("scoped")
+        .action(ArgAction::SetTrue)
+        .help("Drives a scoped lock instead of an object lock");
+    Command::new(alloc, "lock")
+        .about("Drives one lock by a script read from standard input")
+        .arg(scoped)
 }
 
 // The subcommand `run`, with its option.
