@@ -151,7 +151,7 @@ unfolding walked
 run_first rest e =
     let (n, asks) = run_asks rest (below run rest refl e) in
     elim asks [
-      | inl open ↦ (Threads n, inl (rest, refl, open))
+      | inl asked ↦ (Threads n, inl (rest, refl, asked))
       | inr closed ↦ (Threads n, inr (run ∷ closed.0, ap (λ xs. run ∷ xs) closed.1, (closed.0, refl, closed.2)))
     ]
 
