@@ -59,8 +59,8 @@ mdlsim run --patience 1x => invalid value '1x' for '--patience <N>': invalid dig
 mdlsim run --patience - => invalid value '-' for '--patience <N>': invalid digit found in string
 mdlsim run --patience=+ => invalid value '+' for '--patience <N>': invalid digit found in string
 mdlsim run --patience=1=1 => invalid value '1=1' for '--patience <N>': invalid digit found in string
-mdlsim run --patience= => a value is required for '--patience <N>' but none was supplied
-mdlsim run --patience  => a value is required for '--patience <N>' but none was supplied
+mdlsim run --patience= => invalid value '' for '--patience <N>': cannot parse integer from empty string
+mdlsim run --patience  => invalid value '' for '--patience <N>': cannot parse integer from empty string
 mdlsim run --patience => a value is required for '--patience <N>' but none was supplied
 mdlsim run --patience -- => a value is required for '--patience <N>' but none was supplied
 mdlsim run --patience -- 1 => unexpected argument '1'
