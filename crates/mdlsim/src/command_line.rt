@@ -55,7 +55,7 @@ fn patience_found(options: &ArgMatches) -> u32
     ensures { (text : List ℕ) → (patience : ℕ) → WritesPatience text patience
         → (one_text (found_of options.now) (codes "patience") ≡ Some (without_minus text)) → result ≡ patience }
 {
-    match options.get_one("patience") {
+    match options.get_one::<u32>("patience") {
         Some(patience) => patience,
         None => unreachable!(),
     }
