@@ -3,6 +3,5 @@ pub mod FoundRuns
 pub mod LevelWords
 pub mod LongOptions
 pub mod PatienceFound
-pub mod PatienceReads
 pub mod PatienceWords
 pub mod ScopedWords
