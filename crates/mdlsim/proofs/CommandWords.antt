@@ -6,7 +6,7 @@ use Rattle.std.specs.Str.{bytes_eq}
 use Rattle.std.proofs.lemmas.List.{append-nil}
 use Rattle.std.proofs.lemmas.Slice.Eq.{bytes_eq-Decides}
 use Rattle.clap.specs.Kinds.{or_else}
-use Rattle.clap.specs.Walk.{Names, Row, Text, Walk, finished, idle, nothing_held, rows_after, stop_after, subcommand_or_other, walk, walked}
+use Rattle.clap.specs.Walk.{Names, Text, Walk, finished, idle, nothing_held, rows_after, subcommand_or_other, walk, walked}
 use Rattle.clap.specs.Simple.{App, built, entered, subcommand_of}
 use Rattle.clap.specs.Takes.{default_passes, entered_passes, is_valid, level_passes, settle_passes, takes, walk_passes}
 use Rattle.clap.specs.Faults.{defaults_fault, built_fault, entered_fault, fault_of, is_simple_and_free, other_fault, step_fault, turn_fault, walk_fault}

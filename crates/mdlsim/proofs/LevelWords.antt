@@ -1,5 +1,5 @@
 -- Which words a level of `mdlsim` takes, whose one short option is `-h`, by clap's account of a parse.
-use Rattle.std.proofs.Common.{◌≡◌, ◌∙◌, ◌⊎◌, ◌||◌, inl, inr, ap, refl, subst, ◌==◌, ap₂, codes, true, false, Bool, ℕ, List, [], ◌∷◌, Option, Some, None, length, if◌then◌else◌}
+use Rattle.std.proofs.Common.{◌≡◌, ◌⊎◌, ◌||◌, inl, inr, ap, refl, subst, ◌==◌, ap₂, codes, true, false, Bool, ℕ, List, [], ◌∷◌, Option, Some, None, length, if◌then◌else◌}
 use Rattle.std.specs.Prelude.{slice_get}
 use Rattle.std.specs.Option.{option_map_or}
 use Rattle.std.specs.Str.{bytes_eq, chars}

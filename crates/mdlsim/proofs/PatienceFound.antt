@@ -1,5 +1,5 @@
 -- Words that ask for a patience are taken, and it is found in them.
-use Rattle.std.proofs.Common.{◌≡◌, ◌∙◌, ◌&&◌, ◌||◌, ◌==◌, inl, inr, ap, refl, ap₂, codes, true, false, Bool, ℕ, List, [], ◌∷◌, ◌++◌, Option, Some, None, if◌then◌else◌}
+use Rattle.std.proofs.Common.{◌≡◌, ◌∙◌, ◌&&◌, ◌||◌, inl, inr, ap, refl, ap₂, codes, true, false, Bool, ℕ, List, [], ◌∷◌, ◌++◌, Some, None}
 use Rattle.std.specs.Prelude.{fold, option_and_then}
 use Rattle.std.specs.List.{list_all}
 use Rattle.std.specs.Option.{option_map_or}
@@ -12,8 +12,8 @@ use Rattle.clap.specs.Takes.{bundle_passes, default_passes, flag_word_passes, is
 use Rattle.clap.proofs.OnLiterals.{clap_on_literals}
 use Rattle.clap.proofs.ValueTestLemmas.{Accepts-accepts, accepts-Accepts}
 use Rattle.mdlsim.specs.CommandLine.{AskForPatience, WritesPatience}
-use Rattle.mdlsim.proofs.LevelWords.{IsEnd, dash, held, start}
-use Rattle.mdlsim.proofs.PatienceWords.{at, flags, given, has, met_by, number, patience, patience_word, run_level, taken_up}
+use Rattle.mdlsim.proofs.LevelWords.{IsEnd, dash, start}
+use Rattle.mdlsim.proofs.PatienceWords.{at, flags, has, met_by, number, patience, patience_word, run_level, taken_up}
 
 -- what is held at the end of the words passes
 abbrev ends_well : Held → Bool

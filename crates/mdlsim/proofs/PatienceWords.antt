@@ -1,5 +1,5 @@
 -- Which words `mdlsim run` takes, by clap's account of a parse.
-use Rattle.std.proofs.Common.{arith, ◌<◌, ◌≡◌, ◌∙◌, ◌⊎◌, ◌||◌, ◌&&◌, ◌==◌, inl, inr, ap, refl, sym, subst, ap₂, codes, true, false, Bool, ℕ, ℤ, pos, negsuc, List, [], ◌∷◌, ◌++◌, Option, Some, None, map, length, if◌then◌else◌}
+use Rattle.std.proofs.Common.{arith, ◌<◌, ◌≡◌, ◌∙◌, ◌⊎◌, ◌||◌, ◌==◌, inl, inr, ap, refl, sym, subst, ap₂, codes, true, false, Bool, ℕ, ℤ, pos, negsuc, List, [], ◌∷◌, ◌++◌, Option, Some, None, map, if◌then◌else◌}
 use Rattle.std.specs.Prelude.{◌≤ℤ◌, fold, nat_lt, slice_get}
 use Rattle.std.specs.Option.{option_map_or}
 use Rattle.std.specs.Char.{digit_value}
@@ -16,7 +16,7 @@ use Rattle.clap.specs.Kinds.{Kinds, or_else, value_kinds}
 use Rattle.clap.specs.ValueTests.{accepts}
 use Rattle.clap.specs.Walk.{Held, Row, Rule, Step, Text, Waiting, Walk, after_step, idle, long_or_other, nothing_held, option, plain_word, positional, short_or_plain, trailing, used, walked}
 use Rattle.clap.specs.Simple.{Shape, filled}
-use Rattle.clap.specs.Faults.{bundle_fault, flag_word_fault, flags_fault, level_fault, long_fault, option_fault, settle_fault, step_fault, turn_fault, walk_fault}
+use Rattle.clap.specs.Faults.{bundle_fault, flag_word_fault, level_fault, long_fault, option_fault, settle_fault, step_fault, turn_fault, walk_fault}
 use Rattle.clap.specs.declared.builder.value_parser.ValueParser.{ValueParser}
 use Rattle.clap.specs.declared.builder.value_parser.ValueParser.TheVariants.{Signed}
 use Rattle.clap.specs.declared.error.kind.ErrorKind.TheVariants as kind
