@@ -114,9 +114,16 @@ pub is_threads : (run : Run) (m options : ArgMatches) → Finds run m → Some r
 is_threads (Threads n) m options (words, asked, is) name rows =
     let (front, end, asks, ends, spelt) = threads_words words n asked in
     let (t, writes, found) = patience_found n front end asks ends in
-    let entered = ap (λ w. rows_by w) spelt ∙ ap (option_map (λ (p : Text × List Row). p.1)) (run_entered (front ++ end)) in
-    (n, (t, writes, one_text-rows (found_of options) patience
-    ∙ ap (option_and_then (one_of patience)) (rows ∙ ap (option_map (λ (p : Text × List Row). p.1)) is ∙ entered) ∙ found.1), refl)
+    let entered = ap (λ w. rows_by w) spelt ∙ ap (option_map (λ (p : Text × List Row). p.1)) (run_entered (front ++ end)) in (
+      n,
+      (
+        t,
+        writes,
+        one_text-rows (found_of options) patience
+            ∙ ap (option_and_then (one_of patience)) (rows ∙ ap (option_map (λ (p : Text × List Row). p.1)) is ∙ entered) ∙ found.1,
+      ),
+      refl,
+    )
 is_threads (Lock kind) m options finds name rows = absurd (other (name ∙ named (Lock kind) m finds))
   where
     other : Some run_name ≡ Some lock → ⊥

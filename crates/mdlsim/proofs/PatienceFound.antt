@@ -75,15 +75,17 @@ one_word_found t end fits (inr dashed) = rw dashed (rw fits refl, refl)
 two_words_found : (t : Text) (end : List Text) → accepts false number t ≡ true → starts_with_minus t ≡ false → IsEnd end → IsFound t (patience_word ∷ t ∷ end)
 unfolding clap_on_literals
 two_words_found t end fits minus (inl none) =
-    let is : fold (walked flags []) start (patience_word ∷ t ∷ end) ≡ filled_with t = rw none (text_walked t minus) in
-    (level_from (patience_word ∷ t ∷ end) (filled_with t) (rw none (ap (λ b. b && true) (text_passes t minus))) is (rw fits refl),
-    ap (λ (w : Walk). one_of patience (finished flags w.held)) is)
+    let is : fold (walked flags []) start (patience_word ∷ t ∷ end) ≡ filled_with t = rw none (text_walked t minus) in (
+      level_from (patience_word ∷ t ∷ end) (filled_with t) (rw none (ap (λ b. b && true) (text_passes t minus))) is (rw fits refl),
+      ap (λ (w : Walk). one_of patience (finished flags w.held)) is,
+    )
 two_words_found t end fits minus (inr dashed) =
     let closed = record (filled_with t) { is_trailing = true } in
-    let is : fold (walked flags []) start (patience_word ∷ t ∷ end) ≡ closed = rw dashed (ap (λ w. walked flags [] w dash) (text_walked t minus)) in
-    (level_from (patience_word ∷ t ∷ end) closed
-    (rw dashed (ap₂ (λ b w. b && (turn_passes run_level [] w dash && true)) (text_passes t minus) (text_walked t minus))) is (rw fits refl),
-    ap (λ (w : Walk). one_of patience (finished flags w.held)) is)
+    let is : fold (walked flags []) start (patience_word ∷ t ∷ end) ≡ closed = rw dashed (ap (λ w. walked flags [] w dash) (text_walked t minus)) in (
+      level_from (patience_word ∷ t ∷ end) closed
+          (rw dashed (ap₂ (λ b w. b && (turn_passes run_level [] w dash && true)) (text_passes t minus) (text_walked t minus))) is (rw fits refl),
+      ap (λ (w : Walk). one_of patience (finished flags w.held)) is,
+    )
 
 pub patience_found : (n : ℕ) (options end : List Text) → AskForPatience n options → IsEnd end
     → (t : Text) × WritesPatience t n × IsFound t (options ++ end)

@@ -119,7 +119,11 @@ fn takes_what_asks_for_a_run(rt: HostRuntime) -> Result<(), Fail> {
 fn takes_the_patience_that_is_given(rt: HostRuntime) -> Result<(), Fail> {
     for (row, patience) in PATIENCES {
         let words: Vec<&str> = row.split(' ').collect(rt.alloc())?;
-        assert_eq!(rt; command(rt.alloc(), words.as_slice())?, Run::Threads(patience), "{row}");
+        assert_eq!(rt;
+            command(rt.alloc(), words.as_slice())?,
+            Run::Threads(patience),
+            "{row}"
+        );
     }
     Ok(())
 }
