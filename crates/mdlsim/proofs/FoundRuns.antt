@@ -3,7 +3,6 @@ use Rattle.std.proofs.Common.{◌≡◌, ◌∙◌, ◌⊎◌, inl, inr, ap, ref
 use Rattle.std.specs.Prelude.{Box, option_and_then, unwrap_or}
 use Rattle.std.specs.Box.{box_value}
 use Rattle.std.specs.Str.{bytes_eq}
-use Rattle.clap.specs.Lexer.{without_minus}
 use Rattle.clap.specs.Walk.{Row, Text, one_of, rows_of}
 use Rattle.clap.specs.Simple.{App, HasMatchesOf, is_simple, subcommand_of, subcommand_rows}
 use Rattle.clap.specs.Matches.{found_of, one_text, subcommand_name_of}
@@ -14,7 +13,7 @@ use Rattle.mdl_key.specs.declared.namespace.Kind.{Kind}
 use Rattle.mdl_key.specs.declared.namespace.Kind.TheVariants.{Scoped, Object}
 use Rattle.mdl_program.specs.declared.program.Run.{Run}
 use Rattle.mdl_program.specs.declared.program.Run.TheVariants.{Lock, Matrix, Replay, Threads}
-use Rattle.mdlsim.specs.CommandLine.{Asks, Finds, WritesPatience, mdlsim}
+use Rattle.mdlsim.specs.CommandLine.{Asks, Finds, HasPatience, mdlsim}
 use Rattle.clap.proofs.OnLiterals.{clap_on_literals}
 use Rattle.clap.proofs.WalkLemmas.{one_text-rows}
 use Rattle.mdlsim.proofs.CommandWords.{matrix, replay, run_entered, threads_words}
@@ -105,12 +104,8 @@ is_lock (Threads n) m options kind finds name rows scoped object = absurd (other
     other : Some lock ≡ Some run_name → ⊥
     other e = cc
 
--- the patience that the options of `run` say
-abbrev pub SaysPatience : ArgMatches → ℕ → Type 0
-SaysPatience options n = (t : Text) × WritesPatience t n × (one_text (found_of options) patience ≡ Some (without_minus t))
-
 pub is_threads : (run : Run) (m options : ArgMatches) → Finds run m → Some run_name ≡ subcommand_name_of m → AreOptionsOf m options
-    → (n : ℕ) × SaysPatience options n × (run ≡ Threads n)
+    → (n : ℕ) × HasPatience options n × (run ≡ Threads n)
 is_threads (Threads n) m options (words, asked, is) name rows =
     let (front, end, asks, ends, spelt) = threads_words words n asked in
     let (t, writes, found) = patience_found n front end asks ends in

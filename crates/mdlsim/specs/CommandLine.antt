@@ -1,6 +1,8 @@
 -- What the words of a command line ask for.
 use Rattle.std.specs.Prelude.{◌≡◌, ◌⊎◌, ◌++◌, ℕ, pos, List, [], ◌∷◌, Some, codes, true, false}
 use Rattle.std.specs.Str.Parse.{signed_digits_value, starts_with_minus}
+use Rattle.clap.specs.Lexer.{without_minus}
+use Rattle.clap.specs.Matches.{found_of, one_text}
 use Rattle.clap.specs.Values.{IsSignedIn}
 use Rattle.clap.specs.Walk.{Rule}
 use Rattle.clap.specs.Simple.{App, new_app, new_rule, new_shape, on_top, subcommand_of, subcommand_rows_of, with_rule, with_subcommand}
@@ -73,3 +75,7 @@ mdlsim = with_subcommand with_scripts run_subcommand.top
 -- these are the matches of words that ask for this run
 abbrev pub Finds : Run → ArgMatches → Type 0
 Finds run matches = (words : List (List ℕ)) × Asks words run × (subcommand_rows_of matches ≡ subcommand_of mdlsim (codes "mdlsim" ∷ words))
+
+-- what was found of the options of `run` is this patience; of a text behind a `-`, what follows it is found
+abbrev pub HasPatience : ArgMatches → ℕ → Type 0
+HasPatience options patience = (text : List ℕ) × WritesPatience text patience × (one_text (found_of options) (codes "patience") ≡ Some (without_minus text))

@@ -1,9 +1,9 @@
 //! What the command line asks for.
-ghost use Rattle.std.specs.Prelude.{◌≡◌, ℕ, List, IfErr, IfOk, Some, codes, drop, map};
-ghost use Rattle.clap.specs.Words.{app_of, found_of, kind_of, one_text, without_minus};
+ghost use Rattle.std.specs.Prelude.{◌≡◌, ℕ, IfErr, IfOk, Some, codes, drop, map};
+ghost use Rattle.clap.specs.Words.{app_of, found_of, kind_of, one_text};
 ghost use Rattle.mdl_program.specs.declared.program.Run.{Run};
 ghost use Rattle.mdlsim.specs.CommandLine as spec;
-ghost use Rattle.mdlsim.specs.CommandLine.{Asks, Finds, WritesPatience, mdlsim};
+ghost use Rattle.mdlsim.specs.CommandLine.{Asks, Finds, HasPatience, mdlsim};
 
 use clap::error::ErrorKind;
 use clap::{Arg, ArgAction, ArgMatches, Command, Error, value_parser};
@@ -50,10 +50,8 @@ fn kind_found(options: &ArgMatches) -> Kind
 
 // The patience that the options of `run` ask for.
 fn patience_found(options: &ArgMatches) -> u32
-    requires { (text : List ℕ) × (patience : ℕ) × WritesPatience text patience
-        × (one_text (found_of options.now) (codes "patience") ≡ Some (without_minus text)) }
-    ensures { (text : List ℕ) → (patience : ℕ) → WritesPatience text patience
-        → (one_text (found_of options.now) (codes "patience") ≡ Some (without_minus text)) → result ≡ patience }
+    requires { (patience : ℕ) × HasPatience options.now patience }
+    ensures { (patience : ℕ) → HasPatience options.now patience → result ≡ patience }
 {
     match options.get_one::<u32>("patience") {
         Some(patience) => patience,

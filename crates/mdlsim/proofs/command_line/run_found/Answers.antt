@@ -29,10 +29,10 @@ returns-in-Some-replay-default c run is = is_plain Replay run c.args.matches.now
 
 pub patience_found-requires : goal.patience_found-requires
 patience_found-requires c =
-    let (n, (text, writes, found), is) = is_threads c.requires.0 c.args.matches.now c.in-Some-run-default.options.now c.requires.1 (search rules) (search rules) in
-    (text, n, writes, found)
+    let (n, found, is) = is_threads c.requires.0 c.args.matches.now c.in-Some-run-default.options.now c.requires.1 (search rules) (search rules) in
+    (n, found)
 
 pub returns-in-Some-run-default : goal.returns-in-Some-run-default
 returns-in-Some-run-default c run finds =
-    let (n, (text, writes, found), is) = is_threads run c.args.matches.now c.in-Some-run-default.options.now finds (search rules) (search rules) in
-    ap Threads (c.patience_found.ensures text n writes found) ∙ sym is
+    let (n, found, is) = is_threads run c.args.matches.now c.in-Some-run-default.options.now finds (search rules) (search rules) in
+    ap Threads (c.patience_found.ensures n found) ∙ sym is
