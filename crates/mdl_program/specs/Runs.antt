@@ -1,5 +1,5 @@
 -- What the runs of the program are to write, how they may end, and with which status.
-use Rattle.std.specs.Prelude.{ℕ, List, Option, Some, IfSome, Result, Ok, Err}
+use Rattle.std.specs.Prelude.{ℕ, List, Option, Some, None, IfSome, Result, Ok, Err}
 use Rattle.std.specs.Option.{option_map}
 use Rattle.std.specs.Io.KnownBytes.{Appends}
 use Rattle.mdl_lines.specs.declared.fault.Fault.{Fault}
@@ -11,7 +11,7 @@ use Rattle.mdl_lock.specs.Scripts as commands
 use Rattle.mdl_script.specs.Output as played
 use Rattle.mdl_syntax.specs.Scripts as statements
 use Rattle.mdl_program.specs.declared.program.Run.{Run}
-use Rattle.mdl_program.specs.declared.program.Run.TheVariants.{Lock, Matrix, Replay}
+use Rattle.mdl_program.specs.declared.program.Run.TheVariants.{Lock, Matrix, Replay, Threads}
 
 -- the output of a run on this input, where that is known: the answers to a script, what becomes of the statements of one, or the
 -- matrices, which need no input
@@ -19,12 +19,16 @@ abbrev pub output_of : Run → Option (List ℕ) → Option (List ℕ)
 output_of (Lock kind) input = option_map (lock_output_of kind) input
 output_of Matrix input = Some matrix_text
 output_of Replay input = option_map played.output_of input
+-- WIP: what threads write is no function of the input
+output_of (Threads patience) input = None
 
 -- a run may end so on this input: a script's is refused just by its first refused line, and the matrices, which are not read, fail
 -- for want of memory or in writing alone
 abbrev pub IsEndOf : Run → Option (List ℕ) → Result (Unit {0}) Fault → Type 0
 IsEndOf (Lock kind) input end = IfSome input (λ script. MayEnd (commands.parsed kind script) end)
 IsEndOf Replay input end = IfSome input (λ script. MayEnd (statements.parsed script) end)
+-- WIP: the relation of a play on threads comes from mdl_script
+IsEndOf (Threads patience) input end = Unit {0}
 IsEndOf Matrix input (Ok done) = Unit {0}
 IsEndOf Matrix input (Err (Refused line error)) = ⊥
 IsEndOf Matrix input (Err Memory) = Unit {0}

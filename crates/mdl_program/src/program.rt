@@ -25,6 +25,8 @@ pub enum Run {
     Matrix,
     /// Play a script of statements.
     Replay,
+    /// Play a script of statements, each session on a thread of its own, with this patience.
+    Threads(u32),
 }
 
 /// Does what is asked for, and answers the status. Words that ask for no run are refused: what there is to say of them is told
@@ -62,6 +64,8 @@ fn end_of<R: Read, W: Write>(
         Run::Lock(kind) => lock_run(alloc, kind, input, output),
         Run::Matrix => matrix_run(alloc, output),
         Run::Replay => replay(alloc, input, output),
+        // WIP: the play on threads comes from mdl_script.
+        Run::Threads(_) => Ok(()),
     }
 }
 

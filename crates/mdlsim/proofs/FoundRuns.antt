@@ -1,6 +1,6 @@
 -- What a parse finds in the words of a run.
-use Rattle.std.proofs.Common.{◌≡◌, ◌∙◌, ◌⊎◌, inl, inr, ap, refl, sym, codes, List, ◌∷◌, Option, Some, None, option_map, drop, if◌then◌else◌}
-use Rattle.std.specs.Prelude.{Box, unwrap_or}
+use Rattle.std.proofs.Common.{◌≡◌, ◌∙◌, ◌⊎◌, inl, inr, ap, refl, sym, codes, ℕ, List, [], ◌∷◌, ◌++◌, Option, Some, None, option_map, drop, if◌then◌else◌}
+use Rattle.std.specs.Prelude.{Box, option_and_then, unwrap_or}
 use Rattle.std.specs.Box.{box_value}
 use Rattle.std.specs.Str.{bytes_eq}
 use Rattle.clap.specs.Walk.{Row, Text, one_of, rows_of}
@@ -12,24 +12,19 @@ use Rattle.clap.specs.declared.parser.matches.SubCommand.{SubCommand}
 use Rattle.mdl_key.specs.declared.namespace.Kind.{Kind}
 use Rattle.mdl_key.specs.declared.namespace.Kind.TheVariants.{Scoped, Object}
 use Rattle.mdl_program.specs.declared.program.Run.{Run}
-use Rattle.mdl_program.specs.declared.program.Run.TheVariants.{Lock, Matrix, Replay}
-use Rattle.mdlsim.specs.CommandLine.{Asks, Finds, mdlsim, words_of_run}
+use Rattle.mdl_program.specs.declared.program.Run.TheVariants.{Lock, Matrix, Replay, Threads}
+use Rattle.mdlsim.specs.CommandLine.{Asks, Finds, HasPatience, mdlsim}
 use Rattle.clap.proofs.OnLiterals.{clap_on_literals}
 use Rattle.clap.proofs.WalkLemmas.{one_text-rows}
-use Rattle.mdlsim.proofs.CommandWords.{lock, matrix, replay}
-
--- a closing `--` changes nothing of what is found
-found_from : (words : List Text) (run : Run) → Asks words run → subcommand_of mdlsim (lock ∷ words) ≡ subcommand_of mdlsim (lock ∷ words_of_run run)
-unfolding clap_on_literals
-found_from words run (inl e) = ap (λ rest. subcommand_of mdlsim (lock ∷ rest)) e
-found_from words (Lock Object) (inr e) = ap (λ rest. subcommand_of mdlsim (lock ∷ rest)) e
-found_from words (Lock Scoped) (inr e) = ap (λ rest. subcommand_of mdlsim (lock ∷ rest)) e
-found_from words Matrix (inr e) = ap (λ rest. subcommand_of mdlsim (lock ∷ rest)) e
-found_from words Replay (inr e) = ap (λ rest. subcommand_of mdlsim (lock ∷ rest)) e
+use Rattle.mdlsim.proofs.CommandWords.{matrix, replay, run_entered, threads_words}
+use Rattle.mdlsim.proofs.LevelWords.{dash}
+use Rattle.mdlsim.proofs.PatienceFound.{patience_found}
+use Rattle.mdlsim.proofs.PatienceWords.{patience, run as run_name}
+use Rattle.mdlsim.proofs.ScopedWords.{lock}
 
 -- of a command with the shape of `mdlsim`
 pub finds : (a : App) (words : List Text) (run : Run) (m : ArgMatches) → a ≡ mdlsim → Asks (drop 1 words) run → HasMatchesOf a words m → Finds run m
-finds a words run m is asked has = (has (ap is_simple is)).1 ∙ (ap (λ b. subcommand_of b words) is ∙ found_from (drop 1 words) run asked)
+finds a words run m is asked has = (drop 1 words, asked, (has (ap is_simple is)).1 ∙ ap (λ b. subcommand_of b words) is)
 
 -- ---- what says which run it is
 
@@ -43,44 +38,98 @@ abbrev subcommand_of_run : Run → Text
 subcommand_of_run (Lock kind) = lock
 subcommand_of_run Matrix = matrix
 subcommand_of_run Replay = replay
+subcommand_of_run (Threads n) = run_name
 
-name_found : (run : Run) → option_map (λ (p : Text × List Row). p.0) (subcommand_of mdlsim (codes "mdlsim" ∷ words_of_run run)) ≡ Some (subcommand_of_run run)
+-- the name and the rows of the subcommand that the words name
+abbrev named_by : List Text → Option Text
+named_by words = option_map (λ (p : Text × List Row). p.0) (subcommand_of mdlsim (codes "mdlsim" ∷ words))
+
+abbrev rows_by : List Text → Option (List Row)
+rows_by words = option_map (λ (p : Text × List Row). p.1) (subcommand_of mdlsim (codes "mdlsim" ∷ words))
+
+name_found : (words : List Text) (run : Run) → Asks words run → named_by words ≡ Some (subcommand_of_run run)
 unfolding clap_on_literals
-name_found (Lock Object) = refl
-name_found (Lock Scoped) = refl
-name_found Matrix = refl
-name_found Replay = refl
+name_found words (Lock Object) (inl e) = ap named_by e
+name_found words (Lock Object) (inr (front, is, e)) = ap named_by (is ∙ ap (λ xs. xs ++ dash ∷ []) e)
+name_found words (Lock Scoped) (inl e) = ap named_by e
+name_found words (Lock Scoped) (inr (front, is, e)) = ap named_by (is ∙ ap (λ xs. xs ++ dash ∷ []) e)
+name_found words Matrix (inl e) = ap named_by e
+name_found words Matrix (inr (front, is, e)) = ap named_by (is ∙ ap (λ xs. xs ++ dash ∷ []) e)
+name_found words Replay (inl e) = ap named_by e
+name_found words Replay (inr (front, is, e)) = ap named_by (is ∙ ap (λ xs. xs ++ dash ∷ []) e)
+name_found words (Threads n) asked =
+    let (options, end, asks, ends, is) = threads_words words n asked in
+    ap named_by is ∙ ap (option_map (λ (p : Text × List Row). p.0)) (run_entered (options ++ end))
 
 named : (run : Run) (m : ArgMatches) → Finds run m → subcommand_name_of m ≡ Some (subcommand_of_run run)
-named run m is = name_kept (out-ArgMatches m).subcommand ∙ ap (option_map (λ (p : Text × List Row). p.0)) is ∙ name_found run
+named run m (words, asked, is) = name_kept (out-ArgMatches m).subcommand ∙ ap (option_map (λ (p : Text × List Row). p.0)) is ∙ name_found words run asked
 
 -- what is found of `--scoped`
 abbrev flag_of : Kind → Text
 flag_of Object = codes "false"
 flag_of Scoped = codes "true"
 
-flag_found : (kind : Kind) (rows : List Row) → Some rows ≡ option_map (λ (p : Text × List Row). p.1) (subcommand_of mdlsim (codes "mdlsim" ∷ words_of_run (Lock kind)))
-    → one_of (codes "scoped") rows ≡ Some (flag_of kind)
+flag_in : (words : List Text) (kind : Kind) → Asks words (Lock kind) → option_and_then (one_of (codes "scoped")) (rows_by words) ≡ Some (flag_of kind)
 unfolding clap_on_literals
-flag_found Object rows is = ap (λ o. one_of (codes "scoped") (unwrap_or o rows)) is
-flag_found Scoped rows is = ap (λ o. one_of (codes "scoped") (unwrap_or o rows)) is
+flag_in words Object (inl e) = ap (λ w. option_and_then (one_of (codes "scoped")) (rows_by w)) e
+flag_in words Object (inr (front, is, e)) = ap (λ w. option_and_then (one_of (codes "scoped")) (rows_by w)) (is ∙ ap (λ xs. xs ++ dash ∷ []) e)
+flag_in words Scoped (inl e) = ap (λ w. option_and_then (one_of (codes "scoped")) (rows_by w)) e
+flag_in words Scoped (inr (front, is, e)) = ap (λ w. option_and_then (one_of (codes "scoped")) (rows_by w)) (is ∙ ap (λ xs. xs ++ dash ∷ []) e)
 
-pub is_lock : (run : Run) (m options : ArgMatches) (kind : Kind) → Finds run m → Some lock ≡ subcommand_name_of m
-    → Some (rows_of (found_of options)) ≡ option_map (λ (p : Text × List Row). p.1) (subcommand_rows (out-ArgMatches m).subcommand)
+-- the options have the rows of the subcommand
+abbrev pub AreOptionsOf : ArgMatches → ArgMatches → Type 0
+AreOptionsOf m options = Some (rows_of (found_of options)) ≡ option_map (λ (p : Text × List Row). p.1) (subcommand_rows (out-ArgMatches m).subcommand)
+
+flag_found : (kind : Kind) (m options : ArgMatches) → Finds (Lock kind) m → AreOptionsOf m options → one_text (found_of options) (codes "scoped") ≡ Some (flag_of kind)
+flag_found kind m options (words, asked, is) rows =
+    one_text-rows (found_of options) (codes "scoped")
+    ∙ ap (option_and_then (one_of (codes "scoped"))) (rows ∙ ap (option_map (λ (p : Text × List Row). p.1)) is) ∙ flag_in words kind asked
+
+pub is_lock : (run : Run) (m options : ArgMatches) (kind : Kind) → Finds run m → Some lock ≡ subcommand_name_of m → AreOptionsOf m options
     → (one_text (found_of options) (codes "scoped") ≡ Some (codes "true") → kind ≡ Scoped)
     → (one_text (found_of options) (codes "scoped") ≡ Some (codes "false") → kind ≡ Object)
     → Lock kind ≡ run
-is_lock (Lock Object) m options kind is name rows scoped object =
-    ap Lock (object (one_text-rows (found_of options) (codes "scoped") ∙ flag_found Object _ (rows ∙ ap (option_map (λ (p : Text × List Row). p.1)) is)))
-is_lock (Lock Scoped) m options kind is name rows scoped object =
-    ap Lock (scoped (one_text-rows (found_of options) (codes "scoped") ∙ flag_found Scoped _ (rows ∙ ap (option_map (λ (p : Text × List Row). p.1)) is)))
-is_lock Matrix m options kind is name rows scoped object = absurd (other (name ∙ named Matrix m is))
+is_lock (Lock Object) m options kind finds name rows scoped object = ap Lock (object (flag_found Object m options finds rows))
+is_lock (Lock Scoped) m options kind finds name rows scoped object = ap Lock (scoped (flag_found Scoped m options finds rows))
+is_lock Matrix m options kind finds name rows scoped object = absurd (other (name ∙ named Matrix m finds))
   where
     other : Some lock ≡ Some matrix → ⊥
     other e = cc
-is_lock Replay m options kind is name rows scoped object = absurd (other (name ∙ named Replay m is))
+is_lock Replay m options kind finds name rows scoped object = absurd (other (name ∙ named Replay m finds))
   where
     other : Some lock ≡ Some replay → ⊥
+    other e = cc
+is_lock (Threads n) m options kind finds name rows scoped object = absurd (other (name ∙ named (Threads n) m finds))
+  where
+    other : Some lock ≡ Some run_name → ⊥
+    other e = cc
+
+pub is_threads : (run : Run) (m options : ArgMatches) → Finds run m → Some run_name ≡ subcommand_name_of m → AreOptionsOf m options
+    → (n : ℕ) × HasPatience options n × (run ≡ Threads n)
+is_threads (Threads n) m options (words, asked, is) name rows =
+    let (front, end, asks, ends, spelt) = threads_words words n asked in
+    let (t, writes, found) = patience_found n front end asks ends in
+    let entered = ap (λ w. rows_by w) spelt ∙ ap (option_map (λ (p : Text × List Row). p.1)) (run_entered (front ++ end)) in (
+      n,
+      (
+        t,
+        writes,
+        one_text-rows (found_of options) patience
+            ∙ ap (option_and_then (one_of patience)) (rows ∙ ap (option_map (λ (p : Text × List Row). p.1)) is ∙ entered) ∙ found.1,
+      ),
+      refl,
+    )
+is_threads (Lock kind) m options finds name rows = absurd (other (name ∙ named (Lock kind) m finds))
+  where
+    other : Some run_name ≡ Some lock → ⊥
+    other e = cc
+is_threads Matrix m options finds name rows = absurd (other (name ∙ named Matrix m finds))
+  where
+    other : Some run_name ≡ Some matrix → ⊥
+    other e = cc
+is_threads Replay m options finds name rows = absurd (other (name ∙ named Replay m finds))
+  where
+    other : Some run_name ≡ Some replay → ⊥
     other e = cc
 
 -- the run without options that a subcommand asks for
@@ -97,9 +146,11 @@ is_plain asked run m plain is name = same run (sym plain ∙ ap plain_run (name 
     same (Lock kind) e = absurd (cc)
     same Matrix e = ap (λ o. unwrap_or o asked) e
     same Replay e = ap (λ o. unwrap_or o asked) e
+    same (Threads n) e = absurd (cc)
 
 pub is_one : (run : Run) (m : ArgMatches) → Finds run m
-    → (subcommand_name_of m ≡ Some lock) ⊎ ((subcommand_name_of m ≡ Some matrix) ⊎ (subcommand_name_of m ≡ Some replay))
+    → (subcommand_name_of m ≡ Some lock) ⊎ ((subcommand_name_of m ≡ Some matrix) ⊎ ((subcommand_name_of m ≡ Some replay) ⊎ (subcommand_name_of m ≡ Some run_name)))
 is_one (Lock kind) m is = inl (named (Lock kind) m is)
 is_one Matrix m is = inr (inl (named Matrix m is))
-is_one Replay m is = inr (inr (named Replay m is))
+is_one Replay m is = inr (inr (inl (named Replay m is)))
+is_one (Threads n) m is = inr (inr (inr (named (Threads n) m is)))

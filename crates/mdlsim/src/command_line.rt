@@ -1,11 +1,12 @@
 //! What the command line asks for.
-ghost use Rattle.std.specs.Prelude.{◌≡◌, IfErr, IfOk, Some, codes, drop, map};
+ghost use Rattle.std.specs.Prelude.{◌≡◌, ℕ, IfErr, IfOk, Some, codes, drop, map};
 ghost use Rattle.clap.specs.Words.{app_of, found_of, kind_of, one_text};
 ghost use Rattle.mdl_program.specs.declared.program.Run.{Run};
-ghost use Rattle.mdlsim.specs.CommandLine.{Asks, Finds, mdlsim};
+ghost use Rattle.mdlsim.specs.CommandLine as spec;
+ghost use Rattle.mdlsim.specs.CommandLine.{Asks, Finds, HasPatience, mdlsim};
 
 use clap::error::ErrorKind;
-use clap::{Arg, ArgAction, ArgMatches, Command, Error};
+use clap::{Arg, ArgAction, ArgMatches, Command, Error, value_parser};
 use mdl_key::Kind;
 pub use mdl_program::Run;
 use std::alloc::{AllocError, Global};
@@ -30,6 +31,7 @@ fn run_found(matches: &ArgMatches) -> Run
         Some(("lock", options)) => Run::Lock(kind_found(options)),
         Some(("matrix", _)) => Run::Matrix,
         Some(("replay", _)) => Run::Replay,
+        Some(("run", options)) => Run::Threads(patience_found(options)),
         _ => unreachable!(),
     }
 }
@@ -46,17 +48,21 @@ fn kind_found(options: &ArgMatches) -> Kind
     }
 }
 
+// The patience that the options of `run` ask for.
+fn patience_found(options: &ArgMatches) -> u32
+    requires { (patience : ℕ) × HasPatience options.now patience }
+    ensures { (patience : ℕ) → HasPatience options.now patience → result ≡ patience }
+{
+    match options.get_one::<u32>("patience") {
+        Some(patience) => patience,
+        None => unreachable!(),
+    }
+}
+
 // The program's subcommands and their options, with what help shows of them.
 fn program<'a>(alloc: Global) -> Result<Command<'a>, AllocError>
     ensures { IfOk result (λ c. app_of c ≡ mdlsim) }
 {
-    let scoped = Arg::new(alloc, "scoped")
-        .long("scoped")
-        .action(ArgAction::SetTrue)
-        .help("Drives a scoped lock instead of an object lock");
-    let lock = Command::new(alloc, "lock")
-        .about("Drives one lock by a script read from standard input")
-        .arg(scoped)?;
     let matrix = Command::new(alloc, "matrix").about(
         "Prints which modes clash, and which wait behind which",
     );
@@ -65,9 +71,41 @@ fn program<'a>(alloc: Global) -> Result<Command<'a>, AllocError>
     );
     Command::new(alloc, "mdlsim")
         .subcommand_required(true)
-        .subcommand(lock)?
+        .subcommand(lock_subcommand(alloc)?)?
         .subcommand(matrix)?
-        .subcommand(replay)
+        .subcommand(replay)?
+        .subcommand(run_subcommand(alloc)?)
+}
+
+// The subcommand `lock`, with its flag.
+fn lock_subcommand<'a>(alloc: Global) -> Result<Command<'a>, AllocError>
+    ensures { IfOk result (λ c. app_of c ≡ spec.lock_subcommand) }
+{
+    let scoped = Arg::new(alloc, "scoped")
+        .long("scoped")
+        .action(ArgAction::SetTrue)
+        .help("Drives a scoped lock instead of an object lock");
+    Command::new(alloc, "lock")
+        .about("Drives one lock by a script read from standard input")
+        .arg(scoped)
+}
+
+// The subcommand `run`, with its option.
+fn run_subcommand<'a>(alloc: Global) -> Result<Command<'a>, AllocError>
+    ensures { IfOk result (λ c. app_of c ≡ spec.run_subcommand) }
+{
+    let patience = Arg::new(alloc, "patience")
+        .long("patience")
+        .value_name("N")
+        .action(ArgAction::Set)
+        .value_parser(value_parser!(u32))
+        .default_value("1000000")
+        .help("How often a statement that waits looks again before it times out");
+    Command::new(alloc, "run")
+        .about(
+            "Plays a script of statements read from standard input, each session on a thread of its own",
+        )
+        .arg(patience)
 }
 
 #[cfg(test)]

@@ -5,7 +5,7 @@ use super::*;
 fn refused_words_are_told(rt: HostRuntime) {
     let rows: [(&[&str], &[u8]); 5] = [
         (&["mdlsim"], b"requires a subcommand"),
-        (&["mdlsim", "run"], b"unrecognized subcommand 'run'"),
+        (&["mdlsim", "runs"], b"unrecognized subcommand 'runs'"),
         (&["mdlsim", "lock", "x"], b"unexpected argument 'x'"),
         (&["mdlsim", "replay", "x"], b"unexpected argument 'x'"),
         (&["mdlsim", "--help"], b"Drives one lock by a script"),

@@ -1,19 +1,31 @@
--- What clap reads of `lock` and of the program, from the calls that make them.
-use Rattle.std.proofs.Common.{◌≡◌, ◌∙◌, rules, ap, ap₂, codes}
+-- What clap reads of the program, from the calls that make it.
+use Rattle.std.proofs.Common.{◌≡◌, ◌∙◌, rules, ap, ap₂, codes, not, refl, true, false, Bool}
 use Rattle.std.proofs.lemmas.Result.{IfOk-weaker}
 use Rattle.clap.specs.Simple.{new_shape}
-use Rattle.clap.specs.Words.{App, app_of, new_app, rule_of, with_rule, with_subcommand}
-use Rattle.mdlsim.specs.CommandLine.{lock_subcommand, scoped_flag, without_subcommands}
+use Rattle.clap.specs.Words.{App, app_of, with_subcommand}
+use Rattle.clap.specs.declared.builder.command.Command.{Command}
+use Rattle.clap.specs.declared.builder.command.Command.TheViews.{out-Command}
+use Rattle.clap.proofs.WalkLemmas.{both}
+use Rattle.mdlsim.specs.CommandLine.{without_subcommands}
 use Rattle.mdlsim.proofs.command_line.program.Goals as goal
+
+-- a command whose shape is plain has no global argument
+no_globals : (c : Command) (a : App) → app_of c ≡ a → a.top.is_plain ≡ true → (out-Command c).has_globals ≡ false
+no_globals c a is plain =
+    let fields = ap (λ (b : App). b.top.is_plain) is ∙ plain in
+    let global = (both _ _ (both _ _ (both _ _ fields).1).1).0 in
+    go (out-Command c).has_globals global
+  where
+    go : (b : Bool) → not b ≡ true → b ≡ false
+    go true e = cc
+    go false e = refl
 
 pub returns : goal.returns
 returns c =
-    let flag_is : rule_of c.help-scoped.result ≡ scoped_flag = search rules in
-    let begun : app_of c.about.result ≡ new_app (codes "lock") = search rules in
-    let lock_is : app_of c.in_ok-lock.lock ≡ lock_subcommand = c.in_ok-lock.ensures.shape (search rules) ∙ ap₂ with_rule begun flag_is in
     let wants : app_of c.subcommand_required.result ≡ without_subcommands = search rules in
     let matrix_is : (app_of c.about-matrix.result).top ≡ new_shape (codes "matrix") = search rules in
     let replay_is : (app_of c.about-replay.result).top ≡ new_shape (codes "replay") = search rules in
-    let with_lock = c.in_ok-subcommand.ensures.shape (search rules) ∙ ap₂ with_subcommand wants (ap (λ (a : App). a.top) lock_is) in
+    let with_lock = c.in_ok-subcommand.ensures.shape (no_globals _ _ c.in_ok-lock_subcommand.ensures refl) ∙ ap₂ with_subcommand wants (ap (λ (a : App). a.top) c.in_ok-lock_subcommand.ensures) in
     let with_matrix = c.in_ok-subcommand-2.ensures.shape (search rules) ∙ ap₂ with_subcommand with_lock matrix_is in
-    IfOk-weaker c.subcommand-3.result _ _ (λ r h. h.shape (search rules) ∙ ap₂ with_subcommand with_matrix replay_is) c.subcommand-3.ensures
+    let with_replay = c.in_ok-subcommand-3.ensures.shape (search rules) ∙ ap₂ with_subcommand with_matrix replay_is in
+    IfOk-weaker c.subcommand-4.result _ _ (λ r h. h.shape (no_globals _ _ c.in_ok-run_subcommand.ensures refl) ∙ ap₂ with_subcommand with_replay (ap (λ (a : App). a.top) c.in_ok-run_subcommand.ensures)) c.subcommand-4.ensures

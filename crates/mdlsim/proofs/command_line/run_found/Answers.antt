@@ -1,7 +1,7 @@
--- What is found names the run's subcommand, and says of `--scoped` whether it was there.
-use Rattle.std.proofs.Common.{◌∙◌, refl, rules, inl, inr}
-use Rattle.mdl_program.specs.declared.program.Run.TheVariants.{Matrix, Replay}
-use Rattle.mdlsim.proofs.FoundRuns.{is_lock, is_one, is_plain}
+-- What is found names the run's subcommand, and says of `--scoped` whether it was there, and what `--patience` has.
+use Rattle.std.proofs.Common.{◌∙◌, ap, refl, rules, sym, inl, inr}
+use Rattle.mdl_program.specs.declared.program.Run.TheVariants.{Matrix, Replay, Threads}
+use Rattle.mdlsim.proofs.FoundRuns.{is_lock, is_one, is_plain, is_threads}
 use Rattle.mdlsim.proofs.command_line.run_found.Goals as goal
 use Rattle.mdlsim.proofs.command_line.run_found.Goals.{in_default-via-in-Some+in_default, in_default-via-in_default}
 
@@ -11,7 +11,9 @@ unreachable-requires c = elim (is_one c.requires.0 c.args.matches.now c.requires
       elim c.in_default.branch [ in_default-via-in-Some+in_default w ↦ search rules | in_default-via-in_default w ↦ search rules ]
   | inr (inl name) ↦ let found = c.subcommand.ensures.name ∙ name in
       elim c.in_default.branch [ in_default-via-in-Some+in_default w ↦ search rules | in_default-via-in_default w ↦ search rules ]
-  | inr (inr name) ↦ let found = c.subcommand.ensures.name ∙ name in
+  | inr (inr (inl name)) ↦ let found = c.subcommand.ensures.name ∙ name in
+      elim c.in_default.branch [ in_default-via-in-Some+in_default w ↦ search rules | in_default-via-in_default w ↦ search rules ]
+  | inr (inr (inr name)) ↦ let found = c.subcommand.ensures.name ∙ name in
       elim c.in_default.branch [ in_default-via-in-Some+in_default w ↦ search rules | in_default-via-in_default w ↦ search rules ]
 ]
 
@@ -24,3 +26,13 @@ returns-in-Some-matrix-default c run is = is_plain Matrix run c.args.matches.now
 
 pub returns-in-Some-replay-default : goal.returns-in-Some-replay-default
 returns-in-Some-replay-default c run is = is_plain Replay run c.args.matches.now refl is (search rules)
+
+pub patience_found-requires : goal.patience_found-requires
+patience_found-requires c =
+    let (n, found, is) = is_threads c.requires.0 c.args.matches.now c.in-Some-run-default.options.now c.requires.1 (search rules) (search rules) in
+    (n, found)
+
+pub returns-in-Some-run-default : goal.returns-in-Some-run-default
+returns-in-Some-run-default c run finds =
+    let (n, found, is) = is_threads run c.args.matches.now c.in-Some-run-default.options.now finds (search rules) (search rules) in
+    ap Threads (c.patience_found.ensures n found) ∙ sym is
