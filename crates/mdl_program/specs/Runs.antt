@@ -10,16 +10,16 @@ use Rattle.mdl_lock.specs.Output.{lock_output_of}
 use Rattle.mdl_lock.specs.Scripts as commands
 use Rattle.mdl_script.specs.Output as played
 use Rattle.mdl_syntax.specs.Scripts as statements
+use Rattle.mdl_program.specs.Threads.{ThreadsLeave}
 use Rattle.mdl_program.specs.declared.program.Run.{Run}
 use Rattle.mdl_program.specs.declared.program.Run.TheVariants.{Lock, Matrix, Replay, Threads}
 
--- the output of a run on this input, where that is known: the answers to a script, what becomes of the statements of one, or the
--- matrices, which need no input
+-- the output of a run on this input, where it is determined and known: the answers to a script, what becomes of the statements of one, or
+-- the matrices, which need no input. Of threads it isn't determined
 abbrev pub output_of : Run → Option (List ℕ) → Option (List ℕ)
 output_of (Lock kind) input = option_map (lock_output_of kind) input
 output_of Matrix input = Some matrix_text
 output_of Replay input = option_map played.output_of input
--- WIP: what threads write is no function of the input
 output_of (Threads patience) input = None
 
 -- a run may end so on this input: a script's is refused just by its first refused line, and the matrices, which are not read, fail
@@ -27,8 +27,7 @@ output_of (Threads patience) input = None
 abbrev pub IsEndOf : Run → Option (List ℕ) → Result (Unit {0}) Fault → Type 0
 IsEndOf (Lock kind) input end = IfSome input (λ script. MayEnd (commands.parsed kind script) end)
 IsEndOf Replay input end = IfSome input (λ script. MayEnd (statements.parsed script) end)
--- WIP: the relation of a play on threads comes from mdl_script
-IsEndOf (Threads patience) input end = Unit {0}
+IsEndOf (Threads patience) input end = IfSome input (λ script. MayEnd (statements.parsed script) end)
 IsEndOf Matrix input (Ok done) = Unit {0}
 IsEndOf Matrix input (Err (Refused line error)) = ⊥
 IsEndOf Matrix input (Err Memory) = Unit {0}
@@ -40,9 +39,16 @@ abbrev pub Writes : Result (Unit {0}) Fault → Option (List ℕ) → Option (Li
 Writes (Ok done) old new output = Appends old new output
 Writes (Err fault) old new output = LeavesWritten fault old new output
 
+-- what a run that ends so may leave written: of its output, or, on threads, of a text that tells of what the sessions can have done
+abbrev pub Leaves : Run → Option (List ℕ) → Result (Unit {0}) Fault → Option (List ℕ) → Option (List ℕ) → Type 0
+Leaves (Threads patience) input end old new = IfSome input (λ script. ThreadsLeave patience (statements.parsed script) end old new)
+Leaves (Lock kind) input end old new = IfSome (output_of (Lock kind) input) (Writes end old new)
+Leaves Matrix input end old new = IfSome (output_of Matrix input) (Writes end old new)
+Leaves Replay input end old new = IfSome (output_of Replay input) (Writes end old new)
+
 -- a run may end so on this input, and leave this written
 abbrev pub EndsAs : Run → Option (List ℕ) → Option (List ℕ) → Option (List ℕ) → Result (Unit {0}) Fault → Type 0
-EndsAs run input old new end = IsEndOf run input end × IfSome (output_of run input) (Writes end old new)
+EndsAs run input old new end = IsEndOf run input end × Leaves run input end old new
 
 -- the status of a program whose run ended so
 abbrev pub end_status : Result (Unit {0}) Fault → ℕ

@@ -1,5 +1,5 @@
 //! What a program of the locks does and tells, once the words of its command line are read: it drives one lock by a script,
-//! plays a script of statements, or prints the matrices.
+//! plays a script of statements, in one thread or with a thread for each session, or prints the matrices.
 //!
 //! [`run_asked`] does what was asked for, tells a fault on the stream of errors, and answers the status that a program ends with.
 //!
@@ -23,5 +23,6 @@
 #![tactic(auto)]
 
 mod program;
+mod threads;
 
 pub use program::{Run, lack_words, run_asked};

@@ -5,12 +5,15 @@ ghost use Rattle.std.specs.IoError.{error_kind};
 ghost use Rattle.mdl_lines.specs.declared.fault.Fault.{Fault};
 ghost use Rattle.mdl_program.specs.Runs.{EndsAs, end_status};
 
+use crate::threads::play_on_threads;
 use mdl_key::Kind;
 use mdl_lines::{Fault, report};
 use mdl_lock::{lock_run, matrix_run};
 use mdl_script::replay;
 use std::alloc::Global;
 use std::io::{ErrorKind, Read, Write};
+use std::sync::Wait;
+use std::thread::Threads;
 use std::{fmt, io};
 
 // The status of a program whose command line was refused, or that was asked for help.
@@ -31,7 +34,8 @@ pub enum Run {
 
 /// Does what is asked for, and answers the status. Words that ask for no run are refused: what there is to say of them is told
 /// on the stream of errors alone.
-pub fn run_asked<D: fmt::Display, R: Read, W: Write, E: Write>(
+pub fn run_asked<T: Threads + Wait + Sync, D: fmt::Display, R: Read, W: Write, E: Write>(
+    rt: &T,
     alloc: Global,
     asked: &Result<Run, D>,
     input: &mut R,
@@ -46,13 +50,14 @@ pub fn run_asked<D: fmt::Display, R: Read, W: Write, E: Write>(
     ensures refused { IfErr asked.now (λ refusal. (result ≡ 2) × Keeps (W.contents output.old) (W.contents output.new)) }
 {
     match asked {
-        Ok(run) => tell_end(end_of(alloc, *run, input, output), errors),
+        Ok(run) => tell_end(end_of(rt, alloc, *run, input, output), errors),
         Err(refusal) => refuse_words(refusal, errors),
     }
 }
 
 // Does what is asked for.
-fn end_of<R: Read, W: Write>(
+fn end_of<T: Threads + Wait + Sync, R: Read, W: Write>(
+    rt: &T,
     alloc: Global,
     asked: Run,
     input: &mut R,
@@ -64,8 +69,7 @@ fn end_of<R: Read, W: Write>(
         Run::Lock(kind) => lock_run(alloc, kind, input, output),
         Run::Matrix => matrix_run(alloc, output),
         Run::Replay => replay(alloc, input, output),
-        // WIP: the play on threads comes from mdl_script.
-        Run::Threads(_) => Ok(()),
+        Run::Threads(patience) => play_on_threads(rt, alloc, patience, input, output),
     }
 }
 

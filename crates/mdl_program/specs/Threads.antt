@@ -1,0 +1,22 @@
+-- What is written of a script that is played with a thread for each session. The answers may differ from run to run.
+use Rattle.std.specs.Prelude.{ℕ, List, Option, Result, Ok, Err, ⊥}
+use Rattle.std.specs.Io.KnownBytes.{Appends, Keeps}
+use Rattle.mdl_lines.specs.declared.fault.Fault.{Fault}
+use Rattle.mdl_lines.specs.declared.fault.Fault.TheVariants.{Refused, Memory, Read, Write}
+use Rattle.mdl_lines.specs.declared.fault.LineError.{LineError}
+use Rattle.mdl_lines.specs.Words.{AppendsPart}
+use Rattle.mdl_syntax.specs.declared.script.Line.{Line}
+use Rattle.mdl_script.specs.Runs.{IsRunOf}
+
+-- a text may be told of a script that says this, played with this patience: it tells of a run of its lines
+abbrev pub IsTold : ℕ → Result (List Line) (ℕ × LineError) → List ℕ → Type 0
+IsTold patience (Ok lines) text = IsRunOf patience lines text
+IsTold patience (Err refusal) text = ⊥
+
+-- what a run that ends so leaves written: a text that tells of it where it was done, a part of one where writing failed, and else nothing
+abbrev pub ThreadsLeave : ℕ → Result (List Line) (ℕ × LineError) → Result (Unit {0}) Fault → Option (List ℕ) → Option (List ℕ) → Type 0
+ThreadsLeave patience said (Ok done) old new = (text : List ℕ) × IsTold patience said text × Appends old new text
+ThreadsLeave patience said (Err Write) old new = (text : List ℕ) × IsTold patience said text × AppendsPart old new text
+ThreadsLeave patience said (Err (Refused line error)) old new = Keeps old new
+ThreadsLeave patience said (Err Memory) old new = Keeps old new
+ThreadsLeave patience said (Err Read) old new = Keeps old new

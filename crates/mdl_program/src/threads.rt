@@ -1,0 +1,51 @@
+//! A script of statements, played with a thread for each session, from bytes to bytes.
+ghost use Rattle.std.specs.Prelude.{◌≡◌, OnOk, IfOk, IfErr, IfSome, IsOk};
+ghost use Rattle.std.specs.String.{string_bytes};
+ghost use Rattle.mdl_lines.specs.Words.{IsFaultOf, MayEnd};
+ghost use Rattle.mdl_syntax.specs.Scripts.{parsed};
+ghost use Rattle.mdl_program.specs.Threads.{IsTold, ThreadsLeave};
+
+use mdl_lines::{Fault, read_all, write_all};
+use mdl_script::{OpenGate, parse, run_threads};
+use std::alloc::{AllocError, Global};
+use std::io::{Read, Write};
+use std::sync::Wait;
+use std::thread::Threads;
+
+/// Plays a script of statements with a thread for each of its sessions, and writes what they are answered.
+///
+/// It reads all, looks at all lines, plays them, and only then writes.
+#[tactic(auto, using(crate::proofs::TellLemmas::leaves-told, crate::proofs::TellLemmas::leaves-part, crate::proofs::TellLemmas::leaves-nothing))]
+pub(crate) fn play_on_threads<T: Threads + Wait + Sync, R: Read, W: Write>(
+    rt: &T,
+    alloc: Global,
+    patience: u32,
+    input: &mut R,
+    output: &mut W,
+) -> Result<(), Fault>
+    ensures ends { IfSome (R.remaining input.old) (λ bytes. MayEnd (parsed bytes) result) }
+    ensures leaves { IfSome (R.remaining input.old) (λ bytes. ThreadsLeave patience (parsed bytes) result (W.contents output.old) (W.contents output.new)) }
+{
+    let text = read_all(alloc, input)?;
+    let told = tell(rt, alloc, patience, text)?;
+    write_all(output, told.as_bytes())
+}
+
+// What is told of a script. Its text goes before its lines are played, which keep what is said of them.
+fn tell<T: Threads + Wait + Sync>(
+    rt: &T,
+    alloc: Global,
+    patience: u32,
+    text: Vec<u8>,
+) -> Result<String, Fault>
+    ensures told { IfOk result (λ told. IsTold patience (parsed text.items) (string_bytes told)) }
+    ensures accepted { OnOk result (IsOk (parsed text.items)) }
+    ensures fault { IfErr result (IsFaultOf (parsed text.items)) }
+{
+    let script = parse(alloc, &text)?;
+    drop(text);
+    match run_threads(rt, alloc, &script, patience, &OpenGate) {
+        Ok(told) => Ok(told),
+        Err(AllocError) => Err(Fault::Memory),
+    }
+}
