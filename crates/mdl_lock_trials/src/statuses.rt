@@ -5,7 +5,9 @@ use mdl_program::{Run, lack_words, run_asked};
 use std::alloc::{AllocError, Global};
 use std::io;
 use std::io::ErrorKind;
+use std::sync::Wait;
 use std::test::Fail;
+use std::thread::Threads;
 
 // What words ask for, or what is said of words that ask for nothing.
 type Asked = Result<Run, &'static str>;
@@ -27,10 +29,16 @@ struct Seen {
 }
 
 // Runs what is asked for without what is promised of it: the tests look at what it does.
-fn look_at(alloc: Global, asked: &Asked, input: &mut Source<'_>, output: Habit) -> Seen {
+fn look_at<T: Threads + Wait + Sync>(
+    rt: &T,
+    alloc: Global,
+    asked: &Asked,
+    input: &mut Source<'_>,
+    output: Habit,
+) -> Seen {
     let mut target = Target::new(alloc, output);
     let mut told = Vec::new(alloc);
-    let status = run_asked(alloc, asked, input, &mut target, &mut told);
+    let status = run_asked(rt, alloc, asked, input, &mut target, &mut told);
     Seen {
         status,
         written: target.taken,
@@ -96,7 +104,7 @@ fn statuses_and_lines_of_a_run(rt: HostRuntime) {
         (REPLAY, statements, gone, sound, 3, "", device),
     ] {
         let mut source = Source::new(script.as_bytes(), input);
-        let seen = look_at(rt.alloc(), &asked, &mut source, output);
+        let seen = look_at(&rt, rt.alloc(), &asked, &mut source, output);
         assert_eq!(rt; seen.status, status, "{script}");
         assert_eq!(rt; seen.written.as_slice(), answers.as_bytes(), "{script}");
         assert_eq!(rt; seen.told.as_slice(), line.as_bytes(), "{script}");
@@ -110,7 +118,7 @@ fn refused_lines_far_down_are_told(rt: HostRuntime) -> Result<(), Fail> {
         let script = refused_after(rt.alloc(), lines)?;
         let sound = Habit::steps_of(usize::MAX);
         let mut source = Source::new(script.as_bytes(), sound);
-        let seen = look_at(rt.alloc(), &LOCK, &mut source, sound);
+        let seen = look_at(&rt, rt.alloc(), &LOCK, &mut source, sound);
         let number = lines + 1;
         let line = format!(in rt.alloc(); "line {number}: BadWord\n")?;
         assert_eq!(rt; seen.status, 1, "{line}");
@@ -124,7 +132,7 @@ fn refused_lines_far_down_are_told(rt: HostRuntime) -> Result<(), Fail> {
 fn the_matrices_are_printed_without_input(rt: HostRuntime) {
     let gone = Habit::steps_of(7).slips_after(0, Slip::Fails(ErrorKind::BrokenPipe));
     let mut source = Source::new(b"1 SR", gone);
-    let seen = look_at(rt.alloc(), &MATRIX, &mut source, Habit::steps_of(7));
+    let seen = look_at(&rt, rt.alloc(), &MATRIX, &mut source, Habit::steps_of(7));
     assert_eq!(rt; seen.status, 0);
     assert!(rt; seen.written.starts_with(b"SCOPED GRANTED IX: S X\n"));
     assert!(rt; seen.written.ends_with(b"OBJECT WAITING X: -\n"));
@@ -137,7 +145,7 @@ fn words_that_ask_for_no_run_are_refused(rt: HostRuntime) {
     let refusal: Asked = Err("requires a subcommand\n");
     let gone = Habit::steps_of(7).slips_after(0, Slip::Fails(ErrorKind::BrokenPipe));
     let mut source = Source::new(b"1 SR\n", gone);
-    let seen = look_at(rt.alloc(), &refusal, &mut source, gone);
+    let seen = look_at(&rt, rt.alloc(), &refusal, &mut source, gone);
     assert_eq!(rt; seen.status, 2);
     assert!(rt; seen.written.is_empty());
     assert_eq!(rt; seen.told.as_slice(), b"requires a subcommand\n".as_slice());

@@ -2,6 +2,7 @@ pub mod FirstLemmas
 pub mod HallLemmas
 pub mod ListLemmas
 pub mod OrderedBooks
+pub mod PassLemmas
 pub mod SettleLemmas
 pub mod SoundLemmas
 pub mod StepLemmas

@@ -52,6 +52,9 @@ pub fn run_on<R: Threads + Wait + Sync, G: Gate + Sync>(
         thread::scope_env(),
         rt,
         move |scope| -> Result<String, AllocError>
+            requires first { pass_table first ≡ table_of manager.now }
+            requires theirs { All (λ pass. pass_table pass ≡ table_of manager.now) others.items }
+            requires there { All (λ who. who ≢ pass_number first → has_pass others.items who ≡ true) (named_sessions script.now) }
             ensures { IfOk result (λ text. IsRunOf patience script.entry.now (string_bytes text)) }
         {
             let run = Run {

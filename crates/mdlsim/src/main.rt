@@ -14,6 +14,7 @@ use std::process::ExitCode;
 fn main(rt: HostRuntime) -> ExitCode {
     ExitCode::from(match words_given(&rt) {
         Ok(words) => run_words(
+            &rt,
             rt.alloc(),
             words.as_slice(),
             &mut rt.stdin(),

@@ -11,9 +11,12 @@ use mdl_program::run_asked;
 use std::alloc::Global;
 use std::convert::AsStr;
 use std::io::{Read, Write};
+use std::sync::Wait;
+use std::thread::Threads;
 
 /// Does what the words of a command line ask for, and answers the status: 2 where they ask for no run.
-pub fn run_words<S: AsStr, R: Read, W: Write, E: Write>(
+pub fn run_words<T: Threads + Wait + Sync, S: AsStr, R: Read, W: Write, E: Write>(
+    rt: &T,
     alloc: Global,
     words: &[S],
     input: &mut R,
@@ -28,7 +31,7 @@ pub fn run_words<S: AsStr, R: Read, W: Write, E: Write>(
         × (IsOk end → Keeps (E.contents errors.old) (E.contents errors.new))) }
 {
     let asked = command(alloc, words);
-    run_asked(alloc, &asked, input, output, errors)
+    run_asked(rt, alloc, &asked, input, output, errors)
 }
 
 #[cfg(test)]

@@ -14,7 +14,7 @@ fn refused_words_are_told(rt: HostRuntime) {
         let mut written = Vec::new(rt.alloc());
         let mut told = Vec::new(rt.alloc());
         let mut script = b"1 SR\n".as_slice();
-        let status = run_words(rt.alloc(), words, &mut script, &mut written, &mut told);
+        let status = run_words(&rt, rt.alloc(), words, &mut script, &mut written, &mut told);
         assert_eq!(rt; status, 2, "{words:?}");
         assert!(rt; written.is_empty(), "{words:?}");
         let found = told.windows(part.len()).any(|piece| piece == part);
@@ -39,7 +39,7 @@ fn words_are_obeyed(rt: HostRuntime) {
         let mut told = Vec::new(rt.alloc());
         let words = ["mdlsim", subcommand];
         let mut input = script.as_bytes();
-        let seen = run_words(rt.alloc(), &words, &mut input, &mut written, &mut told);
+        let seen = run_words(&rt, rt.alloc(), &words, &mut input, &mut written, &mut told);
         assert_eq!(rt; seen, status, "{script}");
         assert_eq!(rt; written.as_slice(), answers.as_bytes(), "{script}");
         assert_eq!(rt; told.as_slice(), line.as_bytes(), "{script}");
