@@ -9,11 +9,11 @@ use Rattle.mdl_syntax.specs.declared.script.Line.{Line}
 use Rattle.mdl_program.specs.Threads.{IsTold, ThreadsLeave}
 
 -- all of what was told was written
-pub leaves-told : (patience : ℕ) (said : Result (List Line) (ℕ × LineError)) (text : List ℕ) (old new : Option (List ℕ)) → IsTold patience said text → Appends old new text
+pub leaves_told : (patience : ℕ) (said : Result (List Line) (ℕ × LineError)) (text : List ℕ) (old new : Option (List ℕ)) → IsTold patience said text → Appends old new text
     → ThreadsLeave patience said (Ok (tt {0})) old new
-leaves-told patience said text old new told written = (text, told, written)
+leaves_told patience said text old new told written = (text, told, written)
 
 -- a part of it
-pub leaves-part : (patience : ℕ) (said : Result (List Line) (ℕ × LineError)) (text : List ℕ) (old new : Option (List ℕ)) → IsTold patience said text → AppendsPart old new text
+pub leaves_part : (patience : ℕ) (said : Result (List Line) (ℕ × LineError)) (text : List ℕ) (old new : Option (List ℕ)) → IsTold patience said text → AppendsPart old new text
     → ThreadsLeave patience said (Err Write) old new
-leaves-part patience said text old new told written = (text, told, written)
+leaves_part patience said text old new told written = (text, told, written)

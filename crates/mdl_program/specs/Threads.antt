@@ -1,5 +1,5 @@
 -- What is written of a script that is played with a thread for each session. The answers may differ from run to run.
-use Rattle.std.specs.Prelude.{ℕ, List, Option, Result, Ok, Err, ⊥}
+use Rattle.std.specs.Prelude.{ℕ, List, Option, Result, Ok, Err}
 use Rattle.std.specs.Io.KnownBytes.{Appends, Keeps}
 use Rattle.mdl_lines.specs.declared.fault.Fault.{Fault}
 use Rattle.mdl_lines.specs.declared.fault.Fault.TheVariants.{Refused, Memory, Read, Write}

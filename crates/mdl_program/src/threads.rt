@@ -15,7 +15,7 @@ use std::thread::Threads;
 /// Plays a script of statements with a thread for each of its sessions, and writes what they are answered.
 ///
 /// It reads all, looks at all lines, plays them, and only then writes.
-#[tactic(auto, using(crate::proofs::TellLemmas::leaves-told, crate::proofs::TellLemmas::leaves-part, crate::proofs::TellLemmas::leaves-nothing))]
+#[tactic(auto, using(crate::proofs::TellLemmas::leaves_told, crate::proofs::TellLemmas::leaves_part))]
 pub(crate) fn play_on_threads<T: Threads + Wait + Sync, R: Read, W: Write>(
     rt: &T,
     alloc: Global,
