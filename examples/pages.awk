@@ -12,8 +12,13 @@ BEGIN {
     indent = match($0, /[^ ]/) - 1
     sub(/^ +/, "")
 }
-# An answer alone stands far to the right.
+# An answer alone stands far to the right. What is defined at the end is told of runs on threads alone.
 indent > 20 {
+    if (/^FINAL/) {
+        words = FOLDER "/" page count ".args"
+        close(words)
+        print "run" > words
+    }
     add($0, ".stdout")
     next
 }
