@@ -27,10 +27,19 @@ fn refused_words_are_told(rt: HostRuntime) {
 fn words_are_obeyed(rt: HostRuntime) {
     let waits = "1 CREATE TABLE t x\n1 BEGIN\n1 SELECT t\n2 DROP TABLE t\n1 COMMIT\n";
     let answers = "1 1 OK\n2 1 OK\n3 1 OK test.t@1(x)\n4 2 WAIT TABLE test.t X\n5 1 OK\n4 2 OK\n";
-    let rows: [(&str, &str, u8, &str, &str); 5] = [
+    let finals = "1 1 OK\n2 1 OK test.t@1(x)\nFINAL SCHEMA test@1\nFINAL TABLE test.t@1(x)\n";
+    let rows: [(&str, &str, u8, &str, &str); 7] = [
         ("lock", "1 SR\n", 0, "1 GRANTED SR\n", ""),
         ("replay", waits, 0, answers, ""),
         ("replay", "", 0, "", ""),
+        ("run", "1 CREATE TABLE t x\n1 SELECT t\n", 0, finals, ""),
+        (
+            "run",
+            "1 SELECT t\n65 BEGIN\n",
+            1,
+            "",
+            "line 2: BadSession\n",
+        ),
         ("replay", "1 SR\n", 1, "", "line 1: BadWord\n"),
         ("lock", "1 BEGIN\n", 1, "", "line 1: BadWord\n"),
     ];
