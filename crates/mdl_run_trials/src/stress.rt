@@ -89,7 +89,8 @@ impl Drawn {
         let drawn = chance.below(STATEMENTS.len());
         let (statement, changes) = STATEMENTS.get(drawn).copied().unwrap_or(("COMMIT", ""));
         writeln!(self.script, "{who} {statement}")?;
-        self.changes.push(changes)
+        self.changes.push(changes)?;
+        Ok(())
     }
 
     // Whether an answer tells of a change of what has this letter.
