@@ -115,7 +115,9 @@ fn close<R: Drop>(rt: &impl Abort, session: Session<R>) {
 fn a_table_that_is_not_free_is_missed(rt: HostRuntime) -> Result<(), Fail> {
     let alloc = rt.alloc();
     let (manager, mut passes) = Manager::new(alloc, PLACES, SESSIONS)?;
-    let last = passes.remove(63);
+    let Some(last) = passes.pop() else {
+        return Err(Fail::from("there is no session"));
+    };
     let mut own = Session::open(&rt, &manager, last);
     let outcome = played_beside(&rt, alloc, &manager, passes, &mut own);
     close(&rt, own);
