@@ -1,7 +1,8 @@
 -- The passes of a new space: there is one for each session.
-use Rattle.std.proofs.Common.{◌≡◌, ◌≤◌, ◌<◌, ◌+◌, ◌-◌, ◌∙◌, ap, sym, subst, ℕ, zero, suc, List, [], ◌∷◌, Bool, true, false, All, filter, cond, length, get_or, refl, arith}
+use Rattle.std.proofs.Common.{◌≡◌, ◌≢◌, slice_index_or, ◌≤◌, ◌<◌, ◌+◌, ◌-◌, ◌∙◌, ap, sym, subst, ℕ, zero, suc, List, [], ◌∷◌, Bool, true, false, All, filter, cond, length, get_or, refl, arith}
 use Rattle.std.specs.Prelude.{◌==◌}
 use Rattle.std.specs.List.{range_with_len}
+use Rattle.std.specs.List.Sorted.{IsPermutation}
 use Rattle.std.proofs.lemmas.Bool.Decides.{Decides-eqb}
 use Rattle.std.proofs.lemmas.List.Elements.{All-cons, All-from_get_or, All-nil}
 use Rattle.std.proofs.lemmas.List.Folds.{list_any_at}
@@ -11,6 +12,7 @@ use Rattle.mdl_shared.specs.declared.pass.Pass.{Pass}
 use Rattle.mdl_shared.specs.Passes.{ArePasses, pass_number, pass_table}
 use Rattle.mdl_script.specs.RunTexts.{is_named, named_sessions}
 use Rattle.mdl_script.specs.Turns.{has_pass}
+use Rattle.mdl_script.proofs.TurnLemmas.{passes_left, theirs_left}
 
 -- what holds of all numbers of a row holds of those that pass a test
 all-of-range : (P : ℕ → Type 0) (p : ℕ → Bool) (a n : ℕ) → ((x : ℕ) → a ≤ x → x < a + n → P x) → All P (filter p (range_with_len a n))
@@ -40,3 +42,12 @@ unfolding named_sessions
 all-there table [] lines are many = absurd (cc)
 all-there table (p ∷ ps) lines are many =
     all-of-range (λ who. has_pass (p ∷ ps) who ≡ true) (is_named lines) 1 64 (λ x least most. pass-there table (p ∷ ps) p x are least (omega (arith, most, many)))
+
+-- once the first is taken, it is one of the space's, and so are the others; each session but its own has its pass still
+pub first-taken : (table : TableId) (lines : List Line) (passes others : List Pass) (first : Pass) → IsPermutation passes (first ∷ others)
+    → All (λ (pass : Pass). pass_table pass ≡ table) passes → All (λ who. has_pass passes who ≡ true) (named_sessions lines)
+    → (pass_table first ≡ table) × All (λ (pass : Pass). pass_table pass ≡ table) others
+    × All (λ who. who ≢ pass_number first → has_pass others who ≡ true) (named_sessions lines)
+first-taken table lines passes others first same theirs there =
+    let left = theirs_left table passes others first theirs same in
+    (left.0, left.1, λ k d within differs. passes_left passes others first (pass_number first) (slice_index_or (named_sessions lines) k d) refl differs same ∙ there k d within)

@@ -1,4 +1,4 @@
-//! Scripts of statements, played in one thread.
+//! Scripts of statements, played in one thread, or with a thread for each session.
 //!
 //! # Example
 //!

@@ -13,7 +13,7 @@ use crate::asking::{books, make_first_schema, take_turn};
 use crate::finals::push_finals;
 use crate::on_thread::close;
 use crate::run::Run;
-use crate::turns::{push_turns, start_all};
+use crate::turns::{push_turns, start_all, take_first};
 use mdl_shared::{Manager, Pass, Session};
 use mdl_syntax::Script;
 use mdl_work::Gate;
@@ -47,7 +47,7 @@ pub fn run_on<R: Threads + Wait + Sync, G: Gate + Sync>(
     ensures { IfOk result (λ text. IsRunOf patience script.now (string_bytes text)) }
 {
     let mut others = passes;
-    let first = others.swap_remove(0);
+    let first = take_first(&mut others);
     thread::scope(
         thread::scope_env(),
         rt,

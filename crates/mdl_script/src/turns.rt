@@ -1,5 +1,5 @@
 //! The turns of a run: the sessions that a script names, in rising order, each with the thread that it is on.
-ghost use Rattle.std.specs.Prelude.{◌≡◌, ◌≢◌, [], ◌∷◌, ◌==◌, ℕ, true, All, IfOk, OnOk, map, position};
+ghost use Rattle.std.specs.Prelude.{◌≡◌, ◌≢◌, [], ◌∷◌, ◌==◌, ℕ, true, All, IfOk, OnOk, map, position, ◌≤◌, length};
 ghost use Rattle.std.specs.List.Sorted.{IsPermutation};
 ghost use Rattle.std.specs.String.{string_bytes};
 ghost use Rattle.mdl_shared.specs.Passes.{pass_number, pass_table, table_of};
@@ -40,6 +40,14 @@ impl<'s> Promise<Answered> for AnswersOf<'s> {
 pub(crate) struct Turn<'s> {
     pub(crate) who: u16,
     pub(crate) thread: Option<PromisedHandle<Answered, AnswersOf<'s>>>,
+}
+
+/// Takes the first pass from others.
+pub(crate) fn take_first(passes: &mut Vec<Pass>) -> Pass
+    requires { 1 ≤ length passes.old.items }
+    ensures { IsPermutation passes.old.items (result ∷ passes.new.items) }
+{
+    passes.swap_remove(0)
 }
 
 /// Takes the pass of a session from others.
