@@ -13,19 +13,21 @@ use Rattle.mdl_script.specs.Turns.{has_pass}
 one-there : (passes : List Pass) (lines : List Line) (who : ℕ) → list_all (λ (line : Line). has_pass passes line.session) lines ≡ true
     → is_named lines who ≡ true → has_pass passes who ≡ true
 one-there passes [] who all named = absurd (true≢false (sym named))
-one-there passes (line ∷ lines) who all named = by (line.session == who) refl (has_pass passes line.session) refl all named
+one-there passes (line ∷ lines) who all named =
+    by (line.session == who) refl (has_pass passes line.session) refl all named (one-there passes lines who)
   where
     by : (same : Bool) → (line.session == who) ≡ same → (there : Bool) → has_pass passes line.session ≡ there
         → cond there (list_all (λ (line : Line). has_pass passes line.session) lines) false ≡ true → cond same true (is_named lines who) ≡ true
+        → (list_all (λ (line : Line). has_pass passes line.session) lines ≡ true → is_named lines who ≡ true → has_pass passes who ≡ true)
         → has_pass passes who ≡ true
-    by true same true there all named = subst (λ x. has_pass passes x ≡ true) ((Decides-eqb line.session who).0 same) there
-    by false same true there all named = one-there passes lines who all named
-    by true same false there all named = absurd (true≢false (sym all))
-    by false same false there all named = absurd (true≢false (sym all))
+    by true same true there all named rest = subst (λ x. has_pass passes x ≡ true) ((Decides-eqb line.session who).0 same) there
+    by false same true there all named rest = rest all named
+    by true same false there all named rest = absurd (true≢false (sym all))
+    by false same false there all named rest = absurd (true≢false (sym all))
 
 -- so all sessions that a script names have one
-pub named-there : (passes : List Pass) (lines : List Line) → list_all (λ (line : Line). has_pass passes line.session) lines ≡ true
+pub named_there : (passes : List Pass) (lines : List Line) → list_all (λ (line : Line). has_pass passes line.session) lines ≡ true
     → All (λ who. has_pass passes who ≡ true) (named_sessions lines)
 unfolding named_sessions
-named-there passes lines all =
+named_there passes lines all =
     All-weaker (λ who. is_named lines who ≡ true) (λ who. has_pass passes who ≡ true) (λ who. one-there passes lines who all) _ (filter_passes (is_named lines) (range_with_len 1 64))

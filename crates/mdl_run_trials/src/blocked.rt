@@ -1,15 +1,16 @@
 //! A session of the test's own has a table for itself while a script is played over the same lock table.
-ghost use Rattle.std.specs.Prelude.{◌≡◌, ◌≤◌, true, All, length};
+ghost use Rattle.std.specs.Prelude.{◌≡◌, ◌≤◌, All, length};
+ghost use Rattle.std.specs.List.{list_all};
 ghost use Rattle.mdl_shared.specs.Passes.{table_of, pass_table};
-ghost use Rattle.mdl_script.specs.RunTexts.{named_sessions};
 ghost use Rattle.mdl_script.specs.Turns.{has_pass};
 
 use crate::playing::lines;
 use mdl_calls::{Attempt, SpaceError, TicketId};
 use mdl_defs::{Definition, Standing};
 use mdl_key::{Key, Mode};
-use mdl_script::{OpenGate, Script, parse, run_on};
+use mdl_script::{OpenGate, run_on};
 use mdl_shared::{HoldsTickets, Manager, Pass, Session};
+use mdl_syntax::{Script, parse};
 use std::alloc::Global;
 use std::process::Abort;
 use std::sync::Wait;
@@ -58,14 +59,25 @@ fn is_new_table(standing: &Standing) -> bool {
     }
 }
 
-// Whether there is a pass for each session that a script names.
-fn are_there(passes: &[Pass], script: &Script) -> bool
-    ensures { result ≡ true → All (λ who. has_pass passes.now who ≡ true) (named_sessions script.now) }
+// Whether a session has one of these passes.
+fn has_pass(passes: &[Pass], who: u16) -> bool
+    ensures { result ≡ has_pass passes.now who }
 {
-    script.lines().iter().all(|line| passes.iter().any(|pass| pass.number() == line.session))
+    passes.iter().any(|pass| pass.number() == who)
+}
+
+// Whether the session of each line has one.
+fn are_there(passes: &[Pass], script: &Script) -> bool
+    ensures { result ≡ list_all (λ line. has_pass passes.now line.session) script.now }
+{
+    script
+        .lines()
+        .iter()
+        .all(|line| has_pass(passes, line.session))
 }
 
 // The text of a run by these passes.
+#[tactic(auto, using(crate::proofs::PassLemmas::named_there))]
 fn played_by<R: Threads + Wait + Sync>(
     rt: &R,
     alloc: Global,

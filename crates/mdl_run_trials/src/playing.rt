@@ -1,5 +1,6 @@
 //! Scripts are played on threads, from text to text.
-use mdl_script::{Gate, parse, run_threads};
+use mdl_script::{Gate, run_threads};
+use mdl_syntax::parse;
 use std::alloc::{AllocError, Global};
 use std::sync::Wait;
 use std::test::Fail;
