@@ -77,7 +77,6 @@ fn are_there(passes: &[Pass], script: &Script) -> bool
 }
 
 // The text of a run by these passes.
-#[tactic(auto, using(crate::proofs::PassLemmas::named_there))]
 fn played_by<R: Threads + Wait + Sync>(
     rt: &R,
     alloc: Global,
