@@ -1,0 +1,34 @@
+//! Worked scripts of one session, which has all in its own order.
+use crate::playing::{lines, played};
+use mdl_script::OpenGate;
+use std::test::Fail;
+
+// A script of lines that are parted by ` / `, and its text.
+const ROWS: &str = "\
+1 CREATE TABLE t x / 1 SELECT t => 1 1 OK / 2 1 OK test.t@1(x) / FINAL SCHEMA test@1 / FINAL TABLE test.t@1(x)
+# nothing is asked => FINAL SCHEMA test@1
+1 CREATE SCHEMA s / 1 CREATE TABLE s.t x / 1 LOCK TABLES s.t WRITE / 1 ALTER TABLE s.t ADD y COPY / 1 UNLOCK TABLES / \
+    1 SELECT s.t / 1 DROP SCHEMA s => 1 1 OK / 2 1 OK / 3 1 OK / 4 1 OK / 5 1 OK / 6 1 OK s.t@2(x,y) / 7 1 OK / \
+    FINAL SCHEMA test@1";
+
+#[test]
+fn rows_are_played(rt: HostRuntime) -> Result<(), Fail> {
+    let alloc = rt.alloc();
+    for row in ROWS.split('\n') {
+        let Some((script, text)) = row.split_once(" => ") else {
+            return Err(Fail::from("a row has no text"));
+        };
+        let script = lines(alloc, script)?;
+        let text = lines(alloc, text)?;
+        let played = played(&rt, alloc, script.as_str(), 0, &OpenGate)?;
+        assert_eq!(rt; played.as_str(), text.as_str(), "{row}");
+    }
+    Ok(())
+}
+
+#[test]
+fn an_empty_script_leaves_the_first_schema(rt: HostRuntime) -> Result<(), Fail> {
+    let played = played(&rt, rt.alloc(), "", 0, &OpenGate)?;
+    assert_eq!(rt; played.as_str(), "FINAL SCHEMA test@1\n");
+    Ok(())
+}

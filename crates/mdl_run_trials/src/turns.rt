@@ -1,0 +1,65 @@
+//! A gate that lets the lines of two sessions through in the order of the script.
+use crate::flags::Flag;
+use crate::playing::{lines, played};
+use mdl_script::Gate;
+use std::test::Fail;
+
+// Line 4 is held until line 3 was answered, and line 5 until line 4 was.
+#[derive(Drop)]
+struct InOrder {
+    third: Flag,
+    fourth: Flag,
+    missed: Flag,
+}
+
+impl InOrder {
+    fn new() -> InOrder {
+        InOrder {
+            third: Flag::lowered(),
+            fourth: Flag::lowered(),
+            missed: Flag::lowered(),
+        }
+    }
+
+    fn hold(&self, until: &Flag) {
+        if !until.comes_up() {
+            self.missed.raise();
+        }
+    }
+}
+
+impl Gate for InOrder {
+    fn before(&self, _session: u16, line: u64) {
+        match line {
+            4 => self.hold(&self.third),
+            5 => self.hold(&self.fourth),
+            _ => {}
+        }
+    }
+
+    fn after(&self, _session: u16, line: u64) {
+        match line {
+            3 => self.third.raise(),
+            4 => self.fourth.raise(),
+            _ => {}
+        }
+    }
+}
+
+const SCRIPT: &str = "1 CREATE TABLE t x / 1 BEGIN / 1 SELECT t / 2 DROP TABLE t / 1 COMMIT";
+
+const TEXT: &str =
+    "1 1 OK / 2 1 OK / 3 1 OK test.t@1(x) / 5 1 OK / 4 2 ERR 1205 / FINAL SCHEMA test@1 / \
+    FINAL TABLE test.t@1(x)";
+
+// Whoever has no patience doesn't wait for the transaction that has read the table.
+#[test]
+fn a_drop_without_patience_times_out(rt: HostRuntime) -> Result<(), Fail> {
+    let alloc = rt.alloc();
+    let gate = InOrder::new();
+    let script = lines(alloc, SCRIPT)?;
+    let played = played(&rt, alloc, script.as_str(), 0, &gate)?;
+    assert!(rt; !gate.missed.is_raised(), "a line was held too long");
+    assert_eq!(rt; played.as_str(), lines(alloc, TEXT)?.as_str());
+    Ok(())
+}
