@@ -1,5 +1,5 @@
 -- The sessions that a script names, and their passes.
-use Rattle.std.proofs.Common.{◌≡◌, sym, subst, ℕ, List, [], ◌∷◌, Bool, true, false, true≢false, All, cond, refl, ◌∙◌}
+use Rattle.std.proofs.Common.{◌≡◌, sym, subst, ℕ, List, [], ◌∷◌, Bool, true, false, true≢false, ◌&&◌, ◌||◌, All, refl}
 use Rattle.std.specs.Prelude.{◌==◌}
 use Rattle.std.specs.List.{list_all, list_any, range_with_len}
 use Rattle.std.proofs.lemmas.Bool.Decides.{Decides-eqb}
@@ -17,7 +17,7 @@ one-there passes (line ∷ lines) who all named =
     by (line.session == who) refl (has_pass passes line.session) refl all named (one-there passes lines who)
   where
     by : (same : Bool) → (line.session == who) ≡ same → (there : Bool) → has_pass passes line.session ≡ there
-        → cond there (list_all (λ (line : Line). has_pass passes line.session) lines) false ≡ true → cond same true (is_named lines who) ≡ true
+        → (there && list_all (λ (line : Line). has_pass passes line.session) lines) ≡ true → (same || is_named lines who) ≡ true
         → (list_all (λ (line : Line). has_pass passes line.session) lines ≡ true → is_named lines who ≡ true → has_pass passes who ≡ true)
         → has_pass passes who ≡ true
     by true same true there all named rest = subst (λ x. has_pass passes x ≡ true) ((Decides-eqb line.session who).0 same) there
