@@ -51,7 +51,7 @@ const STATEMENTS: [(&str, &str); 40] = [
 
 const SESSIONS: usize = 8;
 
-const LINES: usize = 20_000;
+const LINES: usize = 100_000;
 
 const PATIENCE: u32 = 100;
 
