@@ -1,0 +1,186 @@
+"""Tries wrong bodies: the prover has to refuse each function into which one was put.
+
+A wrong body is a file wrong_bodies/CRATE/NAME.edit of such lines:
+
+    refused: mdl_key::key::check_name      the function that has to be refused, by the name that a check prints
+    file: src/key.rt                       the file that is changed
+    old: if name.len() > LONGEST_NAME {    a text that stands there once, in one line
+    new: if name.len() > 65 {              what is put in its place
+
+with more pairs of `old` and `new`, and more files, where it takes them. A function is proved over the contracts of those that it calls,
+whatever their bodies are. So all wrong bodies of a crate are put in place together, in a copy, and one check is asked for the functions
+that they name; only those that touch the same text, or the same function, take turns. That a function calls another one that is refused
+doesn't count: it has to fail by itself, and by more than a name that its proof misses.
+
+Usage, at the top of the repository:
+    python3 make/wrong_bodies.py                    all
+    python3 make/wrong_bodies.py CRATE [NAME ..]    those of a crate, or some of them
+    python3 make/wrong_bodies.py --fit              none: says which of them don't fit the files that they change
+"""
+
+import dataclasses
+import os
+import pathlib
+import re
+import shutil
+import subprocess
+import sys
+import tempfile
+
+BODIES = pathlib.Path("wrong_bodies")
+
+# What a check reads of a crate.
+PARTS = ("src", "specs", "proofs", "out/rlib")
+
+# How a check words that a proof names what a body took away, which says nothing of the contract.
+LOST_NAME = re.compile(r"has no field|is not in scope|has no `|was not admitted")
+
+
+class Unfit(Exception):
+    """A wrong body that doesn't fit the crate that it is for, or a file that isn't one."""
+
+
+@dataclasses.dataclass
+class WrongBody:
+    """The function that has to be refused, and which texts are put in place of which."""
+
+    name: str
+    refused: str
+    changes: list
+
+    def put_into(self, texts, folder):
+        """Returns these texts of a crate's files with the body in its place, or None where another body has taken it."""
+        texts = dict(texts)
+        for path, old, new in self.changes:
+            own = (folder / path).read_text()
+            if own.count(old) != 1:
+                raise Unfit(f"{self.name}: this text stands in {path} {own.count(old)} times, not once: {old}")
+            text = texts.get(path, own)
+            if text.count(old) != 1:
+                return None
+            texts[path] = text.replace(old, new)
+        return texts
+
+
+def read_body(file):
+    """Reads a wrong body."""
+    refused, path, old, changes = None, None, None, []
+    for line in file.read_text().splitlines():
+        word, _, rest = line.partition(":")
+        rest = rest.removeprefix(" ")
+        if word == "refused":
+            refused = rest
+        elif word == "file":
+            path = rest
+        elif word == "old":
+            old = rest
+        elif word == "new" and path and old:
+            changes.append((path, old, rest))
+            old = None
+        else:
+            raise Unfit(f"{file}: there is no place for this line: {line}")
+    if not refused or not changes:
+        raise Unfit(f"{file}: it doesn't say which function is refused, or it changes nothing")
+    return WrongBody(file.stem, refused, changes)
+
+
+def rounds_of(bodies, folder):
+    """Returns the rounds that it takes: bodies that are in their places at one time, and the texts of the files then."""
+    rounds = []
+    for body in bodies:
+        for number, (others, texts) in enumerate(rounds):
+            together = None if body.refused in [it.refused for it in others] else body.put_into(texts, folder)
+            if together is not None:
+                rounds[number] = ([*others, body], together)
+                break
+        else:
+            rounds.append(([body], body.put_into({}, folder)))
+    return rounds
+
+
+def is_refused(function, said):
+    """Returns whether a check that said these lines has refused the function by itself."""
+    verdict = next((it for it in said if it.startswith(f"fn {function}: ")), "")
+    if "did not prove" in verdict:
+        return True
+    proof = "proofs/" + "/".join(function.split("::")[1:]) + "/"
+    errors = [it for it in said if it.removeprefix("./").startswith(proof) and ": error: " in it]
+    return "not proved" in verdict and any(not LOST_NAME.search(it) for it in errors)
+
+
+def link_or_copy(one, other):
+    """Gives a file a second name, or a copy where the other folder lies on another disk."""
+    try:
+        os.link(one, other)
+    except OSError:
+        shutil.copy2(one, other)
+
+
+def copy_repository(room):
+    """Copies what checks read of the repository into a folder. A check never writes into a built library, so those are linked."""
+    for name in ("crates.txt", "HANDLES"):
+        shutil.copy2(name, room)
+    for crate in pathlib.Path("crates").iterdir():
+        for part in PARTS:
+            if (crate / part).is_dir():
+                copy = link_or_copy if part == "out/rlib" else shutil.copy2
+                shutil.copytree(crate / part, room / crate / part, copy_function=copy)
+
+
+def try_round(bodies, texts, folder):
+    """Has a crate checked with these bodies in their places, and returns those that are not refused."""
+    own = {path: (folder / path).read_text() for path in texts}
+    for path, text in texts.items():
+        (folder / path).write_text(text)
+    asked = [word for body in bodies for word in ("--only", body.refused)]
+    ran = subprocess.run(["rt", "check", *asked], cwd=folder, stdout=subprocess.PIPE, stderr=subprocess.STDOUT, text=True)
+    for path, text in own.items():
+        (folder / path).write_text(text)
+    stay = [body for body in bodies if not is_refused(body.refused, ran.stdout.splitlines())]
+    if stay:
+        print(ran.stdout, file=sys.stderr)
+    return stay
+
+
+def try_crate(crate, bodies, room):
+    """Tries the wrong bodies of a crate, and returns how many are not refused."""
+    folder, missed = room / "crates" / crate, 0
+    for together, texts in rounds_of(bodies, folder):
+        stay = try_round(together, texts, folder)
+        missed += len(stay)
+        for body in stay:
+            print(f"{crate}/{body.name}: NOT REFUSED: {body.refused} is not refused by itself", flush=True)
+    print(f"{crate}: {len(bodies) - missed} of {len(bodies)} wrong bodies are refused", flush=True)
+    return missed
+
+
+def bodies_of(words):
+    """Returns the wrong bodies that these words name, by the names of their crates."""
+    found = {}
+    for folder in sorted(it for it in BODIES.iterdir() if it.is_dir()):
+        if not words or folder.name == words[0]:
+            files = sorted(it for it in folder.glob("*.edit") if not words[1:] or it.stem in words[1:])
+            found[folder.name] = [read_body(it) for it in files]
+    if not any(found.values()):
+        raise Unfit(f"there is no wrong body of that name: {' '.join(words)}")
+    return found
+
+
+def main(words):
+    """Tries the wrong bodies that the words name, or looks whether all fit, and returns the status to end with."""
+    try:
+        if words == ["--fit"]:
+            for crate, bodies in bodies_of([]).items():
+                rounds_of(bodies, pathlib.Path("crates", crate))
+            return 0
+        with tempfile.TemporaryDirectory(prefix="wrong-bodies-") as name:
+            room = pathlib.Path(name)
+            copy_repository(room)
+            return 1 if sum(try_crate(crate, bodies, room) for crate, bodies in bodies_of(words).items()) else 0
+    except Unfit as error:
+        print(error, file=sys.stderr)
+        return 1
+
+
+if __name__ == "__main__":
+    sys.exit(main(sys.argv[1:]))
