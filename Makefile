@@ -15,17 +15,18 @@ PROGRAM = crates/mdlsim/out/mdlsim
 
 BENCH = crates/mdl_bench/out/mdl_bench
 
-.PHONY: help run try script test layout docs bench examples growths build install clean kit
+.PHONY: help run try script test layout docs bench examples growths wrong build install clean kit
 
 help:
 	@echo 'make run [SCRIPT=FILE]     builds mdlsim, proved, and prints its answers to a script: NAME.replay, NAME.run, NAME.lock or NAME.scoped.lock'
 	@echo 'make try [SCRIPT=FILE]     answers a script without the proof, in a minute or two, and leaves no program'
 	@echo 'make try SUBCOMMAND=matrix prints which modes clash and who waits behind whom, without the proof'
 	@echo 'make test                  the gate: proves everything from nothing, and runs all tests'
-	@echo 'make layout                says which files are not in the layout, and which must-fail edits fit no file'
+	@echo 'make layout                says which files are not in the layout, and which wrong bodies fit no file'
 	@echo 'make docs                  says what is stale in the docs'
 	@echo 'make examples              compares the answers to each example with those that lie beside it'
 	@echo 'make growths               refuses each growth of some short lives in turn'
+	@echo 'make wrong [CRATE=NAME]     has the prover refuse the wrong bodies, of all crates or of one'
 	@echo 'make bench                 times scripts and calls'
 	@echo 'make install [PREFIX=DIR]  builds mdlsim, proved, and installs it with its manual page'
 	@echo 'make clean                 removes what was built, and what the prover keeps for its next check'
@@ -45,13 +46,12 @@ script:
 	@case "$(origin SUBCOMMAND) $(SCRIPT)" in "command line "* | "file crates/mdlsim/stdin" | *.lock | *.replay | *.run) ;; \
 	*) echo "$(SCRIPT): a script ends with .lock, .replay or .run" >&2; exit 1 ;; esac
 
-# The gate: the files are in the layout, the docs agree with the tree, the examples have their answers, refused growths lose nothing, and
-# everything is proved and tested from nothing. Of the growths every third is refused here; `make growths` refuses each.
-test: layout docs examples
-	@sh growths/check.sh 3
+# The gate: the files are in the layout, the docs agree with the tree, the examples have their answers, refused growths lose nothing (every
+# third is refused here; `make growths` refuses each), everything is proved and tested from nothing, and the wrong bodies are refused.
+test: layout docs
 	@sh make/gate.sh
 
-# What `rt ci` would refuse of the files' layout and of the must-fail edits, told at once.
+# What the gate would refuse of the files' layout and of the wrong bodies, told at once.
 layout: kit
 	@sh make/check_layout.sh
 
@@ -76,6 +76,10 @@ examples: kit
 # Short lives of the crates go well where any one of their allocations is refused.
 growths: kit
 	@sh growths/check.sh
+
+# The prover refuses each wrong body: all, or with CRATE=NAME those of one crate. What was proved before isn't proved again.
+wrong: kit
+	@python3 make/wrong_bodies.py $(CRATE)
 
 # Proves mdlsim and what it stands on, and builds it.
 build: kit

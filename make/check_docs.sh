@@ -41,7 +41,7 @@ names() {
 }
 
 figures() {
-    find crates -name out -prune -o \( -name '*.rt' -o -name '*.antt' -o -name '*.edit' \) -exec wc -l {} + \
+    find crates wrong_bodies -name out -prune -o \( -name '*.rt' -o -name '*.antt' -o -name '*.edit' \) -exec wc -l {} + \
         | awk -v CRATES="$(crates)" -f make/docs/figures.awk
 }
 

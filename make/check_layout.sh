@@ -1,18 +1,16 @@
 #!/bin/sh
-# Says what `rt ci` would refuse when it comes to the crate, and that may be an hour later: files that aren't laid out as `rt fmt` lays them
-# out, and must-fail edits that don't fit the file that they change.
+# Says what the gate would refuse when it comes to the crate, and that may be an hour later: files that aren't laid out as `rt fmt` lays them
+# out, and wrong bodies that don't fit the file that they change.
 # Usage: sh make/check_layout.sh
 cd "$(dirname "$0")/.." || exit 1
-sh make/needs.sh rt awk || exit 1
+sh make/needs.sh rt python3 || exit 1
 LC_ALL=C
 export LC_ALL
 made=$(mktemp -d)
 trap 'rm -rf "$made"' EXIT
 : > "$made/stale"
 
-for edit in crates/*/must-fail/*.edit; do
-    awk -v FOLDER="${edit%/must-fail/*}" -f make/edits.awk "$edit" >> "$made/stale"
-done
+python3 make/wrong_bodies.py --fit 2>> "$made/stale"
 
 # The program that `rt fmt` calls lies beside it; a kit that keeps it elsewhere leaves this to `rt ci`.
 rattle=$(dirname "$(readlink -f "$(command -v rt)")")/rattle
@@ -25,4 +23,4 @@ if [ -s "$made/stale" ]; then
     cat "$made/stale" >&2
     exit 1
 fi
-echo "each file is in the layout, and each edit fits"
+echo "each file is in the layout, and each wrong body fits"

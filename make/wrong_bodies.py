@@ -18,9 +18,11 @@ Usage, at the top of the repository:
     python3 make/wrong_bodies.py --fit              none: says which of them don't fit the files that they change
 """
 
+import concurrent.futures
 import dataclasses
 import os
 import pathlib
+import queue
 import re
 import shutil
 import subprocess
@@ -79,8 +81,8 @@ def read_body(file):
             old = None
         else:
             raise Unfit(f"{file}: there is no place for this line: {line}")
-    if not refused or not changes:
-        raise Unfit(f"{file}: it doesn't say which function is refused, or it changes nothing")
+    if not changes:
+        raise Unfit(f"{file}: it changes nothing")
     return WrongBody(file.stem, refused, changes)
 
 
@@ -128,55 +130,77 @@ def copy_repository(room):
 
 
 def try_round(bodies, texts, folder):
-    """Has a crate checked with these bodies in their places, and returns those that are not refused."""
+    """Has a crate checked with these bodies in their places, and returns those that are not refused, and what the check said."""
     own = {path: (folder / path).read_text() for path in texts}
     for path, text in texts.items():
         (folder / path).write_text(text)
     asked = [word for body in bodies for word in ("--only", body.refused)]
-    ran = subprocess.run(["rt", "check", *asked], cwd=folder, stdout=subprocess.PIPE, stderr=subprocess.STDOUT, text=True)
+    ran = subprocess.run(["rt", "check", "--jobs", "1", *asked], cwd=folder, stdout=subprocess.PIPE, stderr=subprocess.STDOUT, text=True)
     for path, text in own.items():
         (folder / path).write_text(text)
-    stay = [body for body in bodies if not is_refused(body.refused, ran.stdout.splitlines())]
-    if stay:
-        print(ran.stdout, file=sys.stderr)
-    return stay
+    return [it for it in bodies if not is_refused(it.refused, ran.stdout.splitlines())], ran.stdout
 
 
-def try_crate(crate, bodies, room):
-    """Tries the wrong bodies of a crate, and returns how many are not refused."""
-    folder, missed = room / "crates" / crate, 0
+def try_crate(crate, bodies, rooms):
+    """Tries the wrong bodies of a crate in one of the copies, and returns how many are not refused."""
+    room, missed = rooms.get(), 0
+    folder = room / "crates" / crate
     for together, texts in rounds_of(bodies, folder):
-        stay = try_round(together, texts, folder)
+        stay, said = try_round(together, texts, folder)
         missed += len(stay)
         for body in stay:
-            print(f"{crate}/{body.name}: NOT REFUSED: {body.refused} is not refused by itself", flush=True)
+            print(f"{said}\n{crate}/{body.name}: NOT REFUSED: {body.refused} has to fail by itself", flush=True)
     print(f"{crate}: {len(bodies) - missed} of {len(bodies)} wrong bodies are refused", flush=True)
+    rooms.put(room)
     return missed
+
+
+def try_all(found, place):
+    """Tries the wrong bodies of these crates, one crate a processor at a time, and returns how many are not refused."""
+    lanes = min(len(os.sched_getaffinity(0)), len(found))
+    rooms = queue.SimpleQueue()
+    for number in range(lanes):
+        room = pathlib.Path(place, str(number))
+        room.mkdir()
+        copy_repository(room)
+        rooms.put(room)
+    # (a crate's check takes the longer the more there is of it)
+    crates = sorted(found, key=lambda it: -sum(file.stat().st_size for file in pathlib.Path("crates", it).rglob("*.antt")))
+    with concurrent.futures.ThreadPoolExecutor(lanes) as pool:
+        return sum(pool.map(lambda crate: try_crate(crate, found[crate], rooms), crates))
 
 
 def bodies_of(words):
     """Returns the wrong bodies that these words name, by the names of their crates."""
     found = {}
-    for folder in sorted(it for it in BODIES.iterdir() if it.is_dir()):
-        if not words or folder.name == words[0]:
-            files = sorted(it for it in folder.glob("*.edit") if not words[1:] or it.stem in words[1:])
-            found[folder.name] = [read_body(it) for it in files]
-    if not any(found.values()):
-        raise Unfit(f"there is no wrong body of that name: {' '.join(words)}")
+    for file in sorted(BODIES.glob("*/*.edit")):
+        if words[:1] in ([], [file.parent.name]) and (not words[1:] or file.stem in words[1:]):
+            body = read_body(file)
+            if not body.refused:
+                raise Unfit(f"{file}: it doesn't say which function has to be refused")
+            found.setdefault(file.parent.name, []).append(body)
+    if not found:
+        raise Unfit(f"there is no such wrong body: {' '.join(words)}")
     return found
+
+
+def fit_all():
+    """Looks whether each wrong body fits, and each edit that `rt ci` tries."""
+    for crate, bodies in bodies_of([]).items():
+        for body in bodies:
+            body.put_into({}, pathlib.Path("crates", crate))
+    for file in pathlib.Path("crates").glob("*/must-fail/*.edit"):
+        read_body(file).put_into({}, file.parent.parent)
 
 
 def main(words):
     """Tries the wrong bodies that the words name, or looks whether all fit, and returns the status to end with."""
     try:
         if words == ["--fit"]:
-            for crate, bodies in bodies_of([]).items():
-                rounds_of(bodies, pathlib.Path("crates", crate))
+            fit_all()
             return 0
-        with tempfile.TemporaryDirectory(prefix="wrong-bodies-") as name:
-            room = pathlib.Path(name)
-            copy_repository(room)
-            return 1 if sum(try_crate(crate, bodies, room) for crate, bodies in bodies_of(words).items()) else 0
+        with tempfile.TemporaryDirectory(prefix="wrong-bodies-") as place:
+            return 1 if try_all(bodies_of(words), place) else 0
     except Unfit as error:
         print(error, file=sys.stderr)
         return 1

@@ -1,19 +1,21 @@
 # Prints a table of the lines of each crate, and of its wrong bodies, from the numbers of lines and the paths of its files, as wc tells them.
-# Tests are the crates of trials and examples, and files named tests.rt.
+# Tests are the crates of trials and examples, and files named tests.rt. A wrong body is a file, of however many lines.
 # Usage: wc -l FILE.. | awk -v CRATES="$crates" -f figures.awk
 function grouped(number) {
     return number < 1000 ? number + 0 : int(number / 1000) sprintf(",%03d", number % 1000)
 }
 function row(name) {
     print "| " name " | " grouped(lines[name, "code"]) " | " grouped(lines[name, "tests"]) " | " grouped(lines[name, "specs"]) \
-        " | " grouped(lines[name, "proofs"]) " | " grouped(lines[name, "must-fail"]) " |"
+        " | " grouped(lines[name, "proofs"]) " | " grouped(lines[name, "wrong"]) " |"
 }
-split($2, part, "/") > 3 {
+split($2, part, "/") > 2 {
     kind = part[3]
-    if (kind == "src") {
+    if ($2 ~ /\.edit$/) {
+        kind = "wrong"
+    } else if (kind == "src") {
         kind = part[2] ~ /trials$|examples$/ || $2 ~ /tests\.rt$/ ? "tests" : "code"
     }
-    count = kind == "must-fail" ? 1 : $1
+    count = kind == "wrong" ? 1 : $1
     lines["`" part[2] "`", kind] += count
     lines["all", kind] += count
 }
