@@ -34,6 +34,7 @@ names() {
     for crate in $(crates); do
         {
             find "crates/$crate" -maxdepth 2 -type f
+            find wrong_bodies -path "*/$crate/*" -type f
             find "crates/$crate" -name out -prune -o \( -path '*/src/*' -o -path '*/specs/*' -o -path '*/proofs/[A-Z]*.antt' \) -type f \
                 -exec sed 's|//.*||; s|--.*||' {} +
         } | tr -cs 'A-Za-z0-9_' '\n' | sort -u | sed "s|^|$crate |"
@@ -88,9 +89,9 @@ stale_links() {
 
 stale_paths() {
     awk -F '\t' '$4 ~ /[*]|NAME/ { next }
-        $4 ~ /^(crates|docs|examples|growths|bench|make)\// { print $1, $4 }
+        $4 ~ /^(crates|docs|examples|growths|bench|make|wrong_bodies)\// { print $1, $4 }
         $4 ~ /^(mdl_[a-z_]*|mdlsim)\// { print $1, "crates/" $4 }
-        $2 != "" && $4 ~ /^(specs|src|proofs|must-fail)\// { print $1, "crates/" $2 "/" $4 }' "$made/words" \
+        $2 != "" && $4 ~ /^(specs|src|proofs)\// { print $1, "crates/" $2 "/" $4 }' "$made/words" \
         | while read -r where path; do
             [ -e "$path" ] || [ -e "$path.antt" ] || echo "$where: there is no $path"
         done

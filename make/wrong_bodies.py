@@ -100,14 +100,19 @@ def rounds_of(bodies, folder):
     return rounds
 
 
+def told_of(function, said):
+    """Returns what a check that said these lines tells of a function: its verdict, and the errors in its proof."""
+    proof = "proofs/" + "/".join(function.split("::")[1:]) + "/"
+    verdict = [it for it in said if it.startswith(f"fn {function}: ")]
+    return verdict, [it for it in said if it.removeprefix("./").startswith(proof) and ": error: " in it]
+
+
 def is_refused(function, said):
     """Returns whether a check that said these lines has refused the function by itself."""
-    verdict = next((it for it in said if it.startswith(f"fn {function}: ")), "")
-    if "did not prove" in verdict:
+    verdict, errors = told_of(function, said)
+    if any("did not prove" in it for it in verdict):
         return True
-    proof = "proofs/" + "/".join(function.split("::")[1:]) + "/"
-    errors = [it for it in said if it.removeprefix("./").startswith(proof) and ": error: " in it]
-    return "not proved" in verdict and any(not LOST_NAME.search(it) for it in errors)
+    return any("not proved" in it for it in verdict) and any(not LOST_NAME.search(it) for it in errors)
 
 
 def link_or_copy(one, other):
@@ -130,7 +135,7 @@ def copy_repository(room):
 
 
 def try_round(bodies, texts, folder):
-    """Has a crate checked with these bodies in their places, and returns those that are not refused, and what the check said."""
+    """Has a crate checked with these bodies in their places, and returns a line or more for each that is not refused."""
     own = {path: (folder / path).read_text() for path in texts}
     for path, text in texts.items():
         (folder / path).write_text(text)
@@ -138,7 +143,10 @@ def try_round(bodies, texts, folder):
     ran = subprocess.run(["rt", "check", "--jobs", "1", *asked], cwd=folder, stdout=subprocess.PIPE, stderr=subprocess.STDOUT, text=True)
     for path, text in own.items():
         (folder / path).write_text(text)
-    return [it for it in bodies if not is_refused(it.refused, ran.stdout.splitlines())], ran.stdout
+    said = ran.stdout.splitlines()
+    stay = [it for it in bodies if not is_refused(it.refused, said)]
+    told = lambda body: [line for lines in told_of(body.refused, said) for line in lines] or said[-3:]
+    return ["\n    ".join([f"{it.name}: NOT REFUSED: {it.refused} has to fail by itself", *told(it)]) for it in stay]
 
 
 def try_crate(crate, bodies, rooms):
@@ -146,10 +154,10 @@ def try_crate(crate, bodies, rooms):
     room, missed = rooms.get(), 0
     folder = room / "crates" / crate
     for together, texts in rounds_of(bodies, folder):
-        stay, said = try_round(together, texts, folder)
+        stay = try_round(together, texts, folder)
         missed += len(stay)
-        for body in stay:
-            print(f"{said}\n{crate}/{body.name}: NOT REFUSED: {body.refused} has to fail by itself", flush=True)
+        for told in stay:
+            print(f"{crate}/{told}", flush=True)
     print(f"{crate}: {len(bodies) - missed} of {len(bodies)} wrong bodies are refused", flush=True)
     rooms.put(room)
     return missed

@@ -1,4 +1,4 @@
--- What the sessions of a script can have answered, each over the lock table that all share.
+-- What the sessions of a script can have answered, each over a lock table that threads share.
 use Rattle.std.specs.Prelude.{◌≡◌, ℕ, List, [], map, Some, None}
 use Rattle.mdl_calls.specs.Words.{Own, Runs}
 use Rattle.mdl_session_laws.specs.SessionJoins.{Joins}
@@ -12,7 +12,7 @@ abbrev pub nothing : Own
 nothing = record { held = []; wait = None }
 
 -- a session can have answered so to its lines of a script: it has worked them off with this patience, from where it had nothing until it had nothing again,
--- by calls that each join what the session had of the shared table before it with what it had after it; and each line has its answer, in order
+-- by calls that each join what the session had of a shared table before it with what it had after it; and each line has its answer, in order
 pub record AreAnswers (patience : ℕ) (lines : List Line) (who : ℕ) (answers : List (ℕ × Reply)) : Type 0 where
   pub before : Space
   pub after : Space

@@ -36,8 +36,8 @@ waiting_out who (suc polls) = Ask (Poll_wait who) (while_pending (waiting_out wh
 
 -- ---- statements
 
--- how often a statement can begin to wait: once for each lock that it asks for. Those are at most 259, as `most_locks` of
--- mdl_script_laws counts them: any bound from there on is enough, and this one is two more
+-- how often a statement can begin to wait: once for each lock that it asks for. In a space of at most 256 places, as all here are, those are at most 259, as
+-- `most_locks` of mdl_script_laws counts them: any bound from there on is enough, and this one is two more
 abbrev pub most_waits : ℕ
 most_waits = 261
 
