@@ -1,22 +1,25 @@
 -- The settled sessions by the words of waits, and the graph of books that were copied.
-use Rattle.std.proofs.Common.{◌≡◌, ℕ, ◌+◌, ◌<◌, ◌≤◌, ◌==◌, ◌||◌, ◌&&◌, Bool, true, false, not, List, [], ◌∷◌, ◌++◌, length, map, take, get_or, Option, refl, sym, ap, ◌∙◌, subst, arith}
-use Rattle.std.specs.Prelude.{◌%◌}
+use Rattle.std.proofs.Common.{◌≡◌, ℕ, ◌+◌, ◌<◌, ◌≤◌, ◌==◌, ◌||◌, ◌&&◌, nat_lt, Bool, true, false, not, List, [], ◌∷◌, ◌++◌, length, map, filter, take, get_or, Option, refl, sym, ap, ◌∙◌, subst, arith, append_assoc, append-nil}
+use Rattle.std.specs.Prelude.{◌%◌, if◌then◌else◌}
 use Rattle.std.specs.Cmp.{nat_cmp_total, unsigned_tied}
 use Rattle.std.specs.FinSet as set
+use Rattle.std.specs.List.{list_any}
 use Rattle.std.specs.Option.{option_map}
 use Rattle.std.specs.Ordering.{nat_cmp}
 use Rattle.std.proofs.lemmas.Bool.Decides.{nat_tests}
 use Rattle.std.proofs.lemmas.List.{map-append, take_all, take_more}
 use Rattle.std.proofs.lemmas.List.Folds.{list_any-append}
 use Rattle.mdl_book.specs.declared.book_view.BookView.{BookView}
+use Rattle.mdl_book.specs.declared.ticket.Ticket.{Ticket}
 use Rattle.mdl_graph.specs.declared.cycle.Member.{Member}
 use Rattle.mdl_graph.specs.Graphs.{GraphView, IsGraphOf, cycle_found, deadlock, deadlock_in, member_of, victim_in, waits}
 use Rattle.mdl_graph.specs.Victims.{victim_of}
-use Rattle.mdl_graph.specs.WaitsFor.{SessionTest, waits_for}
+use Rattle.mdl_graph.specs.WaitsFor.{SessionTest, is_tied, is_unsettled, waits_at, waits_for, wish_of, wishes_at, wishes_in}
 use Rattle.mdl_graph.proofs.CycleLaws.{chosen_same}
 use Rattle.mdl_visits.specs.declared.audited.Audited.{Audited}
 use Rattle.mdl_visits.specs.declared.hearing.Heard.{Heard}
-use Rattle.mdl_visits.specs.Searches.{books_of, settled_by}
+use Rattle.mdl_visits.specs.Searches.{books_of, if_waited, settled_by}
+use Rattle.mdl_visits.proofs.WayOut.{nobody_waits}
 
 -- ---- who is settled
 
@@ -78,3 +81,50 @@ pub victim_same : (settled : SessionTest) (audited : List Audited) (added from :
 victim_same settled audited added from graph cycle is all found =
     ap (option_map victim_of)
     (found ∙ deadlock_same settled (books_of audited) graph from (subst (λ (some : List Audited). IsGraphOf settled (books_of some) graph) (take_all added audited all) is))
+
+-- ---- books by which nobody waits
+
+none_kept : (b : Bool) → (b && false) ≡ false
+none_kept true = refl
+none_kept false = refl
+
+module _ (settled : SessionTest) (one : Audited) (nobody : one.book.waiting ≡ []) where
+  ties_nobody : (waiter other : ℕ) → waits_at settled one.book waiter other ≡ false
+  ties_nobody waiter other =
+      ap (λ (waiting : List Ticket). is_unsettled settled waiter && list_any (λ (wish : Ticket). wish.session == waiter && is_tied settled one.book other wish) waiting) nobody
+      ∙ none_kept (is_unsettled settled waiter)
+
+  wishes_nothing : wishes_at settled one.book ≡ []
+  wishes_nothing = ap (λ (waiting : List Ticket). map (wish_of one.book) (filter (λ (ticket : Ticket). is_unsettled settled ticket.session) waiting)) nobody
+
+  same_wishes : (before after : List Audited) → wishes_in settled (books_of (before ++ after)) ≡ wishes_in settled (books_of (before ++ one ∷ after))
+  same_wishes [] after = ap (λ (wishes : List Member). wishes ++ wishes_in settled (books_of after)) (sym wishes_nothing)
+  same_wishes (first ∷ before) after = ap (λ (wishes : List Member). wishes_at settled first.book ++ wishes) (same_wishes before after)
+
+  same_waits : (before after : List Audited) (waiter other : ℕ)
+      → waits_for settled (books_of (before ++ after)) waiter other ≡ waits_for settled (books_of (before ++ one ∷ after)) waiter other
+  same_waits [] after waiter other = ap (λ (b : Bool). b || waits_for settled (books_of after) waiter other) (sym (ties_nobody waiter other))
+  same_waits (first ∷ before) after waiter other = ap (λ (b : Bool). waits_at settled first.book waiter other || b) (same_waits before after waiter other)
+
+  -- it makes no deadlock, and none another one
+  same_without : (before after : List Audited) (from : ℕ) → deadlock_in settled (books_of (before ++ after)) from ≡ deadlock_in settled (books_of (before ++ one ∷ after)) from
+  same_without before after from =
+      let fewer = books_of (before ++ after) in
+      let all = books_of (before ++ one ∷ after) in
+      ap (option_map (map (member_of (wishes_in settled fewer))))
+      (chosen_same (waits_for settled fewer) (waits_for settled all) (map (λ (wish : Member). wish.session) (wishes_in settled fewer)) from (same_waits before after))
+      ∙ ap (λ (wishes : List Member). cycle_found wishes (waits_for settled all) from) (same_wishes before after)
+
+-- a book is needed only if somebody waits by it
+module _ (settled : SessionTest) (one : Audited) (before after : List Audited) (from : ℕ) where
+  abbrev SameWith : List Audited → Type 0
+  SameWith taken = deadlock_in settled (books_of ((before ++ taken) ++ after)) from ≡ deadlock_in settled (books_of (before ++ one ∷ after)) from
+
+  same_by : (b : Bool) → nat_lt 0 (length one.book.waiting) ≡ b → SameWith (if b then one ∷ [] else [])
+  same_by true some = ap (λ (books : List Audited). deadlock_in settled (books_of books) from) (append_assoc before (one ∷ []) after)
+  same_by false none =
+      ap (λ (books : List Audited). deadlock_in settled (books_of (books ++ after)) from) (append-nil before)
+      ∙ same_without settled one (nobody_waits one.book.waiting none) before after from
+
+  pub same_if_waited : SameWith (if_waited one)
+  same_if_waited = same_by (nat_lt 0 (length one.book.waiting)) refl

@@ -15,10 +15,10 @@ use Rattle.mdl_visits.specs.declared.audited.Audited.{Audited}
 use Rattle.mdl_visits.specs.Audits.{AreRecorded, Gathers, HadLatches}
 use Rattle.mdl_visits.specs.Idle.{IsIdle}
 use Rattle.mdl_visits.specs.Lookups.{TookDirectory}
-use Rattle.mdl_visits.specs.Searches.{Hears, Listens, Judges, Searched, Searches, hearing}
+use Rattle.mdl_visits.specs.Searches.{Hears, Listens, Judges, Searched, Searches, hearing, if_waited}
 use Rattle.mdl_visits.specs.Visits.{AllHad, GoesOn, IsInside, KeepsDirectory, MakesSteps, and_made}
 use Rattle.mdl_visits.proofs.Gathering.{gathers_more, keys_from, makes_all, moment_of, more_latches, there_and_back, took_first}
-use Rattle.mdl_visits.proofs.Outcomes.{judges_within}
+use Rattle.mdl_visits.proofs.Outcomes.{judges_if_waited, judges_within}
 use Rattle.mdl_visits.proofs.Steps.{keeps_there}
 
 -- ---- of steps alone
@@ -39,6 +39,19 @@ same_gathers place last before after m m′ m″ same g = record {
   kept = g.kept;
   books = g.books;
   listed = g.listed;
+  all = g.all;
+  recorded = g.recorded;
+  keyed = g.keyed;
+}
+
+-- a book more before those that are gathered
+unfoldable pub behind_one : (place last : ℕ) (one : Audited) (books : List Audited) (m m′ : Mine) → Gathers place last [] books m m′ → Gathers place last (one ∷ []) (one ∷ books) m m′
+behind_one place last one books m m′ g = record {
+  latches = g.latches;
+  had = g.had;
+  kept = g.kept;
+  books = g.books;
+  listed = ap (λ (xs : List Audited). one ∷ xs) g.listed;
   all = g.all;
   recorded = g.recorded;
   keyed = g.keyed;
@@ -72,19 +85,20 @@ back_heard place h made m m′ m″ m‴ inside had taken hears put =
 
 module _ (id : TableId) (who place last : ℕ) (found : Search) where
   -- behind the last place there is nothing to gather
-  pub searches_none : (audited : List Audited) (m m′ : Mine) → place ≡ last + 1 → Judges id who m.0.latches audited found m m′ → Searches id who place last audited audited found m m′
-  searches_none audited m m′ behind judges = record {
+  pub searches_none : (copied : List Audited) (m m′ : Mine) → place ≡ last + 1 → Judges id who m.0.latches copied found m m′ → Searches id who place last copied found m m′
+  searches_none copied m m′ behind judges = record {
+    books = [];
     gathers = record {
       latches = m.0.latches;
       had = inl refl;
       kept = λ q h below e. e;
       books = [];
-      listed = sym (append-nil audited);
+      listed = refl;
       all = omega arith;
       recorded = tt;
       keyed = λ k has. tt;
     };
-    judges = judges;
+    judges = subst (λ (audited : List Audited). Judges id who m.0.latches audited found m m′) (sym (append-nil copied)) judges;
   }
 
   module _ (h : Held) (made : List Met) (m m′ m″ m‴ : Mine) (here : h.place ≡ place) (taken : m′ ≡ latched place h (and_made made m)) (hears : Hears m′ m″) (put : m‴ ≡ unlatched place [] m″) where
@@ -105,20 +119,26 @@ module _ (id : TableId) (who place last : ℕ) (found : Search) where
     after_then : GoesOn m″ m‴
     after_then = (_ ∷ [], ap (λ (x : Mine). x.0.log) put)
 
-    pub searches_more : IsFresh place h m → (q : ℕ) (before middle after : List Audited) → q ≡ place → held_at place m′.0.latches ≡ Some h → middle ≡ before ++ record { place = q; book = h.book } ∷ []
-        → Searches id who (place + 1) last middle after found m′ m″ → Searches id who place last before after found m m‴
-    unfolding same_gathers stepped
-    searches_more fresh q before middle after at recorded added more =
-        let inner : Gathers (place + 1) last middle after m′ stepped = same_gathers (place + 1) last middle after m′ m″ stepped (sym log_stepped) more.gathers in
-        let outer : Gathers place last before after m (unlatched place [] stepped) =
-        gathers_more place h made m m′ here taken stepped (unlatched place [] stepped) (hears.made, refl) refl fresh last q before middle after at recorded added inner in
+    pub searches_more : IsFresh place h m → (q : ℕ) (before middle : List Audited) → q ≡ place → held_at place m′.0.latches ≡ Some h
+        → middle ≡ before ++ if_waited (record { place = q; book = h.book }) → Searches id who (place + 1) last middle found m′ m″ → Searches id who place last before found m m‴
+    unfolding same_gathers behind_one stepped
+    searches_more fresh q before middle at recorded added more =
+        let one : Audited = record { place = q; book = h.book } in
+        let books : List Audited = one ∷ more.books in
+        let inner : Gathers (place + 1) last (one ∷ []) books m′ stepped =
+        behind_one (place + 1) last one more.books m′ stepped (same_gathers (place + 1) last [] more.books m′ m″ stepped (sym log_stepped) more.gathers) in
+        let outer : Gathers place last [] books m (unlatched place [] stepped) =
+        gathers_more place h made m m′ here taken stepped (unlatched place [] stepped) (hears.made, refl) refl fresh last q [] (one ∷ []) books at recorded refl inner in
         let same : outer.latches ≡ more.gathers.latches =
-        more_latches place h made m m′ here taken stepped (unlatched place [] stepped) (hears.made, refl) refl fresh last q before middle after at recorded added inner in
-        let judged = judges_within id who more.gathers.latches after found m m′ m″ m‴ before_then (ap (λ (x : Mine). x.0.settles) taken) after_then (ap (λ (x : Mine). x.0.settles) put)
-        more.judges in
+        more_latches place h made m m′ here taken stepped (unlatched place [] stepped) (hears.made, refl) refl fresh last q [] (one ∷ []) books at recorded refl inner in
+        let judged = judges_within id who more.gathers.latches (middle ++ more.books) found m m′ m″ m‴ before_then (ap (λ (x : Mine). x.0.settles) taken) after_then
+        (ap (λ (x : Mine). x.0.settles) put) more.judges in
+        let all = judges_if_waited id who more.gathers.latches one before more.books found m m‴
+        (subst (λ (copied : List Audited). Judges id who more.gathers.latches (copied ++ more.books) found m m‴) added judged) in
         record {
-          gathers = same_gathers place last before after m (unlatched place [] stepped) m‴ log_put outer;
-          judges = subst (λ (latches : List Held). Judges id who latches after found m m‴) (sym same) judged;
+          books = books;
+          gathers = same_gathers place last [] books m (unlatched place [] stepped) m‴ log_put outer;
+          judges = subst (λ (latches : List Held). Judges id who latches (before ++ books) found m m‴) (sym same) all;
         }
 
 -- ---- the directory's latch
@@ -176,9 +196,10 @@ module _ (id : TableId) (k : Keys) (made : List Met) (m m′ m″ : Mine) (taken
     ends : GoesOn m″ m‴
     ends = (_ ∷ [], ap (λ (x : Mine). x.0.log) put)
 
-    pub searched : (who last : ℕ) (audited : List Audited) (found : Search) → last ≡ length k.keys → Searches id who 1 last [] audited found m′ m″ → Searched id who k found m m‴
+    pub searched : (who last : ℕ) (found : Search) → last ≡ length k.keys → Searches id who 1 last [] found m′ m″ → Searched id who k found m m‴
     unfolding met over
-    searched who last audited found count searches =
+    searched who last found count searches =
+        let audited = searches.books in
         let gathers = searches.gathers in
         let inner : HadLatches gathers.latches m′ met =
         ⊎_elim (λ at_once. inl at_once) (λ later. inr (later.0, (later.1.0, later.1.1, sym (ap (λ (x : Mine). x.0.log) hears.now) ∙ later.1.2), later.2, later.3)) gathers.had in

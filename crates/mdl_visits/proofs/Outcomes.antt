@@ -1,10 +1,13 @@
 -- What a search comes to: nobody waits in a cycle, or the victim's wait was settled.
 use Rattle.std.proofs.Common.{◌≡◌, ◌≢◌, ℕ, ◌+◌, ◌*◌, ◌<◌, ◌==◌, ◌&&◌, nat_lt, List, [], ◌∷◌, ◌++◌, Some, refl, sym, ap, ◌∙◌, arith, append-nil}
 use Rattle.std.specs.Prelude.{◌%◌}
+use Rattle.std.specs.Option.{option_map}
 use Rattle.std.proofs.lemmas.Bool.{and_parts, eq-eqb, eqb-true, false≢true}
 use Rattle.atomic_table.specs.Seated.{TableId}
 use Rattle.mdl_calls.specs.declared.answers.Search.{Search}
 use Rattle.mdl_calls.specs.declared.answers.Search.TheVariants.{NoCycle, Victim}
+use Rattle.mdl_graph.specs.Graphs.{deadlock_in}
+use Rattle.mdl_graph.specs.Victims.{victim_of}
 use Rattle.mdl_steps.specs.declared.view.Held.{Held}
 use Rattle.mdl_steps.specs.declared.view.Met.{Met}
 use Rattle.mdl_steps.specs.declared.view.Settlement.{Settlement}
@@ -16,9 +19,10 @@ use Rattle.mdl_steps.proofs.Views.{by_bool}
 use Rattle.mdl_visits.specs.declared.audited.Audited.{Audited}
 use Rattle.mdl_visits.specs.declared.hearing.Heard.{Heard}
 use Rattle.mdl_visits.specs.Grantings.{StaysTold}
-use Rattle.mdl_visits.specs.Searches.{Fells, Hears, IsOutcome, Judges, KnowsFall}
+use Rattle.mdl_visits.specs.Searches.{Fells, Hears, IsOutcome, Judges, KnowsFall, books_of, if_waited, settled_by}
 use Rattle.mdl_visits.specs.Visits.{GoesOn}
 use Rattle.mdl_visits.proofs.Asking.{step_within}
+use Rattle.mdl_visits.proofs.Deadlocks.{same_if_waited}
 use Rattle.mdl_visits.proofs.Words.{all_within, hears_met}
 
 -- ---- a wait is settled as the victim's
@@ -105,3 +109,23 @@ judges_within id who latches audited found a b c d before same after kept judges
   heard = all_within id.slots latches a b c d judges.words before after judges.heard;
   outcome = outcome_within id.slots who latches audited judges.words a b c d before same after kept found judges.outcome;
 }
+
+-- ---- by fewer books
+
+-- what is judged without a book by which nobody waits is judged with it
+pub judges_if_waited : (id : TableId) (who : ℕ) (latches : List Held) (one : Audited) (before after : List Audited) (found : Search) (m m′ : Mine)
+    → Judges id who latches ((before ++ if_waited one) ++ after) found m m′ → Judges id who latches (before ++ one ∷ after) found m m′
+judges_if_waited id who latches one before after found m m′ judges = record {
+  words = judges.words;
+  all = judges.all;
+  heard = judges.heard;
+  outcome = by_found found judges.outcome;
+}
+  where
+    same : deadlock_in (settled_by judges.words) (books_of (before ++ one ∷ after)) who ≡ deadlock_in (settled_by judges.words) (books_of ((before ++ if_waited one) ++ after)) who
+    same = sym (same_if_waited (settled_by judges.words) one before after who)
+
+    by_found : (f : Search) → IsOutcome id.slots who latches ((before ++ if_waited one) ++ after) judges.words m m′ f
+        → IsOutcome id.slots who latches (before ++ one ∷ after) judges.words m m′ f
+    by_found NoCycle none = (same ∙ none.0, none.1)
+    by_found (Victim victim) one_found = (ap (option_map victim_of) same ∙ one_found.0, one_found.1)

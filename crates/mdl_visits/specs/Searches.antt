@@ -1,5 +1,5 @@
 -- A search for a deadlock: what a session meets and does while it has the latches of all places that have a key.
-use Rattle.std.specs.Prelude.{◌≡◌, ℕ, zero, suc, ◌≤◌, ◌%◌, ◌==◌, ◌&&◌, not, true, List, [], ◌∷◌, ◌++◌, length, map, All, Option, Some, None}
+use Rattle.std.specs.Prelude.{◌≡◌, ℕ, zero, suc, ◌≤◌, ◌%◌, ◌==◌, ◌&&◌, nat_lt, not, true, if◌then◌else◌, List, [], ◌∷◌, ◌++◌, length, map, All, Option, Some, None}
 use Rattle.std.specs.List.{list_any}
 use Rattle.atomic_table.specs.Seated.{TableId}
 use Rattle.mdl_book.specs.declared.book_view.BookView.{BookView}
@@ -80,11 +80,16 @@ pub record Judges (id : TableId) (who : ℕ) (latches : List Held) (audited : Li
   pub heard : All (WasHeard id.slots latches m m′) words
   pub outcome : IsOutcome id.slots who latches audited words m m′ found
 
--- the session had the latches of the places from one to another, beside those of lower ones, added the books of these to a list, and judged by all of
--- the list then
-pub record Searches (id : TableId) (who place last : ℕ) (before after : List Audited) (found : Search) (m m′ : Mine) : Type 0 where
-  pub gathers : Gathers place last before after m m′
-  pub judges : Judges id who gathers.latches after found m m′
+-- a place's book, if somebody waits there
+abbrev pub if_waited : Audited → List Audited
+if_waited a = if nat_lt 0 (length a.book.waiting) then a ∷ [] else []
+
+-- the session had the latches of the places from one to another, beside those of lower ones, and judged by their books as they were then, and by those
+-- that were copied before
+pub record Searches (id : TableId) (who place last : ℕ) (copied : List Audited) (found : Search) (m m′ : Mine) : Type 0 where
+  pub books : List Audited
+  pub gathers : Gathers place last [] books m m′
+  pub judges : Judges id who gathers.latches (copied ++ books) found m m′
 
 -- the session had at one step between the two this record of the directory and the latches of the places of all its keys, and judged by their books as they
 -- were then

@@ -8,7 +8,7 @@ use Rattle.mdl_visits.proofs.hearing.hear_all.Goals as goal
 pub loop-before-init : goal.loop-before-init
 loop-before-init c =
     let m : Mine = c.args.worker.now.seat.me in
-    record { seat = (refl, refl); hears = hears_none m; settles = refl; words = none_heard c.args.table.now.shared.table_id c.args.words.now.items m c.requires.empty }
+    record { seat = (refl, refl); hears = hears_none m; settles = refl; words = none_heard c.args.table.now.shared.table_id c.reserve.new.self.items m (c.reserve.ensures.items ∙ c.requires.empty) }
 
 pub loop-before-preserved : goal.loop-before-preserved
 loop-before-preserved c =
@@ -26,3 +26,6 @@ loop-before-preserved c =
       words = one_heard c.args.table.now.shared.table_id c.loop-before.before c.loop-before.words.items c.hear.new.words.items one.0 m m′ m″ inv.words inv.hears heard.hears
           one.1 (omega arith, grind (arith, nat_tests)) (grind (arith, nat_tests)) one.2 one.3;
     }
+
+pub returns-in_err-reserve-clause-hears : goal.returns-in_err-reserve-clause-hears
+returns-in_err-reserve-clause-hears c = hears_none c.args.worker.now.seat.me

@@ -14,8 +14,8 @@ use Rattle.mdl_visits.proofs.Outcomes.{knows_on}
 use Rattle.mdl_visits.proofs.Words.{hears_none}
 use Rattle.mdl_visits.proofs.searching.+search_from.Goals as goal
 
-pub add_book-requires-clause-carried : goal.add_book-requires-clause-carried
-add_book-requires-clause-carried g t c =
+pub add_if_waited-requires-clause-carried : goal.add_if_waited-requires-clause-carried
+add_if_waited-requires-clause-carried g t c =
     let at = c.await_latch-latch.ensures.place in
     let taken = c.await_latch-latch.ensures.taken in
     let has = subst (λ (q : ℕ). Holds q taken.0 taken.0.book c.await_latch-latch.new.worker.seat.me) (sym at) taken.2 in
@@ -26,25 +26,25 @@ put_latch-requires-clause-put g t c =
     let at = c.await_latch-latch.ensures.place in
     let taken = c.await_latch-latch.ensures.taken in
     let came = c.await_latch-latch.new.worker.seat.me in
-    let copied = c.add_book.new.worker.seat.me in
-    subst (λ (q : ℕ). MayPut q [] copied) (sym at) (may_put c.args.place taken.0 came copied taken.1.exact taken.2 (makes_same came copied c.add_book.ensures.same))
+    let copied = c.add_if_waited.new.worker.seat.me in
+    subst (λ (q : ℕ). MayPut q [] copied) (sym at) (may_put c.args.place taken.0 came copied taken.1.exact taken.2 (makes_same came copied c.add_if_waited.ensures.same))
 
 pub returns-in-Err-clause-hears : goal.returns-in-Err-clause-hears
 returns-in-Err-clause-hears g t c =
     let latch = c.await_latch-latch in
     let taken = latch.ensures.taken in
     let m : Mine = c.args.worker.now.seat.me in
-    let copied : Mine = c.add_book.new.worker.seat.me in
+    let copied : Mine = c.add_if_waited.new.worker.seat.me in
     let went : Mine = c.put_latch.new.self.seat.me in
-    let inside = subst (λ (x : Mine). IsInside c.args.place m x) (sym {A = Mine} c.add_book.ensures.same) latch.ensures.inside in
-    back_heard c.args.place taken.0 taken.3.0 m copied copied went inside taken.3.2 (◌∙◌ {A = Mine} c.add_book.ensures.same taken.3.1) (hears_none copied)
+    let inside = subst (λ (x : Mine). IsInside c.args.place m x) (sym {A = Mine} c.add_if_waited.ensures.same) latch.ensures.inside in
+    back_heard c.args.place taken.0 taken.3.0 m copied copied went inside taken.3.2 (◌∙◌ {A = Mine} c.add_if_waited.ensures.same taken.3.1) (hears_none copied)
     (unlatched_at c.args.place latch.result.place copied went latch.ensures.place c.put_latch.ensures.made)
 
 pub search_from-outcome-requires : goal.search_from-outcome-requires
 search_from-outcome-requires g t c =
     let taken = c.await_latch-latch.ensures.taken in
-    let copied = c.add_book.new.worker.seat.me in
-    let rising = rising_next c.args.place taken.0 taken.3.0 c.args.worker.now.seat.me copied taken.1.here (◌∙◌ {A = Mine} c.add_book.ensures.same taken.3.1) c.requires.rising in
+    let copied = c.add_if_waited.new.worker.seat.me in
+    let rising = rising_next c.args.place taken.0 taken.3.0 c.args.worker.now.seat.me copied taken.1.here (◌∙◌ {A = Mine} c.add_if_waited.ensures.same taken.3.1) c.requires.rising in
     let places = c.requires.places in
     let nearer = c.if-place-last.false in
     λ κs live. (search rules, (search rules, (search rules, ((omega arith, omega arith, places.2, places.3), rising))))
@@ -64,11 +64,11 @@ returns-clause-hears g t c =
     let latch = c.await_latch-latch in
     let taken = latch.ensures.taken in
     let m : Mine = c.args.worker.now.seat.me in
-    let copied : Mine = c.add_book.new.worker.seat.me in
+    let copied : Mine = c.add_if_waited.new.worker.seat.me in
     let searched : Mine = c.search_from-outcome.new.worker.seat.me in
     let went : Mine = c.put_latch-2.new.self.seat.me in
-    let inside = subst (λ (x : Mine). IsInside c.args.place m x) (sym {A = Mine} c.add_book.ensures.same) latch.ensures.inside in
-    back_heard c.args.place taken.0 taken.3.0 m copied searched went inside taken.3.2 (◌∙◌ {A = Mine} c.add_book.ensures.same taken.3.1) c.search_from-outcome.ensures.hears
+    let inside = subst (λ (x : Mine). IsInside c.args.place m x) (sym {A = Mine} c.add_if_waited.ensures.same) latch.ensures.inside in
+    back_heard c.args.place taken.0 taken.3.0 m copied searched went inside taken.3.2 (◌∙◌ {A = Mine} c.add_if_waited.ensures.same taken.3.1) c.search_from-outcome.ensures.hears
     (unlatched_at c.args.place latch.result.place searched went latch.ensures.place c.put_latch-2.ensures.made)
 
 pub returns-clause-searched : goal.returns-clause-searched
@@ -80,18 +80,17 @@ returns-clause-searched g t c =
     let id = c.args.table.now.shared.table_id in
     let m : Mine = c.args.worker.now.seat.me in
     let came : Mine = latch.new.worker.seat.me in
-    let copied : Mine = c.add_book.new.worker.seat.me in
+    let copied : Mine = c.add_if_waited.new.worker.seat.me in
     let searched : Mine = c.search_from-outcome.new.worker.seat.me in
     let went : Mine = c.put_latch-2.new.self.seat.me in
-    let same = c.add_book.ensures.same in
+    let same = c.add_if_waited.ensures.same in
     let has = subst (λ (q : ℕ). Holds q h h.book came) (sym at) taken.2 in
     let added = c.in_default.ensures.added h.book has.carried in
-    let mine = subst (λ (n : ℕ). IfOk c.search_from-outcome.result (λ found. Searches id n (c.args.place + 1) c.args.last c.add_book.new.audited.items
-    c.search_from-outcome.new.audited.items found copied searched)) (c.add_book.ensures.seat.1 ∙ latch.ensures.seat.1) c.search_from-outcome.ensures.searched in
+    let mine = subst (λ (n : ℕ). IfOk c.search_from-outcome.result (λ found. Searches id n (c.args.place + 1) c.args.last c.add_if_waited.new.audited.items found copied searched)) (c.add_if_waited.ensures.seat.1 ∙ latch.ensures.seat.1) c.search_from-outcome.ensures.searched in
     IfOk-weaker c.search_from-outcome.result _ _
     (λ found more. searches_more id c.args.worker.now.number c.args.place c.args.last found h taken.3.0 m copied searched went taken.1.here (◌∙◌ {A = Mine} same taken.3.1)
     c.search_from-outcome.ensures.hears (unlatched_at c.args.place latch.result.place searched went at c.put_latch-2.ensures.made) taken.1
-    latch.result.place c.args.audited.now.items c.add_book.new.audited.items c.search_from-outcome.new.audited.items at
+    latch.result.place c.args.audited.now.items c.add_if_waited.new.audited.items at
     (subst (λ (x : Mine). held_at c.args.place x.0.latches ≡ Some h) (sym {A = Mine} same) taken.2.recorded) added more)
     mine
 
@@ -100,6 +99,6 @@ returns-clause-own g t c =
     let latch = c.await_latch-latch in
     let searched : Mine = c.search_from-outcome.new.worker.seat.me in
     let went : Mine = c.put_latch-2.new.self.seat.me in
-    let mine = subst (λ (n : ℕ). IfOk c.search_from-outcome.result (λ found. KnowsFall n found searched)) (c.add_book.ensures.seat.1 ∙ latch.ensures.seat.1) c.search_from-outcome.ensures.own in
+    let mine = subst (λ (n : ℕ). IfOk c.search_from-outcome.result (λ found. KnowsFall n found searched)) (c.add_if_waited.ensures.seat.1 ∙ latch.ensures.seat.1) c.search_from-outcome.ensures.own in
     IfOk-weaker c.search_from-outcome.result _ _
     (λ found knows. knows_on c.args.worker.now.number found searched went (ap (λ (m : Mine). m.0.told) c.put_latch-2.ensures.made) knows) mine

@@ -28,13 +28,12 @@ returns-clause-searched g c =
     let hears = c.search_from-outcome.ensures.hears in
     let put = c.put_directory.ensures.made in
     let result = c.search_from-outcome.result in
-    let audited = c.search_from-outcome.new.audited.items in
-    let mine = subst (λ (n : ℕ). IfOk result (λ found. Searches id n 1 c.key_count-last.result c.new-audited.result.items audited found counted looked))
+    let mine = subst (λ (n : ℕ). IfOk result (λ found. Searches id n 1 c.key_count-last.result c.new-audited.result.items found counted looked))
     (c.key_count-last.ensures.seat.1 ∙ c.await_directory-directory.ensures.seat.1) c.search_from-outcome.ensures.searched in
-    let empty = subst (λ (xs : List Audited). IfOk result (λ found. Searches id who 1 c.key_count-last.result xs audited found counted looked)) c.new-audited.ensures.items mine in (
+    let empty = subst (λ (xs : List Audited). IfOk result (λ found. Searches id who 1 c.key_count-last.result xs found counted looked)) c.new-audited.ensures.items mine in (
       k,
       took_heard id k taken.0 m counted looked then hears went put c.requires.idle taken.2 taken.4,
-      IfOk-weaker result _ _ (λ found more. searched id k taken.0 m counted looked then hears went put c.requires.idle taken.2 who c.key_count-last.result audited found count more) empty,
+      IfOk-weaker result _ _ (λ found more. searched id k taken.0 m counted looked then hears went put c.requires.idle taken.2 who c.key_count-last.result found count more) empty,
     )
 
 pub returns-clause-own : goal.returns-clause-own
