@@ -91,7 +91,7 @@ stale_paths() {
     awk -F '\t' '$4 ~ /[*]|NAME/ { next }
         $4 ~ /^(crates|docs|examples|growths|bench|make|wrong_bodies)\// { print $1, $4 }
         $4 ~ /^(mdl_[a-z_]*|mdlsim)\// { print $1, "crates/" $4 }
-        $2 != "" && $4 ~ /^(specs|src|proofs)\// { print $1, "crates/" $2 "/" $4 }' "$made/words" \
+        $2 != "" && $4 ~ /^(specs|src|proofs|must-fail)\// { print $1, "crates/" $2 "/" $4 }' "$made/words" \
         | while read -r where path; do
             [ -e "$path" ] || [ -e "$path.antt" ] || echo "$where: there is no $path"
         done
