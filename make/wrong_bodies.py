@@ -10,7 +10,7 @@ A wrong body is a file wrong_bodies/CRATE/NAME.edit of such lines:
 with more pairs of `old` and `new`, and more files, where it takes them. A function is proved over the contracts of those that it calls,
 whatever their bodies are. So all wrong bodies of a crate are put in place together, in a copy, and one check is asked for the functions
 that they name; only those that touch the same text, or the same function, take turns. That a function calls another one that is refused
-doesn't count: it has to fail by itself, and by more than a name that its proof misses.
+doesn't count: it has to fail by itself. Where its proof only names what the body took away, that says little of the contract, and is told.
 
 Usage, at the top of the repository:
     python3 make/wrong_bodies.py                    all
@@ -108,11 +108,12 @@ def told_of(function, said):
 
 
 def is_refused(function, said):
-    """Returns whether a check that said these lines has refused the function by itself."""
+    """Returns whether a check that said these lines has refused the function by itself, and whether for more than lost names."""
     verdict, errors = told_of(function, said)
     if any("did not prove" in it for it in verdict):
-        return True
-    return any("not proved" in it for it in verdict) and any(not LOST_NAME.search(it) for it in errors)
+        return True, True
+    by_itself = errors and any("not proved" in it for it in verdict)
+    return by_itself, by_itself and any(not LOST_NAME.search(it) for it in errors)
 
 
 def link_or_copy(one, other):
@@ -134,8 +135,8 @@ def copy_repository(room):
                 shutil.copytree(crate / part, room / crate / part, copy_function=copy)
 
 
-def try_round(bodies, texts, folder):
-    """Has a crate checked with these bodies in their places, and returns a line or more for each that is not refused."""
+def check(bodies, texts, folder):
+    """Has a crate checked with these bodies in their places, and returns the lines that the check says."""
     own = {path: (folder / path).read_text() for path in texts}
     for path, text in texts.items():
         (folder / path).write_text(text)
@@ -143,22 +144,25 @@ def try_round(bodies, texts, folder):
     ran = subprocess.run(["rt", "check", "--jobs", "1", *asked], cwd=folder, stdout=subprocess.PIPE, stderr=subprocess.STDOUT, text=True)
     for path, text in own.items():
         (folder / path).write_text(text)
-    said = ran.stdout.splitlines()
-    stay = [it for it in bodies if not is_refused(it.refused, said)]
-    told = lambda body: [line for lines in told_of(body.refused, said) for line in lines] or said[-3:]
-    return ["\n    ".join([f"{it.name}: NOT REFUSED: {it.refused} has to fail by itself", *told(it)]) for it in stay]
+    return ran.stdout.splitlines()
 
 
 def try_crate(crate, bodies, rooms):
     """Tries the wrong bodies of a crate in one of the copies, and returns how many are not refused."""
-    room, missed = rooms.get(), 0
-    folder = room / "crates" / crate
+    room = rooms.get()
+    folder, missed, by_names = room / "crates" / crate, 0, 0
     for together, texts in rounds_of(bodies, folder):
-        stay = try_round(together, texts, folder)
-        missed += len(stay)
-        for told in stay:
-            print(f"{crate}/{told}", flush=True)
-    print(f"{crate}: {len(bodies) - missed} of {len(bodies)} wrong bodies are refused", flush=True)
+        said = check(together, texts, folder)
+        for body in together:
+            refused, for_more = is_refused(body.refused, said)
+            by_names += refused and not for_more
+            if not refused:
+                missed += 1
+                verdict, errors = told_of(body.refused, said)
+                told = "\n    ".join([f"{body.refused} has to fail by itself", *(verdict + errors or said[-3:])])
+                print(f"{crate}/{body.name}: NOT REFUSED: {told}", flush=True)
+    few = f", {by_names} of them only for a name that a proof misses" if by_names else ""
+    print(f"{crate}: {len(bodies) - missed} of {len(bodies)} wrong bodies are refused{few}", flush=True)
     rooms.put(room)
     return missed
 
