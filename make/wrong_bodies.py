@@ -10,7 +10,8 @@ A wrong body is a file wrong_bodies/CRATE/NAME.edit of such lines:
 with more pairs of `old` and `new`, and more files, where it takes them. A function is proved over the contracts of those that it calls,
 whatever their bodies are. So all wrong bodies of a crate are put in place together, in a copy, and one check is asked for the functions
 that they name; only those that touch the same text, or the same function, take turns. That a function calls another one that is refused
-doesn't count: it has to fail by itself. Where its proof only names what the body took away, that says little of the contract, and is told.
+doesn't count: it has to fail by itself. Where its proof only misses a name that the body took away, that says little of the contract,
+and is told.
 
 Usage, at the top of the repository:
     python3 make/wrong_bodies.py                    all

@@ -3,6 +3,7 @@ use crate::written::read;
 use mdl_key::Key;
 use mdl_syntax::{LockType, Name, TableLock, TableLocks, Tables};
 use std::alloc::{AllocError, Global};
+use std::fmt::Write;
 use std::test::Fail;
 
 // A script of lines that are parted by ` / `, and what is read of it: lines with their number and session, or the refusal.
@@ -342,7 +343,7 @@ fn locks_keep_their_order(rt: HostRuntime) -> Result<(), Fail> {
 fn created(alloc: Global, columns: u32, last: &str) -> Result<String, Fail> {
     let mut script = String::from_str(alloc, "1 CREATE TABLE t")?;
     for number in 1..=columns {
-        script.push_str(format!(in alloc; " c{number}")?.as_str())?;
+        write!(script, " c{number}")?;
     }
     script.push_str(last)?;
     Ok(script)

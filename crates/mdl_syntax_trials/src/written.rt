@@ -5,6 +5,7 @@ use mdl_syntax::{
     Algorithm, Alteration, Line, LockType, Priority, Script, Statement, TableLocks, Tables, parse,
 };
 use std::alloc::Global;
+use std::fmt::Write;
 use std::test::Fail;
 
 /// What is read of a script: a line for each statement, each parted from the next by ` / `, or the fault that refuses it.
@@ -115,7 +116,7 @@ fn lock_text(alloc: Global, locks: &TableLocks) -> Result<String, Fail> {
             LockType::Read => "read",
             LockType::Write => "write",
         };
-        text.push_str(format!(in alloc; " {table} to {lock_type}")?.as_str())?;
+        write!(text, " {table} to {lock_type}")?;
     }
     Ok(text)
 }
@@ -124,8 +125,7 @@ fn lock_text(alloc: Global, locks: &TableLocks) -> Result<String, Fail> {
 fn named(alloc: Global, what: &str, tables: &Tables) -> Result<String, Fail> {
     let mut text = String::from_str(alloc, what)?;
     for table in tables.as_slice() {
-        text.push_str(" ")?;
-        text.push_str(table.to_string(alloc)?.as_str())?;
+        write!(text, " {table}")?;
     }
     Ok(text)
 }
