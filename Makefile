@@ -73,7 +73,7 @@ bench: build
 examples: kit
 	@sh examples/check.sh
 
-# Short lives of the crates go well where any one of their allocations is refused.
+# Short lives of the crates go well where any one of their allocations is refused, and runs on threads tell where one of some is.
 growths: kit
 	@sh growths/check.sh
 

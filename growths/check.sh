@@ -3,26 +3,61 @@
 # The program makes as many allocations before its lives as its word says, and to each run the allocation of the same
 # number is refused, so each word has another one of the lives refused. It is built here once, without its proof, which `rt ci` gives, and
 # runs compiled alone: the kit's interpreter can't run a program that reads its words, and one step is enough for it to say so.
-# Usage: sh growths/check.sh        each allocation, in some ten minutes
+# Then mdlsim plays an example on threads, behind more and more lines: to each run one allocation is refused, and it has to tell just that.
+# Usage: sh growths/check.sh        each allocation, in some twelve minutes
 #        sh growths/check.sh 3      every third of them
 growths=$(cd "$(dirname "$0")" && pwd)
-sh "$growths/../make/needs.sh" rt python3 || exit 1
+sh "$growths/../make/needs.sh" rt python3 awk || exit 1
 made=$(mktemp -d)
 trap 'rm -rf "$made"' EXIT
 
-# The number of the allocation that is refused. It has to be more than a run makes: some 1,420, those that read the word included.
-refused=1450
+# The number of the allocation that is refused. It has to be more than a run makes: some 1,550, those that read the word included.
+refused=1580
+
+# The same of mdlsim, where it plays the example alone.
+refused_on_threads=400
+
+# Refuses the allocation of this number to the program in whose folder this is, in each of the cases: NUMBER CASES
+play() {
+    if ! rt try --steps 1 --seconds 900 --fail-alloc "$1" --cases "$2" > "$made/log" 2>&1; then
+        cat "$made/log" >&2
+        exit 1
+    fi
+}
 
 cd "$growths/../crates/mdl_growth_trials" || exit 1
-mkdir "$made/cases"
+mkdir "$made/lives"
 for lead in $(seq 1 "${1:-1}" $refused); do
-    : > "$made/cases/$lead"
-    echo "$lead" > "$made/cases/$lead.args"
-    cp stdout "$made/cases/$lead.stdout"
+    : > "$made/lives/$lead"
+    echo "$lead" > "$made/lives/$lead.args"
+    cp stdout "$made/lives/$lead.stdout"
 done
+play $refused "$made/lives"
+echo "$(ls "$made/lives" | grep -c args) growths were refused, one in each run, and nothing was lost"
 
-if ! rt try --steps 1 --seconds 900 --fail-alloc $refused --cases "$made/cases" > "$made/log" 2>&1; then
-    cat "$made/log" >&2
+# Lays down the example behind so many lines: the more they are, the earlier in the run the allocation of that number comes.
+lay() {
+    { seq -f '1 SELECT t%.0f' "$1"; cat "$growths/../examples/two_threads.run"; } > "$made/plays/$1"
+    echo run > "$made/plays/$1.args"
+}
+
+# Whether all cases but the example alone ended with status 3, and told nothing but that memory ran out. Those that didn't are named.
+nothing_else_is_told() {
+    awk '/^== / { told = ""; next }
+        /^allocations: / { next }
+        !/^case=/ { told = told $0 "/"; next }
+        /^case=0 / ? !/ status=0 / : !/ status=3 / || told != "fault: memory/" { print $1 " told " told; wrong = 1 }
+        END { exit wrong }' "$made/log"
+}
+
+cd "$growths/../crates/mdlsim" || exit 1
+mkdir "$made/plays"
+for lines in 0 $(seq 24 6 150); do
+    lay "$lines"
+done
+cp "$growths/../examples/two_threads.answers" "$made/plays/0.stdout"
+play $refused_on_threads "$made/plays"
+if ! nothing_else_is_told >&2; then
     exit 1
 fi
-echo "$(ls "$made/cases" | grep -c args) growths were refused, one in each run, and nothing was lost"
+echo "$(ls "$made/plays" | grep -c '^[1-9].*args') growths were refused to mdlsim on threads, and nothing was told but that"

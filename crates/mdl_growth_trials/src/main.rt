@@ -14,6 +14,7 @@ mod scenes;
 mod scripts;
 mod spaces;
 mod statements;
+mod works;
 
 use std::alloc::Global;
 use std::process::ExitCode;
@@ -74,6 +75,11 @@ fn first_wrong(alloc: Global) -> Option<&'static str> {
     if let Some(scene) = scenes::first_wrong(alloc) {
         return Some(scene);
     }
+    first_wrong_script(alloc)
+}
+
+// The first of the lives of scripts that goes wrong.
+fn first_wrong_script(alloc: Global) -> Option<&'static str> {
     if !scripts::statements_are_read(alloc) {
         return Some("a script of statements");
     }
@@ -82,6 +88,9 @@ fn first_wrong(alloc: Global) -> Option<&'static str> {
     }
     if !replays::scripts_are_replayed(alloc) {
         return Some("a replayed script");
+    }
+    if !works::lines_are_worked_off(alloc) {
+        return Some("a session at work");
     }
     None
 }

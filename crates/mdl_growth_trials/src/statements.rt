@@ -144,7 +144,8 @@ fn outcome_of(progress: Result<Progress, OutOfMemory>) -> Outcome {
     }
 }
 
-fn outcome_of_reply(reply: &Reply) -> Outcome {
+/// What comes of a statement that is answered so.
+pub(crate) fn outcome_of_reply(reply: &Reply) -> Outcome {
     match reply {
         Reply::Ok => Outcome::Done,
         Reply::Error(error) => Outcome::Fails(error.number()),

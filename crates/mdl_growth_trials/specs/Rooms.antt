@@ -1,0 +1,12 @@
+-- Sessions over one lock space, that of one thread.
+use Rattle.std.specs.Prelude.{◌≡◌, ◌≢◌, ℕ, [], None}
+use Rattle.mdl_core.specs.Words.{Core, SpeaksFor, own_at}
+
+-- the space speaks for a session, which has nothing there
+pub record IsFree (space : Core) (who : ℕ) : Type 0 where
+  pub speaks : SpeaksFor space who
+  pub nothing : own_at space who ≡ record { held = []; wait = None }
+
+-- what one session does leaves those free that have nothing
+abbrev pub LeavesFree : ℕ → Core → Core → Type 0
+LeavesFree who before after = (w : ℕ) → w ≢ who → IsFree before w → IsFree after w
