@@ -15,8 +15,8 @@ use mdl_steps::{Loss, OwnedTable, WaitWord, Worker};
 use std::alloc::{AllocError, Global};
 use std::sync::Wait;
 
-/// Looks for a deadlock that the session waits in, by the books of all places, whose latches it has, and settles the wait of the victim. Where
-/// another session settles that first, it looks again.
+/// Looks for a deadlock that the session waits in, by these books, while it has the latches of all places, and settles the wait of the victim.
+/// Where another session settles that first, it looks again.
 pub(crate) fn judge<R: Wait>(
     rt: &R,
     worker: &mut Worker,
