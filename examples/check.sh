@@ -5,7 +5,7 @@
 # whether each script that is shown there, or in the README at the top, is one of the examples, line by line and answer by answer.
 # A script NAME.lock is one of an object lock, NAME.scoped.lock one of a scoped lock, NAME.replay one of statements, and NAME.run one whose
 # sessions run on threads.
-# mdlsim is built here once, without its proof, which `rt ci` gives.
+# mdlsim is built here once, without its proof, which `rt ci` gives; or MDLSIM names a program that was built before.
 # Usage: sh examples/check.sh            all examples, those of the pages too
 #        sh examples/check.sh SCRIPT     one of them
 examples=$(cd "$(dirname "$0")" && pwd)
@@ -73,6 +73,21 @@ look_at_page() {
     done
 }
 
+# Runs all cases by a program, and tells of them as `rt try` does: the name of each, what stands on standard error, and its status. Fails where
+# one has other answers than are wanted.
+run_by() {
+    for words in "$made/cases"/*.args; do
+        case=${words%.args}
+        echo "== $(basename "$case")"
+        status=0
+        "$1" $(cat "$words") < "$case" 2>&1 > "$made/answers" || status=$?
+        if [ -e "$case.stdout" ] && ! diff "$case.stdout" "$made/answers"; then
+            return 1
+        fi
+        echo "case status=$status "
+    done > "$made/log"
+}
+
 # Whether each refused line of docs/LANGUAGE.md was refused as it says there, and with status 1.
 refused() {
     awk '/^== / { name = $2 } /^line / { line = $0 } / status=1 / && line != "" { print name " " line; line = "" }' "$made/log" \
@@ -97,11 +112,14 @@ for script in "$@"; do
     lay "$script" || exit 1
 done
 
-cd "$examples/../crates/mdlsim" || exit 1
-if ! rt try --seconds 900 --cases "$made/cases" > "$made/log" 2>&1; then
+if [ -n "$MDLSIM" ]; then
+    run_by "$MDLSIM"
+else
+    cd "$examples/../crates/mdlsim" && rt try --seconds 900 --cases "$made/cases" > "$made/log" 2>&1
+fi || {
     cat "$made/log" >&2
     exit 1
-fi
+}
 if [ -e "$made/refusals" ] && ! refused; then
     echo "docs/LANGUAGE.md: lines are refused otherwise than its table says (<: as it says, >: as they are)" >&2
     exit 1

@@ -13,17 +13,19 @@ that they name; only those that touch the same text, or the same function, take 
 doesn't count: it has to fail by itself. Where its proof only misses a name that the body took away, that says little of the contract,
 and is told.
 
+The check reads the libraries below the crate as `rt ci`, or `rt check` in a crate's folder, built them last.
+
 Usage, at the top of the repository:
     python3 make/wrong_bodies.py                    all
     python3 make/wrong_bodies.py CRATE [NAME ..]    those of a crate, or some of them
     python3 make/wrong_bodies.py --fit              none: says which of them don't fit the files that they change
 """
 
+import collections
 import concurrent.futures
 import dataclasses
 import os
 import pathlib
-import queue
 import re
 import shutil
 import subprocess
@@ -31,12 +33,17 @@ import sys
 import tempfile
 
 BODIES = pathlib.Path("wrong_bodies")
+CRATES = pathlib.Path("crates")
 
-# What a check reads of a crate.
-PARTS = ("src", "specs", "proofs", "out/rlib")
+# The kit, by where its command lies.
+KIT = pathlib.Path(shutil.which("rt") or "rt").resolve().parent.parent
 
 # How a check words that a proof names what a body took away, which says nothing of the contract.
 LOST_NAME = re.compile(r"has no field|is not in scope|has no `|was not admitted")
+
+
+# What becomes of a wrong body.
+REFUSED, BY_A_NAME, MISSED = "refused", "refused for a name alone", "not refused"
 
 
 class Unfit(Exception):
@@ -117,70 +124,77 @@ def is_refused(function, said):
     return by_itself, by_itself and any(not LOST_NAME.search(it) for it in errors)
 
 
-def link_or_copy(one, other):
-    """Gives a file a second name, or a copy where the other folder lies on another disk."""
-    try:
-        os.link(one, other)
-    except OSError:
-        shutil.copy2(one, other)
+def libraries_of(crate):
+    """Returns the libraries that a crate names, each with the folder that it was built into."""
+    lines = pathlib.Path("crates.txt").read_text().splitlines()
+    names = next(line.partition(":")[2].split() for line in lines if re.match(rf"{crate}\b[^#:]*:", line))
+    built = {name: CRATES.resolve() / name / "out/rlib" / f"{name}.rlib" for name in names if (CRATES / name).is_dir()}
+    lost = [name for name, folder in built.items() if not folder.is_dir()]
+    if lost:
+        raise Unfit(f"{crate}: build {' and '.join(lost)} first, by rt check in that folder")
+    return {name: built.get(name, KIT / "rlibs" / f"{name}.rlib") for name in ["std", *names]}
 
 
-def copy_repository(room):
-    """Copies what checks read of the repository into a folder. A check never writes into a built library, so those are linked."""
-    for name in ("crates.txt", "HANDLES"):
-        shutil.copy2(name, room)
-    for crate in pathlib.Path("crates").iterdir():
-        for part in PARTS:
-            if (crate / part).is_dir():
-                copy = link_or_copy if part == "out/rlib" else shutil.copy2
-                shutil.copytree(crate / part, room / crate / part, copy_function=copy)
+def command_for(crate, kept):
+    """Returns the words that check a crate in a copy of its folder, and keep in another folder what they prove."""
+    root = "src/main.rt" if (CRATES / crate / "src/main.rt").exists() else "src/lib.rt"
+    words = [KIT / "bin/rattle", "check", "--crate-name", crate, root, "--links", f"{crate}=", "--jobs", "1", "--incremental", kept]
+    words += ["--antt-project", KIT / "rattle/logic/antt-project.json", "--logic-built", KIT / "logic_built"]
+    for name, folder in libraries_of(crate).items():
+        words += ["--extern", f"{name}={folder}"]
+    for folder in [KIT / "rlibs", *CRATES.resolve().glob("*/out/rlib")]:
+        words += ["-L", f"dependency={folder}"]
+    return words
 
 
-def check(bodies, texts, folder):
-    """Has a crate checked with these bodies in their places, and returns the lines that the check says."""
-    own = {path: (folder / path).read_text() for path in texts}
+def check(command, bodies, texts, folder):
+    """Has a crate checked in a folder with these bodies in their places, and returns the lines that the check says."""
+    shutil.rmtree(folder, ignore_errors=True)
+    for part in ("src", "specs", "proofs"):
+        if (CRATES / folder.name / part).is_dir():
+            shutil.copytree(CRATES / folder.name / part, folder / part)
     for path, text in texts.items():
         (folder / path).write_text(text)
     asked = [word for body in bodies for word in ("--only", body.refused)]
-    ran = subprocess.run(["rt", "check", "--jobs", "1", *asked], cwd=folder, stdout=subprocess.PIPE, stderr=subprocess.STDOUT, text=True)
-    for path, text in own.items():
-        (folder / path).write_text(text)
+    ran = subprocess.run([*command, *asked], cwd=folder, stdout=subprocess.PIPE, stderr=subprocess.STDOUT, text=True)
     return ran.stdout.splitlines()
 
 
-def try_crate(crate, bodies, rooms):
-    """Tries the wrong bodies of a crate in one of the copies, and returns how many are not refused."""
-    room = rooms.get()
-    folder, missed, by_names = room / "crates" / crate, 0, 0
-    for together, texts in rounds_of(bodies, folder):
-        said = check(together, texts, folder)
-        for body in together:
-            refused, for_more = is_refused(body.refused, said)
-            by_names += refused and not for_more
-            if not refused:
-                missed += 1
-                verdict, errors = told_of(body.refused, said)
-                told = "\n    ".join([f"{body.refused} has to fail by itself", *(verdict + errors or said[-3:])])
-                print(f"{crate}/{body.name}: NOT REFUSED: {told}", flush=True)
-    few = f", {by_names} of them only for a name that a proof misses" if by_names else ""
-    print(f"{crate}: {len(bodies) - missed} of {len(bodies)} wrong bodies are refused{few}", flush=True)
-    rooms.put(room)
-    return missed
+def outcome_of(crate, body, said):
+    """Returns what becomes of a wrong body by what a check said, and says so where it isn't refused."""
+    refused, for_more = is_refused(body.refused, said)
+    if refused:
+        return REFUSED if for_more else BY_A_NAME
+    verdict, errors = told_of(body.refused, said)
+    told = "\n    ".join(verdict + errors or said[-3:])
+    print(f"{crate}/{body.name}: NOT REFUSED: {body.refused} has to fail by itself\n    {told}", flush=True)
+    return MISSED
 
 
-def try_all(found, place):
-    """Tries the wrong bodies of these crates, one crate a processor at a time, and returns how many are not refused."""
-    lanes = min(len(os.sched_getaffinity(0)), len(found))
-    rooms = queue.SimpleQueue()
-    for number in range(lanes):
-        room = pathlib.Path(place, str(number))
-        room.mkdir()
-        copy_repository(room)
-        rooms.put(room)
-    # (a crate's check takes the longer the more there is of it)
-    crates = sorted(found, key=lambda it: -sum(file.stat().st_size for file in pathlib.Path("crates", it).rglob("*.antt")))
-    with concurrent.futures.ThreadPoolExecutor(lanes) as pool:
-        return sum(pool.map(lambda crate: try_crate(crate, found[crate], rooms), crates))
+def try_crate(crate, bodies):
+    """Tries the wrong bodies of a crate in a copy of it, and returns how many are not refused."""
+    outcomes = collections.Counter()
+    with tempfile.TemporaryDirectory(prefix="wrong-bodies-") as place:
+        command = command_for(crate, pathlib.Path(place, "kept"))
+        for together, texts in rounds_of(bodies, CRATES / crate):
+            said = check(command, together, texts, pathlib.Path(place, crate))
+            outcomes.update(outcome_of(crate, body, said) for body in together)
+    few = f", {outcomes[BY_A_NAME]} of them only for a name that a proof misses" if outcomes[BY_A_NAME] else ""
+    print(f"{crate}: {len(bodies) - outcomes[MISSED]} of {len(bodies)} wrong bodies are refused{few}", flush=True)
+    return outcomes[MISSED]
+
+
+def size_of(crate):
+    """Returns the size of a crate's code and proofs."""
+    files = [file for part in ("src", "proofs") for file in (CRATES / crate / part).rglob("*") if file.is_file()]
+    return sum(file.stat().st_size for file in files)
+
+
+def try_all(found):
+    """Tries the wrong bodies of these crates, the largest crates first, one a processor, and returns how many are not refused."""
+    crates = sorted(found, key=size_of, reverse=True)
+    with concurrent.futures.ThreadPoolExecutor(len(os.sched_getaffinity(0))) as pool:
+        return sum(pool.map(lambda crate: try_crate(crate, found[crate]), crates))
 
 
 def bodies_of(words):
@@ -201,8 +215,8 @@ def fit_all():
     """Looks whether each wrong body fits, and each edit that `rt ci` tries."""
     for crate, bodies in bodies_of([]).items():
         for body in bodies:
-            body.put_into({}, pathlib.Path("crates", crate))
-    for file in pathlib.Path("crates").glob("*/must-fail/*.edit"):
+            body.put_into({}, CRATES / crate)
+    for file in CRATES.glob("*/must-fail/*.edit"):
         read_body(file).put_into({}, file.parent.parent)
 
 
@@ -212,8 +226,7 @@ def main(words):
         if words == ["--fit"]:
             fit_all()
             return 0
-        with tempfile.TemporaryDirectory(prefix="wrong-bodies-") as place:
-            return 1 if try_all(bodies_of(words), place) else 0
+        return 1 if try_all(bodies_of(words)) else 0
     except Unfit as error:
         print(error, file=sys.stderr)
         return 1
