@@ -74,18 +74,19 @@ look_at_page() {
 }
 
 # Runs all cases by a program, and tells of them as `rt try` does: the name of each, what stands on standard error, and its status. Fails where
-# one has other answers than are wanted.
+# one has other answers than are wanted, and says which.
 run_by() {
     for words in "$made/cases"/*.args; do
         case=${words%.args}
         echo "== $(basename "$case")"
         status=0
         "$1" $(cat "$words") < "$case" 2>&1 > "$made/answers" || status=$?
-        if [ -e "$case.stdout" ] && ! diff "$case.stdout" "$made/answers"; then
+        if [ -e "$case.stdout" ] && ! diff "$case.stdout" "$made/answers" >&2; then
+            echo "$(basename "$case") has other answers (<: those that lie beside it, >: as they are)" >&2
             return 1
         fi
         echo "case status=$status "
-    done > "$made/log"
+    done
 }
 
 # Whether each refused line of docs/LANGUAGE.md was refused as it says there, and with status 1.
@@ -113,13 +114,11 @@ for script in "$@"; do
 done
 
 if [ -n "$MDLSIM" ]; then
-    run_by "$MDLSIM"
-else
-    cd "$examples/../crates/mdlsim" && rt try --seconds 900 --cases "$made/cases" > "$made/log" 2>&1
-fi || {
+    run_by "$MDLSIM" > "$made/log" || exit 1
+elif ! (cd "$examples/../crates/mdlsim" && rt try --seconds 900 --cases "$made/cases" > "$made/log" 2>&1); then
     cat "$made/log" >&2
     exit 1
-}
+fi
 if [ -e "$made/refusals" ] && ! refused; then
     echo "docs/LANGUAGE.md: lines are refused otherwise than its table says (<: as it says, >: as they are)" >&2
     exit 1
