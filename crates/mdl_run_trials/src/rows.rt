@@ -9,7 +9,10 @@ const ROWS: &str = "\
 # nothing is asked => FINAL SCHEMA test@1
 1 CREATE SCHEMA s / 1 CREATE TABLE s.t x / 1 LOCK TABLES s.t WRITE / 1 ALTER TABLE s.t ADD y COPY / 1 UNLOCK TABLES / \
     1 SELECT s.t / 1 DROP SCHEMA s => 1 1 OK / 2 1 OK / 3 1 OK / 4 1 OK / 5 1 OK / 6 1 OK s.t@2(x,y) / 7 1 OK / \
-    FINAL SCHEMA test@1";
+    FINAL SCHEMA test@1
+1 CREATE TABLE t x y / 1 CREATE SCHEMA a / 1 CREATE TABLE b y / 1 CREATE TABLE a.z x / 1 CREATE TABLE u x / 1 DROP TABLE u / \
+    1 ALTER TABLE t ADD z COPY => 1 1 OK / 2 1 OK / 3 1 OK / 4 1 OK / 5 1 OK / 6 1 OK / 7 1 OK / FINAL SCHEMA a@1 / \
+    FINAL SCHEMA test@1 / FINAL TABLE a.z@1(x) / FINAL TABLE test.b@1(y) / FINAL TABLE test.t@2(x,y,z)";
 
 #[test]
 fn rows_are_played(rt: HostRuntime) -> Result<(), Fail> {

@@ -72,6 +72,3 @@ fn push_shape(out: &mut String, definition: &Definition) -> Result<(), AllocErro
         Definition::Table(columns) => push_columns(out, columns.as_slice()),
     }
 }
-
-#[cfg(test)]
-mod tests;

@@ -192,6 +192,3 @@ fn push_behind_commas(out: &mut String, columns: &[Column]) -> Result<(), AllocE
     }
     Ok(())
 }
-
-#[cfg(test)]
-mod tests;
