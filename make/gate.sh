@@ -5,9 +5,9 @@
 spent=$(mktemp)
 trap 'rm -f "$spent"' EXIT
 
-# Each check has one processor, and there are as many at a time as processors: with more for one check it ends sooner, and takes up to two
-# and a half times the processor time.
-RT_JOBS=$(nproc)
+# Each check has one processor, and there are as many at a time as processors, with 4.5 GB for each: with more processors for one check it
+# ends sooner, and takes up to two and a half times the processor time.
+RT_JOBS=$(awk -v most="$(nproc)" '/^MemAvailable:/ { fit = int($2 / 4.5e6); print fit < 1 ? 1 : fit < most ? fit : most }' /proc/meminfo)
 export RT_JOBS
 
 rt ci && python3 make/wrong_bodies.py && MDLSIM=$PWD/crates/mdlsim/out/mdlsim sh examples/check.sh && sh growths/check.sh 3

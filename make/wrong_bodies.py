@@ -193,7 +193,8 @@ def size_of(crate):
 def try_all(found):
     """Tries the wrong bodies of these crates, the largest crates first, one a processor, and returns how many are not refused."""
     crates = sorted(found, key=size_of, reverse=True)
-    with concurrent.futures.ThreadPoolExecutor(len(os.sched_getaffinity(0))) as pool:
+    lanes = int(os.environ.get("RT_JOBS") or len(os.sched_getaffinity(0)))
+    with concurrent.futures.ThreadPoolExecutor(lanes) as pool:
         return sum(pool.map(lambda crate: try_crate(crate, found[crate]), crates))
 
 
