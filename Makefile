@@ -26,7 +26,7 @@ help:
 	@echo 'make docs                  says what is stale in the docs'
 	@echo 'make examples              compares the answers to each example with those that lie beside it'
 	@echo 'make growths               refuses each growth of some short lives in turn'
-	@echo 'make wrong [CRATE=NAME]     has the prover refuse the wrong bodies, of all crates or of one'
+	@echo 'make wrong [CRATE=NAME]    has the prover refuse the wrong bodies, of all crates or of one'
 	@echo 'make bench                 times scripts and calls'
 	@echo 'make install [PREFIX=DIR]  builds mdlsim, proved, and installs it with its manual page'
 	@echo 'make clean                 removes what was built, and what the prover keeps for its next check'

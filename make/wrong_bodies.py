@@ -131,7 +131,7 @@ def libraries_of(crate):
     built = {name: CRATES.resolve() / name / "out/rlib" / f"{name}.rlib" for name in names if (CRATES / name).is_dir()}
     lost = [name for name, folder in built.items() if not folder.is_dir()]
     if lost:
-        raise Unfit(f"{crate}: build {' and '.join(lost)} first, by rt check in that folder")
+        raise Unfit(f"{crate}: {' and '.join(lost)} must be built first: run rt check in crates/{crate}, or rt ci")
     return {name: built.get(name, KIT / "rlibs" / f"{name}.rlib") for name in ["std", *names]}
 
 
