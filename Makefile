@@ -77,7 +77,7 @@ examples: kit
 growths: kit
 	@sh growths/check.sh
 
-# The prover refuses each wrong body: all, or with CRATE=NAME those of one crate. What was proved before isn't proved again.
+# The prover refuses each wrong body: all, or with CRATE=NAME those of one crate, over the libraries below it as they were built last.
 wrong: kit
 	@python3 make/wrong_bodies.py $(CRATE)
 
