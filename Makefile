@@ -15,7 +15,7 @@ PROGRAM = crates/mdlsim/out/mdlsim
 
 BENCH = crates/mdl_bench/out/mdl_bench
 
-.PHONY: help run try script test layout docs bench examples growths wrong build install clean kit
+.PHONY: help run try script test layout docs bench examples commands growths wrong build install clean kit
 
 help:
 	@echo 'make run [SCRIPT=FILE]     builds mdlsim, proved, and prints its answers to a script: NAME.replay, NAME.run, NAME.lock or NAME.scoped.lock'
@@ -25,6 +25,7 @@ help:
 	@echo 'make layout                says which files are not in the layout, and which wrong bodies fit no file'
 	@echo 'make docs                  says what is stale in the docs'
 	@echo 'make examples              compares the answers to each example with those that lie beside it'
+	@echo 'make commands              compares what mdlsim, proved, does by its words with what it ought to do'
 	@echo 'make growths               refuses each growth of some short lives in turn'
 	@echo 'make wrong [CRATE=NAME]    has the prover refuse the wrong bodies, of all crates or of one'
 	@echo 'make bench                 times scripts and calls'
@@ -46,8 +47,9 @@ script:
 	@case "$(origin SUBCOMMAND) $(SCRIPT)" in "command line "* | "file crates/mdlsim/stdin" | *.lock | *.replay | *.run) ;; \
 	*) echo "$(SCRIPT): a script ends with .lock, .replay or .run" >&2; exit 1 ;; esac
 
-# The gate: the files are in the layout, the docs agree with the tree, the examples have their answers, refused growths lose nothing (every
-# third is refused here; `make growths` refuses each), everything is proved and tested from nothing, and the wrong bodies are refused.
+# The gate: the files are in the layout, the docs agree with the tree, everything is proved and tested from nothing, the wrong bodies are refused
+# (but some of those that `make wrong` tries), the examples have their answers, the program does what its words ask for, and refused growths
+# lose nothing (every seventh is refused here; `make growths` refuses each).
 test: layout docs
 	@sh make/gate.sh
 
@@ -72,6 +74,10 @@ bench: build
 # Each example gives the answers that lie beside it.
 examples: kit
 	@sh examples/check.sh
+
+# The program does what the words of its command line ask for, and tells what it can't do.
+commands: build
+	@python3 commands/check.py $(PROGRAM)
 
 # Short lives of the crates go well where any one of their allocations is refused, and runs on threads tell where one of some is.
 growths: kit

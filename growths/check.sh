@@ -5,7 +5,7 @@
 # runs compiled alone: the kit's interpreter can't run a program that reads its words, and one step is enough for it to say so.
 # Then mdlsim plays an example on threads, behind more and more lines: to each run one allocation is refused, and it has to tell just that.
 # Usage: sh growths/check.sh        each allocation, in some twelve minutes
-#        sh growths/check.sh 3      every third of them
+#        sh growths/check.sh 7      every seventh of them
 growths=$(cd "$(dirname "$0")" && pwd)
 sh "$growths/../make/needs.sh" rt python3 awk || exit 1
 made=$(mktemp -d)

@@ -7,17 +7,20 @@ A wrong body is a file wrong_bodies/CRATE/NAME.edit of such lines:
     old: if name.len() > LONGEST_NAME {    a text that stands there once, in one line
     new: if name.len() > 65 {              what is put in its place
 
-with more pairs of `old` and `new`, and more files, where it takes them. A function is proved over the contracts of those that it calls,
-whatever their bodies are. So all wrong bodies of a crate are put in place together, in a copy, and one check is asked for the functions
-that they name; only those that touch the same text, or the same function, take turns. That a function calls another one that is refused
-doesn't count: it has to fail by itself. Where its proof only misses a name that the body took away, that says little of the contract,
-and is told.
+with more pairs of `old` and `new`, and more files, where it takes them, and with the line `tried: among all` where another body says as
+much to the gate. A function is proved over the contracts of those that it calls, whatever their bodies are. So all wrong bodies of a crate
+are put in place together, in a copy, and one check is asked for the functions that they name; only those that touch the same text, or the
+same function, take turns. The bodies of the functions that have no wrong one are left out of the copy, since they would only be proved
+again. That a function calls one that is refused, or that was left out, doesn't count: it has to fail by itself. Where its proof only
+misses a name that the body took away, that says little of the contract, and is told.
 
 The check reads the libraries below the crate as `rt ci`, or `rt check` in a crate's folder, built them last.
 
 Usage, at the top of the repository:
     python3 make/wrong_bodies.py                    all
     python3 make/wrong_bodies.py CRATE [NAME ..]    those of a crate, or some of them
+    python3 make/wrong_bodies.py --gate [CRATE]     all but those that are tried only among all
+    python3 make/wrong_bodies.py --right [CRATE]    none, but the right bodies in the same copies: says which of these would be refused
     python3 make/wrong_bodies.py --fit              none: says which of them don't fit the files that they change
 """
 
@@ -42,8 +45,20 @@ KIT = pathlib.Path(shutil.which("rt") or "rt").resolve().parent.parent
 LOST_NAME = re.compile(r"has no field|is not in scope|has no `|was not admitted")
 
 
+# The first line of a function, of what has a type's own functions, and of a type.
+FUNCTION = re.compile(r"( {4})?(?:pub(?:\([a-z]+\))? )?(?:const )?fn (\w+)")
+OWNER = re.compile(r"impl(?:<[^{]*?>)? (\w+)(?:<[^{]*>)? \{")
+TYPE = re.compile(r"^(?:pub(?:\([a-z]+\))? )?(?:struct|enum) (\w+)", re.MULTILINE)
+
+# Stands for the proof of a function that is left out. It is refused at once, and what calls the function is checked to its end.
+NO_PROOF = """use Rattle.{crate}.proofs.{path}.Statement.{{statement}}
+
+pub {name}_spec : {{M : Type 1}} → statement M
+{name}_spec = nowhere
+"""
+
 # What becomes of a wrong body.
-REFUSED, BY_A_NAME, MISSED = "refused", "refused for a name alone", "not refused"
+REFUSED, BY_A_NAME, MISSED, PASSED = "refused", "refused for a name alone", "not as it should be", "passed"
 
 
 class Unfit(Exception):
@@ -52,34 +67,35 @@ class Unfit(Exception):
 
 @dataclasses.dataclass
 class WrongBody:
-    """The function that has to be refused, and which texts are put in place of which."""
+    """The function that has to be refused, which texts are put in place of which, and whether it is tried only where all are asked for."""
 
     name: str
     refused: str
     changes: list
+    is_for_all: bool
 
-    def put_into(self, texts, folder):
-        """Returns these texts of a crate's files with the body in its place, or None where another body has taken it."""
-        texts = dict(texts)
+    def spans_in(self, folder):
+        """Returns which parts of which files of a crate's folder it takes, and what it puts there: lists of (start, end, text)."""
+        spans = collections.defaultdict(list)
         for path, old, new in self.changes:
-            own = (folder / path).read_text()
-            if own.count(old) != 1:
-                raise Unfit(f"{self.name}: this text stands in {path} {own.count(old)} times, not once: {old}")
-            text = texts.get(path, own)
+            text = (folder / path).read_text()
             if text.count(old) != 1:
-                return None
-            texts[path] = text.replace(old, new)
-        return texts
+                raise Unfit(f"{self.name}: this text stands in {path} {text.count(old)} times, not once: {old}")
+            start = text.index(old)
+            spans[path].append((start, start + len(old), new))
+        return spans
 
 
 def read_body(file):
     """Reads a wrong body."""
-    refused, path, old, changes = None, None, None, []
+    refused, path, old, changes, is_for_all = None, None, None, [], False
     for line in file.read_text().splitlines():
         word, _, rest = line.partition(":")
         rest = rest.removeprefix(" ")
         if word == "refused":
             refused = rest
+        elif line == "tried: among all":
+            is_for_all = True
         elif word == "file":
             path = rest
         elif word == "old":
@@ -91,20 +107,48 @@ def read_body(file):
             raise Unfit(f"{file}: there is no place for this line: {line}")
     if not changes:
         raise Unfit(f"{file}: it changes nothing")
-    return WrongBody(file.stem, refused, changes)
+    return WrongBody(file.stem, refused, changes, is_for_all)
+
+
+@dataclasses.dataclass
+class Round:
+    """Bodies that are in their places at one time, and which parts of which files they take."""
+
+    bodies: list
+    spans: dict
+
+    def takes(self, body, spans):
+        """Adds a body that takes these parts, and returns whether there was room for it."""
+        crossed = any(
+            start < of_end and of_start < end
+            for path in spans
+            for start, end, _ in spans[path]
+            for of_start, of_end, _ in self.spans.get(path, [])
+        )
+        if crossed or body.refused in [it.refused for it in self.bodies]:
+            return False
+        self.bodies.append(body)
+        for path in spans:
+            self.spans.setdefault(path, []).extend(spans[path])
+        return True
+
+    def put_into(self, folder):
+        """Puts all bodies into their places in a crate's folder."""
+        for path, spans in self.spans.items():
+            text = (folder / path).read_text()
+            for start, end, new in sorted(spans, reverse=True):
+                text = text[:start] + new + text[end:]
+            (folder / path).write_text(text)
 
 
 def rounds_of(bodies, folder):
-    """Returns the rounds that it takes: bodies that are in their places at one time, and the texts of the files then."""
+    """Returns the rounds that it takes to try bodies of a crate."""
     rounds = []
     for body in bodies:
-        for number, (others, texts) in enumerate(rounds):
-            together = None if body.refused in [it.refused for it in others] else body.put_into(texts, folder)
-            if together is not None:
-                rounds[number] = ([*others, body], together)
-                break
-        else:
-            rounds.append(([body], body.put_into({}, folder)))
+        spans = body.spans_in(folder)
+        if not any(it.takes(body, spans) for it in rounds):
+            rounds.append(Round([], {}))
+            rounds[-1].takes(body, spans)
     return rounds
 
 
@@ -135,10 +179,10 @@ def libraries_of(crate):
     return {name: built.get(name, KIT / "rlibs" / f"{name}.rlib") for name in ["std", *names]}
 
 
-def command_for(crate, kept):
-    """Returns the words that check a crate in a copy of its folder, and keep in another folder what they prove."""
+def command_for(crate):
+    """Returns the words that check a crate in a copy of its folder."""
     root = "src/main.rt" if (CRATES / crate / "src/main.rt").exists() else "src/lib.rt"
-    words = [KIT / "bin/rattle", "check", "--crate-name", crate, root, "--links", f"{crate}=", "--jobs", "1", "--incremental", kept]
+    words = [KIT / "bin/rattle", "check", "--crate-name", crate, root, "--links", f"{crate}=", "--jobs", "1"]
     words += ["--antt-project", KIT / "rattle/logic/antt-project.json", "--logic-built", KIT / "logic_built"]
     for name, folder in libraries_of(crate).items():
         words += ["--extern", f"{name}={folder}"]
@@ -147,15 +191,63 @@ def command_for(crate, kept):
     return words
 
 
-def check(command, bodies, texts, folder):
-    """Has a crate checked in a folder with these bodies in their places, and returns the lines that the check says."""
+def emptied(lines, module, types, but):
+    """Returns the lines of a file with the bodies of its functions emptied, but of these, and the paths of the emptied ones."""
+    written, paths, owner, lines = [], [], None, iter(lines)
+    for line in lines:
+        written.append(line)
+        if line and not line.startswith(" "):
+            opened = OWNER.match(line)
+            owner = opened and types.get(opened[1])
+        found = FUNCTION.match(line)
+        if not found or (found[1] and not owner):
+            continue
+        path = [*(owner if found[1] else module), found[2]]
+        if "::".join(path) in but:
+            continue
+        indent = found[1] or ""
+        while not line.startswith(indent + "{") and not (line.endswith("{") and line.startswith((indent + ")", found[0]))):
+            line = next(lines)
+            written.append(line)
+        if line.endswith("}"):
+            continue
+        while line != indent + "}":
+            line = next(lines)
+        written += [indent + "    loop {}", line]
+        paths.append(path)
+    return written, paths
+
+
+def leave_out(folder, but):
+    """Empties the functions in a crate's folder, but these and those of traits, and leaves out what proves them."""
+    source = folder / "src"
+    modules = {
+        file: [folder.name, *(part for part in file.relative_to(source).with_suffix("").parts if part not in ("lib", "main"))]
+        for file in source.rglob("*.rt")
+    }
+    types = {name: [*module, name] for file, module in modules.items() for name in TYPE.findall(file.read_text())}
+    for file, module in modules.items():
+        lines, paths = emptied(file.read_text().splitlines(), module, types, but)
+        file.write_text("\n".join(lines) + "\n")
+        for _, *path in paths:
+            place = folder.joinpath("proofs", *path)
+            shutil.rmtree(place.with_name(f"+{path[-1]}"), ignore_errors=True)
+            shutil.rmtree(place, ignore_errors=True)
+            place.mkdir(parents=True)
+            (place / "Proof.antt").write_text(NO_PROOF.format(crate=folder.name, path=".".join(path), name=path[-1]))
+
+
+def check(command, tried, folder, are_right):
+    """Has a crate checked in a folder with the bodies of a round, or the right ones, in their places, and returns what the check says."""
     shutil.rmtree(folder, ignore_errors=True)
     for part in ("src", "specs", "proofs"):
         if (CRATES / folder.name / part).is_dir():
             shutil.copytree(CRATES / folder.name / part, folder / part)
-    for path, text in texts.items():
-        (folder / path).write_text(text)
-    asked = [word for body in bodies for word in ("--only", body.refused)]
+    if not are_right:
+        tried.put_into(folder)
+    refused = [body.refused for body in tried.bodies]
+    leave_out(folder, refused)
+    asked = [word for name in refused for word in ("--only", name)]
     ran = subprocess.run([*command, *asked], cwd=folder, stdout=subprocess.PIPE, stderr=subprocess.STDOUT, text=True)
     return ran.stdout.splitlines()
 
@@ -171,16 +263,30 @@ def outcome_of(crate, body, said):
     return MISSED
 
 
-def try_crate(crate, bodies):
-    """Tries the wrong bodies of a crate in a copy of it, and returns how many are not refused."""
+def right_outcome_of(crate, body, said):
+    """Returns what becomes of the right body of a function that has a wrong one by what a check said, and says so where it is refused."""
+    verdict, errors = told_of(body.refused, said)
+    if verdict and not is_refused(body.refused, said)[0]:
+        return PASSED
+    told = "\n    ".join(verdict + errors or said[-3:])
+    print(f"{crate}/{body.name}: {body.refused} is refused as it is\n    {told}", flush=True)
+    return MISSED
+
+
+def try_crate(crate, bodies, are_right):
+    """Tries the wrong bodies of a crate, or the right ones, in a copy of it, and returns how many are not told as they should be."""
     outcomes = collections.Counter()
     with tempfile.TemporaryDirectory(prefix="wrong-bodies-") as place:
-        command = command_for(crate, pathlib.Path(place, "kept"))
-        for together, texts in rounds_of(bodies, CRATES / crate):
-            said = check(command, together, texts, pathlib.Path(place, crate))
-            outcomes.update(outcome_of(crate, body, said) for body in together)
+        command = command_for(crate)
+        for tried in rounds_of(bodies, CRATES / crate):
+            said = check(command, tried, pathlib.Path(place, crate), are_right)
+            if are_right:
+                outcomes.update(right_outcome_of(crate, body, said) for body in tried.bodies)
+            else:
+                outcomes.update(outcome_of(crate, body, said) for body in tried.bodies)
+    told = f"{len(bodies) - outcomes[MISSED]} of {len(bodies)}"
     few = f", {outcomes[BY_A_NAME]} of them only for a name that a proof misses" if outcomes[BY_A_NAME] else ""
-    print(f"{crate}: {len(bodies) - outcomes[MISSED]} of {len(bodies)} wrong bodies are refused{few}", flush=True)
+    print(f"{crate}: {told} right bodies pass" if are_right else f"{crate}: {told} wrong bodies are refused{few}", flush=True)
     return outcomes[MISSED]
 
 
@@ -190,12 +296,12 @@ def size_of(crate):
     return sum(file.stat().st_size for file in files)
 
 
-def try_all(found):
-    """Tries the wrong bodies of these crates, the largest crates first, one a processor, and returns how many are not refused."""
+def try_all(found, are_right):
+    """Tries these wrong bodies, or the right ones, the largest crates first, one a processor, and returns how many aren't as they should be."""
     crates = sorted(found, key=size_of, reverse=True)
     lanes = int(os.environ.get("RT_JOBS") or len(os.sched_getaffinity(0)))
     with concurrent.futures.ThreadPoolExecutor(lanes) as pool:
-        return sum(pool.map(lambda crate: try_crate(crate, found[crate]), crates))
+        return sum(pool.map(lambda crate: try_crate(crate, found[crate], are_right), crates))
 
 
 def bodies_of(words):
@@ -216,9 +322,9 @@ def fit_all():
     """Looks whether each wrong body fits, and each edit that `rt ci` tries."""
     for crate, bodies in bodies_of([]).items():
         for body in bodies:
-            body.put_into({}, CRATES / crate)
+            body.spans_in(CRATES / crate)
     for file in CRATES.glob("*/must-fail/*.edit"):
-        read_body(file).put_into({}, file.parent.parent)
+        read_body(file).spans_in(file.parent.parent)
 
 
 def main(words):
@@ -227,7 +333,10 @@ def main(words):
         if words == ["--fit"]:
             fit_all()
             return 0
-        return 1 if try_all(bodies_of(words)) else 0
+        found = bodies_of([word for word in words if word not in ("--gate", "--right")])
+        if "--gate" in words:
+            found = {crate: [body for body in bodies if not body.is_for_all] for crate, bodies in found.items()}
+        return 1 if try_all(found, "--right" in words) else 0
     except Unfit as error:
         print(error, file=sys.stderr)
         return 1

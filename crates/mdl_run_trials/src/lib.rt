@@ -1,9 +1,12 @@
-//! Tests of scripts that are played with a thread for each session.
+//! Tests of sessions that work off their lines of a script, and of scripts that are played with a thread for each session.
 //!
-//! Everything here is for tests. `rows` are worked scripts of one session beside their texts; two sessions have a gate that brings them
-//! together (`meetings`) or lets their lines through in order (`turns`), by `flags`. In `versions` all sessions read a table that one of
-//! them changes, and in `blocked` a session of the test's own has it for itself throughout. `alone` has the text of one session beside what
-//! `replay` answers to it. In `stress` eight sessions make statements of all forms by `chance`.
+//! Everything here is for tests. A `room` has a lock space of two sessions on one thread. In `lines` each works off its lines, one after the
+//! other; in `patience` the one waits for what the other has locked, until it has no more patience; `gates` are told of each statement.
+//!
+//! On threads, `rows` are worked scripts of one session beside their texts; two sessions have a gate that brings them together (`meetings`) or
+//! lets their lines through in order (`turns`), by `flags`. In `versions` all sessions read a table that one of them changes, and in `blocked` a
+//! session of the test's own has it for itself throughout. `alone` has the text of one session beside what `replay` answers to it. In `stress`
+//! eight sessions make statements of all forms by `chance`.
 #![tactic(auto)]
 
 #[cfg(test)]
@@ -15,9 +18,17 @@ mod chance;
 #[cfg(test)]
 mod flags;
 #[cfg(test)]
+mod gates;
+#[cfg(test)]
+mod lines;
+#[cfg(test)]
 mod meetings;
 #[cfg(test)]
+mod patience;
+#[cfg(test)]
 mod playing;
+#[cfg(test)]
+mod room;
 #[cfg(test)]
 mod rows;
 #[cfg(test)]

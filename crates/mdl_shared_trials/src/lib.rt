@@ -1,8 +1,8 @@
 //! Tests of the lock space that threads share.
 //!
 //! Everything here is for tests: spaces are made, and sessions open, look keys up, try for locks, change, clone and merge tickets, change what
-//! stands under keys, give locks up and close, on one thread and on several. The tests stand over what `mdl_shared` shows to all, so that it
-//! has none itself and is proved once.
+//! stands under keys, give locks up and close, on one thread and on several. `steps` has tests of the steps below them. The tests stand over what
+//! `mdl_shared` and `mdl_steps` show to all, so that these have none themselves and are proved once.
 #![tactic(auto)]
 
 #[cfg(test)]
@@ -37,6 +37,8 @@ mod searches;
 mod sessions;
 #[cfg(test)]
 mod spaces;
+#[cfg(test)]
+mod steps;
 #[cfg(test)]
 mod stress;
 #[cfg(test)]

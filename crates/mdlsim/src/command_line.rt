@@ -107,6 +107,3 @@ fn run_subcommand<'a>(alloc: Global) -> Result<Command<'a>, AllocError>
         )
         .arg(patience)
 }
-
-#[cfg(test)]
-mod tests;

@@ -33,6 +33,3 @@ pub fn run_words<T: Threads + Wait + Sync, S: AsStr, R: Read, W: Write, E: Write
     let asked = command(alloc, words);
     run_asked(rt, alloc, &asked, input, output, errors)
 }
-
-#[cfg(test)]
-mod tests;

@@ -2,7 +2,7 @@
 ghost use Rattle.std.specs.Prelude.{◌≡◌, []};
 ghost use Rattle.mdl_steps.specs.Seats.{IsSized, IsPlace};
 
-use crate::visits::{EMPTY, visit};
+use crate::steps::visits::{EMPTY, visit};
 use mdl_steps::{LockTable, Maker, Worker};
 use std::test::Fail;
 use std::thread;

@@ -1,6 +1,6 @@
 //! A lock space of two sessions, one of which works off its lines.
 ghost use Rattle.std.specs.Prelude.{IfOk};
-ghost use Rattle.mdl_work_trials.specs.Rooms.{IsFree, LeavesFree};
+ghost use Rattle.mdl_run_trials.specs.Rooms.{IsFree, LeavesFree};
 
 use mdl_space::{CoreSpace, NewError};
 use mdl_stmt::{Progress, Reply, Runner};

@@ -1,6 +1,6 @@
 -- The session holds no latch between two visits.
 use Rattle.std.proofs.Common.{◌≡◌, []}
-use Rattle.mdl_steps_trials.proofs.threads.saw_nobody.Given as goal
+use Rattle.mdl_shared_trials.proofs.steps.threads.saw_nobody.Given as goal
 
 abbrev pub invariant-loop : goal.invariant-loop
 invariant-loop l = record {

@@ -1,5 +1,5 @@
 //! Latches of a table with three places.
-use crate::visits::{EMPTY, visit};
+use crate::steps::visits::{EMPTY, visit};
 use mdl_steps::Maker;
 use std::test::Fail;
 

@@ -4,7 +4,7 @@ use Rattle.std.specs.List.{filter}
 use Rattle.mdl_steps.specs.declared.view.Held.{Held}
 use Rattle.mdl_steps.specs.Plays.{Mine, raised, noting, lowered}
 use Rattle.mdl_steps.specs.Seats.{Holds, elsewhere}
-use Rattle.mdl_steps_trials.proofs.visits.visit.Goals as goal
+use Rattle.mdl_shared_trials.proofs.steps.visits.visit.Goals as goal
 
 and_true : (b : Bool) → (b && true) ≡ b
 and_true true = refl
