@@ -1,6 +1,6 @@
 #!/bin/sh
-# Says which library crates show another example at the head of their src/lib.rt than the file of mdl_examples that names them, a line for
-# each, or that there is none.
+# Says which library crates show another example at the head of their src/lib.rt than the file of examples that names them, a line for each, or
+# that there is none. Such a file stands in mdl_examples, or in src/examples of a crate of trials.
 # Usage: sh make/check_examples.sh           looks
 #        sh make/check_examples.sh update    puts the examples there
 cd "$(dirname "$0")/.." || exit 1
@@ -16,9 +16,9 @@ libraries() {
     ls crates/*/src/lib.rt | cut -d/ -f2 | grep -v -x -e '.*trials' -e 'mdl_examples' -e 'mdl_steps_laws' -e 'mdl_session_laws'
 }
 
-# The file of mdl_examples that names a crate in its first line.
+# The file of examples that names a crate in its first line.
 file_of() {
-    grep -l -x "//! \`$1\`: .*" crates/mdl_examples/src/*.rt
+    grep -l -x "//! \`$1\`: .*" crates/mdl_examples/src/*.rt crates/*_trials/src/examples/*.rt
 }
 
 # The head of a file is all comments that begin it. Its section of an example is the last one there.
@@ -45,7 +45,7 @@ with_section() {
 look_at() {
     file=$(file_of "$1")
     if [ -z "$file" ]; then
-        echo "crates/mdl_examples/src: there is no example of $1"
+        echo "crates/mdl_examples/src, crates/*_trials/src/examples: there is no example of $1"
         return
     fi
     section "crates/$1/src/lib.rt" > "$made/shown"

@@ -1,4 +1,5 @@
-//! An example of each library crate: what its reader does first.
+//! An example of each library crate: what its reader does first. Those of crates on threads, and of whole scripts, stand in the crates
+//! of trials that try these.
 //!
 //! Everything here is for tests. Each file names its crate in its first line, and has one test; the head of the crate's `src/lib.rt`
 //! shows the same lines, and `make/check_examples.sh` compares them. So what is shown there is proved, and run.
@@ -21,19 +22,7 @@ mod key;
 #[cfg(test)]
 mod lines;
 #[cfg(test)]
-mod lock;
-#[cfg(test)]
-mod program;
-#[cfg(test)]
-mod script;
-#[cfg(test)]
-mod script_laws;
-#[cfg(test)]
-mod shared;
-#[cfg(test)]
 mod space;
-#[cfg(test)]
-mod steps;
 #[cfg(test)]
 mod stmt;
 #[cfg(test)]
@@ -41,8 +30,4 @@ mod syntax;
 #[cfg(test)]
 mod system;
 #[cfg(test)]
-mod visits;
-#[cfg(test)]
 mod word;
-#[cfg(test)]
-mod work;

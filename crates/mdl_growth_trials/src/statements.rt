@@ -217,13 +217,19 @@ impl<'s> Staged<'s> {
     fn led_up_to(self, at: usize, who: u16) -> Option<Pair<'s>> {
         let mut pair = Pair::new(self.alloc)?;
         let ended = self.last_end(at, who);
+        let goes_so = self.leads_up_to(&mut pair, at, who, ended);
+        goes_so.then_some(pair)
+    }
+
+    // Plays the lines before one, but those of a session that come after its last end. Whether what should come of them does.
+    fn leads_up_to(self, pair: &mut Pair<'s>, at: usize, who: u16, ended: usize) -> bool {
         for (index, (line, (_, want))) in self.lines.iter().zip(self.rows).take(at).enumerate() {
             let is_left_out = line.session == who && index >= ended;
             if !is_left_out && pair.play(line.session, &line.statement) != *want {
-                return None;
+                return false;
             }
         }
-        Some(pair)
+        true
     }
 
     // How far a session's last statement goes that ended before a line.

@@ -6,7 +6,7 @@
 //! On threads, `rows` are worked scripts of one session beside their texts; two sessions have a gate that brings them together (`meetings`) or
 //! lets their lines through in order (`turns`), by `flags`. In `versions` all sessions read a table that one of them changes, and in `blocked` a
 //! session of the test's own has it for itself throughout. `alone` has the text of one session beside what `replay` answers to it. In `stress`
-//! eight sessions make statements of all forms by `chance`.
+//! eight sessions make statements of all forms by `chance`. `examples` are those of three crates.
 #![tactic(auto)]
 
 #[cfg(test)]
@@ -15,6 +15,8 @@ mod alone;
 mod blocked;
 #[cfg(test)]
 mod chance;
+#[cfg(test)]
+mod examples;
 #[cfg(test)]
 mod flags;
 #[cfg(test)]

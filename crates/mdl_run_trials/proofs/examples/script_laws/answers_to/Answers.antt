@@ -1,5 +1,5 @@
 -- The law says it of all scripts.
-use Rattle.mdl_examples.proofs.script_laws.answers_to.Goals as goal
+use Rattle.mdl_run_trials.proofs.examples.script_laws.answers_to.Goals as goal
 
 pub returns : goal.returns
 returns c = c.no_deadlock_stands.ensures c.args.script.now

@@ -1,0 +1,3 @@
+//! Examples of crates, which the heads of their `src/lib.rt` show, too.
+mod lock;
+mod program;
