@@ -184,11 +184,16 @@ impl<'s> Staged<'s> {
 
     // Whether it goes as it should, also where memory is refused once.
     fn goes_well(self) -> bool {
-        let Some(mut pair) = Pair::new(self.alloc) else {
-            return false;
-        };
+        match Pair::new(self.alloc) {
+            Some(mut pair) => self.goes_well_with(&mut pair),
+            None => false,
+        }
+    }
+
+    // Likewise, played by these two.
+    fn goes_well_with(self, pair: &mut Pair<'s>) -> bool {
         for (at, (line, (_, want))) in self.lines.iter().zip(self.rows).enumerate() {
-            if !self.outlives(&mut pair, at, line, *want) {
+            if !self.outlives(pair, at, line, *want) {
                 return false;
             }
         }
