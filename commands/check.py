@@ -27,7 +27,7 @@ TAKEN = [
     ("run", "1 SELECT t\n65 BEGIN\n", 1, "", "line 2: BadSession\n"),
 ]
 
-# Ways to say how often a statement that waits looks again.
+# Ways to say how often a statement that waits looks again. Which number is taken the contract of `command` says; these runs show that one is.
 PATIENCES = [
     *("--patience 0", "--patience=0", "--patience 1 --", "--patience=1 --", "--patience 4294967295", "--patience=4294967295"),
     *("--patience 007", "--patience=00000000000000000000000000000007", "--patience +7", "--patience=+7"),

@@ -44,7 +44,6 @@ KIT = pathlib.Path(shutil.which("rt") or "rt").resolve().parent.parent
 # How a check words that a proof names what a body took away, which says nothing of the contract.
 LOST_NAME = re.compile(r"has no field|is not in scope|has no `|was not admitted")
 
-
 # The first line of a function, of what has a type's own functions, and of a type.
 FUNCTION = re.compile(r"( {4})?(?:pub(?:\([a-z]+\))? )?(?:const )?fn (\w+)")
 OWNER = re.compile(r"impl(?:<[^{]*?>)? (\w+)(?:<[^{]*>)? \{")

@@ -1,5 +1,5 @@
 # Prints a table of the lines of each crate, and of its wrong bodies, from the numbers of lines and the paths of its files, as wc tells them.
-# Tests are the crates of trials and examples, and files named tests.rt. A wrong body is a file, of however many lines.
+# Tests are the crates of trials and examples, and files named tests.rt, if there are any. A wrong body is a file, of however many lines.
 # Usage: wc -l FILE.. | awk -v CRATES="$crates" -f figures.awk
 function grouped(number) {
     return number < 1000 ? number + 0 : int(number / 1000) sprintf(",%03d", number % 1000)
