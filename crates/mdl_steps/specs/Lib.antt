@@ -1,4 +1,5 @@
 pub mod Cells
+pub mod Copies
 pub mod Deeds
 pub mod Layout
 pub mod Lists

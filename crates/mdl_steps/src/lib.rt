@@ -39,6 +39,7 @@ mod deed;
 mod directory;
 mod in_hand;
 mod laws;
+mod list_copies;
 mod maker;
 mod naming;
 mod opening;
@@ -59,6 +60,7 @@ pub use laws::{
     noted_versions_stand, reads_are_of_what_stands, taken_latches_are_held,
     waiters_are_as_their_words_tell,
 };
+pub use list_copies::ListCopies;
 pub use maker::{Maker, OwnedTable};
 pub use plays::Order;
 pub use slot::{Directory, Slot};

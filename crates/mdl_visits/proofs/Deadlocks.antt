@@ -7,18 +7,21 @@ use Rattle.std.specs.List.{list_any}
 use Rattle.std.specs.Option.{option_map}
 use Rattle.std.specs.Ordering.{nat_cmp}
 use Rattle.std.proofs.lemmas.Bool.Decides.{nat_tests}
-use Rattle.std.proofs.lemmas.List.{map-append, take_all, take_more}
+use Rattle.std.proofs.lemmas.List.{get_or-map, length-map, map-append, take_all, take_more}
 use Rattle.std.proofs.lemmas.List.Folds.{list_any-append}
+use Rattle.mdl_key.specs.Words.{KeyName}
+use Rattle.mdl_book.specs.Books.{empty_book}
 use Rattle.mdl_book.specs.declared.book_view.BookView.{BookView}
 use Rattle.mdl_book.specs.declared.ticket.Ticket.{Ticket}
 use Rattle.mdl_graph.specs.declared.cycle.Member.{Member}
-use Rattle.mdl_graph.specs.Graphs.{GraphView, IsGraphOf, cycle_found, deadlock, deadlock_in, member_of, victim_in, waits}
+use Rattle.mdl_graph.specs.Graphs.{GraphView, IsGraphOf, cycle_found, deadlock, deadlock_in, lock_of, member_of, victim_in, waits}
 use Rattle.mdl_graph.specs.Victims.{victim_of}
 use Rattle.mdl_graph.specs.WaitsFor.{SessionTest, is_tied, is_unsettled, waits_at, waits_for, wish_of, wishes_at, wishes_in}
 use Rattle.mdl_graph.proofs.CycleLaws.{chosen_same}
+use Rattle.mdl_steps.specs.Copies.{Queues, no_queues, queues_of}
 use Rattle.mdl_visits.specs.declared.audited.Audited.{Audited}
 use Rattle.mdl_visits.specs.declared.hearing.Heard.{Heard}
-use Rattle.mdl_visits.specs.Searches.{books_of, if_waited, settled_by}
+use Rattle.mdl_visits.specs.Searches.{AreQueuesOf, books_of, if_waited, settled_by}
 use Rattle.mdl_visits.proofs.WayOut.{nobody_waits}
 
 -- ---- who is settled
@@ -67,20 +70,67 @@ deadlock_same settled books graph from is =
     (chosen_same (waits graph) (waits_for settled books) (map (λ (wish : Member). wish.session) graph.wishes) from is.same_waits)
     ∙ ap (λ wishes. cycle_found wishes (waits_for settled books) from) is.same_wishes
 
--- a book more of those that were copied
-pub book_more : (settled : SessionTest) (audited : List Audited) (i : ℕ) (d : Audited) (graph : GraphView) → i < length audited
-    → IsGraphOf settled (books_of (take i audited) ++ (get_or audited i d).book ∷ []) graph → IsGraphOf settled (books_of (take (i + 1) audited)) graph
-book_more settled audited i d graph inside is =
+-- who waits for whom at a lock hangs on its namespace and its lists alone
+abbrev alike_book : Queues → BookView
+alike_book q = record (empty_book (record { namespace = q.0; schema = []; table = [] })) { granted = q.1.0; waiting = q.1.1 }
+
+module _ (settled : SessionTest) (a b : BookView) (same : queues_of a ≡ queues_of b) where
+  alike_wishes : (books : List BookView) → wishes_in settled (books ++ a ∷ []) ≡ wishes_in settled (books ++ b ∷ [])
+  alike_wishes [] = ap (λ (q : Queues). wishes_at settled (alike_book q) ++ []) same
+  alike_wishes (first ∷ books) = ap (λ (wishes : List Member). wishes_at settled first ++ wishes) (alike_wishes books)
+
+  alike_waits : (books : List BookView) (waiter other : ℕ) → waits_for settled (books ++ a ∷ []) waiter other ≡ waits_for settled (books ++ b ∷ []) waiter other
+  alike_waits [] waiter other = ap (λ (q : Queues). waits_at settled (alike_book q) waiter other || false) same
+  alike_waits (first ∷ books) waiter other = ap (λ (w : Bool). waits_at settled first waiter other || w) (alike_waits books waiter other)
+
+  alike : (books : List BookView) (graph : GraphView) → IsGraphOf settled (books ++ a ∷ []) graph → IsGraphOf settled (books ++ b ∷ []) graph
+  alike books graph is =
+      record {
+        same_settled = is.same_settled;
+        same_wishes = is.same_wishes ∙ alike_wishes books;
+        same_waits = λ waiter other. is.same_waits waiter other ∙ alike_waits books waiter other;
+      }
+
+-- the lists at a place are those of the book there
+queues_there : (audited : List Audited) (lists : List Queues) (i : ℕ) (d : Audited) → AreQueuesOf audited lists → i < length lists
+    → (i < length audited) × (get_or lists i no_queues ≡ queues_of (get_or audited i d).book)
+queues_there audited lists i d are inside =
+    let count : length lists ≡ length audited = ap length (sym are) ∙ length-map audited (λ (a : Audited). queues_of a.book) in
+    let here : i < length audited = omega arith in
+    (here, ap (λ (qs : List Queues). get_or qs i no_queues) (sym are) ∙ get_or-map (λ (a : Audited). queues_of a.book) audited i d no_queues here)
+
+-- a lock more of those whose lists were copied
+pub lock_more : (settled : SessionTest) (audited : List Audited) (lists : List Queues) (i : ℕ) (graph : GraphView) (key : KeyName) (granted waiting : List Ticket)
+    → AreQueuesOf audited lists → i < length lists → (key.namespace, (granted, waiting)) ≡ get_or lists i no_queues
+    → IsGraphOf settled (books_of (take i audited) ++ lock_of key granted waiting ∷ []) graph → IsGraphOf settled (books_of (take (i + 1) audited)) graph
+lock_more settled audited lists i graph key granted waiting are inside told is =
+    let d : Audited = record { place = 0; book = alike_book no_queues } in
+    let there = queues_there audited lists i d are inside in
+    let now = alike settled (lock_of key granted waiting) (get_or audited i d).book (told ∙ there.1) (books_of (take i audited)) graph is in
     subst (λ (books : List BookView). IsGraphOf settled books graph)
-    (sym (ap books_of (take_more audited i d inside) ∙ map-append (λ (a : Audited). a.book) (take i audited) (get_or audited i d ∷ []))) is
+    (sym (ap books_of (take_more audited i d there.0) ∙ map-append (λ (a : Audited). a.book) (take i audited) (get_or audited i d ∷ []))) now
 
 -- once all were added
-pub victim_same : (settled : SessionTest) (audited : List Audited) (added from : ℕ) (graph : GraphView) (cycle : Option (List Member))
-    → IsGraphOf settled (books_of (take added audited)) graph → length audited ≤ added → cycle ≡ deadlock graph from
+pub all_added : (settled : SessionTest) (audited : List Audited) (lists : List Queues) (added : ℕ) (graph : GraphView)
+    → AreQueuesOf audited lists → length lists ≤ added → IsGraphOf settled (books_of (take added audited)) graph → IsGraphOf settled (books_of audited) graph
+all_added settled audited lists added graph are all is =
+    let count : length lists ≡ length audited = ap length (sym are) ∙ length-map audited (λ (a : Audited). queues_of a.book) in
+    subst (λ (some : List Audited). IsGraphOf settled (books_of some) graph) (take_all added audited (omega arith)) is
+
+pub victim_same : (settled : SessionTest) (audited : List Audited) (from : ℕ) (graph : GraphView) (cycle : Option (List Member))
+    → IsGraphOf settled (books_of audited) graph → cycle ≡ deadlock graph from
     → option_map victim_of cycle ≡ victim_in settled (books_of audited) from
-victim_same settled audited added from graph cycle is all found =
-    ap (option_map victim_of)
-    (found ∙ deadlock_same settled (books_of audited) graph from (subst (λ (some : List Audited). IsGraphOf settled (books_of some) graph) (take_all added audited all) is))
+victim_same settled audited from graph cycle is found = ap (option_map victim_of) (found ∙ deadlock_same settled (books_of audited) graph from is)
+
+-- the lists of a book more, if somebody waits by it
+pub one_waited : (copied : List Audited) (one : Audited) (old new : List Queues) → nat_lt 0 (length one.book.waiting) ≡ true → AreQueuesOf copied old
+    → new ≡ old ++ queues_of one.book ∷ [] → AreQueuesOf (copied ++ if_waited one) new
+one_waited copied one old new some are added =
+    let more : if_waited one ≡ one ∷ [] = ap (λ (b : Bool). if b then one ∷ [] else []) some in
+    ap (λ (xs : List Audited). map (λ (a : Audited). queues_of a.book) (copied ++ xs)) more
+    ∙ map-append (λ (a : Audited). queues_of a.book) copied (one ∷ [])
+    ∙ ap (λ (qs : List Queues). qs ++ queues_of one.book ∷ []) are
+    ∙ sym added
 
 -- ---- books by which nobody waits
 

@@ -12,6 +12,7 @@ use Rattle.mdl_steps.specs.declared.view.Held.{Held}
 use Rattle.mdl_steps.specs.declared.view.Keys.{Keys}
 use Rattle.mdl_steps.specs.declared.view.Met.{Met}
 use Rattle.mdl_steps.specs.declared.view.Settlement.{Settlement}
+use Rattle.mdl_steps.specs.Copies.{Queues, queues_of}
 use Rattle.mdl_steps.specs.Layout.{wait_word}
 use Rattle.mdl_steps.specs.Plays.{Mine}
 use Rattle.mdl_steps.specs.WaitSeats.{IsSession}
@@ -49,6 +50,10 @@ WasHeard slots latches m m′ h = (e : Met) × IsStepOf m m′ e × (e.word ≡ 
 -- the books that were copied
 abbrev pub books_of : List Audited → List BookView
 books_of audited = map (λ (a : Audited). a.book) audited
+
+-- these are the lists of the books, each with its lock's namespace
+abbrev pub AreQueuesOf : List Audited → List Queues → Type 0
+AreQueuesOf audited lists = map (λ (a : Audited). queues_of a.book) audited ≡ lists
 
 -- one of the steps between the two met the unsettled wait of a session while the session that searches had just these latches, and it alone was
 -- settled then, as the victim's

@@ -1,39 +1,39 @@
 //! A session that has all latches looks for a deadlock that it waits in, and settles the victim's wait.
-ghost use Rattle.std.specs.Prelude.{◌≡◌, Some, true, false, All, IfOk, IfSome, OnErr, MatchOption};
+ghost use Rattle.std.specs.Prelude.{◌≡◌, List, Some, true, false, All, IfOk, IfSome, OnErr, MatchOption};
 ghost use Rattle.mdl_book.specs.SessionSets.{is_session};
 ghost use Rattle.mdl_steps.specs.Seats.{IsSized};
 ghost use Rattle.mdl_steps.specs.WaitSeats.{IsSession};
+ghost use Rattle.mdl_visits.specs.declared.audited.Audited.{Audited};
 ghost use Rattle.mdl_visits.specs.declared.hearing.Heard.{Heard};
 ghost use Rattle.mdl_visits.specs.Polls.{SettlesNothing};
-ghost use Rattle.mdl_visits.specs.Searches.{Fells, Hears, Judges, KnowsFall};
+ghost use Rattle.mdl_visits.specs.Searches.{AreQueuesOf, Fells, Hears, Judges, KnowsFall};
 
-use crate::Audited;
 use crate::hearing::{Heard, hear_all};
 use crate::victims::find_victim;
 use mdl_calls::Search;
-use mdl_steps::{Loss, OwnedTable, WaitWord, Worker};
+use mdl_steps::{ListCopies, Loss, OwnedTable, WaitWord, Worker};
 use std::alloc::{AllocError, Global};
 use std::sync::Wait;
 
-/// Looks for a deadlock that the session waits in, by these books, while it has the latches of all places, and settles the wait of the victim.
-/// Where another session settles that first, it looks again.
+/// Looks for a deadlock that the session waits in, by the lists of these locks, while it has the latches of all places, and settles the wait of the
+/// victim. Where another session settles that first, it looks again.
 pub(crate) fn judge<R: Wait>(
     rt: &R,
     worker: &mut Worker,
     table: &OwnedTable,
     alloc: Global,
-    audited: &[Audited],
+    lists: &ListCopies,
 ) -> Result<Search, AllocError>
     requires { (worker.old.seat.table_id ≡ table.now.shared.table_id) × IsSized table.now.shared.table_id }
     ensures seat { (worker.new.seat.table_id ≡ worker.old.seat.table_id) × (worker.new.number ≡ worker.old.number) }
     ensures hears { Hears worker.old.seat.me worker.new.seat.me }
-    ensures judged { IfOk result (λ found. Judges table.now.shared.table_id worker.old.number worker.old.seat.me.0.latches audited.now found
-        worker.old.seat.me worker.new.seat.me) }
+    ensures judged { IfOk result (λ found. (audited : List Audited) → AreQueuesOf audited lists.now
+        → Judges table.now.shared.table_id worker.old.number worker.old.seat.me.0.latches audited found worker.old.seat.me worker.new.seat.me) }
     ensures own { IfOk result (λ found. KnowsFall worker.old.number found worker.new.seat.me) }
     ensures nothing { OnErr result (SettlesNothing worker.old.seat.me worker.new.seat.me) }
 {
     for _ in rt.forever() {
-        if let Some(found) = judge_once(worker, table, alloc, audited)? {
+        if let Some(found) = judge_once(worker, table, alloc, lists)? {
             return Ok(found);
         }
     }
@@ -45,19 +45,20 @@ fn judge_once(
     worker: &mut Worker,
     table: &OwnedTable,
     alloc: Global,
-    audited: &[Audited],
+    lists: &ListCopies,
 ) -> Result<Option<Search>, AllocError>
     requires { (worker.old.seat.table_id ≡ table.now.shared.table_id) × IsSized table.now.shared.table_id }
     ensures seat { (worker.new.seat.table_id ≡ worker.old.seat.table_id) × (worker.new.number ≡ worker.old.number) }
     ensures hears { Hears worker.old.seat.me worker.new.seat.me }
     ensures judged { IfOk result (λ tried. MatchOption tried (SettlesNothing worker.old.seat.me worker.new.seat.me)
-        (λ found. Judges table.now.shared.table_id worker.old.number worker.old.seat.me.0.latches audited.now found worker.old.seat.me worker.new.seat.me)) }
+        (λ found. (audited : List Audited) → AreQueuesOf audited lists.now
+        → Judges table.now.shared.table_id worker.old.number worker.old.seat.me.0.latches audited found worker.old.seat.me worker.new.seat.me)) }
     ensures own { IfOk result (λ tried. IfSome tried (λ found. KnowsFall worker.old.number found worker.new.seat.me)) }
     ensures nothing { OnErr result (SettlesNothing worker.old.seat.me worker.new.seat.me) }
 {
     let mut words = Vec::new(alloc);
     hear_all(worker, table, &mut words)?;
-    match find_victim(alloc, audited, &words, worker.number())? {
+    match find_victim(alloc, lists, &words, worker.number())? {
         None => Ok(Some(Search::NoCycle)),
         Some(victim) if fell(worker, table, victim, &words) => Ok(Some(Search::Victim(victim))),
         Some(_) => Ok(None),

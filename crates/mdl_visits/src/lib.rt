@@ -53,6 +53,7 @@ mod directories;
 mod granting;
 mod hearing;
 mod judging;
+mod key_sample;
 mod latches;
 mod laws;
 mod making_way;

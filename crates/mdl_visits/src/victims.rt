@@ -1,16 +1,17 @@
-//! The victim of a cycle, by copies of books and the words of waits.
-ghost use Rattle.std.specs.Prelude.{◌≡◌, ℕ, ◌%◌, true, false, All, IfOk};
+//! The victim of a cycle, by the lists of locks and the words of waits.
+ghost use Rattle.std.specs.Prelude.{◌≡◌, ℕ, ◌%◌, true, false, List, All, IfOk};
 ghost use Rattle.std.specs.FinSet as set;
 ghost use Rattle.mdl_book.specs.SessionSets.{is_session};
-ghost use Rattle.mdl_graph.specs.Graphs.{victim_in};
+ghost use Rattle.mdl_graph.specs.Graphs.{IsGraphOf, victim_in};
+ghost use Rattle.mdl_visits.specs.declared.audited.Audited.{Audited};
 ghost use Rattle.mdl_visits.specs.declared.hearing.Heard.{Heard};
-ghost use Rattle.mdl_visits.specs.Searches.{books_of, settled_by};
+ghost use Rattle.mdl_visits.specs.Searches.{AreQueuesOf, books_of, settled_by};
 
-use crate::Audited;
 use crate::hearing::Heard;
+use crate::key_sample::KeySample;
 use mdl_book::Sessions;
 use mdl_graph::{WaitGraph, victim};
-use mdl_steps::WaitWord;
+use mdl_steps::{ListCopies, WaitWord};
 use std::alloc::{AllocError, Global};
 
 // The sessions whose waits aren't open by their words.
@@ -27,22 +28,35 @@ fn settled_of(words: &[Heard]) -> Sessions
     settled
 }
 
-/// The victim of the cycle in which a session waits, by these books and words, if it waits in one.
+/// The victim of the cycle in which a session waits, by these lists and words, if it waits in one.
 pub(crate) fn find_victim(
     alloc: Global,
-    audited: &[Audited],
+    lists: &ListCopies,
     words: &[Heard],
     from: u16,
 ) -> Result<Option<u16>, AllocError>
     requires { All (λ (h : Heard). is_session h.session ≡ true) words.now }
-    ensures { IfOk result (λ found. found ≡ victim_in (settled_by words.now) (books_of audited.now) from) }
+    ensures { IfOk result (λ found. (audited : List Audited) → AreQueuesOf audited lists.now
+        → found ≡ victim_in (settled_by words.now) (books_of audited) from) }
 {
-    let mut graph = WaitGraph::new(alloc, settled_of(words));
-    for one in audited {
-        graph.add_lists(&one.book.key, &one.book.granted, &one.book.waiting)?;
-    }
+    let graph = graph_of(alloc, lists, words)?;
     match graph.find_cycle(from)? {
         Some(cycle) => Ok(Some(victim(&cycle))),
         None => Ok(None),
     }
+}
+
+// Who waits for whom by these lists and words.
+fn graph_of(alloc: Global, lists: &ListCopies, words: &[Heard]) -> Result<WaitGraph, AllocError>
+    requires { All (λ (h : Heard). is_session h.session ≡ true) words.now }
+    ensures { IfOk result (λ graph. (audited : List Audited) → AreQueuesOf audited lists.now
+        → IsGraphOf (settled_by words.now) (books_of audited) graph) }
+{
+    let keys = KeySample::new(alloc)?;
+    let mut graph = WaitGraph::new(alloc, settled_of(words));
+    for at in 0..lists.count() {
+        let (namespace, granted, waiting) = lists.lock(at);
+        graph.add_lists(keys.of(namespace), granted, waiting)?;
+    }
+    Ok(graph)
 }

@@ -4,8 +4,9 @@ use Rattle.std.specs.Prelude.{IfSome, MatchOption}
 use Rattle.mdl_calls.specs.declared.answers.Search.{Search}
 use Rattle.mdl_steps.specs.declared.view.Held.{Held}
 use Rattle.mdl_steps.specs.Plays.{Mine}
+use Rattle.mdl_visits.specs.declared.audited.Audited.{Audited}
 use Rattle.mdl_visits.specs.Polls.{SettlesNothing}
-use Rattle.mdl_visits.specs.Searches.{Judges, KnowsFall}
+use Rattle.mdl_visits.specs.Searches.{AreQueuesOf, Judges, KnowsFall}
 use Rattle.mdl_visits.proofs.Asking.{goes_nowhere}
 use Rattle.mdl_visits.proofs.Outcomes.{judges_within}
 use Rattle.mdl_visits.proofs.Words.{goes_hearing, hears_none, same_latches}
@@ -15,17 +16,18 @@ pub loop-init : goal.loop-init
 loop-init g c = record { seat = refl; number = refl; hears = hears_none c.args.worker.now.seat.me; settles = refl }
 
 pub returns-in-Some-2-clause-judged : goal.returns-in-Some-2-clause-judged
-returns-in-Some-2-clause-judged g c =
+returns-in-Some-2-clause-judged g c = λ audited are.
     let id = c.args.table.now.shared.table_id in
-    let audited = c.args.audited.now in
     let found = c.in-Some-2.found in
     let inv = c.loop.invariant in
     let m : Mine = c.args.worker.now.seat.me in
     let m′ : Mine = c.loop.worker.seat.me in
     let m″ : Mine = c.judge_once.new.worker.seat.me in
     let who = c.loop.worker.number in
-    let here : Judges id who m′.0.latches audited found m′ m″ =
-    subst (λ (o : Option Search). MatchOption o (SettlesNothing m′ m″) (λ f. Judges id who m′.0.latches audited f m′ m″)) c.in-Some-2.is c.in_ok-found.ensures.judged in
+    let each : (some : List Audited) → AreQueuesOf some c.args.lists.now → Judges id who m′.0.latches some found m′ m″ =
+    subst (λ (o : Option Search). MatchOption o (SettlesNothing m′ m″)
+    (λ f. (some : List Audited) → AreQueuesOf some c.args.lists.now → Judges id who m′.0.latches some f m′ m″)) c.in-Some-2.is c.in_ok-found.ensures.judged in
+    let here = each audited are in
     let mine = subst (λ (n : ℕ). Judges id n m′.0.latches audited found m′ m″) inv.number here in
     let latched = subst (λ (latches : List Held). Judges id c.args.worker.now.number latches audited found m′ m″) (same_latches m m′ inv.hears) mine in
     judges_within id c.args.worker.now.number m.0.latches audited found m m′ m″ m″ (goes_hearing m m′ inv.hears) inv.settles (goes_nowhere m″) refl latched

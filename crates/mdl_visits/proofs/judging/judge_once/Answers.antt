@@ -15,9 +15,8 @@ returns-in-Some-clause-hears c =
     hears_then c.args.worker.now.seat.me c.hear_all.new.worker.seat.me c.fell.new.worker.seat.me c.in_ok-hear_all.ensures.hears c.fell.ensures.hears
 
 pub returns-in-Some-clause-judged : goal.returns-in-Some-clause-judged
-returns-in-Some-clause-judged c =
+returns-in-Some-clause-judged c = λ audited are.
     let slots = c.args.table.now.shared.table_id.slots in
-    let audited = c.args.audited.now in
     let victim = c.in-Some.victim in
     let words : List Heard = c.hear_all.new.words.items in
     let heard = c.in_ok-hear_all.ensures in
@@ -28,7 +27,7 @@ returns-in-Some-clause-judged c =
     let found : victim_in (settled_by words) (books_of audited) who ≡ Some victim =
     ap (λ (ws : List Heard). victim_in (settled_by ws) (books_of audited) who) (sym c.deref.ensures.value)
     ∙ ap (λ (n : ℕ). victim_in (settled_by c.deref.result.now) (books_of audited) n) (sym (c.number.ensures ∙ heard.seat.1))
-    ∙ sym c.in_ok-find_victim.ensures
+    ∙ sym (c.in_ok-find_victim.ensures audited are)
     ∙ c.in-Some.is in
     let fells = subst (λ (latches : List Held). Fells slots victim latches m′ m″) (same_latches m m′ heard.hears) (c.fell.ensures.felled c.if-fell.true) in
     record {

@@ -1,12 +1,12 @@
 -- Each book is copied under its latch, whose record stays until the latches of the places behind it are given back.
-use Rattle.std.proofs.Common.{◌≡◌, ℕ, ◌+◌, List, [], Some, sym, ap, ◌∙◌, subst, arith, rules}
+use Rattle.std.proofs.Common.{◌≡◌, ℕ, ◌+◌, ◌++◌, List, [], Some, refl, sym, ap, ◌∙◌, subst, arith, rules}
 use Rattle.std.specs.Prelude.{IfOk}
 use Rattle.std.proofs.lemmas.Result.{IfOk-weaker}
 use Rattle.mdl_steps.specs.Cells.{held_at}
 use Rattle.mdl_steps.specs.Plays.{Mine}
 use Rattle.mdl_steps.specs.Seats.{Holds, MayPut}
 use Rattle.mdl_visits.specs.declared.audited.Audited.{Audited}
-use Rattle.mdl_visits.specs.Searches.{Judges, KnowsFall, Searches}
+use Rattle.mdl_visits.specs.Searches.{AreQueuesOf, KnowsFall, Searches, if_waited}
 use Rattle.mdl_visits.specs.Visits.{IsInside}
 use Rattle.mdl_visits.proofs.Gathering.{makes_same, may_put, rising_next, unlatched_at}
 use Rattle.mdl_visits.proofs.Holding.{back_heard, searches_more, searches_none}
@@ -56,8 +56,8 @@ returns-then-place-last-clause-searched g t c =
     let m : Mine = c.args.worker.now.seat.me in
     let went : Mine = c.judge.new.worker.seat.me in
     let few = c.requires.places in
-    let judged = subst (λ (xs : List Audited). IfOk c.judge.result (λ found. Judges id who m.0.latches xs found m went)) c.deref.ensures.value c.judge.ensures.judged in
-    IfOk-weaker c.judge.result _ _ (λ found judges. searches_none id who c.args.place c.args.last found c.args.audited.now.items m went (omega arith) judges) judged
+    IfOk-weaker c.judge.result _ _
+    (λ found judges copied are. searches_none id who c.args.place c.args.last found copied m went (omega arith) (judges copied are)) c.judge.ensures.judged
 
 pub returns-clause-hears : goal.returns-clause-hears
 returns-clause-hears g t c =
@@ -86,12 +86,15 @@ returns-clause-searched g t c =
     let same = c.add_if_waited.ensures.same in
     let has = subst (λ (q : ℕ). Holds q h h.book came) (sym at) taken.2 in
     let added = c.in_default.ensures.added h.book has.carried in
-    let mine = subst (λ (n : ℕ). IfOk c.search_from-outcome.result (λ found. Searches id n (c.args.place + 1) c.args.last c.add_if_waited.new.audited.items found copied searched)) (c.add_if_waited.ensures.seat.1 ∙ latch.ensures.seat.1) c.search_from-outcome.ensures.searched in
+    let one : Audited = record { place = latch.result.place; book = h.book } in
+    let mine = subst (λ (n : ℕ). IfOk c.search_from-outcome.result
+    (λ found. (some : List Audited) → AreQueuesOf some c.add_if_waited.new.lists → Searches id n (c.args.place + 1) c.args.last some found copied searched))
+    (c.add_if_waited.ensures.seat.1 ∙ latch.ensures.seat.1) c.search_from-outcome.ensures.searched in
     IfOk-weaker c.search_from-outcome.result _ _
-    (λ found more. searches_more id c.args.worker.now.number c.args.place c.args.last found h taken.3.0 m copied searched went taken.1.here (◌∙◌ {A = Mine} same taken.3.1)
-    c.search_from-outcome.ensures.hears (unlatched_at c.args.place latch.result.place searched went at c.put_latch-2.ensures.made) taken.1
-    latch.result.place c.args.audited.now.items c.add_if_waited.new.audited.items at
-    (subst (λ (x : Mine). held_at c.args.place x.0.latches ≡ Some h) (sym {A = Mine} same) taken.2.recorded) added more)
+    (λ found more before are. searches_more id c.args.worker.now.number c.args.place c.args.last found h taken.3.0 m copied searched went taken.1.here
+    (◌∙◌ {A = Mine} same taken.3.1) c.search_from-outcome.ensures.hears (unlatched_at c.args.place latch.result.place searched went at c.put_latch-2.ensures.made) taken.1
+    latch.result.place before (before ++ if_waited one) at
+    (subst (λ (x : Mine). held_at c.args.place x.0.latches ≡ Some h) (sym {A = Mine} same) taken.2.recorded) refl (more (before ++ if_waited one) (added before are)))
     mine
 
 pub returns-clause-own : goal.returns-clause-own

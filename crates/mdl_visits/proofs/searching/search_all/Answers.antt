@@ -1,11 +1,11 @@
 -- All of it happens while the directory's latch is held, by the keys that its record has.
-use Rattle.std.proofs.Common.{ℕ, List, sym, ap, ◌∙◌, subst}
+use Rattle.std.proofs.Common.{ℕ, List, [], sym, ap, ◌∙◌, subst}
 use Rattle.std.specs.Prelude.{IfOk}
 use Rattle.std.proofs.lemmas.Result.{IfOk-weaker}
 use Rattle.mdl_steps.specs.Plays.{Mine}
 use Rattle.mdl_steps.specs.Seats.{HasDirectory}
 use Rattle.mdl_visits.specs.declared.audited.Audited.{Audited}
-use Rattle.mdl_visits.specs.Searches.{KnowsFall, Searches}
+use Rattle.mdl_visits.specs.Searches.{AreQueuesOf, KnowsFall, Searches}
 use Rattle.mdl_visits.specs.Visits.{and_made}
 use Rattle.mdl_visits.proofs.Holding.{searched, took_heard}
 use Rattle.mdl_visits.proofs.Lookups.{has_taken}
@@ -28,12 +28,14 @@ returns-clause-searched g c =
     let hears = c.search_from-outcome.ensures.hears in
     let put = c.put_directory.ensures.made in
     let result = c.search_from-outcome.result in
-    let mine = subst (λ (n : ℕ). IfOk result (λ found. Searches id n 1 c.key_count-last.result c.new-audited.result.items found counted looked))
-    (c.key_count-last.ensures.seat.1 ∙ c.await_directory-directory.ensures.seat.1) c.search_from-outcome.ensures.searched in
-    let empty = subst (λ (xs : List Audited). IfOk result (λ found. Searches id who 1 c.key_count-last.result xs found counted looked)) c.new-audited.ensures.items mine in (
+    let mine = subst (λ (n : ℕ). IfOk result
+    (λ found. (some : List Audited) → AreQueuesOf some c.new-lists.result → Searches id n 1 c.key_count-last.result some found counted looked))
+    (c.key_count-last.ensures.seat.1 ∙ c.await_directory-directory.ensures.seat.1) c.search_from-outcome.ensures.searched in (
       k,
       took_heard id k taken.0 m counted looked then hears went put c.requires.idle taken.2 taken.4,
-      IfOk-weaker result _ _ (λ found more. searched id k taken.0 m counted looked then hears went put c.requires.idle taken.2 who c.key_count-last.result found count more) empty,
+      IfOk-weaker result _ _
+          (λ found more. searched id k taken.0 m counted looked then hears went put c.requires.idle taken.2 who c.key_count-last.result found count
+          (more [] (sym c.new-lists.ensures))) mine,
     )
 
 pub returns-clause-own : goal.returns-clause-own

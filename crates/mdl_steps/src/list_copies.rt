@@ -1,0 +1,100 @@
+//! The tickets of some locks, copied into one piece of memory.
+ghost use Rattle.std.specs.Prelude.{◌≡◌, [], ◌∷◌, ◌++◌, ◌<◌, length, get_or, OnOk, OnErr};
+ghost use Rattle.mdl_steps.specs.Copies.{no_queues, queues_of};
+
+use mdl_book::{Book, Ticket};
+use mdl_key::Namespace;
+use std::alloc::{AllocError, Global};
+use std::marker::Model;
+
+// The locks that there is room for at least, once there are any, with two tickets each.
+const LEAST_ROOM: usize = 64;
+
+/// Where a lock's tickets are among those of all.
+#[derive(Clone, Copy)]
+pub(crate) struct Extent {
+    namespace: Namespace,
+    // The place of the first granted ticket, that of the first waiting one, and that behind the last.
+    granted: usize,
+    waiting: usize,
+    end: usize,
+}
+
+/// The lists of some locks, each with the lock's namespace. Who waits for whom hangs on no more.
+#[derive(Drop)]
+pub struct ListCopies {
+    tickets: Vec<Ticket>,
+    extents: Vec<Extent>,
+}
+
+impl Model for ListCopies {
+    ghost use Rattle.std.specs.Prelude.{List, All, length, map};
+    ghost use Rattle.mdl_steps.specs.Copies.{IsWithin, Queues, queues_in};
+
+    ghost Value = { List Queues };
+
+    ghost view = { λ lists. map (queues_in lists.tickets.items) lists.extents.items };
+
+    ghost invariant = { λ lists. All (IsWithin (length lists.tickets.items)) lists.extents.items };
+}
+
+impl ListCopies {
+    /// Those of no lock. It takes no memory.
+    pub fn new(alloc: Global) -> ListCopies
+        ensures { result ≡ [] }
+    {
+        ListCopies {
+            tickets: Vec::new(alloc),
+            extents: Vec::new(alloc),
+        }
+    }
+
+    /// How many locks there are.
+    pub fn count(&self) -> usize
+        ensures { result ≡ length self.now }
+    {
+        self.extents.len()
+    }
+
+    /// The namespace of a lock, its granted tickets and its waiting ones, each in order.
+    pub fn lock(&self, at: usize) -> (Namespace, &[Ticket], &[Ticket])
+        requires { at < length self.now }
+        ensures { (result.0, (result.1.now, result.2.now)) ≡ get_or self.now at no_queues }
+    {
+        let extent = &self.extents[at];
+        (
+            extent.namespace,
+            &self.tickets[extent.granted..extent.waiting],
+            &self.tickets[extent.waiting..extent.end],
+        )
+    }
+
+    /// Makes room for many locks before the first one comes, so that memory isn't taken for each of the first few. They stay the same.
+    pub(crate) fn make_room(&mut self) -> Result<(), AllocError>
+        ensures { self.new ≡ self.old }
+    {
+        if self.extents.is_empty() {
+            self.tickets.reserve(2 * LEAST_ROOM)?;
+            self.extents.reserve(LEAST_ROOM)?;
+        }
+        Ok(())
+    }
+
+    /// Puts those of a lock behind the others.
+    pub(crate) fn add(&mut self, book: &Book) -> Result<(), AllocError>
+        ensures added { OnOk result (self.new ≡ self.old ++ queues_of book.now ∷ []) }
+        ensures kept { OnErr result (self.new ≡ self.old) }
+    {
+        let granted = self.tickets.len();
+        self.tickets.extend_from_slice(book.granted())?;
+        let waiting = self.tickets.len();
+        self.tickets.extend_from_slice(book.waiting())?;
+        self.extents.push(Extent {
+            namespace: book.key().namespace(),
+            granted,
+            waiting,
+            end: self.tickets.len(),
+        })?;
+        Ok(())
+    }
+}
