@@ -13,13 +13,16 @@ PREFIX = /usr/local
 
 PROGRAM = crates/mdlsim/out/mdlsim
 
+# It is there once `make run` has printed answers.
+FIRST_RUN = crates/mdlsim/out/first_run
+
 BENCH = crates/mdl_bench/out/mdl_bench
 
 .PHONY: help run try script test layout docs bench examples commands growths wrong build install clean kit
 
 help:
-	@echo 'make run [SCRIPT=FILE]     builds mdlsim, proved, and prints its answers to a script: NAME.replay, NAME.run, NAME.lock or NAME.scoped.lock'
-	@echo 'make try [SCRIPT=FILE]     answers a script without the proof, in a minute or two, and leaves no program'
+	@echo 'make run [SCRIPT=FILE]     proves and builds mdlsim, and prints its answers to NAME.replay, NAME.run, NAME.lock or NAME.scoped.lock'
+	@echo 'make try [SCRIPT=FILE]     prints the answers without the proof, in two minutes or so; up to 1 MB of them, and 60 seconds of play'
 	@echo 'make try SUBCOMMAND=matrix prints which modes clash and who waits behind whom, without the proof'
 	@echo 'make test                  the gate: proves everything from nothing, and runs all tests'
 	@echo 'make layout                says which files are not in the layout, and which wrong bodies fit no file'
@@ -32,11 +35,12 @@ help:
 	@echo 'make install [PREFIX=DIR]  builds mdlsim, proved, and installs it with its manual page'
 	@echo 'make clean                 removes what was built, and what the prover keeps for its next check'
 
-# Builds mdlsim, proved, and prints its answers to the script.
+# Builds mdlsim, proved, and prints its answers to the script. The first time, a line on standard error says what to run next.
 run: script build
 	@$(PROGRAM) $(SUBCOMMAND) $(OPTIONS) < "$(SCRIPT)"
+	@test -e $(FIRST_RUN) || { touch $(FIRST_RUN); echo 'next: $(PROGRAM) replay < examples/alter_stops_a_table.replay' >&2; }
 
-# Builds mdlsim without the proof, and prints its answers to the script. Two lines on standard error say so.
+# Builds mdlsim without the proof, and prints its answers to the script. Two lines on standard error say so, and tell its limits.
 try: script kit
 	@sh make/try.sh "$(SCRIPT)" $(SUBCOMMAND) $(OPTIONS)
 
