@@ -122,14 +122,16 @@ stale_figures() {
         || echo 'docs/PROOFS.md: the table of lines is stale: sh make/check_docs.sh update'
 }
 
-# README.md: its length, the kit that it names, and the situation that it shows, which is an example behind two lines of comment.
+# README.md: its length, and the kit that it names. CONTRIBUTING.md: its length.
 stale_readme() {
     [ "$(wc -l < README.md)" -le 120 ] || echo 'README.md: more than 120 lines'
+    [ "$(wc -w < CONTRIBUTING.md)" -le 750 ] || echo 'CONTRIBUTING.md: more than 750 words'
     grep -q -F "\`$(rt version)\`" README.md || echo "README.md: the kit is $(rt version)"
 }
 
 # Each sentence of README.md has a row in docs/CLAIMS.md, and each row a sentence, and what it names at the line that it says.
 stale_claims() {
+    [ "$(wc -w < docs/CLAIMS.md)" -le 2200 ] || echo 'docs/CLAIMS.md: more than 2,200 words'
     python3 make/docs/claims.py
 }
 
