@@ -22,7 +22,7 @@ BENCH = crates/mdl_bench/out/mdl_bench
 
 help:
 	@echo 'make run [SCRIPT=FILE]     proves and builds mdlsim, and prints its answers to NAME.replay, NAME.run, NAME.lock or NAME.scoped.lock'
-	@echo 'make try [SCRIPT=FILE]     prints the answers without the proof, in two minutes or so; up to 1 MB of them, and 60 seconds of play'
+	@echo 'make try [SCRIPT=FILE]     prints the answers without the proof, in two to three minutes; up to 1 MB of them, and 60 seconds of play'
 	@echo 'make try SUBCOMMAND=matrix prints which modes clash and who waits behind whom, without the proof'
 	@echo 'make test                  the gate: proves everything from nothing, and runs all tests'
 	@echo 'make layout                says which files are not in the layout, and which wrong bodies fit no file'

@@ -12,7 +12,7 @@ say() {
     printf 'make try: %s\n' "$1" >&2
 }
 
-say 'builds mdlsim without the proof, which mostly takes two minutes'
+say 'builds mdlsim without the proof, which takes two to three minutes'
 say 'answers up to 1 MB, and plays for up to 60 seconds; make run has no such limits'
 rt try -- "$@" < "$script" 2> "$told"
 status=$?
