@@ -2,7 +2,7 @@
 # Says what is stale in the docs, a line for each thing, or that nothing is.
 # Usage: sh make/check_docs.sh            looks
 #        sh make/check_docs.sh figures    prints the table of lines that docs/PROOFS.md ought to have
-#        sh make/check_docs.sh update     puts that table there, and the right lines into docs/CLAIMS.md
+#        sh make/check_docs.sh update     puts that table there
 cd "$(dirname "$0")/.." || exit 1
 sh make/needs.sh rt python3 awk cmp comm || exit 1
 LC_ALL=C
@@ -148,12 +148,12 @@ stale() {
     stale_claims
 }
 
-# Puts the table of lines into docs/PROOFS.md, and the right lines into the places of docs/CLAIMS.md.
+# Puts the table of lines into docs/PROOFS.md.
 update() {
+    python3 make/docs/claims.py update > "$made/claims" # the lines of docs/CLAIMS.md
     figures > "$made/figures"
     awk -v TABLE="$made/figures" '/^\| crate \| code / { on = 1; while ((getline line < TABLE) > 0) print line } !/^\|/ { on = 0 } !on' \
         docs/PROOFS.md > "$made/page" && cat "$made/page" > docs/PROOFS.md
-    python3 make/docs/claims.py update > "$made/claims"
 }
 
 case "$1" in
