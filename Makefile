@@ -61,7 +61,7 @@ test: layout docs
 layout: kit
 	@sh make/check_layout.sh
 
-# The docs name what there is, and all that they have to name. `sh make/check_docs.sh update` counts the lines of docs/PROOFS.md anew. Each
+# The docs name what there is, and all that they have to name. `sh make/check_docs.sh update` counts the lines of docs/GATE.md anew. Each
 # library crate shows its example: `sh make/check_examples.sh update` puts it there.
 docs: kit
 	@sh make/check_docs.sh

@@ -1,8 +1,10 @@
 #!/bin/sh
 # Says what is stale in the docs, a line for each thing, or that nothing is.
-# Usage: sh make/check_docs.sh            looks
-#        sh make/check_docs.sh figures    prints the table of lines that docs/PROOFS.md ought to have
-#        sh make/check_docs.sh update     puts that table there
+# Usage: sh make/check_docs.sh                looks
+#        sh make/check_docs.sh figures        prints the table of lines that docs/GATE.md ought to have
+#        sh make/check_docs.sh update         puts that table there
+#        sh make/check_docs.sh definitions    prints each file of definitions, and what its first comment says
+#        sh make/check_docs.sh words          prints how many words each page has
 cd "$(dirname "$0")/.." || exit 1
 sh make/needs.sh rt python3 awk cmp comm || exit 1
 LC_ALL=C
@@ -10,12 +12,10 @@ export LC_ALL
 made=$(mktemp -d)
 trap 'rm -rf "$made"' EXIT
 
-pages="README.md CHANGELOG.md docs/*.md crates/*/README.md $(ls examples/*.md 2> /dev/null)"
+pages=$(ls README.md CONTRIBUTING.md CHANGELOG.md docs/*.md crates/*/README.md examples/*.md 2> /dev/null)
 
-# The files whose public calls say in docs/LIBRARY.md whether they take memory.
-told="mdl_book/src/book.rt mdl_book/src/sessions.rt mdl_graph/src/cycle.rt mdl_graph/src/wait_graph.rt mdl_space/src/lock_space.rt
-    mdl_space/src/core_space.rt mdl_context/src/context.rt mdl_context/src/context/*.rt mdl_stmt/src/runner.rt mdl_stmt/src/reply.rt
-    mdl_stmt/src/error_number.rt mdl_syntax/src/lines.rt mdl_syntax/src/script.rt mdl_script/src/replaying.rt"
+# The most words that all pages may have together.
+most_words=60000
 
 # ---- what there is
 
@@ -23,10 +23,22 @@ crates() {
     sed -n 's/^\([a-z][a-z_0-9]*\)[^#]*:.*/\1/p' crates.txt
 }
 
+# Those that others stand on, and the program: no tests, examples or timings.
+library_crates() {
+    crates | grep -v -e 'trials$' -e 'examples\{0,1\}$' -e '_bench$'
+}
+
 # The files of definitions, as CRATE/specs/NAME: all but those that only gather others.
-definitions() {
+spec_files() {
     grep -L '^-- The words of this crate for those above it' crates/*/specs/*.antt \
         | sed -n '/\/Lib\.antt$/d; /\/Tests\.antt$/d; s|^crates/\(.*\)\.antt$|\1|p'
+}
+
+# Those files, each with the comment at its head.
+definitions() {
+    spec_files | while read -r file; do
+        awk -v FILE="$file" '/^-- / { text = text substr($0, 3); next } { exit } END { print FILE ":" text }' "crates/$file.antt"
+    done
 }
 
 # The names in a crate's code, definitions and lemmas, outside of comments, and the names of their files: CRATE NAME.
@@ -41,19 +53,40 @@ names() {
     done
 }
 
+# The names in each file of code, definitions and lemmas: FILE NAME.
+names_by_file() {
+    find crates -name out -prune -o \( -path '*/src/*.rt' -o -path '*/specs/*.antt' -o -path '*/proofs/[A-Z]*.antt' \) -type f \
+        -exec awk '{ sub(/(\/\/|--).*/, ""); names = split($0, name, /[^A-Za-z0-9_]+/)
+            for (i = 1; i <= names; i += 1) if (!seen[FILENAME, name[i]]++) print FILENAME, name[i] }' {} +
+}
+
 figures() {
     find crates wrong_bodies -name out -prune -o \( -name '*.rt' -o -name '*.antt' -o -name '*.edit' \) -exec wc -l {} + \
         | awk -v CRATES="$(crates)" -f make/docs/figures.awk
 }
 
+# The public calls of all libraries: CRATE FILE CALL.
 calls() {
-    (cd crates && awk -f ../make/docs/calls.awk $told)
+    for crate in $(library_crates); do
+        if [ -e "crates/$crate/src/lib.rt" ]; then
+            awk -v CRATE="$crate" -f make/docs/calls.awk "crates/$crate/src/lib.rt" $(find "crates/$crate/src" -name '*.rt' ! -name lib.rt)
+        fi
+    done
+}
+
+words() {
+    wc -w $pages
 }
 
 # What stands between back quotes in a column of the table of a page that begins so.
 column() {
     awk -v HEAD="$2" -v AT="$3" 'index($0, HEAD) == 1 { on = 1 } !/^\|/ { on = 0 } on { split($0, cell, "|"); print cell[AT + 1] }' "$1" \
         | grep -o '`[^`]*`' | tr -d '`'
+}
+
+# The headings of a page, as links name them.
+headings() {
+    sed -n 's/^##* *//p' "$1" | sed 's/](\([^)]*\))//g' | tr 'A-Z' 'a-z' | tr -cd 'a-z0-9_ \n-' | tr ' ' '-'
 }
 
 # ---- what is stale
@@ -72,8 +105,8 @@ differing() {
 
 stale_crates() {
     crates > "$made/crates"
+    library_crates > "$made/paged"
     grep -v -e 'trials$' -e 'examples\{0,1\}$' "$made/crates" > "$made/layers"
-    grep -v '_bench$' "$made/layers" > "$made/paged"
     ls crates | grep -v -x -F -f "$made/crates" | sed 's|.*|crates.txt: & is missing|'
     column docs/ARCHITECTURE.md '| crate | stands on' 1 | differing 'docs/ARCHITECTURE.md, table of crates' crates
     column docs/LIBRARY.md '| crate | what it is' 1 | differing 'docs/LIBRARY.md, table of crates' crates
@@ -82,8 +115,15 @@ stale_crates() {
 }
 
 stale_links() {
-    grep -o -H '](\([^)#]*\)' $pages | grep -v '](http' | sed 's|:\](| |' | while read -r page link; do
-        [ -e "$(dirname "$page")/$link" ] || echo "$page: there is no $link"
+    grep -o -H '](\([^)]*\)' $pages | grep -v '](http' | sed 's|:\](| |' | while read -r page link; do
+        path=${link%%#*}
+        target=$(dirname "$page")/$path
+        [ -n "$path" ] || target=$page
+        if [ ! -e "$target" ]; then
+            echo "$page: there is no $path"
+        elif [ "$link" != "$path" ] && ! headings "$target" | grep -q -x -F -e "${link#*#}"; then
+            echo "$page: no heading of $target is ${link#*#}"
+        fi
     done
 }
 
@@ -97,11 +137,10 @@ stale_paths() {
         done
 }
 
+# Each file of definitions says what it defines, and stands on its crate's page.
 stale_definitions() {
-    definitions > "$made/files"
-    grep -v -e 'trials/' -e 'examples\{0,1\}/' "$made/files" > "$made/read"
-    awk -F '\t' '$1 ~ /^docs\/ARCHITECTURE.md:/ && $3 == 2 && $4 ~ /^[A-Z]/ { print $2 "/specs/" $4 }' "$made/words" \
-        | differing 'docs/ARCHITECTURE.md, tables of definitions' files
+    definitions | sed -n 's|:$|: no comment at its head says what it defines|p'
+    spec_files | grep -v -e 'trials/' -e 'examples\{0,1\}/' > "$made/read"
     awk -F '\t' '$1 ~ /^crates\// && $4 ~ /^specs\// { print $2 "/" $4 }' "$made/words" \
         | lacking 'crates/NAME/README.md: & is missing' read
 }
@@ -109,17 +148,29 @@ stale_definitions() {
 stale_names() {
     names > "$made/names"
     awk -F '\t' -f make/docs/names.awk "$made/names" "$made/words"
+    names_by_file > "$made/by-file"
+    awk -F '\t' -f make/docs/rows.awk "$made/by-file" "$made/words"
 }
 
+# Each public call of a library is named on its crate's page, in the index of docs/PROOFS.md, or in the table of memory. That has all
+# calls of a file, or none.
 stale_calls() {
     calls > "$made/calls"
-    column docs/LIBRARY.md '| call | memory' 1 | differing 'docs/LIBRARY.md, table of memory' calls
+    awk -F '\t' -f make/docs/unnamed.awk "$made/words" "$made/calls"
+    column docs/LIBRARY.md '| call | memory' 1 > "$made/memory"
+    awk 'NR == FNR { told[$1]; next } { file[$3] = $2 } $3 in told { some[$2] } END { for (call in file) if (file[call] in some) print call }' \
+        "$made/memory" "$made/calls" > "$made/timed"
+    differing 'docs/LIBRARY.md, table of memory' timed < "$made/memory"
 }
 
 stale_figures() {
     figures > "$made/figures"
-    awk '/^\| crate \| code / { on = 1 } !/^\|/ { on = 0 } on' docs/PROOFS.md | cmp -s - "$made/figures" \
-        || echo 'docs/PROOFS.md: the table of lines is stale: sh make/check_docs.sh update'
+    awk '/^crate  *code / { on = 1 } /^```/ { on = 0 } on' docs/GATE.md | cmp -s - "$made/figures" \
+        || echo 'docs/GATE.md: the table of lines is stale: sh make/check_docs.sh update'
+}
+
+stale_words() {
+    words | awk -v MOST="$most_words" 'END { if ($1 > MOST) print "the pages have " $1 " words together, and may have " MOST }'
 }
 
 # README.md: its length, and the kit that it names. CONTRIBUTING.md: its length.
@@ -144,20 +195,21 @@ stale() {
     stale_names
     stale_calls
     stale_figures
+    stale_words
     stale_readme
     stale_claims
 }
 
-# Puts the table of lines into docs/PROOFS.md.
+# Puts the table of lines into docs/GATE.md.
 update() {
     python3 make/docs/claims.py update > "$made/claims" # the lines of docs/CLAIMS.md
     figures > "$made/figures"
-    awk -v TABLE="$made/figures" '/^\| crate \| code / { on = 1; while ((getline line < TABLE) > 0) print line } !/^\|/ { on = 0 } !on' \
-        docs/PROOFS.md > "$made/page" && cat "$made/page" > docs/PROOFS.md
+    awk -v TABLE="$made/figures" '/^crate  *code / { on = 1; while ((getline line < TABLE) > 0) print line } /^```/ { on = 0 } !on' \
+        docs/GATE.md > "$made/page" && cat "$made/page" > docs/GATE.md
 }
 
 case "$1" in
-    figures | update) "$1" && exit ;;
+    figures | update | definitions | words) "$1" && exit ;;
 esac
 stale > "$made/stale" 2>&1
 if [ -s "$made/stale" ]; then

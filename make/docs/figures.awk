@@ -1,12 +1,15 @@
 # Prints a table of the lines of each crate, and of its wrong bodies, from the numbers of lines and the paths of its files, as wc tells them.
 # Tests are the crates of trials and examples, and files named tests.rt, if there are any. A wrong body is a file, of however many lines.
 # Usage: wc -l FILE.. | awk -v CRATES="$crates" -f figures.awk
-function grouped(number) {
-    return number < 1000 ? number + 0 : int(number / 1000) sprintf(",%03d", number % 1000)
+# A number, or nothing for 0.
+function shown(name, kind) {
+    return lines[name, kind] ? lines[name, kind] : ""
 }
-function row(name) {
-    print "| " name " | " grouped(lines[name, "code"]) " | " grouped(lines[name, "tests"]) " | " grouped(lines[name, "specs"]) \
-        " | " grouped(lines[name, "proofs"]) " | " grouped(lines[name, "wrong"]) " |"
+function row(name,   text) {
+    text = sprintf("%-18s %6s %6s %11s %6s %12s", name, shown(name, "code"), shown(name, "tests"), shown(name, "specs"), \
+        shown(name, "proofs"), shown(name, "wrong"))
+    sub(/ +$/, "", text)
+    print text
 }
 split($2, part, "/") > 2 {
     kind = part[3]
@@ -16,15 +19,14 @@ split($2, part, "/") > 2 {
         kind = part[2] ~ /trials$|examples$/ || $2 ~ /tests\.rt$/ ? "tests" : "code"
     }
     count = kind == "wrong" ? 1 : $1
-    lines["`" part[2] "`", kind] += count
+    lines[part[2], kind] += count
     lines["all", kind] += count
 }
 END {
-    print "| crate | code | tests | definitions | proofs | wrong bodies |"
-    print "|---|---|---|---|---|---|"
+    print "crate                code  tests definitions proofs wrong bodies"
     crates = split(CRATES, name, /[ \n]+/)
     for (i = 1; i <= crates; i += 1) {
-        row("`" name[i] "`")
+        row(name[i])
     }
     row("all")
 }

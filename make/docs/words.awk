@@ -6,7 +6,7 @@ function crate_in(text) {
     return match(text, /mdl_[a-z_]*|mdlsim/) ? substr(text, RSTART, RLENGTH) : ""
 }
 FNR == 1 {
-    home = FILENAME ~ /^crates\// ? crate_in(FILENAME) : ""
+    home = split(FILENAME, folder, "/") == 3 && folder[1] == "crates" ? folder[2] : ""
     heading = home
 }
 /^#/ {
@@ -19,8 +19,8 @@ FNR == 1 {
     cells = /^\|/ ? split($0, cell, /\|/) : 0
     if (cells == 0) {
         cell[1] = $0
-    } else if (cell[2] ~ /^ `(mdl_[a-z_]*|mdlsim)` $/) {
-        crate = crate_in(cell[2])
+    } else if (cell[2] ~ /^ `mdl[a-z_]*` $/) {
+        crate = substr(cell[2], 3, length(cell[2]) - 4)
     }
     for (i = cells ? 2 : 1; i == 1 || i < cells; i += 1) {
         parts = split(cell[i], part, "`")

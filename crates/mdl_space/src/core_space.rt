@@ -90,6 +90,28 @@ impl CoreSpace {
         })
     }
 
+    /// The books of all places that have a key, place 1 first. It takes no memory.
+    ///
+    /// This is for tools that show locks: who holds each lock, and who waits for it. A wait that is granted stands among the granted
+    /// tickets, also before its session ends it. A wait that is lost (a victim, timed out or killed) stays among the waiting ones until its
+    /// session ends it by `LockSpace::end_wait`. How a wait is settled isn't in the book: `LockSpace::poll_wait` answers that.
+    ///
+    /// ```
+    /// for book in space.books() {
+    ///     for ticket in book.granted() {
+    ///         println!(rt; "{} is held by session {} in {}", book.key(), ticket.session, ticket.mode)?;
+    ///     }
+    ///     for ticket in book.waiting() {
+    ///         println!(rt; "{} is waited for by session {} in {}", book.key(), ticket.session, ticket.mode)?;
+    ///     }
+    /// }
+    /// ```
+    pub fn books(&self) -> &[Book]
+        ensures { result.now ≡ self.now.books }
+    {
+        self.books.as_slice()
+    }
+
     /// The place of a key.
     pub(crate) fn place_key(&mut self, key: &Key) -> Result<Place, SpaceError>
         ensures { Makes true (resolving key.now) self.old (placed result) self.new }

@@ -3,6 +3,7 @@ ghost use Rattle.mdl_core.specs.CoreJoins.{SpeaksFor};
 ghost use Rattle.mdl_space_trials.specs.Serving.{SpeaksForAll};
 
 use crate::acts::{Act, Reply, call, key_of, resolve, tables_of};
+use mdl_book::Book;
 use mdl_key::Key;
 use mdl_space::{CoreSpace, Held, LockSpace, NewError, Place, SpaceError};
 use std::alloc::Global;
@@ -102,6 +103,11 @@ impl Room {
             return Err(SpaceError::NotHeld);
         }
         self.space.held(who)
+    }
+
+    /// The books of all places that have a key.
+    pub(crate) fn books(&self) -> &[Book] {
+        self.space.books()
     }
 
     /// How many waits aren't settled.

@@ -1,0 +1,78 @@
+//! The books of a space: who holds each lock and who waits for it, as a tool lists them that shows locks.
+use crate::acts::{Act, Reply};
+use crate::room::{Room, TABLE};
+use mdl_book::Ticket;
+use mdl_key::Mode;
+use mdl_space::{Place, Settled};
+
+const NO_TICKETS: &[Ticket] = &[];
+
+const READER: Ticket = Ticket {
+    session: 1,
+    number: 1,
+    mode: Mode::SR,
+};
+
+const CHANGE: Ticket = Ticket {
+    session: 2,
+    number: 1,
+    mode: Mode::X,
+};
+
+const LATE_READER: Ticket = Ticket {
+    session: 3,
+    number: 1,
+    mode: Mode::SR,
+};
+
+// A reader, a change that has timed out, and a reader behind it.
+const TIMED_OUT: &[(Act, Reply)] = &[
+    (Act::TryNow(1, TABLE, Mode::SR), Reply::Granted(1)),
+    (Act::BeginWait(2, TABLE, Mode::X), Reply::Waiting(1)),
+    (Act::BeginWait(3, TABLE, Mode::SR), Reply::Waiting(1)),
+    (Act::TimeOut(2), Reply::TimedOut),
+];
+
+// The session of the change ends its wait, so the reader behind it is granted.
+const ENDED: &[(Act, Reply)] = &[(Act::EndWait(2), Reply::Lost(Settled::Timeout))];
+
+// Whether the books are those of the places from 1 to this one, in order.
+fn are_of_places(room: &mut Room, last: Place) -> bool {
+    for index in 0..last {
+        let Ok(key) = room.key_of(index + 1) else {
+            return false;
+        };
+        match room.books().get(usize::from(index)) {
+            Some(book) if *book.key() == key => {}
+            _ => return false,
+        }
+    }
+    room.books().len() == usize::from(last)
+}
+
+// Whether the book of the first place has just these tickets.
+fn first_has(room: &Room, granted: &[Ticket], waiting: &[Ticket]) -> bool {
+    match room.books().first() {
+        Some(book) => book.granted() == granted && book.waiting() == waiting,
+        None => false,
+    }
+}
+
+// Whether a lost wait is in its book until its session ends it.
+fn list_what_stands(room: &mut Room) -> bool {
+    are_of_places(room, 3)
+        && first_has(room, NO_TICKETS, NO_TICKETS)
+        && room.first_wrong(TIMED_OUT).is_none()
+        && first_has(room, &[READER], &[CHANGE, LATE_READER])
+        && room.first_wrong(ENDED).is_none()
+        && first_has(room, &[READER, LATE_READER], NO_TICKETS)
+}
+
+#[test]
+fn the_books_list_who_holds_and_who_waits(rt: HostRuntime) {
+    let are_listed = match Room::of_three(rt.alloc()) {
+        Some(mut room) => list_what_stands(&mut room),
+        None => false,
+    };
+    assert!(rt; are_listed);
+}
