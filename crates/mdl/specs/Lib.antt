@@ -1,0 +1,20 @@
+-- The definitions of each layer, by the name of its crate.
+pub use Rattle.mdl_book.specs as mdl_book
+pub use Rattle.mdl_calls.specs as mdl_calls
+pub use Rattle.mdl_context.specs as mdl_context
+pub use Rattle.mdl_core.specs as mdl_core
+pub use Rattle.mdl_defs.specs as mdl_defs
+pub use Rattle.mdl_graph.specs as mdl_graph
+pub use Rattle.mdl_key.specs as mdl_key
+pub use Rattle.mdl_lines.specs as mdl_lines
+pub use Rattle.mdl_script.specs as mdl_script
+pub use Rattle.mdl_session_laws.specs as mdl_session_laws
+pub use Rattle.mdl_shared.specs as mdl_shared
+pub use Rattle.mdl_space.specs as mdl_space
+pub use Rattle.mdl_steps.specs as mdl_steps
+pub use Rattle.mdl_stmt.specs as mdl_stmt
+pub use Rattle.mdl_syntax.specs as mdl_syntax
+pub use Rattle.mdl_system.specs as mdl_system
+pub use Rattle.mdl_visits.specs as mdl_visits
+pub use Rattle.mdl_word.specs as mdl_word
+pub use Rattle.mdl_work.specs as mdl_work

@@ -1,0 +1,55 @@
+//! The whole library behind one name: who lists this crate in its line of crates.txt needs no other crate of the repository there.
+//!
+//! The chief types stand here. Each layer is a module with all that its crate has: [`key`], [`word`], [`defs`], [`book`], [`graph`],
+//! [`system`], [`calls`], [`space`], [`context`], [`lines`], [`syntax`], [`stmt`], [`work`], [`script`] and [`shared`]. So `mdl::Key` and
+//! `mdl::key::Key` are one type. Names that two layers have, as `NewError`, stand only in their modules.
+//!
+//! Contracts cite the definitions of a layer by its crate: what is `Rattle.mdl_core.specs.Words` there is `Rattle.mdl.specs.mdl_core.Words`
+//! for a user of this crate. Lemmas are passed on in the same way, as `Rattle.mdl.proofs.mdl_core.CallLaws`.
+//!
+//! # Example
+//!
+//! ```
+//! use mdl::{Attempt, Begun, CoreSpace, Key, LockSpace, Mode};
+//!
+//! let alloc = rt.alloc();
+//! let mut space = CoreSpace::new(alloc, 256, 64)?; // keys and sessions: there can't be more
+//! let place = space.resolve(1, &Key::table(alloc, "test", "orders")?)?;
+//! assert_eq!(rt; space.try_now(1, place, Mode::SR)?, Attempt::Granted(1));
+//! assert_eq!(rt; space.begin_wait(2, place, Mode::X)?, Begun::Waiting(1));
+//! for book in space.books() {
+//!     assert_eq!(rt; book.granted().len(), 1); // session 1, which reads
+//!     assert_eq!(rt; book.waiting().len(), 1); // session 2, which wants to change the table
+//! }
+//! ```
+#![tactic(auto)]
+
+pub use mdl_book as book;
+pub use mdl_book::{Book, Sessions, Ticket};
+pub use mdl_calls as calls;
+pub use mdl_context as context;
+pub use mdl_context::{Acquire, Context, Request, Resume};
+pub use mdl_defs as defs;
+pub use mdl_defs::{Change, Column, Columns, Definition, Standing};
+pub use mdl_graph as graph;
+pub use mdl_key as key;
+pub use mdl_key::{Duration, Key, Kind, Mode, Namespace, conflicts_granted, conflicts_waiting};
+pub use mdl_lines as lines;
+pub use mdl_script as script;
+pub use mdl_script::{replay, run_on, run_threads};
+pub use mdl_shared as shared;
+pub use mdl_shared::{Manager, Pass, Session};
+pub use mdl_space as space;
+pub use mdl_space::{
+    Attempt, Begun, CoreSpace, Ended, Held, LockSpace, Place, Poll, Search, Settled, SpaceError,
+    TicketId, TimedOut, Upgrade,
+};
+pub use mdl_stmt as stmt;
+pub use mdl_stmt::{ErrorNumber, Progress, Reply, Runner};
+pub use mdl_syntax as syntax;
+pub use mdl_syntax::{Line, Script, Statement, parse};
+pub use mdl_system as system;
+pub use mdl_word as word;
+pub use mdl_word::Word;
+pub use mdl_work as work;
+pub use mdl_work::{Gate, OpenGate};
