@@ -37,9 +37,16 @@ has_object() {
         "crates/$1/out/$1.o" "$kit/c/libos_c.a" "$kit/c/liblibc_c.a" 2> /dev/null && cmp -s "$made/again" "crates/$1/out/$1"
 }
 
+# Where a program was proved by an earlier `rt ci`, the object file isn't there, and is made over the libraries that are.
+get_object() {
+    has_object "$1" && return
+    echo "crates/$1/out/$1.o isn't there, or of another build: making it anew" >&2
+    sh make/dist_libraries.sh object "$1" >&2 && has_object "$1"
+}
+
 # Links a program without shared libraries, and lays the files beside it from which whoever has another C library can link it again.
 link_static() {
-    has_object "$1" || return 1
+    get_object "$1" || return 1
     mkdir -p "$top/relink" && cp "crates/$1/out/$1.o" "$kit/c/libos_c.a" "$kit/c/liblibc_c.a" "$top/relink" || return 1
     chmod 644 "$top/relink"/*
     (cd "$top/relink" && ${CC:-cc} -static -s -o ../bin/"$1" "$1.o" libos_c.a liblibc_c.a) 2> "$made/linking"

@@ -5,6 +5,7 @@
 # stamps, so they are written here. The file `proved_elsewhere` beside a stamp has make/build.sh say that the library is trusted.
 # Usage: sh make/dist_libraries.sh pack PROGRAM..
 #        sh make/dist_libraries.sh check PROGRAM..     unpacks them in a new clone, and builds the programs there
+#        sh make/dist_libraries.sh object PROGRAM      builds the program so, and takes its object file from there
 cd "$(dirname "$0")/.." || exit 1
 sh make/needs.sh rt python3 git tar gzip sha256sum || exit 1
 LC_ALL=C
@@ -32,19 +33,22 @@ look_at() {
     fi
 }
 
-# Lays a library down with its stamp: CRATE STAMP
+# Lays a library down with its stamp, and with the version that proved it, unless that stands there from elsewhere: CRATE STAMP
 lay() {
     to=$made/crates/$1/out/rlib
-    mkdir -p "$to" && cp -r "crates/$1/out/rlib/$1.rlib" "$to" && printf '%s' "$2" > "$to/stamp" \
-        && echo "$version, commit $(sh make/commit.sh), $(rt version)" > "$to/proved_elsewhere"
+    mkdir -p "$to" && cp -r "crates/$1/out/rlib/$1.rlib" "$to" && printf '%s' "$2" > "$to/stamp" || return 1
+    cp "crates/$1/out/rlib/proved_elsewhere" "$to" 2> /dev/null || echo "$version, commit $(sh make/commit.sh), $(rt version)" > "$to/proved_elsewhere"
 }
 
-pack() {
+lay_all() {
     python3 make/stamps.py "$@" > "$made/stamps" || return 1
     while read -r crate stamp; do
         look_at "$crate" "$stamp" && lay "$crate" "$stamp" || return 1
     done < "$made/stamps"
-    mkdir -p dist || return 1
+}
+
+pack() {
+    lay_all "$@" && mkdir -p dist || return 1
     tar -C "$made" --sort=name --mtime="@$(git log -1 --format=%ct)" --owner=0 --group=0 --numeric-owner --mode=u+rw,go+r-w,a+X -cf - crates \
         | gzip -n > "dist/$name.tar.gz" && (cd dist && sha256sum "$name.tar.gz" > "$name.tar.gz.sha256") || return 1
     echo "dist/$name.tar.gz: unpack it at the top of a checkout of commit $(sh make/commit.sh), for $(rt version)"
@@ -61,13 +65,29 @@ are_of_these_sources() {
     done < "$made/stamps"
 }
 
+# Makes a clone and goes there.
+clone() {
+    git clone -q --shared . "$made/clone" && cd "$made/clone"
+}
+
+build() {
+    sh make/build.sh "$1" $(cat "crates/$1/args" 2> /dev/null) 2> "$made/told"
+    status=$?
+    cat "$made/told"
+    return "$status"
+}
+
+object() {
+    here=$PWD
+    lay_all "$1" && clone && cp -r "$made/crates" . && are_of_these_sources "$1" && build "$1" && cp "crates/$1/out/$1.o" "$here/crates/$1/out/$1.o"
+}
+
 # Nothing but the programs is proved there.
 check() {
     packed=$PWD/dist/$name.tar.gz
-    git clone -q --shared . "$made/clone" && cd "$made/clone" && tar -xzf "$packed" && are_of_these_sources "$@" || return 1
+    clone && tar -xzf "$packed" && are_of_these_sources "$@" || return 1
     for program in "$@"; do
-        sh make/build.sh "$program" $(cat "crates/$program/args" 2> /dev/null) 2> "$made/told" || return 1
-        cat "$made/told"
+        build "$program" || return 1
         if grep '^proving ' "$made/told" | grep -v -x "proving $program" || ! grep -q '^trusting the libraries of ' "$made/told"; then
             echo "$name: more than $program is proved, or it isn't said what is trusted" >&2
             return 1
@@ -77,6 +97,6 @@ check() {
 }
 
 case "$1" in
-    pack | check) "$@" || exit 1 ;;
-    *) echo 'Usage: sh make/dist_libraries.sh pack|check PROGRAM..' >&2; exit 1 ;;
+    pack | check | object) "$@" || exit 1 ;;
+    *) echo 'Usage: sh make/dist_libraries.sh pack|check|object PROGRAM..' >&2; exit 1 ;;
 esac
