@@ -10,7 +10,7 @@ import subprocess
 import sys
 
 PROGRAM = "crates/mdlsim/out/mdlsim"
-HERE = pathlib.Path(__file__).parent
+HERE = pathlib.Path(__file__).resolve().parent
 VERSION = HERE.with_name("VERSION").read_text().strip()
 
 # Words that ask for a run, a script, and the status, the answers and what is told of it.

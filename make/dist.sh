@@ -57,7 +57,7 @@ needs_of() {
     if [ -n "$(readelf -d "$top/bin/$1" | grep NEEDED)" ]; then
         echo "\`$1\` needs the GNU C library $(readelf -V "$top/bin/$1" | grep -o 'GLIBC_[0-9.]*' | sort -u -V | tail -n 1 | sed 's/GLIBC_//') or later."
     else
-        echo "\`$1\` needs no library: it is linked with the GNU C library ($(getconf GNU_LIBC_VERSION)), for Linux $(readelf -n "$top/bin/$1" | sed -n 's/.*OS: Linux, ABI: //p') or later."
+        echo "\`$1\` needs no shared library: it is linked with the GNU C library ($(getconf GNU_LIBC_VERSION)), for Linux $(readelf -n "$top/bin/$1" | sed -n 's/.*OS: Linux, ABI: //p') or later."
     fi
 }
 
