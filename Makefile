@@ -8,8 +8,11 @@ SCRIPT = crates/mdlsim/stdin
 SUBCOMMAND = $(if $(filter %.replay,$(SCRIPT)),replay,$(if $(filter %.run,$(SCRIPT)),run,lock))
 OPTIONS = $(if $(filter %.scoped.lock,$(SCRIPT)),--scoped)
 
-# Where `make install` puts the program and its manual page.
+# Where `make install` puts the program, its manual page and its completions.
 PREFIX = /usr/local
+
+# The programs that `make dist` packs. Each has a manual page, docs/NAME.1, and `--version`.
+PROGRAMS = mdlsim
 
 PROGRAM = crates/mdlsim/out/mdlsim
 
@@ -18,7 +21,8 @@ FIRST_RUN = crates/mdlsim/out/first_run
 
 BENCH = crates/mdl_bench/out/mdl_bench
 
-.PHONY: help run try script test layout docs bench examples commands growths wrong build install clean kit
+.PHONY: help run try script test layout docs bench examples commands growths wrong build install dist dist-check dist-libraries \
+    dist-libraries-check clean kit
 
 help:
 	@echo 'make run [SCRIPT=FILE]     proves and builds mdlsim, and prints its answers to NAME.replay, NAME.run, NAME.lock or NAME.scoped.lock'
@@ -32,8 +36,12 @@ help:
 	@echo 'make growths               refuses each growth of some short lives in turn'
 	@echo 'make wrong [CRATE=NAME]    has the prover refuse the wrong bodies, of all crates or of one'
 	@echo 'make bench                 times scripts and calls'
-	@echo 'make install [PREFIX=DIR]  builds mdlsim, proved, and installs it with its manual page'
-	@echo 'make clean                 removes what was built, and what the prover keeps for its next check'
+	@echo 'make install [PREFIX=DIR]  builds mdlsim, proved, and installs it with its manual page and completions'
+	@echo 'make dist                  packs the program that was built last, for machines without the kit, into dist/'
+	@echo 'make dist-check            unpacks that into an empty folder, and tries it there without the kit'
+	@echo 'make dist-libraries        packs the libraries that were proved last, for checkouts that are to trust them, into dist/'
+	@echo 'make dist-libraries-check  unpacks those in a new clone, and builds mdlsim there'
+	@echo 'make clean                 removes what was built or packed, and what the prover keeps for its next check'
 
 # Builds mdlsim, proved, and prints its answers to the script. The first time, a line on standard error says what to run next.
 run: script build
@@ -62,10 +70,11 @@ layout: kit
 	@sh make/check_layout.sh
 
 # The docs name what there is, and all that they have to name. `sh make/check_docs.sh update` counts the lines of docs/GATE.md anew. Each
-# library crate shows its example: `sh make/check_examples.sh update` puts it there.
+# library crate shows its example: `sh make/check_examples.sh update` puts it there. The version is the same in all places.
 docs: kit
 	@sh make/check_docs.sh
 	@sh make/check_examples.sh
+	@sh make/check_version.sh
 
 # Lines a second and peak memory of scripts of three sizes, of one lock and of statements; what calls cost on books of four sizes, chains
 # of grants, and sessions on one thread and on four.
@@ -96,11 +105,25 @@ build: kit
 	@sh make/build.sh mdlsim lock
 
 install: build
-	@mkdir -p "$(PREFIX)/bin" "$(PREFIX)/share/man/man1"
-	@cp $(PROGRAM) "$(PREFIX)/bin/mdlsim" && cp docs/mdlsim.1 "$(PREFIX)/share/man/man1/mdlsim.1"
+	@sh make/lay_out.sh "$(PREFIX)" mdlsim
+
+# Packs what was built last, and builds only what isn't there: after `make test`, the program that it proved.
+dist: kit
+	@test -x $(PROGRAM) || sh make/build.sh mdlsim lock
+	@sh make/dist.sh $(PROGRAMS)
+
+dist-check:
+	@sh make/dist_check.sh $(PROGRAMS)
+
+# The proved libraries below the programs, for whoever has the same kit and doesn't want to wait for their proofs.
+dist-libraries: kit
+	@sh make/dist_libraries.sh pack $(PROGRAMS)
+
+dist-libraries-check: kit
+	@sh make/dist_libraries.sh check $(PROGRAMS)
 
 clean:
-	@rm -rf crates/*/out
+	@rm -rf crates/*/out dist
 
 kit:
 	@sh make/needs.sh rt python3

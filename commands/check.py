@@ -1,13 +1,17 @@
-"""Gives mdlsim words, and looks what it does: which run they ask for, and what it tells of words that ask for none.
+"""Gives mdlsim words, and looks what it does: which run they ask for, and what it tells of words that ask for none. Looks whether the completions
+of the shells have the words that its help lists.
 
 Usage, at the top of the repository: python3 commands/check.py [PROGRAM]    the program that was built last, or another one
 """
 
 import pathlib
+import re
 import subprocess
 import sys
 
 PROGRAM = "crates/mdlsim/out/mdlsim"
+HERE = pathlib.Path(__file__).resolve().parent
+VERSION = HERE.with_name("VERSION").read_text().strip()
 
 # Words that ask for a run, a script, and the status, the answers and what is told of it.
 WAITS = "1 CREATE TABLE t x\n1 BEGIN\n1 SELECT t\n2 DROP TABLE t\n1 COMMIT\n"
@@ -25,6 +29,10 @@ TAKEN = [
     ("lock --scoped", "1 SR\n", 1, "", "line 1: BadWord\n"),
     ("replay", "1 SR\n", 1, "", "line 1: BadWord\n"),
     ("run", "1 SELECT t\n65 BEGIN\n", 1, "", "line 2: BadSession\n"),
+    ("--version", "", 0, f"mdlsim {VERSION}\n", ""),
+    # The other examples of docs/mdlsim.1.
+    ("lock", "1 SRO\n2 SW\n1 RELEASE\n", 0, "1 GRANTED SRO\n2 WAITS SW\n1 RELEASED SRO\n2 GRANTED SW\n", ""),
+    ("replay", "1 BEGIN\n65 BEGIN\n", 1, "", "line 2: BadSession\n"),
 ]
 
 # Ways to say how often a statement that waits looks again. Which number is taken the contract of `command` says; these runs show that one is.
@@ -39,7 +47,10 @@ TAKEN += [(f"run {words}", ALONE, 0, FINALS, "") for words in PATIENCES]
 MATRICES = ["matrix", "matrix --"]
 
 # Words that ask for no run, and what stands in the text that is told of them.
-REFUSED = pathlib.Path(__file__).with_name("refused")
+REFUSED = HERE / "refused"
+
+# For each shell the words that mdlsim can be given, to be completed.
+COMPLETIONS = sorted(HERE.glob("completions/*"))
 
 
 def run(program, words, script):
@@ -64,13 +75,34 @@ def wrong_rows(program):
             yield words, (status, written, told)
 
 
+def listed_words(program):
+    """Returns the subcommands and the long options that the program's help lists, and its `--version`, which help doesn't list."""
+    helped = run(program, ["help"], "")[2]
+    subcommands = re.findall(r"^  ([a-z]+) ", helped.partition("Options:")[0], re.MULTILINE)
+    told = [helped, *(run(program, ["help", it], "")[2] for it in subcommands if it != "help")]
+    options = {it for text in told for it in re.findall(r"^ .* --([a-z]+)", text, re.MULTILINE)}
+    return set(subcommands), options | {"version"}
+
+
+def wrong_completions(program):
+    """Returns the files of completions that lack words, or have options that aren't listed, with these."""
+    subcommands, options = listed_words(program)
+    for file in COMPLETIONS:
+        text = file.read_text()
+        completed = set(re.findall(r"(?:--|-l )([a-z]+)", text))
+        wrong = {it for it in subcommands if not re.search(rf"\b{it}\b", text)} | (options ^ completed)
+        if wrong:
+            yield f"completions, {file.name}", sorted(wrong)
+
+
 def main(words):
     """Looks at all rows, and returns the status to end with."""
-    wrong = list(wrong_rows(words[0] if words else PROGRAM))
+    program = words[0] if words else PROGRAM
+    wrong = [*wrong_rows(program), *wrong_completions(program)]
     for given, found in wrong:
         print(f"mdlsim {given}: {found}".replace("mdlsim mdlsim", "mdlsim"), file=sys.stderr)
     if not wrong:
-        print("mdlsim does what its words ask for, and tells what it can't do")
+        print("mdlsim does what its words ask for, tells what it can't do, and has its words in the completions")
     return 1 if wrong else 0
 
 

@@ -1,6 +1,7 @@
 #!/bin/sh
 # Proves a program and what it stands on, builds it, and runs it once with these words. It shows which crate is being proved, and how far;
-# all that is said goes to the program's out/build.log, which is shown where the build fails.
+# all that is said goes to the program's out/build.log, which is shown where the build fails. At the end it says which libraries it trusted: those
+# that `make dist-libraries` packed.
 # Usage: sh make/build.sh CRATE WORD..
 crate=$1
 shift
@@ -24,5 +25,10 @@ done 3> out/build.log
 status=$(cat out/build.status)
 if [ "$status" -ne 0 ]; then
     cat out/build.log >&2
+    exit "$status"
 fi
-exit "$status"
+
+# A library that is built anew loses this file, so those that have it were trusted.
+cat ../*/out/rlib/proved_elsewhere 2> /dev/null | sort -u | while IFS= read -r version; do
+    echo "trusting the libraries of $version, proved elsewhere; \`make test\` proves everything" >&2
+done

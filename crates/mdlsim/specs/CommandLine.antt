@@ -40,6 +40,14 @@ abbrev pub Asks : List (List ℕ) → Run → Type 0
 Asks words run = AreWordsOf run words
     ⊎ ((front : List (List ℕ)) × (words ≡ front ++ codes "--" ∷ []) × AreWordsOf run front)
 
+-- the words behind the program's name ask for its version
+abbrev pub AskForVersion : List (List ℕ) → Type 0
+AskForVersion words = words ≡ codes "--version" ∷ []
+
+-- the line that is printed then
+abbrev pub version_line : List ℕ
+version_line = codes "mdlsim 0.5.0" ++ 10 ∷ []
+
 -- what a parse reads of the flag `--scoped`, and of `lock`, which has it
 abbrev pub scoped_flag : Rule
 scoped_flag = record (new_rule (codes "scoped")) { long = Some (codes "scoped"); action = Some SetTrue }

@@ -1,9 +1,9 @@
 //! What the command line asks for.
-ghost use Rattle.std.specs.Prelude.{◌≡◌, ℕ, IfErr, IfOk, Some, codes, drop, map};
+ghost use Rattle.std.specs.Prelude.{◌≡◌, ◌↔◌, ℕ, IfErr, IfOk, IsTrue, Some, codes, drop, map};
 ghost use Rattle.clap.specs.Words.{app_of, found_of, kind_of, one_text};
 ghost use Rattle.mdl_program.specs.declared.program.Run.{Run};
 ghost use Rattle.mdlsim.specs.CommandLine as spec;
-ghost use Rattle.mdlsim.specs.CommandLine.{Asks, Finds, HasPatience, mdlsim};
+ghost use Rattle.mdlsim.specs.CommandLine.{AskForVersion, Asks, Finds, HasPatience, mdlsim};
 
 use clap::error::ErrorKind;
 use clap::{Arg, ArgAction, ArgMatches, Command, Error, value_parser};
@@ -20,6 +20,16 @@ pub fn command<S: AsStr>(alloc: Global, words: &[S]) -> Result<Run, Error>
 {
     let matches = program(alloc)?.try_get_matches_from(words)?;
     Ok(run_found(&matches))
+}
+
+/// Whether the words of a command line ask for the version: `--version` stands behind the program's name, and nothing else.
+pub fn asks_for_version<S: AsStr>(words: &[S]) -> bool
+    ensures { IsTrue result ↔ AskForVersion (drop 1 (map S.text words.now)) }
+{
+    match words {
+        [_, word] => word.as_str() == "--version",
+        _ => false,
+    }
 }
 
 // The run that was found in words that ask for one.

@@ -1,6 +1,7 @@
 //! `mdlsim` drives metadata locks by scripts: `mdlsim lock` reads the script of one lock from standard input, and prints
 //! what the lock answers. `mdlsim replay` reads a script of statements, and prints what becomes of each. `mdlsim run` plays
 //! such a script with each session on a thread of its own. `mdlsim matrix` prints which modes clash, and which wait behind which.
+//! `mdlsim --version` prints its version.
 #![tactic(auto)]
 
 mod command_line;

@@ -1,12 +1,12 @@
 //! What the program does: over the words of its command line, and the streams that it is given.
-ghost use Rattle.std.specs.Prelude.{◌≡◌, ◌⊎◌, drop, map, Result, IsOk};
+ghost use Rattle.std.specs.Prelude.{◌≡◌, ◌⊎◌, drop, map, Result, IsOk, IsOkUnless};
 ghost use Rattle.std.specs.Io.KnownBytes.{Keeps};
-ghost use Rattle.mdl_lines.specs.declared.fault.Fault.{Fault};
 ghost use Rattle.mdl_program.specs.declared.program.Run.{Run};
-ghost use Rattle.mdl_program.specs.Runs.{EndsAs, end_status};
-ghost use Rattle.mdlsim.specs.CommandLine.{Asks};
+ghost use Rattle.mdl_program.specs.Runs.{EndsAs, Writes, end_status};
+ghost use Rattle.mdlsim.specs.CommandLine.{AskForVersion, Asks, version_line};
 
-use crate::command_line::command;
+use crate::command_line::{asks_for_version, command};
+use mdl_lines::{Fault, report, write_all};
 use mdl_program::run_asked;
 use std::alloc::Global;
 use std::convert::AsStr;
@@ -14,7 +14,10 @@ use std::io::{Read, Write};
 use std::sync::Wait;
 use std::thread::Threads;
 
-/// Does what the words of a command line ask for, and answers the status: 2 where they ask for no run.
+// What `--version` prints.
+const VERSION_LINE: &[u8] = b"mdlsim 0.5.0\n";
+
+/// Does what the words of a command line ask for, and returns the status: 2 where they ask neither for a run nor for the version.
 pub fn run_words<T: Threads + Wait + Sync, S: AsStr, R: Read, W: Write, E: Write>(
     rt: &T,
     alloc: Global,
@@ -23,13 +26,35 @@ pub fn run_words<T: Threads + Wait + Sync, S: AsStr, R: Read, W: Write, E: Write
     output: &mut W,
     errors: &mut E,
 ) -> u8
-    // 2: nothing was written. Else the words ask for a run, and the status is that of an end which it may have.
-    ensures { ((result ≡ 2) × Keeps (W.contents output.old) (W.contents output.new))
+    // The words ask for the version: its line is written, unless a write fails.
+    ensures version { AskForVersion (drop 1 (map S.text words.entry.now)) → (end : Result (Unit {0}) Fault)
+        × IsOkUnless end Fault.Write × Writes end (W.contents output.old) (W.contents output.new) version_line
+        × (result ≡ end_status end)
+        × (IsOk end → Keeps (E.contents errors.old) (E.contents errors.new)) }
+    // Other words. 2: nothing was written. Else they ask for a run, and the status is that of an end which it may have.
+    ensures others { (AskForVersion (drop 1 (map S.text words.entry.now)) → ⊥)
+        → ((result ≡ 2) × Keeps (W.contents output.old) (W.contents output.new))
         ⊎ ((run : Run) × (end : Result (Unit {0}) Fault) × Asks (drop 1 (map S.text words.entry.now)) run
         × EndsAs run (R.remaining input.old) (W.contents output.old) (W.contents output.new) end
         × (result ≡ end_status end)
         × (IsOk end → Keeps (E.contents errors.old) (E.contents errors.new))) }
 {
+    if asks_for_version(words) {
+        return print_version(output, errors);
+    }
     let asked = command(alloc, words);
     run_asked(rt, alloc, &asked, input, output, errors)
+}
+
+// Prints the version, and returns the status. A write that fails is reported on the stream of errors.
+fn print_version<W: Write, E: Write>(output: &mut W, errors: &mut E) -> u8
+    ensures { (end : Result (Unit {0}) Fault) × IsOkUnless end Fault.Write
+        × Writes end (W.contents output.old) (W.contents output.new) version_line
+        × (result ≡ end_status end)
+        × (IsOk end → Keeps (E.contents errors.old) (E.contents errors.new)) }
+{
+    match write_all(output, VERSION_LINE) {
+        Ok(()) => 0,
+        Err(fault) => report(&fault, errors),
+    }
 }

@@ -1,0 +1,16 @@
+# Completions of mdlsim for bash.
+_mdlsim() {
+    local words=
+    if [ "$COMP_CWORD" -eq 1 ]; then
+        words='lock matrix replay run help --help --version'
+    else
+        case ${COMP_WORDS[1]} in
+            lock) words='--scoped --help' ;;
+            matrix | replay) words='--help' ;;
+            run) words='--patience --help' ;;
+            help) words='lock matrix replay run' ;;
+        esac
+    fi
+    COMPREPLY=($(compgen -W "$words" -- "${COMP_WORDS[COMP_CWORD]}"))
+}
+complete -F _mdlsim mdlsim

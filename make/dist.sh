@@ -1,0 +1,132 @@
+#!/bin/sh
+# Packs programs, as they were built last, for machines without the kit: dist/gazmirov-VERSION-x86_64-linux.tar.gz, and its checksum beside it.
+# The object file of the proved build is linked again without shared libraries. Where that can't be done, the program is packed as it is, and
+# the README of the tarball says which C library it needs.
+# Usage: sh make/dist.sh PROGRAM..    each the name of a crate
+cd "$(dirname "$0")/.." || exit 1
+sh make/needs.sh rt awk cmp tar gzip sha256sum readelf || exit 1
+LC_ALL=C
+export LC_ALL
+version=$(cat VERSION)
+commit=$(sh make/commit.sh)
+name=gazmirov-$version-x86_64-linux
+kit=$(dirname "$(readlink -f "$(command -v rt)")")/..
+made=$(mktemp -d)
+trap 'rm -rf "$made"' EXIT
+top=$made/$name
+
+# The program is there, and is newer than all that it was built from.
+look_at() {
+    built=crates/$1/out/$1
+    if [ ! -x "$built" ]; then
+        echo "$built isn't there: make build" >&2
+        return 1
+    fi
+    for crate in $(awk -v CRATES="$1" -f make/crates_below.awk crates.txt); do
+        newer=$(find "crates/$crate/src" "crates/$crate/specs" "crates/$crate/proofs" -type f -newer "$built" 2> /dev/null | head -n 1)
+        if [ -n "$newer" ]; then
+            echo "$newer is newer than $built: make build" >&2
+            return 1
+        fi
+    done
+}
+
+# Whether the object file beside a program is the one that it was linked from: linked so again, it gives the same program.
+has_object() {
+    [ -s "crates/$1/out/$1.o" ] && "$kit/bin/rattle-link" --target x86_64-unknown-linux-gnu --toolchain "$kit/toolchain" -o "$made/again" \
+        "crates/$1/out/$1.o" "$kit/c/libos_c.a" "$kit/c/liblibc_c.a" 2> /dev/null && cmp -s "$made/again" "crates/$1/out/$1"
+}
+
+# Where a program was proved by an earlier `rt ci`, the object file isn't there, and is made over the libraries that are.
+get_object() {
+    has_object "$1" && return
+    echo "crates/$1/out/$1.o isn't there, or of another build: making it anew" >&2
+    sh make/dist_libraries.sh object "$1" >&2 && has_object "$1"
+}
+
+# Links a program without shared libraries, and lays the files beside it from which whoever has another C library can link it again.
+link_static() {
+    get_object "$1" || return 1
+    mkdir -p "$top/relink" && cp "crates/$1/out/$1.o" "$kit/c/libos_c.a" "$kit/c/liblibc_c.a" "$top/relink" || return 1
+    chmod 644 "$top/relink"/*
+    (cd "$top/relink" && ${CC:-cc} -static -s -o ../bin/"$1" "$1.o" libos_c.a liblibc_c.a) 2> "$made/linking"
+}
+
+# What a program needs of the machine.
+needs_of() {
+    if [ -n "$(readelf -d "$top/bin/$1" | grep NEEDED)" ]; then
+        echo "\`$1\` needs the GNU C library $(readelf -V "$top/bin/$1" | grep -o 'GLIBC_[0-9.]*' | sort -u -V | tail -n 1 | sed 's/GLIBC_//') or later."
+    else
+        echo "\`$1\` needs no shared library: it is linked with the GNU C library ($(getconf GNU_LIBC_VERSION)), for Linux $(readelf -n "$top/bin/$1" | sed -n 's/.*OS: Linux, ABI: //p') or later."
+    fi
+}
+
+# The libraries of the kit that the programs stand on, and those below them.
+kit_libraries() {
+    awk -v CRATES="$*" -v KIT=1 -f make/crates_below.awk crates.txt > "$made/libraries"
+    while read -r library; do
+        echo "$library"
+        grep -a '^dep ' "$kit/rlibs/$library.rlib/format" | sed 's/^dep //'
+    done < "$made/libraries" | sort -u
+}
+
+put_licences() {
+    cp LICENSE-MIT LICENSE-APACHE "$top" || return 1
+    for library in $(kit_libraries "$@"); do
+        for file in "$kit/rattle/$library"/LICENSE*; do
+            if [ -e "$file" ]; then
+                mkdir -p "$top/licences/$library" && cp "$file" "$top/licences/$library" || return 1
+            fi
+        done
+    done
+    if [ -d "$top/relink" ] && [ -e /usr/share/common-licenses/LGPL-2.1 ]; then
+        mkdir -p "$top/licences/glibc" && cp /usr/share/common-licenses/LGPL-2.1 "$top/licences/glibc" || return 1
+    fi
+}
+
+# The README, in which lines `@NEEDS@` and `@RELINK@` stand for what is known only here.
+put_readme() {
+    for program in "$@"; do
+        needs_of "$program"
+    done > "$made/needs"
+    : > "$made/relink"
+    if [ -d "$top/relink" ]; then
+        cp make/dist/relink.md "$made/relink"
+    fi
+    sed -e "s/@VERSION@/$version/; s/@COMMIT@/${commit:-unknown}/; s/@KIT@/$(rt version)/" -e "/^@NEEDS@\$/{
+r $made/needs
+d
+}" -e "/^@RELINK@\$/{
+r $made/relink
+d
+}" make/dist/README.md > "$top/README.md"
+}
+
+put_pages() {
+    mkdir -p "$top/examples" "$top/docs" && cp docs/LANGUAGE.md docs/MYSQL.md "$top/docs" && cp make/dist/check.sh CHANGELOG.md "$top" \
+        && cp examples/*.lock examples/*.replay examples/*.run examples/*.answers examples/README.md "$top/examples"
+}
+
+# The time that all files get: that of the commit, or without git the day of the newest version in CHANGELOG.md.
+time_of_all() {
+    git log -1 --format=%ct 2> /dev/null || date -u -d "$(sed -n 's/^## \[[0-9.]*\] - //p' CHANGELOG.md | head -n 1)" +%s
+}
+
+for program in "$@"; do
+    look_at "$program" || exit 1
+done
+sh make/lay_out.sh "$top" "$@" || exit 1
+for program in "$@"; do
+    if ! link_static "$program"; then
+        echo "$program can't be linked without shared libraries, and is packed as it was built" >&2
+        cat "$made/linking" >&2 2> /dev/null
+        rm -rf "$top/relink/$program.o"
+        cp "crates/$program/out/$program" "$top/bin/$program"
+    fi
+done
+put_pages && put_licences "$@" && put_readme "$@" || exit 1
+(cd "$top" && find . -type f ! -name SHA256SUMS | sort | xargs sha256sum > SHA256SUMS) || exit 1
+mkdir -p dist || exit 1
+tar -C "$made" --sort=name --mtime="@$(time_of_all)" --owner=0 --group=0 --numeric-owner --mode=u+rw,go+r-w,a+X -cf "$made/tar" "$name" \
+    && gzip -9 -n < "$made/tar" > "dist/$name.tar.gz" && (cd dist && sha256sum "$name.tar.gz" > "$name.tar.gz.sha256") || exit 1
+echo "dist/$name.tar.gz"

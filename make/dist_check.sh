@@ -1,0 +1,46 @@
+#!/bin/sh
+# Unpacks what `make dist` packed into an empty folder, and tries it there without the kit: its checksums, the versions, the examples, a script
+# that is refused, the manual pages, and the completions of bash where bash is there.
+# Usage: sh make/dist_check.sh PROGRAM..
+cd "$(dirname "$0")/.." || exit 1
+version=$(cat VERSION)
+name=gazmirov-$version-x86_64-linux
+folder=$(mktemp -d)
+trap 'rm -rf "$folder"' EXIT
+
+fail() {
+    echo "$name: $1" >&2
+    exit 1
+}
+
+# Runs a program of the tarball, or one of the system, without the kit and with nothing else in its environment.
+alone() {
+    env -i PATH=/usr/bin:/bin "$@"
+}
+
+refuses_a_script() {
+    printf '1 BEGIN\n65 BEGIN\n' | alone bin/mdlsim replay > "$folder/written" 2> "$folder/told"
+    [ $? -eq 1 ] && [ ! -s "$folder/written" ] && [ "$(cat "$folder/told")" = 'line 2: BadSession' ]
+}
+
+renders() {
+    command -v man > /dev/null || return 0
+    alone MANWIDTH=80 man --warnings -l "share/man/man1/$1.1" > "$folder/page" 2> "$folder/told"
+    [ $? -eq 0 ] && [ ! -s "$folder/told" ] && grep -q "$1 $version" "$folder/page"
+}
+
+completes() {
+    command -v bash > /dev/null || return 0
+    [ "$(alone bash -c '. share/bash-completion/completions/mdlsim; COMP_WORDS=(mdlsim run --p); COMP_CWORD=2; _mdlsim; echo "${COMPREPLY[@]}"')" = --patience ]
+}
+
+(cd dist && sha256sum -c --quiet "$name.tar.gz.sha256") || fail 'the checksum beside it is another one'
+tar -C "$folder" -xzf "dist/$name.tar.gz" && cd "$folder/$name" || fail "it can't be unpacked"
+alone sh check.sh || exit 1
+for program in "$@"; do
+    [ "$(alone "bin/$program" --version)" = "$program $version" ] || fail "$program --version doesn't print $program $version"
+    renders "$program" || fail "man has complaints of share/man/man1/$program.1"
+done
+refuses_a_script || fail 'a script with a session 65 is not refused as it ought to be'
+completes || fail "bash doesn't complete mdlsim run --p"
+echo "$name: it works where it is unpacked"
