@@ -42,6 +42,7 @@ numbered_done place v book noted d numbered may = record {
   slow = each-owned (λ (t : Own). t.number < next_after d v.next) place d v.slow (λ t mode below. below) (gained d may) (each_below v.next (next_after d v.next) v.slow (below_next d v.next) numbered.slow);
   asks = λ a e. (let below = numbered.asks a e in let less = below_next d v.next in omega arith);
   apart = λ a e. each-owned (λ (t : Own). t.number ≢ a.number) place d v.slow (λ t mode differs. differs) (apart_gained d may a e) (numbered.apart a e);
+  unfast = numbered.unfast;
 }
   where
     gained : (e : Deed) → May v book noted e → (number : ℕ) (mode : Mode) → e ≡ Gain number mode → number < next_after e v.next

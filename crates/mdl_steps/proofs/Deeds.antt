@@ -57,7 +57,7 @@ not_true : (b : Bool) → not b ≡ true → b ≡ false
 not_true true e = cc
 not_true false e = refl
 
-unobtrusive_beside : (kind : Kind) (session : ℕ) (mode : Mode) (fast : List Ticket) → is_obtrusive kind mode ≡ false → list_all (λ t. not (is_obtrusive kind t.mode)) fast ≡ true → is_compatible kind fast session mode ≡ true
+pub unobtrusive_beside : (kind : Kind) (session : ℕ) (mode : Mode) (fast : List Ticket) → is_obtrusive kind mode ≡ false → list_all (λ t. not (is_obtrusive kind t.mode)) fast ≡ true → is_compatible kind fast session mode ≡ true
 unobtrusive_beside kind session mode [] wish all = refl
 unobtrusive_beside kind session mode (t ∷ ts) wish all =
     let parts = and_parts (not (is_obtrusive kind t.mode)) (list_all (λ t. not (is_obtrusive kind t.mode)) ts) all in

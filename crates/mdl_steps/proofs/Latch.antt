@@ -1,5 +1,5 @@
 -- The latch of a place is taken.
-use Rattle.std.proofs.Common.{◌≡◌, ◌≢◌, ℕ, ◌%◌, ◌<◌, ◌==◌, Bool, true, false, ◌&&◌, List, ◌++◌, map, set, length, get_or, Some, None, refl, sym, ap, ◌∙◌, subst, arith, length-set}
+use Rattle.std.proofs.Common.{◌≡◌, ◌≢◌, ℕ, ◌%◌, ◌<◌, ◌==◌, Bool, true, false, not, ◌&&◌, List, [], ◌∷◌, ◌++◌, map, set, length, get_or, Some, None, refl, sym, ap, ◌∙◌, subst, arith, length-set}
 use Rattle.std.specs.Prelude.{Option}
 use Rattle.std.specs.List.{list_all}
 use Rattle.std.specs.Option.{option_to_list}
@@ -12,10 +12,10 @@ use Rattle.atomic_table.specs.Table.{State, Allows, step, Act, takes, keeps, ste
 use Rattle.atomic_table.proofs.Lists.{at_map, set_else, exchanged}
 use Rattle.mdl_key.specs.declared.mode.Mode.{Mode}
 use Rattle.mdl_key.specs.declared.namespace.Kind.{Kind}
-use Rattle.mdl_key.specs.Words.{KeyName, is_mode_of}
+use Rattle.mdl_key.specs.Words.{KeyName, is_mode_of, is_obtrusive}
 use Rattle.mdl_book.specs.declared.ticket.Ticket.{Ticket}
 use Rattle.mdl_book.specs.Books.{lock_kind}
-use Rattle.mdl_book.specs.Granting.{is_lawful}
+use Rattle.mdl_book.specs.Granting.{is_compatible, is_lawful, stands_beside}
 use Rattle.mdl_book.specs.Tickets.{ticket_of, is_ticket}
 use Rattle.mdl_book.proofs.GrantingLemmas.{lawful_part}
 use Rattle.mdl_steps.specs.declared.slot.Slot.{Slot}
@@ -23,11 +23,14 @@ use Rattle.mdl_steps.specs.declared.slot.Slot.TheVariants as slot
 use Rattle.mdl_steps.specs.declared.view.Ask.{Ask}
 use Rattle.mdl_steps.specs.declared.view.Held.{Held}
 use Rattle.mdl_steps.specs.declared.view.Known.{Known}
+use Rattle.mdl_steps.specs.declared.view.Own.{Own}
 use Rattle.mdl_steps.specs.declared.view.View.{View}
 use Rattle.mdl_steps.specs.Cells.{Part, part_at, holder_at, desk_of, waiter_of, cell, waits, ticket_by, own_at, asking_at, due, pending, all_fast}
 use Rattle.mdl_steps.specs.Layout.{latch_word}
 use Rattle.mdl_steps.specs.Plays.{Mine, IsFresh, latched, logged, takes_latch}
+use Rattle.mdl_steps.specs.Lists.{Each}
 use Rattle.mdl_steps.specs.Rule.{Rule, PlaceOk, Numbered, key_at}
+use Rattle.mdl_steps.proofs.FastLists.{all_fast-own}
 use Rattle.mdl_steps.proofs.Views.{by_bool, held_at-first, held_at-past, each_at, other}
 use Rattle.mdl_steps.proofs.Lift.{Table, Moved, after, on_latch, only_logged, parts_again, seat_there}
 use Rattle.mdl_steps.proofs.Holder.{taken_cell}
@@ -94,6 +97,19 @@ one_wish n first second t u wish a b =
     some_same : (v w : Ticket) → Some v ≡ Some w → v ≡ w
     some_same v w e = cc
 
+-- what all tickets as they stand in a book pass, each of the session's own does
+each_shown : (test : Ticket → Bool) (n : ℕ) (ts : List Own) → list_all test (map (ticket_by n) ts) ≡ true → Each (λ (t : Own). test (ticket_by n t) ≡ true) ts
+each_shown test n [] all = tt
+each_shown test n (t ∷ ts) all = let p = and_parts (test (ticket_by n t)) (list_all test (map (ticket_by n) ts)) all in (p.0, each_shown test n ts p.1)
+
+-- who stands beside all fast and granted tickets stands beside the granted ones
+each_beside : (kind : Kind) (fast granted : List Ticket) (n : ℕ) (ts : List Own) → Each (λ (t : Own). is_compatible kind (fast ++ granted) n t.mode ≡ true) ts → Each (λ (t : Own). is_compatible kind granted n t.mode ≡ true) ts
+each_beside kind fast granted n [] all = tt
+each_beside kind fast granted n (t ∷ ts) all = (
+  (and_parts (is_compatible kind fast n t.mode) (is_compatible kind granted n t.mode) (sym (list_all-append (stands_beside kind n t.mode) fast granted) ∙ all.0)).1,
+  each_beside kind fast granted n ts all.1,
+)
+
 module _ (slots id place : ℕ) (me : Mine) (some_number : 0 < me.0.number) (first : 0 < place) (last : place < slots) where
   module _ (s : Table) (r : Rule s) (size : length s.homes ≡ slots) (seat : get_elem? s.views id ≡ some me.0) where
     within : place < length s.homes
@@ -142,10 +158,24 @@ module _ (slots id place : ℕ) (me : Mine) (some_number : 0 < me.0.number) (fir
       stands = ok.book_ok.stands;
       reads = (ok.book_ok.each id (part_at (waits s) place me.0) (at_map (part_at (waits s) place) s.views id me.0 seat)).versions_agree.reads;
       noted = (ok.book_ok.each id (part_at (waits s) place me.0) (at_map (part_at (waits s) place) s.views id me.0 seat)).versions_agree.slow;
+      fast_noted = (ok.book_ok.each id (part_at (waits s) place me.0) (at_map (part_at (waits s) place) s.views id me.0 seat)).versions_agree.fast;
+      fast_few = (ok.book_ok.each id (part_at (waits s) place me.0) (at_map (part_at (waits s) place) s.views id me.0 seat)).few;
+      fast_plain =
+          let kind : Kind = lock_kind ok.book in
+          each_shown (λ t. not (is_obtrusive kind t.mode)) me.0.number (own_at place me.0.fast)
+          (all_fast-own (λ t. not (is_obtrusive kind t.mode)) (cell s place).parts id (part_at (waits s) place me.0) (at_map (part_at (waits s) place) s.views id me.0 seat) ok.book_ok.lawful.unobtrusive);
+      fast_beside =
+          let kind : Kind = lock_kind ok.book in
+          let fast : List Ticket = all_fast (cell s place).parts in
+          let test : Ticket → Bool = λ t. is_compatible kind (fast ++ ok.book.granted) t.session t.mode in
+          each_beside kind fast ok.book.granted me.0.number (own_at place me.0.fast)
+          (each_shown test me.0.number (own_at place me.0.fast)
+          (all_fast-own test (cell s place).parts id (part_at (waits s) place me.0) (at_map (part_at (waits s) place) s.views id me.0 seat)
+          (and_parts (list_all test fast) (list_all test ok.book.granted) (sym (list_all-append test fast ok.book.granted) ∙ ok.book_ok.lawful.compatible)).0));
     }
 
     numbered : (w : View) → w.next ≡ me.0.next → w.fast ≡ me.0.fast → w.slow ≡ me.0.slow → w.asks ≡ me.0.asks → Numbered w
-    numbered w next fast slow asks = let row = (r.views id me.0 seat).0 in record { fast = rw (fast, next) row.fast; slow = rw (slow, next) row.slow; asks = rw (asks, next) row.asks; apart = rw (asks, slow) row.apart }
+    numbered w next fast slow asks = let row = (r.views id me.0 seat).0 in record { fast = rw (fast, next) row.fast; slow = rw (slow, next) row.slow; asks = rw (asks, next) row.asks; apart = rw (asks, slow) row.apart; unfast = rw (asks, fast) row.unfast }
 
     moved_taken : Moved s place id me.0 (latched place fresh me).0 (set s.homes place none)
     unfolding fresh

@@ -18,6 +18,9 @@ pub mod WaitGrants
 pub mod WaitEnds
 pub mod WaitHands
 pub mod WaitTells
+pub mod FastLists
+pub mod FastSteps
+pub mod Materialising
 pub mod Put
 pub mod Notes
 pub mod Exclusive

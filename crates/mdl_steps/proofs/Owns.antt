@@ -17,7 +17,7 @@ use Rattle.mdl_steps.proofs.Views.{by_bool, other}
 
 -- ---- at other places nothing changes
 
-own_else-push : (place q : ℕ) (t : Own) (ts : List Own) → t.place ≡ place → q ≢ place → own_at q (ts ++ t ∷ []) ≡ own_at q ts
+pub own_else-push : (place q : ℕ) (t : Own) (ts : List Own) → t.place ≡ place → q ≢ place → own_at q (ts ++ t ∷ []) ≡ own_at q ts
 own_else-push place q t [] here else = rw (other t.place q (λ e. else (sym e ∙ here))) refl
 own_else-push place q t (x ∷ ts) here else = ap (λ xs. cond (x.place == q) (x ∷ xs) xs) (own_else-push place q t ts here else)
 

@@ -9,7 +9,7 @@ use Rattle.mdl_steps.specs.declared.view.Held.{Held}
 use Rattle.mdl_steps.specs.declared.view.View.{View}
 use Rattle.mdl_steps.specs.Cells.{part_at, holder_at, cell, waits}
 use Rattle.mdl_steps.specs.Layout.{latch_word}
-use Rattle.mdl_steps.specs.Plays.{Mine, read_and_put, dropped, puts_reading}
+use Rattle.mdl_steps.specs.Plays.{Mine, read_and_put, dropped, noting_version, puts_reading}
 use Rattle.mdl_steps.specs.Rule.{Rule, TellsLists, key_at}
 use Rattle.mdl_steps.specs.Seats.{Holds}
 use Rattle.mdl_steps.proofs.Views.{held_at-dropped, held_at-undropped}
@@ -50,6 +50,7 @@ module _ (slots id place : ℕ) (me : Mine) (some_number : 0 < me.0.number) (fir
             slow = numbered_notes place h.book.standing.version me.0.next me.0.slow row.slow;
             asks = row.asks;
             apart = λ a e. apart_notes place h.book.standing.version a.number me.0.slow (row.apart a e);
+            unfast = λ a e. ap (noting_version place h.book.standing.version) (row.unfast a e);
           };
           slots = length-set s.homes place (some (slot.Place h.book));
           home_else = λ q else. set_else s.homes place q (some (slot.Place h.book)) else;

@@ -15,7 +15,7 @@ use Rattle.mdl_steps.specs.declared.view.Held.{Held}
 use Rattle.mdl_steps.specs.declared.view.View.{View}
 use Rattle.mdl_steps.specs.Cells.{Part, part_at, holder_at, cell, waits}
 use Rattle.mdl_steps.specs.Layout.{version_word}
-use Rattle.mdl_steps.specs.Plays.{Mine, redefined, restood, changed, writes_version}
+use Rattle.mdl_steps.specs.Plays.{Mine, redefined, restood, changed, noting_version, writes_version}
 use Rattle.mdl_steps.specs.Rule.{Rule, BookOk, PartOk, key_at}
 use Rattle.mdl_steps.specs.Seats.{HasRedefined}
 use Rattle.mdl_steps.proofs.Views.{held_at-changed, held_at-unchanged}
@@ -82,6 +82,7 @@ module _ (slots id place : ℕ) (me : Mine) (some_number : 0 < me.0.number) (fir
             slow = numbered_notes place standing.version me.0.next me.0.slow row.slow;
             asks = row.asks;
             apart = λ a e. apart_notes place standing.version a.number me.0.slow (row.apart a e);
+            unfast = λ a e. ap (noting_version place standing.version) (row.unfast a e);
           };
           slots = refl;
           home_else = λ q else. refl;

@@ -44,7 +44,7 @@ below_apart : (next : ℕ) (ts : List Own) → Each (λ (t : Own). t.number < ne
 below_apart next [] all = tt
 below_apart next (t ∷ ts) all = ((let below = all.0 in λ e. omega arith), below_apart next ts all.1)
 
-own_at-push : (place : ℕ) (t : Own) (ts : List Own) → t.place ≡ place → own_at place (ts ++ t ∷ []) ≡ own_at place ts ++ t ∷ []
+pub own_at-push : (place : ℕ) (t : Own) (ts : List Own) → t.place ≡ place → own_at place (ts ++ t ∷ []) ≡ own_at place ts ++ t ∷ []
 own_at-push place t [] here = rw (Rattle.std.proofs.lemmas.Bool.eq-eqb t.place place here) refl
 own_at-push place t (x ∷ xs) here = by_bool (x.place == place)
     (λ at. rw at (ap (λ ys. x ∷ ys) (own_at-push place t xs here)))
@@ -165,6 +165,7 @@ module _ (s : Table) (r : Rule s) (id : ℕ) (me : Mine) (seat : get_elem? s.vie
             slow = below_more me.0.next me.0.slow row.slow;
             asks = λ a e. (let is : asking place mode me.0 ≡ a = cc in let number_is = ap (λ (b : Ask). b.number) is in omega arith);
             apart = λ a e. (let is : asking place mode me.0 ≡ a = cc in subst (λ (n : ℕ). Each (λ (t : Own). t.number ≢ n) me.0.slow) (ap (λ (b : Ask). b.number) is) (below_apart me.0.next me.0.slow row.slow));
+            unfast = λ a e. may.unfast;
           };
           holder_else = λ q else. λ i. record { number = me.0.number; held = held_at-unchanged place (with_waiting ticket) (λ x. refl) q me.0.latches else i };
         }) (set (cell s place).parts id then_)
@@ -235,6 +236,7 @@ module _ (s : Table) (r : Rule s) (id : ℕ) (me : Mine) (seat : get_elem? s.vie
               slow = each-append _ me.0.slow (own ∷ []) row.slow (row.asks a asks, tt);
               asks = λ b e. absurd (cc);
               apart = λ b e. absurd (cc);
+              unfast = λ b e. absurd (cc);
             };
             holder_else = λ q else. refl;
           }) (set (cell s a.place).parts id with_own)
@@ -290,7 +292,7 @@ module _ (s : Table) (r : Rule s) (id : ℕ) (me : Mine) (seat : get_elem? s.vie
             spare = refl;
             directory = refl;
             known = refl;
-            numbered = record { fast = row.fast; slow = row.slow; asks = λ b e. absurd (cc); apart = λ b e. absurd (cc) };
+            numbered = record { fast = row.fast; slow = row.slow; asks = λ b e. absurd (cc); apart = λ b e. absurd (cc); unfast = λ b e. absurd (cc) };
             holder_else = λ q else. λ i. record { number = me.0.number; held = held_at-unchanged place (with_cancelled session cancelled_number) (λ x. refl) q me.0.latches else i };
           }) (set (cell s place).parts id without_ask)
           (λ q else. own_parts_else s r session (8 * me.0.waits) id me.0 gone seat refl some_number refl q

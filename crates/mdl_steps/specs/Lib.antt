@@ -1,6 +1,7 @@
 pub mod Cells
 pub mod Copies
 pub mod Deeds
+pub mod FastPlays
 pub mod Layout
 pub mod Lists
 pub mod Openings

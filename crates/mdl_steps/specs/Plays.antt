@@ -1,19 +1,19 @@
 -- What each kind of step tells the session that makes it: of the step, what the seat knew, what the word was, and what it
 -- knows then. Each is added to the session's list of steps.
-use Rattle.std.specs.Prelude.{◌≡◌, ◌≢◌, ℕ, ◌+◌, ◌-◌, ◌<◌, ◌==◌, not, Bool, true, ◌&&◌, ◌||◌, List, [], ◌∷◌, ◌++◌, map, filter, length, Some, None, if◌then◌else◌}
+use Rattle.std.specs.Prelude.{◌≡◌, ◌≢◌, ℕ, ◌+◌, ◌-◌, ◌<◌, ◌≤◌, ◌==◌, not, Bool, true, ◌&&◌, ◌||◌, List, [], ◌∷◌, ◌++◌, map, filter, length, Some, None, if◌then◌else◌}
 use lib.ListN.{get_elem?}
 use mathlib.Core.Option.{some}
 use Rattle.atomic_table.specs.Table.{Me, Step, rest}
 use Rattle.std.specs.List.{list_all}
 use Rattle.std.specs.Option.{option_map}
-use Rattle.mdl_key.specs.Words.{KeyName, is_mode_of}
+use Rattle.mdl_key.specs.Words.{KeyName, is_mode_of, is_obtrusive}
 use Rattle.mdl_word.specs.Words.{flags_alone, all_but_flags}
 use Rattle.mdl_defs.specs.declared.standing.Standing.{Standing}
 use Rattle.mdl_defs.specs.Standings.{MayStand}
 use Rattle.mdl_book.specs.declared.book_view.BookView.{BookView}
 use Rattle.mdl_book.specs.declared.ticket.Ticket.{Ticket}
 use Rattle.mdl_book.specs.Tickets.{ticket_of}
-use Rattle.mdl_book.specs.Granting.{is_lawful}
+use Rattle.mdl_book.specs.Granting.{is_compatible, is_lawful}
 use Rattle.mdl_book.specs.Books.{lock_kind}
 use Rattle.mdl_steps.specs.declared.deed.Deed.{Deed}
 use Rattle.mdl_steps.specs.declared.slot.Slot.{Slot}
@@ -44,7 +44,8 @@ logged word found held v = record v { log = v.log ++ record { word = word; found
 -- of the session just the tickets that it has (but for one that it waits for), and it is the book of each key that is known to be here,
 -- and of that which the directory has for the place, where the session holds its latch.
 -- Each session waits at most once, for a mode of the kind, and so does the session itself where it met its wait lost. What stands may
--- stand under the key: no version that the session read is newer, what it read of this one is just that, and this is the version that it noted
+-- stand under the key: no version that the session read is newer, what it read of this one is just that, and this is the version that it noted.
+-- Its fast tickets there are in unobtrusive modes and compatible with all granted tickets, and the version agrees with what is noted under them
 pub record IsFresh (place : ℕ) (h : Held) (m : Mine) : Type 0 where
   pub here : h.place ≡ place
   pub exact : TellsLists h.book h.slow h.obtrusive
@@ -64,6 +65,10 @@ pub record IsFresh (place : ℕ) (h : Held) (m : Mine) : Type 0 where
   pub stands : MayStand h.book.key.namespace h.book.standing
   pub reads : Each (ReadAgrees h.book) (reads_at place m.0.reads)
   pub noted : Each (NoteAgrees h.book) (own_at place m.0.slow)
+  pub fast_noted : Each (NoteAgrees h.book) (own_at place m.0.fast)
+  pub fast_few : length (own_at place m.0.fast) ≤ 1023
+  pub fast_plain : Each (λ (t : Own). not (is_obtrusive (lock_kind h.book) t.mode) ≡ true) (own_at place m.0.fast)
+  pub fast_beside : Each (λ (t : Own). is_compatible (lock_kind h.book) h.book.granted m.0.number t.mode ≡ true) (own_at place m.0.fast)
 
 -- with a flag or both raised
 abbrev pub raised : Bool → Bool → Held → Held

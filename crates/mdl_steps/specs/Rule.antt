@@ -177,12 +177,14 @@ pub record WaitsAgree (slots most : ℕ) (waits : ℕ → ℕ) (waiters : List W
   pub each : (j : ℕ) (x : Waiter) → get_elem? waiters j ≡ some x → WaitOk slots (waits x.number) x
   pub unused : (n : ℕ) → n ≤ most → ((j : ℕ) (x : Waiter) → get_elem? waiters j ≡ some x → x.number ≢ n) → waits n ≡ 0
 
--- a session's tickets have numbers below its next one, and the one that it waits for has none of theirs
+-- a session's tickets have numbers below its next one, and the one that it waits for has none of theirs. While it waits it has no
+-- fast ticket
 pub record Numbered (v : View) : Type 0 where
   pub fast : Each (λ (t : Own). t.number < v.next) v.fast
   pub slow : Each (λ (t : Own). t.number < v.next) v.slow
   pub asks : (a : Ask) → v.asks ≡ Some a → a.number < v.next
   pub apart : (a : Ask) → v.asks ≡ Some a → Each (λ (t : Own). t.number ≢ a.number) v.slow
+  pub unfast : (a : Ask) → v.asks ≡ Some a → v.fast ≡ []
 
 -- the key of a place
 abbrev pub key_at : List KeyName → ℕ → Option KeyName

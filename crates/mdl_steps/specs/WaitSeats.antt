@@ -1,5 +1,5 @@
 -- What a caller has to know to make a step on a wait's word.
-use Rattle.std.specs.Prelude.{◌≡◌, ℕ, ◌<◌, true, Some, None}
+use Rattle.std.specs.Prelude.{◌≡◌, ℕ, ◌<◌, true, [], Some, None}
 use Rattle.atomic_table.specs.Seated.{TableId}
 use Rattle.mdl_key.specs.declared.mode.Mode.{Mode}
 use Rattle.mdl_key.specs.Words.{is_mode_of}
@@ -19,10 +19,11 @@ use Rattle.mdl_steps.specs.WaitPlays.{asked_ticket}
 abbrev pub IsSession : TableId → ℕ → Type 0
 IsSession id session = (0 < session) × (wait_word id.slots session < id.words)
 
--- the seat holds the latch of the place and may open a wait there: it has none yet, and the flags tell of its ticket too
+-- the seat holds the latch of the place and may open a wait there: it has none yet, nor any fast ticket, and the flags tell of its ticket too
 pub record MayOpen (place : ℕ) (mode : Mode) (h : Held) (m : Mine) : Type 0 where
   pub recorded : held_at place m.0.latches ≡ Some h
   pub idle : m.0.asks ≡ None
+  pub unfast : m.0.fast ≡ []
   pub known : KnowsPlace m.0 place
   pub mode_is : is_mode_of (lock_kind h.book) mode ≡ true
   pub flagged : Flagged (enqueueing (asked_ticket mode m.0) h.book) h.slow h.obtrusive

@@ -1,5 +1,5 @@
 //! The directory's latch: which key stands at which place.
-ghost use Rattle.std.specs.Prelude.{◌≡◌, ◌≢◌, ℕ, ◌<◌, ◌∷◌, MatchOption};
+ghost use Rattle.std.specs.Prelude.{◌≡◌, ◌≢◌, ℕ, ◌<◌, ◌∷◌, length, MatchOption};
 ghost use Rattle.mdl_steps.specs.declared.slot.Slot.TheVariants as slot;
 ghost use Rattle.mdl_steps.specs.declared.view.Keys.{Keys};
 ghost use Rattle.mdl_steps.specs.declared.view.Keys.{Keys};
@@ -19,9 +19,10 @@ pub struct LatchedDirectory {
 }
 
 impl Worker {
-    /// Takes the directory's latch, if it is free. It comes before the latches of all places.
+    /// Takes the directory's latch, if it is free. It comes before the latches of all places, so the session holds none of these.
     pub fn take_directory(&mut self, top: &LockTable) -> Option<LatchedDirectory>
         requires table { (self.old.seat.table_id ≡ top.now.table_id) × IsSized top.now.table_id × (0 < top.now.table_id.slots) }
+        requires first { length self.old.seat.me.0.latches ≡ 0 }
         ensures seat { (self.new.seat.table_id ≡ self.old.seat.table_id) × (self.new.number ≡ self.old.number) }
         ensures taken { MatchOption result
             ((found : ℕ) × (found ≢ 0) × (self.new.seat.me ≡ (logged (latch_word 0) found self.old.seat.me.0.latches self.old.seat.me.0, self.old.seat.me.1)))

@@ -37,6 +37,7 @@
 mod copies;
 mod deed;
 mod directory;
+mod fast_tickets;
 mod in_hand;
 mod laws;
 mod list_copies;

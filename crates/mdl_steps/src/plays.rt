@@ -1,10 +1,12 @@
 //! The rule of the table, and what each kind of step tells its session.
-ghost use Rattle.std.specs.Prelude.{ℕ, List, []};
+ghost use Rattle.std.specs.Prelude.{ℕ, List, [], Option, None};
 ghost use Rattle.mdl_key.specs.declared.mode.Mode.{Mode};
 ghost use Rattle.mdl_key.specs.declared.mode.Mode.TheVariants.{S};
 ghost use Rattle.mdl_steps.specs.declared.deed.Deed.{Deed};
 ghost use Rattle.mdl_steps.specs.declared.view.Known.{Known};
+ghost use Rattle.mdl_steps.specs.declared.view.Own.{Own};
 ghost use Rattle.mdl_steps.specs.Cells.{blank, numbers_for, no_numbers};
+ghost use Rattle.mdl_steps.specs.FastPlays.{reads_word_unlatched, grants_fast, releases_fast, materialises};
 ghost use Rattle.mdl_steps.specs.Plays.{enrols, takes_latch, puts_latch, raises_flags, lowers_flags, reads_word, writes_version, takes_directory, puts_directory, puts_reading, puts_key};
 ghost use Rattle.mdl_steps.specs.Rule.{Rule};
 ghost use Rattle.mdl_steps.specs.WaitPlays.{reads_wait, settles_lost, settles_granted, opens_wait, ends_granted, ends_lost};
@@ -206,4 +208,72 @@ pub(crate) struct GrantWait<J: Granting> {
 
 impl<J: Granting> Play<Slot, View> for GrantWait<J> {
     ghost then = { settles_granted J.place J.ticket };
+}
+
+/// A word is read without the latch.
+pub(crate) struct ReadWordUnlatched;
+
+impl Play<Slot, View> for ReadWordUnlatched {
+    ghost then = { reads_word_unlatched };
+}
+
+/// Which fast ticket is granted.
+pub(crate) trait GrantingFast {
+    ghost mode: { Mode };
+
+    ghost noted: { Option ℕ };
+}
+
+/// Each call picks it.
+impl GrantingFast for Brand {
+    ghost mode = { S };
+
+    ghost noted = { None };
+}
+
+/// A fast ticket is granted.
+pub(crate) struct GrantFast<J: GrantingFast> {
+    marker: PhantomData<J>,
+}
+
+impl<J: GrantingFast> Play<Slot, View> for GrantFast<J> {
+    ghost then = { grants_fast J.mode J.noted };
+}
+
+/// Which fast ticket is released.
+pub(crate) trait ReleasingFast {
+    ghost number: { ℕ };
+}
+
+/// Each call picks it.
+impl ReleasingFast for Brand {
+    ghost number = { 0 };
+}
+
+/// A fast ticket is released.
+pub(crate) struct ReleaseFast<J: ReleasingFast> {
+    marker: PhantomData<J>,
+}
+
+impl<J: ReleasingFast> Play<Slot, View> for ReleaseFast<J> {
+    ghost then = { releases_fast J.number };
+}
+
+/// The session's slow tickets, in order, after the fast ones of a place are among them.
+pub(crate) trait Materialising {
+    ghost slow: { List Own };
+}
+
+/// Each call picks it.
+impl Materialising for Brand {
+    ghost slow = { [] };
+}
+
+/// A session's fast tickets at a place become slow ones.
+pub(crate) struct Materialise<J: Materialising> {
+    marker: PhantomData<J>,
+}
+
+impl<J: Materialising> Play<Slot, View> for Materialise<J> {
+    ghost then = { materialises J.slow };
 }

@@ -83,7 +83,7 @@ pub struct Settlement {
 pub struct Met {
     /// Which word it was on. It tells the place and, for a wait's word, the session.
     pub word: usize,
-    /// What the word was just before.
+    /// What the word was just before. A store doesn't read the word: there it is what the rule says that the word was.
     pub found: u64,
     /// The records of the latches that the session held at the step: those before it where the step gave one back or
     /// lowered flags, otherwise those after it.

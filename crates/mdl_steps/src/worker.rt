@@ -212,7 +212,7 @@ pub(crate) fn latch_word(place: usize) -> usize
 }
 
 // The word of a place's lock.
-fn lock_word(place: usize) -> usize
+pub(crate) fn lock_word(place: usize) -> usize
     requires { place < 2 ^ 32 }
     ensures { result ≡ lock_word place }
 {

@@ -18,3 +18,5 @@ pub mod WaitNext
 pub mod WaitOpens
 pub mod WaitSteps
 pub mod WaitsTold
+pub mod FastEvents
+pub mod FastRests

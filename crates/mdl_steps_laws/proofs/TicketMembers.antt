@@ -14,13 +14,13 @@ use Rattle.mdl_system.proofs.OrderLemmas.{Contains-cons_cases, Contains-here, Co
 -- ---- lists that begin alike
 
 module _ {T : Type 0} where
-  loses-first : (x t : T) (xs : List T) → x ≡ t → ((y : T) → Contains xs y → y ≢ t) → Loses t (x ∷ xs) xs
+  pub loses-first : (x t : T) (xs : List T) → x ≡ t → ((y : T) → Contains xs y → y ≢ t) → Loses t (x ∷ xs) xs
   loses-first x t xs same apart y = (
     (λ among. (Contains-later x xs y among, apart y among)),
     λ both. elim (Contains-cons_cases x xs y both.0) [ inl later ↦ later | inr here ↦ absurd (both.1 (here ∙ same)) ],
   )
 
-  loses-later : (x t : T) (xs ys : List T) → x ≢ t → Loses t xs ys → Loses t (x ∷ xs) (x ∷ ys)
+  pub loses-later : (x t : T) (xs ys : List T) → x ≢ t → Loses t xs ys → Loses t (x ∷ xs) (x ∷ ys)
   loses-later x t xs ys differs loses y = (
     (λ among. elim (Contains-cons_cases x ys y among) [
       | inl later ↦ let was = (loses y).0 later in (Contains-later x xs y was.0, was.1)

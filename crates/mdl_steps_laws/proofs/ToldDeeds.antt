@@ -30,7 +30,7 @@ use Rattle.mdl_steps_laws.proofs.WaitMet.{waits_rest}
 
 -- ---- locks are told once
 
-locks_once : (s : State Slot View) (r : Rule s) (one other : KeyName → Lock) → AreLocksOf s one → AreLocksOf s other → (k : KeyName) → one k ≡ other k
+pub locks_once : (s : State Slot View) (r : Rule s) (one other : KeyName → Lock) → AreLocksOf s one → AreLocksOf s other → (k : KeyName) → one k ≡ other k
 locks_once s r one other are again k =
     let keys : again.keys ≡ are.keys = same_keys s r again.keys again.keys_are ∙ sym (same_keys s r are.keys are.keys_are) in
     elim (find_key are.keys k) [
@@ -59,7 +59,7 @@ turned_else k key differs new old (inl here) = absurd (differs here)
 turned_else k key differs new old (inr away) = refl
 
 -- where the table can tell that, it does
-turns_by : (s : State Slot View) (r : Rule s) (key : KeyName) (lock : Lock) (old told : KeyName → Lock) → AreLocksOf s told
+pub turns_by : (s : State Slot View) (r : Rule s) (key : KeyName) (lock : Lock) (old told : KeyName → Lock) → AreLocksOf s told
     → ((new : KeyName → Lock) → new key ≡ lock → SameElsewhere key old new → AreLocksOf s new) → (told key ≡ lock) × SameElsewhere key old told
 turns_by s r key lock old told are by =
     let new : KeyName → Lock = λ k. turned lock (old k) (key_told k key) in
@@ -69,7 +69,7 @@ turns_by s r key lock old told are by =
     (same key ∙ here, λ k away. same k ∙ else k away)
 
 -- the waiting lists that a turn leaves
-lists_stay : (key : KeyName) (lock : Lock) (old new : KeyName → Lock) → (new key ≡ lock) × SameElsewhere key old new → lock.book.waiting ≡ (old key).book.waiting
+pub lists_stay : (key : KeyName) (lock : Lock) (old new : KeyName → Lock) → (new key ≡ lock) × SameElsewhere key old new → lock.book.waiting ≡ (old key).book.waiting
     → (k : KeyName) → (new k).book.waiting ≡ (old k).book.waiting
 lists_stay key lock old new turns same k = elim (key_told k key) [
   | inl here ↦ subst (λ (x : KeyName). (new x).book.waiting ≡ (old x).book.waiting) (sym here) (ap (λ (l : Lock). l.book.waiting) turns.0 ∙ same)

@@ -1,4 +1,5 @@
 pub mod DeedLaws
+pub mod FastLaws
 pub mod Locks
 pub mod StepLaws
 pub mod TableLaws

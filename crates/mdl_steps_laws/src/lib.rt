@@ -1,11 +1,12 @@
 //! The running table is tied to the system of locks that a reader believes: which locks, and which system, a state of the table tells
-//! (`specs/Locks`), that this system is lawful, and that what a session does under a latch (`specs/DeedLaws`) and to the words of waits
-//! (`specs/WaitLaws`) is an event of it.
+//! (`specs/Locks`), that this system is lawful, and that what a session does under a latch (`specs/DeedLaws`), to the words of waits
+//! (`specs/WaitLaws`) and by a lock word's fast path (`specs/FastLaws`) is an event of it.
 //!
 //! There is no code here: each law is the contract of a function that does nothing.
 #![tactic(auto)]
 
 mod deeds;
+mod fast_path;
 mod steps;
 mod tables;
 mod waits;
@@ -13,6 +14,10 @@ mod waits;
 pub use deeds::{
     altering_downgrades, altering_upgrades, gaining_clones, gaining_grants, losing_releases,
     moving_merges, redefining_changes,
+};
+pub use fast_path::{
+    granting_fast_grants, materialising_rests, reading_unlatched_rests, releasing_fast_releases,
+    waiters_have_no_fast_tickets,
 };
 pub use steps::{
     lowering_does, lowering_is_done, putting_does, putting_is_done, writing_is_done,

@@ -73,8 +73,8 @@ module _ (place word : ℕ) (mode : Mode) (kind : Kind) (asks : Bool) (m m′ : 
       waits_exactly (asked_ticket mode m′.0) book entered.found.slow entered.found.obtrusive asks entered.fresh.exact
       (is ∙ ap (λ k. is_obtrusive k mode) (sym kind_is))
 
-  pub may_queue : m.0.asks ≡ None → MayQueue place mode latch m′
-  may_queue idle =
+  pub may_queue : m.0.asks ≡ None → m.0.fast ≡ [] → MayQueue place mode latch m′
+  may_queue idle unfast =
       let known = subst (λ (x : Mine). KnowsKind x.0 place kind) (sym entered.inside.now) knows in
       let told = exact in
       record {
@@ -82,6 +82,7 @@ module _ (place word : ℕ) (mode : Mode) (kind : Kind) (asks : Bool) (m m′ : 
         may = record {
           recorded = entered.holds.recorded;
           idle = ap (λ (x : Mine). x.0.asks) entered.inside.now ∙ idle;
+          unfast = ap (λ (x : Mine). x.0.fast) entered.inside.now ∙ unfast;
           known = (known.0, known.1, known.2, known.3);
           mode_is = ap (λ k. is_mode_of k mode) kind_is ∙ is_mode;
           flagged = ((λ some. told.0 ∙ some), λ some. told.1 ∙ some);
@@ -99,7 +100,7 @@ module _ (place : ℕ) (mode : Mode) (h : Held) (m m₁ : Mine) (may : MayQueue 
   pub may_open : MayOpen place mode h m₁
   may_open =
       let o = may.may in
-      subst (MayOpen place mode h) (sym wrote) (record { recorded = o.recorded; idle = o.idle; known = o.known; mode_is = o.mode_is; flagged = o.flagged })
+      subst (MayOpen place mode h) (sym wrote) (record { recorded = o.recorded; idle = o.idle; unfast = o.unfast; known = o.known; mode_is = o.mode_is; flagged = o.flagged })
 
   -- the latch may be given back
   pub may_put : (m₂ : Mine) → Holds place (with_waiting (asked_ticket mode m₁.0) h) (enqueueing (asked_ticket mode m.0) h.book) m₂ → MayPut place [] m₂

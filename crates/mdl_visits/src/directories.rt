@@ -23,6 +23,7 @@ pub(crate) fn await_directory<R: Wait>(
     top: &LockTable,
 ) -> LatchedDirectory
     requires table { (worker.old.seat.table_id ≡ top.now.table_id) × IsSized top.now.table_id × (0 < top.now.table_id.slots) }
+    requires first { length worker.old.seat.me.0.latches ≡ 0 }
     ensures seat { (worker.new.seat.table_id ≡ worker.old.seat.table_id) × (worker.new.number ≡ worker.old.number) }
     ensures taken { (made : List Met) × (k : Keys) × IsDirectory top.now.table_id.slots k (and_made made worker.old.seat.me)
         × (worker.new.seat.me ≡ consulted k (and_made made worker.old.seat.me)) × AllHad worker.old.seat.me.0.directory made }

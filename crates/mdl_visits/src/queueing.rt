@@ -80,6 +80,7 @@ pub fn grant_or_wait<R: Wait>(
     requires kind { KnowsKind worker.old.seat.me.0 place kind }
     requires mode { is_mode_of kind mode ≡ true }
     requires unwaited { worker.old.seat.me.0.asks ≡ None }
+    requires unfast { worker.old.seat.me.0.fast ≡ [] }
     requires number { number ≡ worker.old.seat.me.0.next }
     requires wait { (wait ≡ worker.old.seat.me.0.waits + 1) × (wait < 2 ^ 60) }
     ensures seat { (worker.new.seat.table_id ≡ worker.old.seat.table_id) × (worker.new.number ≡ worker.old.number) }

@@ -26,7 +26,7 @@ enqueue-requires-clause-queue g c =
     let asks = c.is_obtrusive.result in
     let entered = c.enter.ensures.entered in
     let h : Held = noting word (raised true asks entered.found) in
-    let may = may_queue place word mode c.args.kind asks c.args.worker.now.seat.me c.enter.new.worker.seat.me entered c.requires.kind c.requires.mode c.is_obtrusive.ensures c.requires.unwaited in (
+    let may = may_queue place word mode c.args.kind asks c.args.worker.now.seat.me c.enter.new.worker.seat.me entered c.requires.kind c.requires.mode c.is_obtrusive.ensures c.requires.unwaited c.requires.unfast in (
       h,
       subst (λ (p : ℕ). MayQueue p mode h c.can_grant.new.self.seat.me) (sym c.enter.ensures.place) (subst (MayQueue place mode h) (sym {A = Mine} c.can_grant.ensures.same) may),
     )
@@ -73,7 +73,7 @@ returns-then-not-can_grant-clause-refused g c =
     let went : Mine = c.enqueue.new.worker.seat.me in
     let entered = c.enter.ensures.entered in
     let h : Held = noting word (raised true asks entered.found) in
-    let may = may_queue place word mode c.args.kind asks m came entered c.requires.kind c.requires.mode c.is_obtrusive.ensures c.requires.unwaited in
+    let may = may_queue place word mode c.args.kind asks m came entered c.requires.kind c.requires.mode c.is_obtrusive.ensures c.requires.unwaited c.requires.unfast in
     let queue = subst (λ (p : ℕ). MayQueue p mode h c.can_grant.new.self.seat.me) (sym c.enter.ensures.place) (subst (MayQueue place mode h) (sym {A = Mine} c.can_grant.ensures.same) may) in
     if_err c.enqueue.result
     (λ cause is told.

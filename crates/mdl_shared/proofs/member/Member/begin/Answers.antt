@@ -2,6 +2,7 @@
 use Rattle.std.specs.Prelude.{Option, is_some}
 use Rattle.std.proofs.Common.{rules, ℕ, ◌+◌, ◌<◌, ◌≤◌, List, [], ◌∷◌, ◌++◌, Ok, Some, refl, sym, ap, ◌∙◌, subst, arith}
 use Rattle.std.proofs.lemmas.Bool.{and_from, eq-eqb, lt-ltb}
+use Rattle.std.proofs.lemmas.List.{nil_from_length}
 use Rattle.mdl_key.specs.declared.mode.Mode.{Mode}
 use Rattle.mdl_steps.specs.declared.view.Ask.{Ask}
 use Rattle.mdl_steps.specs.declared.view.Own.{Own}
@@ -33,6 +34,9 @@ pub grant_or_wait-requires-clause-kind : goal.grant_or_wait-requires-clause-kind
 grant_or_wait-requires-clause-kind g c =
     let self = c.args.self.now in
     kind_there c.args.place c.args.kind self.worker.seat.me.0.known (ap (kind_known c.args.place) (sym self.known_is) ∙ c.requires.known)
+
+pub grant_or_wait-requires-clause-unfast : goal.grant_or_wait-requires-clause-unfast
+grant_or_wait-requires-clause-unfast g c = let self = c.args.self.now in nil_from_length self.worker.seat.me.0.fast self.slow
 
 pub invariant_of-self-in-Ok-Granted : goal.invariant_of-self-in-Ok-Granted
 invariant_of-self-in-Ok-Granted g c =

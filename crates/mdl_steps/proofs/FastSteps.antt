@@ -1,0 +1,630 @@
+-- Reading a word, a fast grant and a fast release keep the rule. None of them needs a latch.
+use Rattle.std.proofs.Common.{◌≡◌, ◌≢◌, ℕ, ◌+◌, ◌-◌, ◌*◌, ◌%◌, ◌^◌, ◌<◌, ◌≤◌, ◌==◌, ◌||◌, Bool, true, false, not, cond, List, [], ◌∷◌, ◌++◌, map, set, length, get_or, Some, None, refl, sym, ap, ◌∙◌, subst, inl, inr, arith, rules, ◌⊎◌}
+use Rattle.std.specs.Prelude.{Option, count_by}
+use Rattle.std.specs.List.{list_all, filter, list_any}
+use Rattle.std.proofs.lemmas.Bool.{and_parts, and_from}
+use Rattle.std.proofs.lemmas.List.{length-append, length-set, map-append}
+use Rattle.std.proofs.lemmas.List.Folds.{list_all-append}
+use Rattle.std.proofs.lemmas.List.Sums.{AllPass-from_list_all, list_all-from_AllPass, length-filter, count_by-le-length}
+use mathlib.Core.Option.{some, none}
+use lib.ListN.{get_elem?}
+use prog.Atomic.{either}
+use Rattle.atomic_table.specs.Table.{Allows, step, Act, keeps, stepped as moved_by}
+use Rattle.atomic_table.proofs.Lists.{at_map, at_set, exchanged}
+use Rattle.mdl_key.specs.declared.namespace.Kind.{Kind}
+use Rattle.mdl_key.specs.declared.mode.Mode.{Mode}
+use Rattle.mdl_key.specs.Matrices.{waits_behind}
+use Rattle.mdl_key.specs.Words.{KeyName, kind_of, is_mode_of, is_obtrusive}
+use Rattle.mdl_word.specs.Words.{bit, Encodes, encode, increment_of, obtrusive_flag, one_in}
+use Rattle.mdl_word.proofs.WordLemmas.{obtrusive_of}
+use Rattle.mdl_book.specs.declared.book_view.BookView.{BookView}
+use Rattle.mdl_book.specs.declared.ticket.Ticket.{Ticket}
+use Rattle.mdl_book.specs.Books.{lock_kind, has_obtrusive}
+use Rattle.mdl_book.specs.FastTickets.{CoversFastTickets, is_of_class}
+use Rattle.mdl_book.specs.Granting.{goes_first, is_compatible, is_grantable, is_lawful, overtakes}
+use Rattle.mdl_book.proofs.CountLemmas.{not_all-any}
+use Rattle.mdl_book.proofs.GrantingLemmas.{lawful_push, lawful_part}
+use Rattle.mdl_steps.specs.declared.deed.Deed.TheVariants.{Lose}
+use Rattle.mdl_steps.specs.declared.slot.Slot.{Slot}
+use Rattle.mdl_steps.specs.declared.view.Ask.{Ask}
+use Rattle.mdl_steps.specs.declared.view.Held.{Held}
+use Rattle.mdl_steps.specs.declared.view.Known.{Known}
+use Rattle.mdl_steps.specs.declared.view.Own.{Own}
+use Rattle.mdl_steps.specs.declared.view.View.{View}
+use Rattle.mdl_steps.specs.Cells.{Part, Holder, Cell, all_fast, cell, counted, holder_at, own_at, part_at, pending, ticket_by, waits}
+use Rattle.mdl_steps.specs.Deeds.{is_own}
+use Rattle.mdl_steps.specs.FastPlays.{met_word, fast_own, granted_fast, released_fast, but_own, IsCounted, MayGrantFast, MayReleaseFast, reads_word_unlatched, grants_fast, releases_fast}
+use Rattle.mdl_steps.specs.Layout.{lock_word}
+use Rattle.mdl_steps.specs.Lists.{Each}
+use Rattle.mdl_steps.specs.Plays.{Mine}
+use Rattle.mdl_steps.specs.Rule.{Rule, PlaceOk, BookOk, PartOk, Counted, Lawful, NoteAgrees, NotedCounts, Numbered, KnowsKeys, key_at}
+use Rattle.mdl_steps.proofs.Deeds.{unobtrusive_beside}
+use Rattle.mdl_steps.proofs.Desks.{each-append}
+use Rattle.mdl_steps.proofs.FastLists.{all_fast-all, counted_set, count-append, counts_small, counted_mode, increment_is, increment_small, one_counted, length_mapped}
+use Rattle.mdl_steps.proofs.Lift.{Table, after, on_word, holders_again, parts_again}
+use Rattle.mdl_steps.proofs.Owns.{each-from_at, each-note, own_else-push, owned_else}
+use Rattle.mdl_steps.proofs.Views.{by_bool, each_at}
+use Rattle.mdl_steps.proofs.Waiting.{owned_set, waiting_kept}
+use Rattle.mdl_steps.proofs.WaitEnds.{own_at-push}
+
+-- ---- the place, where the fast tickets of one session change, and the word with them
+
+module _ (key : Option KeyName) (c : Cell) (ok : PlaceOk key c) (id : ℕ) (x : Part) (at : get_elem? c.parts id ≡ some x) (fast : List Own) where
+  abbrev pub changed_part : Part
+  changed_part = record x { fast = fast }
+
+  abbrev pub parts_then : List Part
+  parts_then = set c.parts id changed_part
+
+  book_then : (k : KeyName) × (key ≡ Some k) → Lawful (lock_kind ok.book) (all_fast parts_then) ok.book.granted → length fast ≤ 1023 → Each (NoteAgrees ok.book) fast
+      → BookOk key c.version parts_then ok.book
+  book_then some_key lawful few notes = record {
+    lawful = lawful;
+    once = ok.book_ok.once;
+    owned = owned_set c.parts id x changed_part at refl ok.book.granted ok.book.granted (λ a m e. refl) ok.book_ok.owned;
+    waiting = waiting_kept c.parts id x changed_part at refl (lock_kind ok.book) ok.book.waiting refl ok.book_ok.waiting;
+    version_is = ok.book_ok.version_is;
+    stands = ok.book_ok.stands;
+    named = record { key_is = ok.book_ok.named.key_is; vacant = λ none. let k = some_key.1 in absurd (cc) };
+    each = λ j y there. elim (at_set c.parts id j changed_part y there) [
+      | inl same ↦ (let old = ok.book_ok.each id x at in subst (PartOk ok.book) same.1 (record {
+        few = few;
+        slow_held = record { same = old.slow_held.same; apart = old.slow_held.apart };
+        versions_agree = record { reads = old.versions_agree.reads; fast = notes; slow = old.versions_agree.slow };
+      }))
+      | inr other ↦ ok.book_ok.each j y other.1
+    ];
+  }
+
+  pub fast_cell : (k : KeyName) × (key ≡ Some k) → Lawful (lock_kind ok.book) (all_fast parts_then) ok.book.granted → length fast ≤ 1023 → Each (NoteAgrees ok.book) fast
+      → (word : ℕ) → Counted (lock_kind ok.book) word (all_fast parts_then) ok.slow ok.obtrusive
+      → ((noted : Option ℕ) → NotedCounts (lock_kind ok.book) (all_fast c.parts) ok.obtrusive noted → NotedCounts (lock_kind ok.book) (all_fast parts_then) ok.obtrusive noted)
+      → PlaceOk key (record c { word = word; parts = parts_then })
+  fast_cell some_key lawful few notes word counts covers = record {
+    book = ok.book;
+    slow = ok.slow;
+    obtrusive = ok.obtrusive;
+    free = ok.free;
+    taken = ok.taken;
+    held = λ j l there h is. (let k = ok.held j l there h is in record { mine = k.mine; some_session = k.some_session; book_is = k.book_is; slow_is = k.slow_is; obtrusive_is = k.obtrusive_is; noted_counts = covers h.noted k.noted_counts });
+    counted = counts;
+    flagged = ok.flagged;
+    book_ok = book_then some_key lawful few notes;
+  }
+
+-- ---- a fast ticket is gained
+
+left_false : (a b : Bool) → (a || b) ≡ false → a ≡ false
+left_false true b e = cc
+left_false false b e = refl
+
+not_false : (b : Bool) → not b ≡ false → b ≡ true
+not_false true e = refl
+not_false false e = cc
+
+shown_push : (session : ℕ) (own : Own) (ts : List Own) → map (ticket_by session) (ts ++ own ∷ []) ≡ map (ticket_by session) ts ++ ticket_by session own ∷ []
+shown_push session own ts = map-append (ticket_by session) ts (own ∷ [])
+
+right_false : (a b : Bool) → (a || b) ≡ false → b ≡ false
+right_false true b e = cc
+right_false false b e = e
+
+-- no obtrusive ticket is granted where the book has none, and none waits
+all_unobtrusive : (book : BookView) → has_obtrusive book ≡ false → list_all (λ (t : Ticket). not (is_obtrusive (lock_kind book) t.mode)) book.granted ≡ true
+all_unobtrusive book nothing =
+    not_false _ (not_all-any (λ (t : Ticket). is_obtrusive (lock_kind book) t.mode) book.granted ∙ left_false _ _ nothing)
+
+none_waits : (book : BookView) → has_obtrusive book ≡ false → list_all (λ (t : Ticket). not (is_obtrusive (lock_kind book) t.mode)) book.waiting ≡ true
+none_waits book nothing =
+    not_false _ (not_all-any (λ (t : Ticket). is_obtrusive (lock_kind book) t.mode) book.waiting ∙ right_false _ _ nothing)
+
+-- an unobtrusive wish waits behind no unobtrusive one
+never_behind : (kind : Kind) (a b : Mode) → is_obtrusive kind a ≡ false → is_obtrusive kind b ≡ false → waits_behind kind a b ≡ false
+never_behind kind a b first second = search rules
+
+unobtrusive_first : (kind : Kind) (session : ℕ) (mode : Mode) (ts : List Ticket) → is_obtrusive kind mode ≡ false → list_all (λ (t : Ticket). not (is_obtrusive kind t.mode)) ts ≡ true → goes_first kind ts session mode ≡ true
+unobtrusive_first kind session mode [] wish all = refl
+unobtrusive_first kind session mode (t ∷ ts) wish all =
+    let p = and_parts (not (is_obtrusive kind t.mode)) (list_all (λ (u : Ticket). not (is_obtrusive kind u.mode)) ts) all in
+    let plain : is_obtrusive kind t.mode ≡ false = by_bool (is_obtrusive kind t.mode) (λ is. (let no = p.0 in absurd (cc))) (λ isnt. isnt) in
+    and_from (overtakes kind session mode t) (goes_first kind ts session mode)
+    (rw (never_behind kind mode t.mode wish plain) (by_bool (t.session == session) (λ own. rw own refl) (λ others. rw others refl)))
+    (unobtrusive_first kind session mode ts wish p.1)
+
+module _ (key : Option KeyName) (c : Cell) (ok : PlaceOk key c) (id : ℕ) (x : Part) (at : get_elem? c.parts id ≡ some x) (own : Own) (one : ℕ)
+    (one_is : increment_of (lock_kind ok.book) own.mode ≡ Some one) (down : ok.obtrusive ≡ false) (few : length x.fast < 1023) (sessions : length c.parts ≤ 1025) where
+  abbrev kind : Kind
+  kind = lock_kind ok.book
+
+  abbrev all : List Ticket
+  all = all_fast c.parts
+
+  abbrev ticket : Ticket
+  ticket = ticket_by x.number own
+
+  abbrev pub gained : List Own
+  gained = x.fast ++ own ∷ []
+
+  abbrev then_parts : List Part
+  then_parts = set c.parts id (record x { fast = gained })
+
+  pub none_obtrusive : has_obtrusive ok.book ≡ false
+  none_obtrusive = by_bool (has_obtrusive ok.book) (λ some. (let up = ok.flagged.1 some in absurd (cc))) (λ none. none)
+
+  pub granted_unobtrusive : list_all (λ (t : Ticket). not (is_obtrusive kind t.mode)) ok.book.granted ≡ true
+  granted_unobtrusive = all_unobtrusive ok.book none_obtrusive
+
+  pub mode_is : (is_obtrusive kind own.mode ≡ false) × (is_mode_of kind own.mode ≡ true)
+  mode_is = counted_mode kind own.mode one one_is
+
+  pub compatible : is_compatible kind (all ++ ok.book.granted) x.number own.mode ≡ true
+  compatible =
+      list_all-append _ all ok.book.granted
+      ∙ and_from _ _ (unobtrusive_beside kind x.number own.mode all mode_is.0 ok.book_ok.lawful.unobtrusive)
+      (unobtrusive_beside kind x.number own.mode ok.book.granted mode_is.0 granted_unobtrusive)
+
+  -- the wish was grantable
+  pub grantable : is_grantable kind (all ++ ok.book.granted) ok.book.waiting x.number own.mode ≡ true
+  grantable = and_from _ _ compatible (unobtrusive_first kind x.number own.mode ok.book.waiting mode_is.0 (none_waits ok.book none_obtrusive))
+
+  -- what all fast tickets and the new one pass
+  fast_pass : (test : Ticket → Bool) → list_all test all ≡ true → test ticket ≡ true → list_all test (all_fast then_parts) ≡ true
+  fast_pass test old new = all_fast-all test c.parts id x (record x { fast = gained }) at
+      (λ mine. ap (list_all test) (shown_push x.number own x.fast) ∙ list_all-append test (map (ticket_by x.number) x.fast) (ticket ∷ []) ∙ and_from _ _ mine (and_from (test ticket) true new refl)) old
+
+  passes : (test : Ticket → Bool) → list_all test ((all ++ ok.book.granted) ++ ticket ∷ []) ≡ true → list_all test (all_fast then_parts ++ ok.book.granted) ≡ true
+  passes test pass =
+      let p = and_parts (list_all test (all ++ ok.book.granted)) (list_all test (ticket ∷ [])) (sym (list_all-append test (all ++ ok.book.granted) (ticket ∷ [])) ∙ pass) in
+      let q = and_parts (list_all test all) (list_all test ok.book.granted) (sym (list_all-append test all ok.book.granted) ∙ p.0) in
+      list_all-append test (all_fast then_parts) ok.book.granted
+      ∙ and_from _ _ (fast_pass test q.0 (and_parts (test ticket) true p.1).0) q.1
+
+  pub gained_lawful : Lawful kind (all_fast then_parts) ok.book.granted
+  gained_lawful = record {
+    compatible = lawful_part kind ((all ++ ok.book.granted) ++ ticket ∷ []) (all_fast then_parts ++ ok.book.granted) passes
+        (lawful_push kind (all ++ ok.book.granted) ticket compatible ok.book_ok.lawful.compatible);
+    modes = (
+        let old = and_parts (list_all (λ (t : Ticket). is_mode_of kind t.mode) all) (list_all (λ (t : Ticket). is_mode_of kind t.mode) ok.book.granted)
+        (sym (list_all-append (λ (t : Ticket). is_mode_of kind t.mode) all ok.book.granted) ∙ ok.book_ok.lawful.modes) in
+        list_all-append _ (all_fast then_parts) ok.book.granted ∙ and_from _ _ (fast_pass (λ (t : Ticket). is_mode_of kind t.mode) old.0 mode_is.1) old.1
+        );
+    unobtrusive = fast_pass (λ (t : Ticket). not (is_obtrusive kind t.mode)) ok.book_ok.lawful.unobtrusive (rw mode_is.0 refl);
+  }
+
+  pub gained_few : length gained ≤ 1023
+  gained_few = let count = length-append x.fast (own ∷ []) in omega arith
+
+  one_more : (class : ℕ) → counted kind class (all_fast then_parts) ≡ counted kind class all + one_in class kind own.mode
+  one_more class =
+      let test : Ticket → Bool = is_of_class kind class in
+      let swap = counted_set test c.parts id x (record x { fast = gained }) at in
+      let mine : count_by test (map (ticket_by x.number) gained) ≡ count_by test (map (ticket_by x.number) x.fast) + one_in class kind own.mode =
+      ap (count_by test) (shown_push x.number own x.fast) ∙ count-append test (map (ticket_by x.number) x.fast) (ticket ∷ []) ∙ ap (λ n. count_by test (map (ticket_by x.number) x.fast) + n) (one_counted kind class ticket) in
+      omega arith
+
+  small : (class : ℕ) → counted kind class (all_fast then_parts) < 1048576
+  small class = counts_small kind class then_parts (rw (length-set c.parts id (record x { fast = gained })) sessions)
+      (λ j y there. elim (at_set c.parts id j (record x { fast = gained }) y there) [
+        | inl same ↦ subst (λ (z : Part). length z.fast ≤ 1023) same.1 gained_few
+        | inr other ↦ (ok.book_ok.each j y other.1).few
+      ])
+
+  pub gained_counted : Counted kind (c.word + one) (all_fast then_parts) ok.slow ok.obtrusive
+  gained_counted =
+      let is = increment_is kind own.mode one one_is in
+      let first = one_more 0 in
+      let second = one_more 1 in
+      let third = one_more 2 in
+      let was = ok.counted.is_encoded in
+      record {
+        first_fits = small 0;
+        second_fits = small 1;
+        third_fits = small 2;
+        is_encoded = omega arith;
+      }
+
+  pub gained_covers : (noted : Option ℕ) → NotedCounts kind all ok.obtrusive noted → NotedCounts kind (all_fast then_parts) ok.obtrusive noted
+  gained_covers noted counts = λ word is. (let up = (counts word is).0 in absurd (cc))
+
+-- ---- a fast ticket is given up
+
+-- what a test counts is what it counts of those that another passes and of the others
+counted_parted : {X : Type 0} → (test part : X → Bool) (xs : List X) → count_by test xs ≡ count_by test (filter part xs) + count_by test (filter (λ x. not (part x)) xs)
+counted_parted test part [] = refl
+counted_parted {X} test part (x ∷ xs) =
+    let rest = counted_parted test part xs in
+    let first = count-append test (x ∷ []) xs in
+    let not_part : X → Bool = λ y. not (part y) in
+    by_bool (part x)
+    (λ is.
+    let passed : filter part (x ∷ xs) ≡ x ∷ filter part xs = rw is refl in
+    let past : filter not_part (x ∷ xs) ≡ filter not_part xs = rw is refl in
+    let a : count_by test (filter part (x ∷ xs)) ≡ count_by test (x ∷ filter part xs) = ap (count_by test) passed in
+    let b : count_by test (filter not_part (x ∷ xs)) ≡ count_by test (filter not_part xs) = ap (count_by test) past in
+    let c = count-append test (x ∷ []) (filter part xs) in
+    omega arith)
+    (λ isnt.
+    let passed : filter part (x ∷ xs) ≡ filter part xs = rw isnt refl in
+    let past : filter not_part (x ∷ xs) ≡ x ∷ filter not_part xs = rw isnt refl in
+    let a : count_by test (filter part (x ∷ xs)) ≡ count_by test (filter part xs) = ap (count_by test) passed in
+    let b : count_by test (filter not_part (x ∷ xs)) ≡ count_by test (x ∷ filter not_part xs) = ap (count_by test) past in
+    let c = count-append test (x ∷ []) (filter not_part xs) in
+    omega arith)
+
+-- of a ticket's own numbers, those at a place are the place's
+only_here : (place number : ℕ) (ts : List Own) → filter (is_own place number) (own_at place ts) ≡ filter (is_own place number) ts
+only_here place number [] = refl
+only_here place number (u ∷ us) = by_bool (u.place == place)
+    (λ here. rw (here, here) (ap (λ xs. cond (u.number == number) (u ∷ xs) xs) (only_here place number us)))
+    (λ away. rw away (only_here place number us))
+
+-- the others at the place
+but_here : (place number : ℕ) (ts : List Own) → own_at place (but_own place number ts) ≡ but_own place number (own_at place ts)
+but_here place number [] = refl
+but_here place number (t ∷ ts) = by_bool (t.place == place)
+    (λ here. by_bool (t.number == number)
+    (λ same. rw (here, same, here) (but_here place number ts))
+    (λ differs. rw (here, differs, here) (ap (λ xs. t ∷ xs) (but_here place number ts))))
+    (λ away. rw (away, away) (but_here place number ts))
+
+-- what each ticket passes, each of fewer passes
+all_fewer : (test : Ticket → Bool) (session : ℕ) (part : Own → Bool) (ts : List Own) → list_all test (map (ticket_by session) ts) ≡ true → list_all test (map (ticket_by session) (filter part ts)) ≡ true
+all_fewer test session part [] all = refl
+all_fewer test session part (t ∷ ts) all =
+    let p = and_parts (test (ticket_by session t)) (list_all test (map (ticket_by session) ts)) all in
+    by_bool (part t)
+    (λ is. rw is (and_from _ _ p.0 (all_fewer test session part ts p.1)))
+    (λ isnt. rw isnt (all_fewer test session part ts p.1))
+
+pub each_fewer : (P : Own → Type 0) (part : Own → Bool) (ts : List Own) → Each P ts → Each P (filter part ts)
+each_fewer P part [] of_all = tt
+each_fewer P part (t ∷ ts) of_all = by_bool (part t)
+    (λ is. subst (λ (b : Bool). Each P (cond {A = List Own} b (t ∷ filter part ts) (filter part ts))) (sym is) (of_all.0, each_fewer P part ts of_all.1))
+    (λ isnt. subst (λ (b : Bool). Each P (cond {A = List Own} b (t ∷ filter part ts) (filter part ts))) (sym isnt) (each_fewer P part ts of_all.1))
+
+length_fewer : (part : Own → Bool) (ts : List Own) → length (filter part ts) ≤ length ts
+length_fewer part ts = let is = length-filter part ts in let most = count_by-le-length part ts in omega arith
+
+-- what tickets a test counts, of those that a session has
+shown_count : (test : Ticket → Bool) (session : ℕ) (ts : List Own) → count_by test (map (ticket_by session) ts) ≡ count_by (λ (t : Own). test (ticket_by session t)) ts
+shown_count test session [] = refl
+shown_count test session (t ∷ ts) =
+    let rest = shown_count test session ts in
+    let a = count-append test (ticket_by session t ∷ []) (map (ticket_by session) ts) in
+    let b = count-append (λ (u : Own). test (ticket_by session u)) (t ∷ []) ts in
+    let same : count_by test (ticket_by session t ∷ []) ≡ count_by (λ (u : Own). test (ticket_by session u)) (t ∷ []) = refl in
+    omega arith
+
+-- a word that counts at least all of them counts at least fewer
+pub covers_fewer : (kind : Kind) (word : ℕ) (more fewer : List Ticket) → ((test : Ticket → Bool) → list_all test more ≡ true → list_all test fewer ≡ true) → ((class : ℕ) → counted kind class fewer ≤ counted kind class more)
+    → CoversFastTickets kind word more → CoversFastTickets kind word fewer
+covers_fewer kind word more fewer passed counts covers = record {
+  unobtrusive = AllPass-from_list_all (λ t. not (is_obtrusive kind t.mode)) fewer (passed (λ t. not (is_obtrusive kind t.mode)) (list_all-from_AllPass (λ t. not (is_obtrusive kind t.mode)) more covers.unobtrusive));
+  covered = λ class below. (let less = counts class in let most = covers.covered class below in omega arith);
+}
+
+module _ (key : Option KeyName) (c : Cell) (ok : PlaceOk key c) (id : ℕ) (x : Part) (at : get_elem? c.parts id ≡ some x) (fast : List Own)
+    (fewer : (test : Ticket → Bool) → list_all test (map (ticket_by x.number) x.fast) ≡ true → list_all test (map (ticket_by x.number) fast) ≡ true)
+    (less : (test : Ticket → Bool) → count_by test (map (ticket_by x.number) fast) ≤ count_by test (map (ticket_by x.number) x.fast)) where
+  abbrev all_then : List Ticket
+  all_then = all_fast (set c.parts id (record x { fast = fast }))
+
+  fast_passed : (test : Ticket → Bool) → list_all test (all_fast c.parts) ≡ true → list_all test all_then ≡ true
+  fast_passed test old = all_fast-all test c.parts id x (record x { fast = fast }) at (fewer test) old
+
+  both_passed : (test : Ticket → Bool) → list_all test (all_fast c.parts ++ ok.book.granted) ≡ true → list_all test (all_then ++ ok.book.granted) ≡ true
+  both_passed test all =
+      let q = and_parts (list_all test (all_fast c.parts)) (list_all test ok.book.granted) (sym (list_all-append test (all_fast c.parts) ok.book.granted) ∙ all) in
+      list_all-append test all_then ok.book.granted ∙ and_from _ _ (fast_passed test q.0) q.1
+
+  pub fewer_lawful : Lawful (lock_kind ok.book) all_then ok.book.granted
+  fewer_lawful = record {
+    compatible = lawful_part (lock_kind ok.book) (all_fast c.parts ++ ok.book.granted) (all_then ++ ok.book.granted) both_passed ok.book_ok.lawful.compatible;
+    modes = both_passed (λ t. is_mode_of (lock_kind ok.book) t.mode) ok.book_ok.lawful.modes;
+    unobtrusive = fast_passed (λ t. not (is_obtrusive (lock_kind ok.book) t.mode)) ok.book_ok.lawful.unobtrusive;
+  }
+
+  pub fewer_counted : (class : ℕ) → counted (lock_kind ok.book) class all_then ≤ counted (lock_kind ok.book) class (all_fast c.parts)
+  fewer_counted class =
+      let swap = counted_set (is_of_class (lock_kind ok.book) class) c.parts id x (record x { fast = fast }) at in
+      let count = less (is_of_class (lock_kind ok.book) class) in
+      omega arith
+
+  pub fewer_covers : (noted : Option ℕ) → NotedCounts (lock_kind ok.book) (all_fast c.parts) ok.obtrusive noted → NotedCounts (lock_kind ok.book) all_then ok.obtrusive noted
+  fewer_covers noted counts = λ word is. (let was = counts word is in (was.0, covers_fewer (lock_kind ok.book) word (all_fast c.parts) all_then fast_passed fewer_counted was.1))
+
+-- ---- the steps
+
+bit_small : (b : Bool) → bit b < 2
+bit_small true = omega arith
+bit_small false = omega arith
+
+pub encoded_small : (word a b c : ℕ) (slow obtrusive : Bool) → Encodes word a b c slow obtrusive → word < 2 ^ 62
+encoded_small word a b c slow obtrusive e = omega (arith, bit_small slow, bit_small obtrusive)
+
+below_next : (next : ℕ) (ts : List Own) → Each (λ (t : Own). t.number < next) ts → Each (λ (t : Own). t.number < next + 1) ts
+below_next next [] of_all = tt
+below_next next (t ∷ ts) of_all = ((let below = of_all.0 in omega arith), below_next next ts of_all.1)
+
+module _ (slots id place : ℕ) (me : Mine) (first : 0 < place) (last : place < slots) where
+  module _ (s : Table) (r : Rule s) (size : length s.homes ≡ slots) (seat : get_elem? s.views id ≡ some me.0) where
+    abbrev pub found : ℕ
+    found = get_or s.words (lock_word place) 0
+
+    pub within : place < length s.homes
+    within = rw size last
+
+    abbrev pub ok : PlaceOk (key_at r.keys place) (cell s place)
+    ok = r.places place first within
+
+    abbrev mine : Part
+    mine = part_at (waits s) place me.0
+
+    there : get_elem? (cell s place).parts id ≡ some (part_at (waits s) place me.0)
+    there = at_map (part_at (waits s) place) s.views id me.0 seat
+
+    old : PartOk ok.book (part_at (waits s) place me.0)
+    old = ok.book_ok.each id (part_at (waits s) place me.0) there
+
+    row : Numbered me.0
+    row = (r.views id me.0 seat).0
+
+    sessions : length (cell s place).parts ≤ 1025
+    sessions =
+        let views = length_mapped (λ (v : View). v.number) s.views in
+        let parts = length_mapped (part_at (waits s) place) s.views in
+        let room = r.enrolled.room in
+        let given = r.enrolled.given in
+        let drawn = r.enrolled.last in
+        let limit = r.enrolled.limit in
+        omega arith
+
+    -- the key of the place, where the session knows it
+    key_known : (i : ℕ) (k : Known) → get_elem? me.0.known i ≡ some k → k.place ≡ place → key_at r.keys place ≡ Some k.key
+    key_known i k known here =
+        let knows = each_at (λ (x : Known). (0 < x.place) × (key_at r.keys x.place ≡ Some x.key)) me.0.known (r.views id me.0 seat).1 i k known in
+        ap (λ (q : ℕ). key_at r.keys q) (sym here) ∙ knows.1
+
+    -- ---- the word is met
+
+    pub met_rule : Rule (after s (lock_word place) found id (met_word place found me).0 s.homes)
+    unfolding row
+    met_rule =
+        let w : View = (met_word place found me).0 in
+        on_word s r place id me.0 w s.homes (record {
+          inside = (first, within);
+          seat = seat;
+          number = refl;
+          spare = refl;
+          waiter = refl;
+          numbered = record { fast = row.fast; slow = row.slow; asks = row.asks; apart = row.apart; unfast = row.unfast };
+          slots = refl;
+          home_else = λ q else. refl;
+          part_else = λ q else. refl;
+          holder_else = λ q else. refl;
+        }) refl (r.views id me.0 seat).1 found
+        (rw (parts_again s place id me.0 w seat refl, holders_again s place id me.0 w seat refl) ok)
+
+    -- ---- a ticket is gained
+
+    module _ (mode : Mode) (noted : Option ℕ) (one : ℕ) (may : MayGrantFast place mode noted one me) (down : obtrusive_flag found ≡ false) where
+      abbrev own : Own
+      own = fast_own me.0.next place mode noted
+
+      agrees : NoteAgrees ok.book own
+      unfolding old
+      agrees = λ version is. elim (may.noted_there version is) [
+        | inl fast ↦ each-note (λ (n : ℕ). n ≡ ok.book.standing.version) place me.0.fast (each-from_at (NoteAgrees ok.book) place me.0.fast old.versions_agree.fast) version fast
+        | inr slow ↦ each-note (λ (n : ℕ). n ≡ ok.book.standing.version) place me.0.slow (each-from_at (NoteAgrees ok.book) place me.0.slow old.versions_agree.slow) version slow
+      ]
+
+      key_is : key_at r.keys place ≡ Some may.counted_so.1.key
+      key_is = let k = may.counted_so in key_known k.0 k.1 k.2 k.3
+
+      one_is : increment_of (lock_kind ok.book) mode ≡ Some one
+      one_is = ap (λ (n : KeyName). increment_of (kind_of n.namespace) mode) (ok.book_ok.named.key_is may.counted_so.1.key key_is) ∙ may.counted_so.4
+
+      is_down : ok.obtrusive ≡ false
+      is_down = sym (obtrusive_of ok.counted) ∙ down
+
+      pub wish_grantable : is_grantable (lock_kind ok.book) (all_fast (cell s place).parts ++ ok.book.granted) ok.book.waiting me.0.number mode ≡ true
+      unfolding one_is is_down
+      wish_grantable = grantable (key_at r.keys place) (cell s place) ok id mine there own one one_is is_down may.few sessions
+
+      pub granted_rule : Rule (after s (lock_word place) (found + one) id (granted_fast place mode noted found me).0 s.homes)
+      unfolding row old agrees one_is is_down
+      granted_rule =
+          let w : View = (granted_fast place mode noted found me).0 in
+          let key : Option KeyName = key_at r.keys place in
+          let c : Cell = cell s place in
+          let few = may.few in
+          on_word s r place id me.0 w s.homes (record {
+            inside = (first, within);
+            seat = seat;
+            number = refl;
+            spare = refl;
+            waiter = refl;
+            numbered = record {
+              fast = each-append _ me.0.fast (own ∷ []) (below_next me.0.next me.0.fast row.fast) (omega arith, tt);
+              slow = below_next me.0.next me.0.slow row.slow;
+              asks = λ a e. (let idle = may.idle in absurd (cc));
+              apart = row.apart;
+              unfast = λ a e. (let idle = may.idle in absurd (cc));
+            };
+            slots = refl;
+            home_else = λ q else. refl;
+            part_else = λ q else. λ i. record (part_at (waits s) q me.0) { fast = own_else-push place q own me.0.fast refl else i };
+            holder_else = λ q else. refl;
+          }) refl (r.views id me.0 seat).1 (found + one)
+          (rw (holders_again s place id me.0 w seat refl, own_at-push place own me.0.fast refl)
+          (fast_cell key c ok id mine there (own_at place me.0.fast ++ own ∷ []) (may.counted_so.1.key, key_is)
+          (gained_lawful key c ok id mine there own one one_is is_down few sessions)
+          (gained_few key c ok id mine there own one one_is is_down few sessions)
+          (each-append _ (own_at place me.0.fast) (own ∷ []) old.versions_agree.fast (agrees, tt))
+          (found + one)
+          (gained_counted key c ok id mine there own one one_is is_down few sessions)
+          (gained_covers key c ok id mine there own one one_is is_down few sessions)))
+
+  pub reads_unlatched_allowed : Allows Rule slots id me (lock_word place) (λ n. n) (reads_word_unlatched (step slots (lock_word place) 0 0 none) me)
+  reads_unlatched_allowed s r size seat fits =
+      ((met_word place (found s r size seat) me).0, keeps, tt, met_rule s r size seat, (refl, λ q here. (let same : place ≡ q = omega arith in λ i. met_word (same i) (found s r size seat) me)))
+
+  pub grants_fast_allowed : (mode : Mode) (noted : Option ℕ) (one : ℕ) → MayGrantFast place mode noted one me → (word new : ℕ) → obtrusive_flag word ≡ false → (word < 2 ^ 62 → one < 2 ^ 62 → new ≡ word + one)
+      → Allows Rule slots id me (lock_word place) (λ n. either (n == word) new n) (grants_fast mode noted (step slots (lock_word place) word new none) me)
+  grants_fast_allowed mode noted one may word new down sum s r size seat fits =
+      let n : ℕ = get_or s.words (lock_word place) 0 in
+      exchanged n word new (λ x. (w : View) × (a : Act Slot) × Rattle.atomic_table.specs.Table.Valid s.homes me.1 a × Rule (moved_by s (lock_word place) x id me.1 w a) × grants_fast mode noted (step slots (lock_word place) word new none) me n (w, Rattle.atomic_table.specs.Table.carried_after me.1 a))
+      (λ hit.
+      let small = encoded_small _ _ _ _ _ _ (ok s r size seat).counted in
+      let new_is : n + one ≡ new = (let is = sum (rw (sym hit) small) (increment_small _ _ one may.counted_so.4) in omega arith) in (
+        (granted_fast place mode noted n me).0,
+        keeps,
+        tt,
+        subst (λ (x : ℕ). Rule (after s (lock_word place) x id (granted_fast place mode noted n me).0 s.homes)) new_is (granted_rule s r size seat mode noted one may (rw hit down)),
+        (
+          refl,
+          λ q here.
+              let same : place ≡ q = omega arith in
+              ((λ _. λ i. granted_fast (same i) mode noted n me), λ miss. absurd (miss hit)),
+        ),
+      ))
+      (λ miss. (
+        (met_word place n me).0,
+        keeps,
+        tt,
+        met_rule s r size seat,
+        (refl, λ q here. (let same : place ≡ q = omega arith in ((λ hit. absurd (miss hit)), λ _. λ i. met_word (same i) n me))),
+      ))
+
+-- ---- a ticket is given up
+
+module _ (slots id place : ℕ) (me : Mine) (first : 0 < place) (last : place < slots) (number one : ℕ) (may : MayReleaseFast place number one me) where
+  module _ (s : Table) (r : Rule s) (size : length s.homes ≡ slots) (seat : get_elem? s.views id ≡ some me.0) where
+    abbrev n : ℕ
+    n = get_or s.words (lock_word place) 0
+
+    abbrev c : Cell
+    c = cell s place
+
+    abbrev was : Part
+    was = part_at (waits s) place me.0
+
+    abbrev left : List Own
+    left = but_own place number (own_at place me.0.fast)
+
+    inside_homes : place < length s.homes
+    inside_homes = rw size last
+
+    place_ok : PlaceOk (key_at r.keys place) (cell s place)
+    place_ok = r.places place first inside_homes
+
+    part_there : get_elem? (cell s place).parts id ≡ some (part_at (waits s) place me.0)
+    part_there = at_map (part_at (waits s) place) s.views id me.0 seat
+
+    part_ok : PartOk place_ok.book (part_at (waits s) place me.0)
+    unfolding place_ok
+    part_ok = place_ok.book_ok.each id (part_at (waits s) place me.0) part_there
+
+    key_there : key_at r.keys place ≡ Some may.counted_so.1.key
+    key_there = let k = may.counted_so in
+        let knows = each_at (λ (x : Known). (0 < x.place) × (key_at r.keys x.place ≡ Some x.key)) me.0.known (r.views id me.0 seat).1 k.0 k.1 k.2 in
+        ap (λ (q : ℕ). key_at r.keys q) (sym k.3) ∙ knows.1
+
+    counts_one : increment_of (lock_kind place_ok.book) may.ticket.mode ≡ Some one
+    unfolding place_ok
+    counts_one = ap (λ (name : KeyName). increment_of (kind_of name.namespace) may.ticket.mode) (place_ok.book_ok.named.key_is may.counted_so.1.key key_there) ∙ may.counted_so.4
+
+    is_one : filter (is_own place number) (own_at place me.0.fast) ≡ may.ticket ∷ []
+    is_one = only_here place number me.0.fast ∙ may.only
+
+    fewer_pass : (test : Ticket → Bool) → list_all test (map (ticket_by was.number) was.fast) ≡ true → list_all test (map (ticket_by was.number) left) ≡ true
+    fewer_pass test all = all_fewer test me.0.number (λ t. not (is_own place number t)) (own_at place me.0.fast) all
+
+    -- a test counts of those before what it counts of those after, and of the ticket
+    parted : (test : Ticket → Bool) → count_by test (map (ticket_by was.number) was.fast) ≡ count_by test (ticket_by me.0.number may.ticket ∷ []) + count_by test (map (ticket_by was.number) left)
+    unfolding is_one
+    parted test =
+        let of_own : Own → Bool = λ t. test (ticket_by me.0.number t) in
+        let before = shown_count test me.0.number (own_at place me.0.fast) in
+        let after_ = shown_count test me.0.number left in
+        let both = counted_parted of_own (is_own place number) (own_at place me.0.fast) in
+        let gone : count_by of_own (filter (is_own place number) (own_at place me.0.fast)) ≡ count_by of_own (may.ticket ∷ []) = ap (count_by of_own) is_one in
+        let same : count_by of_own (may.ticket ∷ []) ≡ count_by test (ticket_by me.0.number may.ticket ∷ []) = refl in
+        omega arith
+
+    fewer_count : (test : Ticket → Bool) → count_by test (map (ticket_by was.number) left) ≤ count_by test (map (ticket_by was.number) was.fast)
+    fewer_count test = let both = parted test in omega arith
+
+    one_less : (class : ℕ) → counted (lock_kind place_ok.book) class (all_fast c.parts) ≡ counted (lock_kind place_ok.book) class (all_fast (set c.parts id (record was { fast = left }))) + one_in class (lock_kind place_ok.book) may.ticket.mode
+    unfolding place_ok
+    one_less class =
+        let test : Ticket → Bool = is_of_class (lock_kind place_ok.book) class in
+        let swap = counted_set test c.parts id was (record was { fast = left }) part_there in
+        let both = parted test in
+        let counts = one_counted (lock_kind place_ok.book) class (ticket_by me.0.number may.ticket) in
+        omega arith
+
+    left_counted : (one ≤ n) × Counted (lock_kind place_ok.book) (n - one) (all_fast (set c.parts id (record was { fast = left }))) place_ok.slow place_ok.obtrusive
+    unfolding place_ok
+    left_counted =
+        let is = increment_is (lock_kind place_ok.book) may.ticket.mode one counts_one in
+        let a = one_less 0 in
+        let b = one_less 1 in
+        let d = one_less 2 in
+        let word = place_ok.counted.is_encoded in
+        let fits0 = place_ok.counted.first_fits in
+        let fits1 = place_ok.counted.second_fits in
+        let fits2 = place_ok.counted.third_fits in (
+          omega arith,
+          record {
+            first_fits = omega arith;
+            second_fits = omega arith;
+            third_fits = omega arith;
+            is_encoded = omega arith;
+          },
+        )
+
+    subtracted : (n + (2 ^ 64 - one)) % 2 ^ 64 ≡ n - one
+    unfolding place_ok
+    subtracted =
+        let below = left_counted.0 in
+        let small = encoded_small _ _ _ _ _ _ place_ok.counted in
+        omega arith
+
+    pub released_rule : Rule (after s (lock_word place) ((n + (2 ^ 64 - one)) % 2 ^ 64) id (released_fast place number n me).0 s.homes)
+    unfolding place_ok part_ok
+    released_rule =
+        let w : View = (released_fast place number n me).0 in
+        let row = (r.views id me.0 seat).0 in
+        let key : Option KeyName = key_at r.keys place in
+        let ok = place_ok in
+        subst (λ (x : ℕ). Rule (after s (lock_word place) x id w s.homes)) (sym subtracted)
+        (on_word s r place id me.0 w s.homes (record {
+          inside = (first, inside_homes);
+          seat = seat;
+          number = refl;
+          spare = refl;
+          waiter = refl;
+          numbered = record {
+            fast = each_fewer _ (λ t. not (is_own place number t)) me.0.fast row.fast;
+            slow = row.slow;
+            asks = row.asks;
+            apart = row.apart;
+            unfast = λ a e. ap (but_own place number) (row.unfast a e);
+          };
+          slots = refl;
+          home_else = λ q else. refl;
+          part_else = λ q else. λ i. record (part_at (waits s) q me.0) { fast = owned_else place q (Lose number) me.0.fast else i };
+          holder_else = λ q else. refl;
+        }) refl (r.views id me.0 seat).1 (n - one)
+        (rw (holders_again s place id me.0 w seat refl, but_here place number me.0.fast)
+        (fast_cell key c ok id was part_there left (may.counted_so.1.key, key_there)
+        (fewer_lawful key c ok id was part_there left fewer_pass fewer_count)
+        (let less = length_fewer (λ t. not (is_own place number t)) (own_at place me.0.fast) in let few = part_ok.few in omega arith)
+        (each_fewer (NoteAgrees ok.book) (λ t. not (is_own place number t)) (own_at place me.0.fast) part_ok.versions_agree.fast)
+        (n - one) left_counted.1
+        (fewer_covers key c ok id was part_there left fewer_pass fewer_count))))
+
+  pub releases_fast_allowed : Allows Rule slots id me (lock_word place) (λ x. (x + (2 ^ 64 - one)) % 2 ^ 64) (releases_fast number (step slots (lock_word place) one 0 none) me)
+  releases_fast_allowed s r size seat fits =
+      ((released_fast place number (n s r size seat) me).0, keeps, tt, released_rule s r size seat, (refl, λ q here. (let same : place ≡ q = omega arith in λ i. released_fast (same i) number (n s r size seat) me)))

@@ -1,0 +1,162 @@
+-- The steps of a lock word's fast path: what each changes in the view of its session, and when it may be made. A fast ticket is in no list:
+-- the lock's word counts it. After MySQL 5.7, sql/mdl.cc: the fast paths of `MDL_context::try_acquire_lock_impl` and
+-- `MDL_context::release_lock`, and `MDL_context::materialize_fast_path_locks`.
+use Rattle.std.specs.Prelude.{◌≡◌, ◌≢◌, ℕ, ◌+◌, ◌<◌, ◌≤◌, ◌==◌, not, true, false, Bool, List, [], ◌∷◌, ◌++◌, map, filter, length, Contains, Option, Some, None, ◌⊎◌}
+use Rattle.std.specs.List.{list_any}
+use lib.ListN.{get_elem?}
+use mathlib.Core.Option.{some}
+use Rattle.atomic_table.specs.Table.{Step, rest}
+use Rattle.mdl_key.specs.declared.mode.Mode.{Mode}
+use Rattle.mdl_key.specs.declared.namespace.Kind.{Kind}
+use Rattle.mdl_key.specs.Words.{kind_of}
+use Rattle.mdl_word.specs.Words.{encode, increment_of, obtrusive_flag}
+use Rattle.mdl_book.specs.declared.book_view.BookView.{BookView}
+use Rattle.mdl_book.specs.declared.ticket.Ticket.{Ticket}
+use Rattle.mdl_book.specs.Books.{lock_kind}
+use Rattle.mdl_book.specs.Tickets.{ticket_of}
+use Rattle.mdl_steps.specs.declared.slot.Slot.{Slot}
+use Rattle.mdl_steps.specs.declared.slot.Slot.TheVariants as slot
+use Rattle.mdl_steps.specs.declared.view.Held.{Held}
+use Rattle.mdl_steps.specs.declared.view.Known.{Known}
+use Rattle.mdl_steps.specs.declared.view.Own.{Own}
+use Rattle.mdl_steps.specs.declared.view.View.{View}
+use Rattle.mdl_steps.specs.Cells.{counted, held_at, note_at, own_at, ticket_by}
+use Rattle.mdl_steps.specs.Deeds.{KnowsPlace, is_own}
+use Rattle.mdl_steps.specs.Layout.{lock_word}
+use Rattle.mdl_steps.specs.Lists.{Each, Once}
+use Rattle.mdl_steps.specs.Plays.{Mine, changed, logged}
+
+-- ---- the view
+
+-- the word of a place was read, or an exchange failed there. Nothing else changed
+abbrev pub met_word : ℕ → ℕ → Mine → Mine
+met_word place found m = (logged (lock_word place) found m.0.latches m.0, m.1)
+
+-- a fast ticket of the next number
+abbrev pub fast_own : ℕ → ℕ → Mode → Option ℕ → Own
+fast_own number place mode noted = record { number = number; place = place; mode = mode; noted = noted }
+
+-- a fast ticket was granted
+abbrev pub granted_fast : ℕ → Mode → Option ℕ → ℕ → Mine → Mine
+granted_fast place mode noted found m =
+    let v = record m.0 { fast = m.0.fast ++ fast_own m.0.next place mode noted ∷ []; next = m.0.next + 1 } in
+    (logged (lock_word place) found m.0.latches v, m.1)
+
+-- the tickets without the one with this number at a place
+abbrev pub but_own : ℕ → ℕ → List Own → List Own
+but_own place number tickets = filter (λ t. not (is_own place number t)) tickets
+
+-- a fast ticket was released
+abbrev pub released_fast : ℕ → ℕ → ℕ → Mine → Mine
+released_fast place number found m =
+    let v = record m.0 { fast = but_own place number m.0.fast } in
+    (logged (lock_word place) found m.0.latches v, m.1)
+
+-- the fast tickets that a session has at a place, as they are listed in a book
+abbrev pub moved : ℕ → View → List Ticket
+moved place v = map (ticket_by v.number) (own_at place v.fast)
+
+-- the book with these tickets at the end of the granted list
+abbrev pub granting_all : List Ticket → BookView → BookView
+granting_all tickets book = record book { granted = book.granted ++ tickets }
+
+-- the record of a latch with such a book
+abbrev pub with_granted : List Ticket → Held → Held
+with_granted tickets h = record h { book = granting_all tickets h.book }
+
+-- the tickets at other places
+abbrev pub but_at : ℕ → List Own → List Own
+but_at place tickets = filter (λ t. not (t.place == place)) tickets
+
+-- whether a number is in a list
+abbrev pub is_among : List ℕ → ℕ → Bool
+is_among numbers number = list_any (λ n. n == number) numbers
+
+-- the tickets whose numbers are in a list, and the others
+abbrev pub numbered_among : List ℕ → List Own → List Own
+numbered_among numbers tickets = filter (λ t. is_among numbers t.number) tickets
+
+abbrev pub numbered_else : List ℕ → List Own → List Own
+numbered_else numbers tickets = filter (λ t. not (is_among numbers t.number)) tickets
+
+-- the fast tickets at a place became slow ones: the record of the latch has them granted in the book. `slow` are all slow tickets afterwards
+abbrev pub materialised : ℕ → List Own → ℕ → Mine → Mine
+materialised place slow found m =
+    let v = changed place (with_granted (moved place m.0)) (record m.0 { fast = but_at place m.0.fast; slow = slow }) in
+    (logged (lock_word place) found v.latches v, m.1)
+
+-- ---- when it may be done
+
+-- `noted` is none, or a version that the session noted under a ticket at the place
+abbrev pub NotedThere : ℕ → Option ℕ → View → Type 0
+NotedThere place noted v = (version : ℕ) → noted ≡ Some version → (note_at place v.fast ≡ Some version) ⊎ (note_at place v.slow ≡ Some version)
+
+-- the session knows the key of the place, and the word counts a fast ticket in this mode by adding `one`
+abbrev pub IsCounted : View → ℕ → Mode → ℕ → Type 0
+IsCounted v place mode one =
+    (i : ℕ) × (k : Known) × (get_elem? v.known i ≡ some k) × (k.place ≡ place) × (increment_of (kind_of k.key.namespace) mode ≡ Some one)
+
+-- a fast ticket may be granted, if the flag OBTRUSIVE is down: the session waits for nothing, and has fewer than 1,023 fast tickets there
+pub record MayGrantFast (place : ℕ) (mode : Mode) (noted : Option ℕ) (one : ℕ) (m : Mine) : Type 0 where
+  pub idle : m.0.asks ≡ None
+  pub counted_so : IsCounted m.0 place mode one
+  pub few : length (own_at place m.0.fast) < 1023
+  pub noted_there : NotedThere place noted m.0
+
+-- a fast ticket may be released: it is the session's only one with this number at the place, and the word counts it by `one`
+pub record MayReleaseFast (place number one : ℕ) (m : Mine) : Type 0 where
+  pub ticket : Own
+  pub only : filter (is_own place number) m.0.fast ≡ ticket ∷ []
+  pub counted_so : IsCounted m.0 place ticket.mode one
+
+-- two tickets are the same, but perhaps for their modes
+abbrev pub IsAs : Own → Own → Type 0
+IsAs t u = (t.number ≡ u.number) × (t.place ≡ u.place) × (t.noted ≡ u.noted)
+
+-- `slow` are the slow tickets of a session after its fast ones at a place are added. Their order is free
+pub record AreJoined (place : ℕ) (v : View) (slow : List Own) : Type 0 where
+  pub same : (number : ℕ) →
+      ticket_of v.number number (map (ticket_by v.number) (own_at place slow)) ≡ ticket_of v.number number (map (ticket_by v.number) (own_at place v.slow) ++ moved place v)
+  pub elsewhere : (q : ℕ) → q ≢ place → own_at q slow ≡ own_at q v.slow
+  pub among : Each (λ t. (i : ℕ) × (u : Own) × (get_elem? (v.slow ++ v.fast) i ≡ some u) × IsAs t u) slow
+
+-- what these tickets add to a word
+abbrev pub weight_of : Kind → List Ticket → ℕ
+weight_of kind tickets = encode (counted kind 0 tickets) (counted kind 1 tickets) (counted kind 2 tickets) false false
+
+-- a session may materialise at a place: it holds the latch there, the flag SLOW is up by its record, and it waits for nothing. No two of its
+-- tickets there have the same number, and `weight` is what its fast ones add to the word
+pub record MayMaterialise (place : ℕ) (slow : List Own) (weight : ℕ) (h : Held) (m : Mine) : Type 0 where
+  pub recorded : held_at place m.0.latches ≡ Some h
+  pub raised : h.slow ≡ true
+  pub idle : m.0.asks ≡ None
+  pub known : KnowsPlace m.0 place
+  pub once : Once (moved place m.0)
+  pub apart : Each (λ t. ticket_of m.0.number t.number (map (ticket_by m.0.number) (own_at place m.0.slow)) ≡ None) (own_at place m.0.fast)
+  pub joined : AreJoined place m.0 slow
+  pub weight_is : weight ≡ weight_of (lock_kind h.book) (moved place m.0)
+
+-- ---- the kinds of step: the session keeps its number
+
+-- the word of a place is read without the latch
+abbrev pub reads_word_unlatched : Step Slot → Mine → ℕ → Mine → Type 0
+reads_word_unlatched st m found m′ =
+    (m′.0.number ≡ m.0.number) × ((place : ℕ) → st.word ≡ lock_word place → m′ ≡ met_word place found m)
+
+-- a fast ticket is granted if the exchange finds the word that it expects; otherwise nothing changes but the list of steps
+abbrev pub grants_fast : Mode → Option ℕ → Step Slot → Mine → ℕ → Mine → Type 0
+grants_fast mode noted st m found m′ =
+    (m′.0.number ≡ m.0.number)
+    × ((place : ℕ) → st.word ≡ lock_word place →
+    (found ≡ st.first → m′ ≡ granted_fast place mode noted found m)
+    × (found ≢ st.first → m′ ≡ met_word place found m))
+
+-- a fast ticket is released
+abbrev pub releases_fast : ℕ → Step Slot → Mine → ℕ → Mine → Type 0
+releases_fast number st m found m′ =
+    (m′.0.number ≡ m.0.number) × ((place : ℕ) → st.word ≡ lock_word place → m′ ≡ released_fast place number found m)
+
+-- a session's fast tickets at a place become slow ones, under the latch
+abbrev pub materialises : List Own → Step Slot → Mine → ℕ → Mine → Type 0
+materialises slow st m found m′ =
+    (m′.0.number ≡ m.0.number) × ((place : ℕ) → st.word ≡ lock_word place → m′ ≡ materialised place slow found m)

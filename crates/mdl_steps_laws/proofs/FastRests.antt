@@ -1,0 +1,203 @@
+-- Steps of the fast path by which nothing is done in the system, and that a session that waits has no fast ticket.
+use Rattle.std.proofs.Common.{◌≡◌, ◌≢◌, ℕ, zero, suc, ◌+◌, ◌-◌, ◌%◌, ◌^◌, inl, inr, List, [], ◌∷◌, ◌++◌, length, map, set, get_or, refl, sym, ap, ◌∙◌, subst}
+use Rattle.std.specs.Prelude.{◌⊎◌, Contains}
+use Rattle.std.proofs.lemmas.List.{map-set}
+use Rattle.std.proofs.lemmas.List.Elements.{Contains-append_left, Contains-append_right, Contains-append_cases}
+use mathlib.Core.Option.{some, some-injective, some-ne-none}
+use lib.ListN.{get_elem?}
+use Rattle.atomic_table.specs.Table.{State}
+use Rattle.atomic_table.proofs.Lists.{at_map, at_set, set_here}
+use Rattle.mdl_key.specs.Words.{KeyName}
+use Rattle.mdl_book.specs.declared.book_view.BookView.{BookView}
+use Rattle.mdl_book.specs.declared.ticket.Ticket.{Ticket}
+use Rattle.mdl_steps.specs.declared.slot.Slot.{Slot}
+use Rattle.mdl_steps.specs.declared.view.Own.{Own}
+use Rattle.mdl_steps.specs.declared.view.View.{View}
+use Rattle.mdl_steps.specs.Cells.{Part, all_fast, held_at, own_at, part_at, ticket_by, waits}
+use Rattle.mdl_steps.specs.FastPlays.{granting_all, materialised, met_word, moved, with_granted}
+use Rattle.mdl_steps.specs.Layout.{latch_word, lock_word, wait_word}
+use Rattle.mdl_steps.specs.Plays.{Mine}
+use Rattle.mdl_steps.specs.Rule.{Rule}
+use Rattle.mdl_steps.specs.RuleLaws.{fast_at}
+use Rattle.mdl_steps.proofs.FastSteps.{met_rule}
+use Rattle.mdl_steps.proofs.Materialising.{gone_here, kept_else, materialised_rule}
+use Rattle.mdl_steps.proofs.Views.{at_inside, held_at-changed, held_at-unchanged}
+use Rattle.mdl_steps.proofs.WaitSteps.{set_found}
+use Rattle.mdl_system.specs.Systems.{HasNoWait}
+use Rattle.mdl_system.proofs.MemberLemmas.{Contains-map_from, Contains-none}
+use Rattle.mdl_steps_laws.specs.FastLaws.{MaterialisingRests, ReadingUnlatchedRests, WaitersHaveNoFastTickets, after_word, word_at}
+use Rattle.mdl_steps_laws.specs.Locks.{Lock, AreLocksOf, IsBookAt, granted_of}
+use Rattle.mdl_steps_laws.proofs.FastEvents.{asks_nothing, fast_then, no_wait, same_by, standing_stays, waits_stay}
+use Rattle.mdl_steps_laws.proofs.SeatSteps.{all_fast-alike, any_waits}
+use Rattle.mdl_steps_laws.proofs.TableLocks.{find_key, first_place, ruled_book}
+use Rattle.mdl_steps_laws.proofs.ToldDeeds.{locks_once}
+use Rattle.mdl_steps_laws.proofs.WaitEvents.{in_locks, in_rule, inside, same_definitions, same_members, some_session}
+use Rattle.mdl_steps_laws.proofs.WaitMet.{waits_rest}
+
+-- ---- all sessions' fast tickets, where one session has none any more
+
+fast-kept : (parts : List Part) (id : ℕ) (y : Part) → y.fast ≡ [] → (t : Ticket) → Contains (all_fast (set parts id y)) t → Contains (all_fast parts) t
+fast-kept [] id y none t among = among
+fast-kept (z ∷ zs) zero y none t among =
+    Contains-append_right (map (ticket_by z.number) z.fast) (all_fast zs) t (subst (λ (ts : List Own). Contains (map (ticket_by y.number) ts ++ all_fast zs) t) none among)
+fast-kept (z ∷ zs) (suc id) y none t among = elim (Contains-append_cases (map (ticket_by z.number) z.fast) (all_fast (set zs id y)) t among) [
+  | inl here ↦ Contains-append_left (map (ticket_by z.number) z.fast) (all_fast zs) t here
+  | inr later ↦ Contains-append_right (map (ticket_by z.number) z.fast) (all_fast zs) t (fast-kept zs id y none t later)
+]
+
+fast-own : (parts : List Part) (id : ℕ) (x : Part) → get_elem? parts id ≡ some x → (t : Ticket) → Contains (map (ticket_by x.number) x.fast) t → Contains (all_fast parts) t
+fast-own [] id x at t among = absurd (some-ne-none x (sym at))
+fast-own (z ∷ zs) zero x at t among =
+    Contains-append_left (map (ticket_by z.number) z.fast) (all_fast zs) t (subst (λ (w : Part). Contains (map (ticket_by w.number) w.fast) t) (sym (some-injective z x at)) among)
+fast-own (z ∷ zs) (suc id) x at t among = Contains-append_right (map (ticket_by z.number) z.fast) (all_fast zs) t (fast-own zs id x at t among)
+
+fast-parted : (parts : List Part) (id : ℕ) (x y : Part) → get_elem? parts id ≡ some x → y.fast ≡ [] → (t : Ticket) → Contains (all_fast parts) t
+    → Contains (all_fast (set parts id y)) t ⊎ Contains (map (ticket_by x.number) x.fast) t
+fast-parted [] id x y at none t among = inl among
+fast-parted (z ∷ zs) zero x y at none t among = elim (Contains-append_cases (map (ticket_by z.number) z.fast) (all_fast zs) t among) [
+  | inl here ↦ inr (subst (λ (w : Part). Contains (map (ticket_by w.number) w.fast) t) (some-injective z x at) here)
+  | inr later ↦ inl (subst (λ (ts : List Own). Contains (map (ticket_by y.number) ts ++ all_fast zs) t) (sym none) later)
+]
+fast-parted (z ∷ zs) (suc id) x y at none t among = elim (Contains-append_cases (map (ticket_by z.number) z.fast) (all_fast zs) t among) [
+  | inl here ↦ inl (Contains-append_left (map (ticket_by z.number) z.fast) (all_fast (set zs id y)) t here)
+  | inr later ↦ elim (fast-parted zs id x y at none t later) [
+    | inl kept ↦ inl (Contains-append_right (map (ticket_by z.number) z.fast) (all_fast (set zs id y)) t kept)
+    | inr own ↦ inr own
+  ]
+]
+
+-- ---- to materialise
+
+pub materialising_rests : MaterialisingRests
+materialising_rests s r keys keys_are i key at id me seat slow weight h may =
+    let place : ℕ = suc i in
+    let gone : List Ticket = moved place me.0 in
+    let w : View = (materialised place slow (word_at s place) me).0 in
+    let n : ℕ = (word_at s place + (2 ^ 64 - weight)) % 2 ^ 64 in
+    let s′ : State Slot View = after_word s place n id (materialised place slow (word_at s place) me) in
+    let first = first_place s r i key (in_rule s r keys keys_are i key at) in
+    let last = inside s r keys keys_are i key at in
+    let some_number = some_session s r keys keys_are i key at id me.0 seat h may.recorded in
+    let r′ : Rule (after_word s place n id (materialised place slow (word_at s place) me)) = materialised_rule (length s.homes) id place me some_number first last slow weight h may s r refl seat in
+    let held_else : (q : ℕ) → q ≢ place → held_at q w.latches ≡ held_at q me.0.latches = λ q else. held_at-unchanged place (with_granted gone) (λ x. refl) q me.0.latches else in
+    let away : (q : ℕ) → q ≢ place → own_at q w.fast ≡ own_at q me.0.fast = λ q else. kept_else place q me.0.fast else in
+    let part_there = at_map (part_at (waits s) place) s.views id me.0 seat in
+    let none : (part_at (waits s) place w).fast ≡ [] = gone_here place me.0.fast in (
+      r′,
+      λ a b told told′.
+          let at_told = in_locks s r keys keys_are i key at told.0 told.1 in
+          let old : BookView = (told.0 key).book in
+          let book : BookView = granting_all gone (told.0 key).book in
+          let was = (told.1.book_is i key at_told).taken id me.0 seat h may.recorded in
+          let ruled = ruled_book s′ r′ place first last in
+          let now = ruled.taken id w (set_here s.views id w (at_inside s.views id me.0 seat)) (with_granted gone h) (held_at-changed place (with_granted gone) (λ x. refl) me.0.latches h may.recorded) in
+          let is : IsBookAt s′ place book = subst (IsBookAt s′ place) (sym now ∙ ap (granting_all gone) was) ruled in
+          let fast_is = told.1.fast_are i key at_told in
+          let fast_now = fast_then s r keys keys_are i key at id n me w seat refl refl held_else refl away place in
+          let parts : List Part = map (part_at (waits s) place) s.views in
+          let part : Part = part_at (waits s) place w in
+          let alike : (t : Ticket) → (Contains (fast_at s′ place ++ (old.granted ++ gone)) t → Contains ((told.0 key).fast ++ old.granted) t) × (Contains ((told.0 key).fast ++ old.granted) t → Contains (fast_at s′ place ++ (old.granted ++ gone)) t) =
+          λ t. (
+            (λ among. elim (Contains-append_cases (fast_at s′ place) (old.granted ++ gone) t among) [
+              | inl fast ↦ Contains-append_left (told.0 key).fast old.granted t
+                  (subst (λ ts. Contains ts t) (sym fast_is) (fast-kept parts id part none t (subst (λ ts. Contains ts t) fast_now fast)))
+              | inr listed ↦ elim (Contains-append_cases old.granted gone t listed) [
+                | inl granted ↦ Contains-append_right (told.0 key).fast old.granted t granted
+                | inr own ↦ Contains-append_left (told.0 key).fast old.granted t (subst (λ ts. Contains ts t) (sym fast_is) (fast-own parts id (part_at (waits s) place me.0) part_there t own))
+              ]
+            ]),
+            λ among. elim (Contains-append_cases (told.0 key).fast old.granted t among) [
+              | inl fast ↦ elim (fast-parted parts id (part_at (waits s) place me.0) part part_there none t (subst (λ ts. Contains ts t) fast_is fast)) [
+                | inl kept ↦ Contains-append_left (fast_at s′ place) (old.granted ++ gone) t (subst (λ ts. Contains ts t) (sym fast_now) kept)
+                | inr own ↦ Contains-append_right (fast_at s′ place) (old.granted ++ gone) t (Contains-append_right old.granted gone t own)
+              ]
+              | inr granted ↦ Contains-append_right (fast_at s′ place) (old.granted ++ gone) t (Contains-append_left old.granted gone t granted)
+            ],
+          ) in
+          record {
+            granted = same_by s r keys keys_are i key at id n me w seat refl refl held_else refl away r′ a b told told′ book is refl refl alike;
+            waits = waits_stay s r keys keys_are i key at id n me w seat refl refl held_else refl away r′ a b told told′ book is refl refl;
+            definitions = same_definitions told.0 told′.0 a b told.2 told′.2 (standing_stays s r keys keys_are i key at id n me w seat refl refl held_else refl away r′ a b told told′ book is refl refl);
+          },
+    )
+
+-- ---- to read a word
+
+module _ (s : State Slot View) (r : Rule s) (place id : ℕ) (me : Mine) (seat : get_elem? s.views id ≡ some me.0) where
+  abbrev w : View
+  w = (met_word place (word_at s place) me).0
+
+  abbrev s′ : State Slot View
+  s′ = after_word s place (word_at s place) id (met_word place (word_at s place) me)
+
+  words_same : set s.words (lock_word place) (get_or s.words (lock_word place) 0) ≡ s.words
+  words_same = set_found s.words (lock_word place)
+
+  any_word : (n : ℕ) → get_or (set s.words (lock_word place) (get_or s.words (lock_word place) 0)) n 0 ≡ get_or s.words n 0
+  any_word n = ap (λ ws. get_or ws n 0) words_same
+
+  fast_same : (q : ℕ) → fast_at s′ q ≡ fast_at s q
+  fast_same q =
+      any_waits (waits s′) (waits s) q (set s.views id w)
+      ∙ ap all_fast (map-set (part_at (waits s) q) s.views id w)
+      ∙ all_fast-alike (map (part_at (waits s) q) s.views) id (part_at (waits s) q me.0) (part_at (waits s) q w) (at_map (part_at (waits s) q) s.views id me.0 seat) refl
+
+  book_same : (q : ℕ) (b : BookView) → IsBookAt s q b → IsBookAt s′ q b
+  book_same q b is = record {
+    free = λ none. is.free (sym (any_word (latch_word q)) ∙ none);
+    taken = λ j u there h has. elim (at_set s.views id j w u there) [
+      | inl mine ↦ is.taken id me.0 seat h (ap (λ (x : View). held_at q x.latches) mine.1 ∙ has)
+      | inr other ↦ is.taken j u other.1 h has
+    ];
+  }
+
+  locks_stay : (locks : KeyName → Lock) → AreLocksOf s locks → AreLocksOf s′ locks
+  locks_stay locks are = record {
+    keys = are.keys;
+    keys_are = record {
+      free = λ none. are.keys_are.free (sym (any_word (latch_word 0)) ∙ none);
+      taken = λ j u there k has. elim (at_set s.views id j w u there) [
+        | inl mine ↦ are.keys_are.taken id me.0 seat k (ap (λ (x : View). x.directory) mine.1 ∙ has)
+        | inr other ↦ are.keys_are.taken j u other.1 k has
+      ];
+    };
+    fast_are = λ i key at. are.fast_are i key at ∙ sym (fast_same (suc i));
+    book_is = λ i key at. book_same (suc i) (locks key).book (are.book_is i key at);
+    without_place = are.without_place;
+  }
+
+pub reading_unlatched_rests : ReadingUnlatchedRests
+reading_unlatched_rests s r place first last id me seat =
+    let r′ : Rule (after_word s place (word_at s place) id (met_word place (word_at s place) me)) = met_rule (length s.homes) id place me first last s r refl seat in (
+      r′,
+      λ a b told told′.
+          let same : (k : KeyName) → told′.0 k ≡ told.0 k = locks_once (s′ s r place id me seat) r′ told′.0 told.0 told′.1 (locks_stay s r place id me seat told.0 told.1) in
+          record {
+            granted = same_members told.0 told′.0 a b told.2 told′.2 (λ k. ap granted_of (same k));
+            waits = waits_rest s id me.0 (w s r place id me seat) seat refl refl (set s.words (lock_word place) (word_at s place)) s.homes (λ m. any_word s r place id me seat (wait_word (length s.homes) m)) a b told told′
+                (λ k. ap (λ (l : Lock). l.book.waiting) (same k));
+            definitions = same_definitions told.0 told′.0 a b told.2 told′.2 (λ k. ap (λ (l : Lock). l.book.standing) (same k));
+          },
+    )
+
+-- ---- who waits has no fast ticket
+
+-- a fast ticket is that of some session
+fast_owner : (f : ℕ → ℕ) (q : ℕ) (views : List View) (t : Ticket) → Contains (all_fast (map (part_at f q) views)) t
+    → (j : ℕ) × (v : View) × (get_elem? views j ≡ some v) × (v.number ≡ t.session) × (v.fast ≢ [])
+fast_owner f q [] t among = absurd (Contains-none t among)
+fast_owner f q (v ∷ vs) t among = elim (Contains-append_cases (map (ticket_by v.number) (own_at q v.fast)) (all_fast (map (part_at f q) vs)) t among) [
+  | inl mine ↦
+      let from = Contains-map_from (ticket_by v.number) (own_at q v.fast) t mine in
+      (zero, v, refl, ap (λ (u : Ticket). u.session) (sym from.2), λ none. Contains-none from.0 (subst (λ (ts : List Own). Contains (own_at q ts) from.0) none from.1))
+  | inr later ↦ let rest = fast_owner f q vs t later in (suc rest.0, rest.1, rest.2, rest.3, rest.4)
+]
+
+pub waiters_have_no_fast_tickets : WaitersHaveNoFastTickets
+waiters_have_no_fast_tickets s r system told key t among = elim (find_key told.1.keys key) [
+  | inl at ↦
+      let owner = fast_owner (waits s) (suc at.0) s.views t (subst (λ ts. Contains ts t) (told.1.fast_are at.0 key at.1) among) in
+      let idle = asks_nothing owner.1.asks (λ a is. owner.4 ((r.views owner.0 owner.1 owner.2).0.unfast a is)) in
+      subst (HasNoWait system) owner.3 (no_wait s r owner.0 (owner.1, []) owner.2 idle system told)
+  | inr none ↦ absurd (Contains-none t (subst (λ (l : Lock). Contains l.fast t) (told.1.without_place key none) among))
+]

@@ -1,0 +1,76 @@
+-- The steps of a lock word's fast path, as events of the system that the table tells. Each changes the word of one place and the view of one
+-- session; a materialisation changes the record of the latch, too.
+use Rattle.std.specs.Prelude.{◌≡◌, ℕ, suc, ◌+◌, ◌-◌, ◌%◌, ◌^◌, ◌<◌, false, List, length, map, Option, None, Contains, slice_index, slice_set}
+use mathlib.Core.Option.{some}
+use lib.ListN.{get_elem?}
+use Rattle.atomic_table.specs.Table.{State}
+use Rattle.mdl_key.specs.declared.mode.Mode.{Mode}
+use Rattle.mdl_key.specs.Words.{KeyName}
+use Rattle.mdl_word.specs.Words.{obtrusive_flag}
+use Rattle.mdl_defs.specs.declared.definition.Definition.{Definition}
+use Rattle.mdl_book.specs.declared.ticket.Ticket.{Ticket}
+use Rattle.mdl_book.specs.Tickets.{ticket_of}
+use Rattle.mdl_steps.specs.declared.slot.Slot.{Slot}
+use Rattle.mdl_steps.specs.declared.view.Held.{Held}
+use Rattle.mdl_steps.specs.declared.view.Own.{Own}
+use Rattle.mdl_steps.specs.declared.view.View.{View}
+use Rattle.mdl_steps.specs.Cells.{own_at, ticket_by}
+use Rattle.mdl_steps.specs.FastPlays.{granted_fast, released_fast, materialised, met_word, MayGrantFast, MayReleaseFast, MayMaterialise}
+use Rattle.mdl_steps.specs.Layout.{lock_word}
+use Rattle.mdl_steps.specs.Plays.{Mine}
+use Rattle.mdl_steps.specs.Rule.{Rule}
+use Rattle.mdl_system.specs.BookLaws.{of_lock}
+use Rattle.mdl_system.specs.Events.{Grant, Release}
+use Rattle.mdl_system.specs.Systems.{System, HasNoWait}
+use Rattle.mdl_steps_laws.specs.Locks.{AreKeysOf}
+use Rattle.mdl_steps_laws.specs.WaitLaws.{Brings, IsTold, Rests}
+
+-- the word of a place's lock
+abbrev pub word_at : State Slot View → ℕ → ℕ
+word_at s place = slice_index s.words (lock_word place)
+
+-- the table after a step of a seat that leaves this word at a place
+abbrev pub after_word : State Slot View → ℕ → ℕ → ℕ → Mine → State Slot View
+after_word s place word id me = record {
+  words = slice_set s.words (lock_word place) word;
+  homes = s.homes;
+  views = slice_set s.views id me.0;
+}
+
+-- a fast grant is the event of a grant, also where the session has another ticket of the key: while the flag OBTRUSIVE is down, each wish that
+-- the word counts is grantable
+abbrev pub GrantingFastGrants : Type 0
+GrantingFastGrants =
+    (s : State Slot View) → Rule s → (keys : List KeyName) → AreKeysOf s keys → (i : ℕ) (key : KeyName) → get_elem? keys i ≡ some key →
+    (id : ℕ) (me : Mine) → get_elem? s.views id ≡ some me.0 → 0 < me.0.number →
+    (mode : Mode) (noted : Option ℕ) (one : ℕ) → MayGrantFast (suc i) mode noted one me → obtrusive_flag (word_at s (suc i)) ≡ false →
+    Brings (Grant (of_lock key (record { session = me.0.number; number = me.0.next; mode = mode })))
+    s (after_word s (suc i) (word_at s (suc i) + one) id (granted_fast (suc i) mode noted (word_at s (suc i)) me))
+
+-- a fast release is the event of a release, where no slow ticket of the session there has the same number
+abbrev pub ReleasingFastReleases : Type 0
+ReleasingFastReleases =
+    (s : State Slot View) → Rule s → (keys : List KeyName) → AreKeysOf s keys → (i : ℕ) (key : KeyName) → get_elem? keys i ≡ some key →
+    (id : ℕ) (me : Mine) → get_elem? s.views id ≡ some me.0 → 0 < me.0.number →
+    (number one : ℕ) (may : MayReleaseFast (suc i) number one me) → ticket_of me.0.number number (map (ticket_by me.0.number) (own_at (suc i) me.0.slow)) ≡ None →
+    Brings (Release (of_lock key (ticket_by me.0.number may.ticket)))
+    s (after_word s (suc i) ((word_at s (suc i) + (2 ^ 64 - one)) % 2 ^ 64) id (released_fast (suc i) number (word_at s (suc i)) me))
+
+-- to materialise under the latch is to do nothing: the session holds the same tickets, as slow ones
+abbrev pub MaterialisingRests : Type 0
+MaterialisingRests =
+    (s : State Slot View) → Rule s → (keys : List KeyName) → AreKeysOf s keys → (i : ℕ) (key : KeyName) → get_elem? keys i ≡ some key →
+    (id : ℕ) (me : Mine) → get_elem? s.views id ≡ some me.0 → (slow : List Own) (weight : ℕ) (h : Held) → MayMaterialise (suc i) slow weight h me →
+    Rests s (after_word s (suc i) ((word_at s (suc i) + (2 ^ 64 - weight)) % 2 ^ 64) id (materialised (suc i) slow (word_at s (suc i)) me))
+
+-- to read the word of a place without its latch, or to find there another than a fast grant expects, is to do nothing
+abbrev pub ReadingUnlatchedRests : Type 0
+ReadingUnlatchedRests =
+    (s : State Slot View) → Rule s → (place : ℕ) → 0 < place → place < length s.homes → (id : ℕ) (me : Mine) → get_elem? s.views id ≡ some me.0 →
+    Rests s (after_word s place (word_at s place) id (met_word place (word_at s place) me))
+
+-- a session that waits has no fast ticket, nor has one that hasn't ended its granted wait
+abbrev pub WaitersHaveNoFastTickets : Type 0
+WaitersHaveNoFastTickets =
+    (s : State Slot View) → Rule s → (system : System Definition) → (told : IsTold s system) →
+    (key : KeyName) (t : Ticket) → Contains (told.0 key).fast t → HasNoWait system t.session
