@@ -14,7 +14,7 @@ pages="README.md CHANGELOG.md docs/*.md crates/*/README.md $(ls examples/*.md 2>
 
 # The files whose public calls say in docs/LIBRARY.md whether they take memory.
 told="mdl_book/src/book.rt mdl_book/src/sessions.rt mdl_graph/src/cycle.rt mdl_graph/src/wait_graph.rt mdl_space/src/lock_space.rt
-    mdl_space/src/core_space.rt mdl_context/src/context.rt mdl_context/src/context/*.rt mdl_stmt/src/runner.rt mdl_stmt/src/reply.rt
+    mdl_space/src/core_space.rt mdl_context/src/context.rt mdl_context/src/context/*.rt mdl_stmt/src/runner.rt mdl_stmt/src/owned_runner.rt mdl_stmt/src/reply.rt
     mdl_stmt/src/error_number.rt mdl_syntax/src/lines.rt mdl_syntax/src/script.rt mdl_script/src/replaying.rt"
 
 # ---- what there is
