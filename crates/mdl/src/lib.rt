@@ -45,7 +45,7 @@ pub use mdl_space::{
     TicketId, TimedOut, Upgrade,
 };
 pub use mdl_stmt as stmt;
-pub use mdl_stmt::{ErrorNumber, Progress, Reply, Runner};
+pub use mdl_stmt::{ErrorNumber, OwnedRunner, Progress, Reply, Runner};
 pub use mdl_syntax as syntax;
 pub use mdl_syntax::{Line, Script, Statement, parse};
 pub use mdl_system as system;

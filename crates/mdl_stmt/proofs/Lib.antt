@@ -2,6 +2,7 @@ pub mod AlterLemmas
 pub mod CallLemmas
 pub mod DropLemmas
 pub mod EndLemmas
+pub mod KeepLemmas
 pub mod LeaveLemmas
 pub mod ListLemmas
 pub mod LockListLemmas

@@ -1,6 +1,8 @@
 pub mod Endings
 pub mod ErrorNumbers
 pub mod Gets
+pub mod Keepings
+pub mod KeptStages
 pub mod KeyOrder
 pub mod Leavings
 pub mod LockLists

@@ -42,6 +42,8 @@ mod ending;
 mod error_number;
 mod explicit;
 mod flushing;
+mod keeping;
+mod kept_stage;
 mod key_lists;
 mod leaving;
 mod lock_list;
@@ -49,6 +51,7 @@ mod lock_loops;
 mod locking;
 mod memory_laws;
 mod out_of_memory;
+mod owned_runner;
 mod performing;
 mod player;
 mod reading;
@@ -68,5 +71,6 @@ pub use memory_laws::{
     statements_tell_of_want, sure_statements,
 };
 pub use out_of_memory::OutOfMemory;
+pub use owned_runner::OwnedRunner;
 pub use reply::{Progress, Reply, TableShown, TablesShown};
 pub use runner::Runner;

@@ -122,8 +122,8 @@ impl<S: LockSpace> Player<S> {
         }
     }
 
-    /// Gives up a wait that can't be told. A ticket that it had gained is released.
-    fn drop_wait(&mut self, space: &mut S)
+    /// Gives up a wait that can't be told or kept. A ticket that it had gained is released.
+    pub(crate) fn drop_wait(&mut self, space: &mut S)
         requires attends { Attends S.speaks_for S.own S.knows space.old self.old.context }
         ensures run { IsDropped S.joins space.old self.old space.new self.new }
         ensures attends { Attends S.speaks_for S.own S.knows space.new self.new.context }

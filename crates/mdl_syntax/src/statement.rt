@@ -1,7 +1,10 @@
 //! Statements.
+ghost use Rattle.std.specs.Prelude.{◌≡◌};
+
 use crate::{Name, TableLocks, Tables};
 use mdl_defs::{Change, Columns};
 use mdl_key::Key;
+use std::alloc::AllocError;
 
 /// What a line asks a session to do.
 #[derive(Drop)]
@@ -59,6 +62,42 @@ pub enum Statement {
     Timeout,
 }
 
+impl Clone for Statement {
+    ghost is_clone = { λ statement copy. copy ≡ statement };
+
+    fn clone(&self) -> Result<Statement, AllocError> {
+        match self {
+            Statement::Begin => Ok(Statement::Begin),
+            Statement::Commit => Ok(Statement::Commit),
+            Statement::Rollback => Ok(Statement::Rollback),
+            Statement::Savepoint(name) => Ok(Statement::Savepoint(name.clone()?)),
+            Statement::RollbackTo(name) => Ok(Statement::RollbackTo(name.clone()?)),
+            Statement::Select(tables) => Ok(Statement::Select(tables.clone()?)),
+            Statement::Write { table, priority } => Ok(Statement::Write {
+                table: table.clone()?,
+                priority: *priority,
+            }),
+            Statement::CreateTable { table, columns } => Ok(Statement::CreateTable {
+                table: table.clone()?,
+                columns: columns.clone()?,
+            }),
+            Statement::CreateSchema(name) => Ok(Statement::CreateSchema(name.clone()?)),
+            Statement::DropTables(tables) => Ok(Statement::DropTables(tables.clone()?)),
+            Statement::DropSchema(name) => Ok(Statement::DropSchema(name.clone()?)),
+            Statement::RenameTable { from, to } => Ok(Statement::RenameTable {
+                from: from.clone()?,
+                to: to.clone()?,
+            }),
+            Statement::UnlockTables => Ok(Statement::UnlockTables),
+            Statement::FlushTablesWithReadLock => Ok(Statement::FlushTablesWithReadLock),
+            Statement::AlterTable(alteration) => Ok(Statement::AlterTable(alteration.clone()?)),
+            Statement::LockTables(tables) => Ok(Statement::LockTables(tables.clone()?)),
+            Statement::KillQuery(target) => Ok(Statement::KillQuery(*target)),
+            Statement::Timeout => Ok(Statement::Timeout),
+        }
+    }
+}
+
 /// What `ALTER TABLE` asks for.
 #[derive(Drop)]
 pub struct Alteration {
@@ -68,6 +107,18 @@ pub struct Alteration {
     pub change: Change,
     /// How it is altered.
     pub algorithm: Algorithm,
+}
+
+impl Clone for Alteration {
+    ghost is_clone = { λ alteration copy. copy ≡ alteration };
+
+    fn clone(&self) -> Result<Alteration, AllocError> {
+        Ok(Alteration {
+            table: self.table.clone()?,
+            change: self.change.clone()?,
+            algorithm: self.algorithm,
+        })
+    }
 }
 
 /// How a table is altered: MySQL's `ALGORITHM`.

@@ -15,6 +15,17 @@ pub struct TableLock {
     pub lock_type: LockType,
 }
 
+impl Clone for TableLock {
+    ghost is_clone = { λ lock copy. copy ≡ lock };
+
+    fn clone(&self) -> Result<TableLock, AllocError> {
+        Ok(TableLock {
+            table: self.table.clone()?,
+            lock_type: self.lock_type,
+        })
+    }
+}
+
 /// The tables that LOCK TABLES names, in order.
 #[derive(Drop)]
 pub struct TableLocks {
@@ -54,5 +65,15 @@ impl TableLocks {
         ensures { result.now ≡ self.now }
     {
         &self.list
+    }
+}
+
+impl Clone for TableLocks {
+    ghost is_clone = { λ locks copy. copy ≡ locks };
+
+    fn clone(&self) -> Result<TableLocks, AllocError> {
+        Ok(TableLocks {
+            list: self.list.clone()?,
+        })
     }
 }

@@ -1,0 +1,236 @@
+//! Statements that are over or wait, and are kept only in part while they wait.
+ghost use Rattle.std.specs.Prelude.{◌≡◌, None, Some};
+ghost use Rattle.mdl_calls.specs.Words.{Runs};
+ghost use Rattle.mdl_context.specs.Contexts.{Attends, LeavesOthers};
+ghost use Rattle.mdl_stmt.specs.Endings.{Begins_to_wait};
+ghost use Rattle.mdl_stmt.specs.Gets.{at_rest, ran, IdleUnlessPlayed};
+ghost use Rattle.mdl_stmt.specs.Keepings.{going_on_kept, keeping, play_kept, starting_kept, IsSettled};
+ghost use Rattle.mdl_stmt.specs.KeptStages.{rest_of_kept, rest_of_kept_dropping, rest_of_kept_dropping_schema, session_with};
+ghost use Rattle.mdl_stmt.specs.Playing.{with_left};
+ghost use Rattle.mdl_stmt.specs.Stages.{rest_of};
+
+use crate::ending::{Ending, Played};
+use crate::kept_stage::{KeptDropping, KeptDroppingSchema, KeptStage, KeptWork};
+use crate::player::{Player, ending_of_error, ending_of_loss};
+use crate::stage::{Dropping, DroppingSchema, Stage};
+use crate::{OutOfMemory, Progress};
+use mdl_context::{Mark, Resume};
+use mdl_key::{Key, Mode};
+use mdl_space::{LockSpace, TicketId};
+use mdl_syntax::Statement;
+
+/// How far a statement has come, and what is left of it if it waits.
+#[derive(Drop)]
+pub struct Turn {
+    pub(crate) progress: Result<Progress, OutOfMemory>,
+    pub(crate) work: Option<KeptWork>,
+}
+
+impl<S: LockSpace> Player<S> {
+    /// Starts a statement.
+    pub(crate) fn start_kept(&mut self, space: &mut S, statement: &Statement) -> Turn
+        requires attends { Attends S.speaks_for S.own S.knows space.old self.old.context }
+        requires idle { self.old.context.wait ≡ None }
+        ensures run { Runs S.joins space.old (starting_kept statement.now (at_rest self.old)) (ran result.progress (session_with self.new result.work)) space.new }
+        ensures attends { Attends S.speaks_for S.own S.knows space.new self.new.context }
+        ensures others { LeavesOthers S.speaks_for S.own S.knows self.old.context.who space.old space.new }
+        ensures who { self.new.context.who ≡ self.old.context.who }
+        ensures idle { result.work ≡ None → self.new.context.wait ≡ None }
+    {
+        let mark = self.context.savepoint();
+        let played = self.perform(space, statement);
+        self.settle(space, played, mark)
+    }
+
+    /// Goes on with a statement that waits.
+    pub(crate) fn go_on_kept(&mut self, space: &mut S, work: KeptWork) -> Turn
+        requires attends { Attends S.speaks_for S.own S.knows space.old self.old.context }
+        ensures run { Runs S.joins space.old (going_on_kept (session_with self.old (Some work))) (ran result.progress (session_with self.new result.work)) space.new }
+        ensures attends { Attends S.speaks_for S.own S.knows space.new self.new.context }
+        ensures others { LeavesOthers S.speaks_for S.own S.knows self.old.context.who space.old space.new }
+        ensures who { self.new.context.who ≡ self.old.context.who }
+        ensures idle { result.work ≡ None → self.new.context.wait ≡ None }
+    {
+        match self.context.resume(space) {
+            Ok(Resume::Waiting) => Turn {
+                progress: Ok(Progress::Pending),
+                work: Some(work),
+            },
+            Ok(Resume::Acquired(ticket)) => {
+                self.proceed_kept(space, work.stage, ticket, work.mark)
+            }
+            Ok(Resume::Lost(how)) => {
+                self.settle(space, Played::Ends(ending_of_loss(how)), work.mark)
+            }
+            Err(error) => self.settle(space, Played::Ends(ending_of_error(error)), work.mark),
+        }
+    }
+
+    // Goes on with a statement that has the lock that it waited for.
+    fn proceed_kept(
+        &mut self,
+        space: &mut S,
+        stage: KeptStage,
+        ticket: TicketId,
+        mark: Mark,
+    ) -> Turn
+        requires attends { Attends S.speaks_for S.own S.knows space.old self.old.context }
+        requires idle { self.old.context.wait ≡ None }
+        ensures run { Runs S.joins space.old (play_kept (rest_of_kept stage ticket) mark (at_rest self.old)) (ran result.progress (session_with self.new result.work)) space.new }
+        ensures attends { Attends S.speaks_for S.own S.knows space.new self.new.context }
+        ensures others { LeavesOthers S.speaks_for S.own S.knows self.old.context.who space.old space.new }
+        ensures who { self.new.context.who ≡ self.old.context.who }
+        ensures idle { result.work ≡ None → self.new.context.wait ≡ None }
+    {
+        match stage {
+            KeptStage::Commit(statement) => {
+                self.proceed_at(space, Stage::Commit(&statement), ticket, mark)
+            }
+            KeptStage::Select(tables, at, shown) => {
+                self.proceed_at(space, Stage::Select(&tables, at, shown), ticket, mark)
+            }
+            KeptStage::Write(at) => self.proceed_at(space, Stage::Write(at.lend()), ticket, mark),
+            KeptStage::Create(at) => self.proceed_at(space, Stage::Create(at.lend()), ticket, mark),
+            KeptStage::CreateSchema(at) => {
+                self.proceed_at(space, Stage::CreateSchema(at.lend()), ticket, mark)
+            }
+            KeptStage::Drop(at) => self.proceed_dropping(space, at, ticket, mark),
+            KeptStage::DropSchema(at) => self.proceed_dropping_schema(space, at, ticket, mark),
+            KeptStage::Rename { from, to, at } => {
+                let (from, to) = (&from, &to);
+                self.proceed_at(space, Stage::Rename { from, to, at }, ticket, mark)
+            }
+            KeptStage::Flush(at) => self.proceed_at(space, Stage::Flush(at), ticket, mark),
+            KeptStage::Alter(alteration, at) => {
+                self.proceed_at(space, Stage::Alter(&alteration, at), ticket, mark)
+            }
+            KeptStage::Lock(tables, at) => {
+                self.proceed_at(space, Stage::Lock(&tables, at), ticket, mark)
+            }
+        }
+    }
+
+    // Goes on with DROP TABLE.
+    fn proceed_dropping(
+        &mut self,
+        space: &mut S,
+        at: KeptDropping,
+        ticket: TicketId,
+        mark: Mark,
+    ) -> Turn
+        requires attends { Attends S.speaks_for S.own S.knows space.old self.old.context }
+        requires idle { self.old.context.wait ≡ None }
+        ensures run { Runs S.joins space.old (play_kept (rest_of_kept_dropping at ticket) mark (at_rest self.old)) (ran result.progress (session_with self.new result.work)) space.new }
+        ensures attends { Attends S.speaks_for S.own S.knows space.new self.new.context }
+        ensures others { LeavesOthers S.speaks_for S.own S.knows self.old.context.who space.old space.new }
+        ensures who { self.new.context.who ≡ self.old.context.who }
+        ensures idle { result.work ≡ None → self.new.context.wait ≡ None }
+    {
+        match at {
+            KeptDropping::Scopes(tables, locks) => {
+                let at = Dropping::Scopes(&tables, locks);
+                self.proceed_at(space, Stage::Drop(at), ticket, mark)
+            }
+            KeptDropping::Tables(locks) => {
+                self.proceed_at(space, Stage::Drop(Dropping::Tables(locks)), ticket, mark)
+            }
+        }
+    }
+
+    // Goes on with DROP SCHEMA.
+    fn proceed_dropping_schema(
+        &mut self,
+        space: &mut S,
+        at: KeptDroppingSchema,
+        ticket: TicketId,
+        mark: Mark,
+    ) -> Turn
+        requires attends { Attends S.speaks_for S.own S.knows space.old self.old.context }
+        requires idle { self.old.context.wait ≡ None }
+        ensures run { Runs S.joins space.old (play_kept (rest_of_kept_dropping_schema at ticket) mark (at_rest self.old)) (ran result.progress (session_with self.new result.work)) space.new }
+        ensures attends { Attends S.speaks_for S.own S.knows space.new self.new.context }
+        ensures others { LeavesOthers S.speaks_for S.own S.knows self.old.context.who space.old space.new }
+        ensures who { self.new.context.who ≡ self.old.context.who }
+        ensures idle { result.work ≡ None → self.new.context.wait ≡ None }
+    {
+        match at {
+            KeptDroppingSchema::Global(name) => {
+                let at = DroppingSchema::Global(&name);
+                self.proceed_at(space, Stage::DropSchema(at), ticket, mark)
+            }
+            KeptDroppingSchema::Schema(name) => {
+                let at = DroppingSchema::Schema(&name);
+                self.proceed_at(space, Stage::DropSchema(at), ticket, mark)
+            }
+            KeptDroppingSchema::Tables(schema, locks) => {
+                let at = DroppingSchema::Tables(schema, locks);
+                self.proceed_at(space, Stage::DropSchema(at), ticket, mark)
+            }
+        }
+    }
+
+    // Goes on with a statement at a stage.
+    fn proceed_at(&mut self, space: &mut S, stage: Stage<'_>, ticket: TicketId, mark: Mark) -> Turn
+        requires attends { Attends S.speaks_for S.own S.knows space.old self.old.context }
+        requires idle { self.old.context.wait ≡ None }
+        ensures run { Runs S.joins space.old (play_kept (rest_of stage.entry ticket) mark (at_rest self.old)) (ran result.progress (session_with self.new result.work)) space.new }
+        ensures attends { Attends S.speaks_for S.own S.knows space.new self.new.context }
+        ensures others { LeavesOthers S.speaks_for S.own S.knows self.old.context.who space.old space.new }
+        ensures who { self.new.context.who ≡ self.old.context.who }
+        ensures idle { result.work ≡ None → self.new.context.wait ≡ None }
+    {
+        let played = self.proceed(space, stage, ticket);
+        self.settle(space, played, mark)
+    }
+
+    /// Ends a statement that came so far, or keeps what is left of it while it waits.
+    pub(crate) fn settle(&mut self, space: &mut S, played: Played<'_>, mark: Mark) -> Turn
+        requires attends { Attends S.speaks_for S.own S.knows space.old self.old.context }
+        requires idle { IdleUnlessPlayed played self.old }
+        ensures run { IsSettled S.joins played.entry mark space.old self.old result space.new self.new }
+        ensures attends { Attends S.speaks_for S.own S.knows space.new self.new.context }
+        ensures others { LeavesOthers S.speaks_for S.own S.knows self.old.context.who space.old space.new }
+        ensures who { self.new.context.who ≡ self.old.context.who }
+        ensures idle { result.work ≡ None → self.new.context.wait ≡ None }
+    {
+        match played {
+            Played::Ends(ending) => Turn {
+                progress: self.close(space, ending, mark),
+                work: None,
+            },
+            Played::Waits(key, mode, stage) => self.keep_wait(space, key, mode, stage, mark),
+        }
+    }
+
+    // Keeps what is left of a statement that waits, or gives the wait up if there is no memory for that.
+    fn keep_wait(
+        &mut self,
+        space: &mut S,
+        key: Key,
+        mode: Mode,
+        stage: Stage<'_>,
+        mark: Mark,
+    ) -> Turn
+        requires attends { Attends S.speaks_for S.own S.knows space.old self.old.context }
+        ensures run { Runs S.joins space.old (keeping (Begins_to_wait key mode (with_left (at_rest self.old) (record { rest = rest_of stage.entry; mark = mark }))))
+            (ran result.progress (session_with self.new result.work)) space.new }
+        ensures attends { Attends S.speaks_for S.own S.knows space.new self.new.context }
+        ensures others { LeavesOthers S.speaks_for S.own S.knows self.old.context.who space.old space.new }
+        ensures who { self.new.context.who ≡ self.old.context.who }
+        ensures idle { result.work ≡ None → self.new.context.wait ≡ None }
+    {
+        match KeptStage::keep(self.alloc, stage) {
+            Ok(stage) => Turn {
+                progress: Ok(Progress::Waiting(key, mode)),
+                work: Some(KeptWork { stage, mark }),
+            },
+            Err(_) => {
+                self.drop_wait(space);
+                Turn {
+                    progress: self.close(space, Ending::Starves, mark),
+                    work: None,
+                }
+            }
+        }
+    }
+}
