@@ -32,8 +32,8 @@ pub(crate) enum Lock {
 }
 
 impl Lock {
-    // Its key.
-    fn key(self, alloc: Global) -> Result<Key, KeyError> {
+    /// Its key.
+    pub(crate) fn key(self, alloc: Global) -> Result<Key, KeyError> {
         match self {
             Lock::Global => Ok(Key::global(alloc)),
             Lock::Commit => Ok(Key::commit(alloc)),
@@ -43,8 +43,8 @@ impl Lock {
     }
 }
 
-// The session that has locks.
-const OTHER: u16 = 2;
+/// The session that has locks.
+pub(crate) const OTHER: u16 = 2;
 
 /// A space and the statements of its session 1. Its session 2 has locks.
 #[derive(Drop)]
@@ -128,7 +128,7 @@ fn say<'s>(
     outcome_of(runner.start(space, statement))
 }
 
-fn outcome_of(progress: Result<Progress, OutOfMemory>) -> Outcome {
+pub(crate) fn outcome_of(progress: Result<Progress, OutOfMemory>) -> Outcome {
     match progress {
         Ok(Progress::Done(reply)) => outcome_of_reply(&reply),
         Ok(Progress::Waiting(_, _)) | Ok(Progress::Pending) => Outcome::Waits,
@@ -147,14 +147,14 @@ fn outcome_of_reply(reply: &Reply) -> Outcome {
     }
 }
 
-fn held<S: LockSpace>(space: &S, who: u16) -> Option<usize>
+pub(crate) fn held<S: LockSpace>(space: &S, who: u16) -> Option<usize>
     requires { S.speaks_for space.now who }
 {
     let tickets = space.held(who).ok()?;
     Some(tickets.len())
 }
 
-fn place<S: LockSpace>(space: &mut S, who: u16, key: &Key) -> Option<Place>
+pub(crate) fn place<S: LockSpace>(space: &mut S, who: u16, key: &Key) -> Option<Place>
     requires { S.speaks_for space.old who }
     ensures speaks { S.speaks_for space.new who }
     ensures others { LeavesOthers S.speaks_for S.own S.knows who space.old space.new }
@@ -162,7 +162,12 @@ fn place<S: LockSpace>(space: &mut S, who: u16, key: &Key) -> Option<Place>
     space.resolve(who, key).ok()
 }
 
-fn take<S: LockSpace>(space: &mut S, who: u16, place: Place, mode: Mode) -> Option<TicketId>
+pub(crate) fn take<S: LockSpace>(
+    space: &mut S,
+    who: u16,
+    place: Place,
+    mode: Mode,
+) -> Option<TicketId>
     requires { S.speaks_for space.old who }
     ensures speaks { S.speaks_for space.new who }
     ensures others { LeavesOthers S.speaks_for S.own S.knows who space.old space.new }
@@ -193,7 +198,7 @@ fn changed<S: LockSpace>(space: &mut S, who: u16, id: TicketId, change: &Change)
     space.change_definition(who, id, change).ok()
 }
 
-fn leave<S: LockSpace>(space: &mut S, who: u16, id: TicketId) -> bool
+pub(crate) fn leave<S: LockSpace>(space: &mut S, who: u16, id: TicketId) -> bool
     requires { S.speaks_for space.old who }
     ensures speaks { S.speaks_for space.new who }
     ensures others { LeavesOthers S.speaks_for S.own S.knows who space.old space.new }
