@@ -1,50 +1,121 @@
--- Two sessions over one lock space, of which one makes calls.
-use Rattle.std.proofs.Common.{◌≡◌, ◌≢◌, ℕ, [], None, refl, ◌∙◌, arith}
+-- Sessions over one lock space, of which one makes calls.
+use Rattle.std.proofs.Common.{◌≡◌, ◌≢◌, ℕ, zero, suc, ◌<◌, ◌≤◌, ◌+◌, ◌-◌, List, [], ◌∷◌, ◌++◌, length, get_or, set, map, None, refl, sym, ap, ◌∙◌, subst, arith}
+use Rattle.std.specs.Prelude.{replicate}
+use Rattle.std.specs.List.{range_with_len}
 use Rattle.std.proofs.lemmas.List.Elements.{All-nil}
-use Rattle.mdl_core.specs.Words.{Core, SpeaksFor, own_at, Knows}
+use Rattle.mdl_calls.specs.Words.{Own}
+use Rattle.mdl_core.specs.Seats.{SeatView, empty_seat, own_of}
+use Rattle.mdl_core.specs.Words.{Core, SpeaksFor, empty_core, own_at, Knows}
 use Rattle.mdl_context.specs.Contexts.{ContextView, Attends, LeavesOthers}
 use Rattle.mdl_context.proofs.AttendLemmas.{attends-same}
-use Rattle.mdl_server_example.specs.Servers.{ServesBoth}
+use Rattle.mdl_stmt.specs.KeptStages.{OwnedView}
+use Rattle.mdl_server_example.specs.Servers.{AreServed, newcomer}
 
--- the other one has made a call
-still_attended : (before after : Core) (x : ContextView) (who : ℕ) → LeavesOthers SpeaksFor own_at Knows who before after → x.who ≢ who
+-- ---- one of them makes calls
+
+-- each of them is served
+served-at : (space : Core) (first i : ℕ) (xs : List OwnedView) (d : OwnedView) → AreServed space first xs → i < length xs
+    → ((get_or xs i d).context.who ≡ first + i) × Attends SpeaksFor own_at Knows space (get_or xs i d).context
+served-at space first i [] d served inside = absurd (omega (arith, inside))
+served-at space first zero (x ∷ xs) d served inside = (served.0 ∙ omega arith, served.1)
+served-at space first (suc i) (x ∷ xs) d served inside =
+    let rest = served-at space (first + 1) i xs d served.2 (omega (arith, inside)) in (rest.0 ∙ omega arith, rest.1)
+
+-- so is the one of this index
+pub served-one : (space : Core) (i : ℕ) (xs : List OwnedView) (x : OwnedView) → AreServed space 1 xs → i < length xs → x ≡ get_or xs i x
+    → (x.context.who ≡ 1 + i) × Attends SpeaksFor own_at Knows space x.context
+served-one space i xs x served inside here =
+    subst (λ (y : OwnedView). (y.context.who ≡ 1 + i) × Attends SpeaksFor own_at Knows space y.context) (sym here) (served-at space 1 i xs x served inside)
+
+-- another one has made calls
+still-attended : (before after : Core) (x : ContextView) (who : ℕ) → LeavesOthers SpeaksFor own_at Knows who before after → x.who ≢ who
     → Attends SpeaksFor own_at Knows before x → Attends SpeaksFor own_at Knows after x
-still_attended before after x who by other attends =
-    let kept = by x.who other attends.speaks in attends-same before after x attends kept.2 kept.0 kept.1
+still-attended before after x who leaves other attends =
+    let same = leaves x.who other attends.speaks in attends-same before after x attends same.2 same.0 same.1
 
--- the first has made a call
-pub first_then : (before after : Core) (first second x : ContextView) → ServesBoth before first second → x.who ≡ first.who
-    → Attends SpeaksFor own_at Knows after x → LeavesOthers SpeaksFor own_at Knows first.who before after → ServesBoth after x second
-first_then before after first second x both who attends by = record {
-  one = who ∙ both.one;
-  two = both.two;
-  first_served = attends;
-  second_served = still_attended before after second first.who by (λ e. omega (arith, e, both.one, both.two)) both.second_served;
-}
+-- an earlier one has
+still-served : (before after : Core) (first who : ℕ) (xs : List OwnedView) → LeavesOthers SpeaksFor own_at Knows who before after → who < first
+    → AreServed before first xs → AreServed after first xs
+still-served before after first who [] leaves later served = tt
+still-served before after first who (x ∷ xs) leaves later served = (
+  served.0,
+  still-attended before after x.context who leaves (λ e. omega (arith, served.0, e, later)) served.1,
+  still-served before after (first + 1) who xs leaves (omega (arith, later)) served.2,
+)
 
--- the second has made a call
-pub second_then : (before after : Core) (first second x : ContextView) → ServesBoth before first second → x.who ≡ second.who
-    → Attends SpeaksFor own_at Knows after x → LeavesOthers SpeaksFor own_at Knows second.who before after → ServesBoth after first x
-second_then before after first second x both who attends by = record {
-  one = both.one;
-  two = who ∙ both.two;
-  first_served = still_attended before after first second.who by (λ e. omega (arith, e, both.one, both.two)) both.first_served;
-  second_served = attends;
-}
+-- one of them has
+served-then : (before after : Core) (first i : ℕ) (xs : List OwnedView) (x : OwnedView) → AreServed before first xs → i < length xs
+    → x.context.who ≡ first + i → Attends SpeaksFor own_at Knows after x.context → LeavesOthers SpeaksFor own_at Knows (first + i) before after
+    → AreServed after first (set xs i x)
+served-then before after first i [] x served inside who attends leaves = absurd (omega (arith, inside))
+served-then before after first zero (y ∷ ys) x served inside who attends leaves =
+    (who ∙ omega arith, attends, still-served before after (first + 1) (first + 0) ys leaves (omega arith) served.2)
+served-then before after first (suc i) (y ∷ ys) x served inside who attends leaves =
+    let same : first + 1 + i ≡ first + suc i = omega arith in (
+      served.0,
+      still-attended before after y.context (first + suc i) leaves (λ e. omega (arith, served.0, e)) served.1,
+      served-then before after (first + 1) i ys x served.2 (omega (arith, inside)) (who ∙ sym same) attends
+          (subst (λ n. LeavesOthers SpeaksFor own_at Knows n before after) (sym same) leaves),
+    )
 
--- a new context of a session that has nothing
-fresh : (space : Core) (who : ℕ) (x : ContextView) → x ≡ record { who = who; kept = []; known = []; wait = None } → SpeaksFor space who
-    → own_at space who ≡ record { held = []; wait = None } → Attends SpeaksFor own_at Knows space x
-fresh space who x new speaks nothing =
-    rw new (record { speaks = speaks; serves = rw nothing (record { held = refl; wait = refl }); known = All-nil _; places = All-nil _; wish = tt })
+-- the one of this index has
+pub served-again : (before after : Core) (i : ℕ) (xs : List OwnedView) (x y : OwnedView) → AreServed before 1 xs → i < length xs → x ≡ get_or xs i x
+    → y.context.who ≡ x.context.who → Attends SpeaksFor own_at Knows after y.context → LeavesOthers SpeaksFor own_at Knows x.context.who before after
+    → AreServed after 1 (set xs i y)
+served-again before after i xs x y served inside here who attends leaves =
+    let whose = (served-one before i xs x served inside here).0 in
+    served-then before after 1 i xs y served inside (who ∙ whose) attends (subst (λ n. LeavesOthers SpeaksFor own_at Knows n before after) whose leaves)
 
--- two sessions that have nothing
-pub fresh_both : (space : Core) (first second : ContextView) → first ≡ record { who = 1; kept = []; known = []; wait = None }
-    → second ≡ record { who = 2; kept = []; known = []; wait = None } → SpeaksFor space 1 → SpeaksFor space 2
-    → own_at space 1 ≡ record { held = []; wait = None } → own_at space 2 ≡ record { held = []; wait = None } → ServesBoth space first second
-fresh_both space first second is_first is_second speaks_first speaks_second first_own second_own = record {
-  one = rw is_first refl;
-  two = rw is_second refl;
-  first_served = fresh space 1 first is_first speaks_first first_own;
-  second_served = fresh space 2 second is_second speaks_second second_own;
-}
+-- the first of them has left
+pub served-rest : (before after : Core) (first : ℕ) (x : OwnedView) (xs all : List OwnedView) → all ≡ x ∷ xs → AreServed before first all
+    → LeavesOthers SpeaksFor own_at Knows x.context.who before after → AreServed after (first + 1) xs
+served-rest before after first x xs all same served leaves =
+    let each = subst (AreServed before first) same served in
+    still-served before after (first + 1) x.context.who xs leaves (omega (arith, each.0)) each.2
+
+-- ---- they are new
+
+map-more : {A : Type 0} (f : ℕ → A) (a n m : ℕ) → a + n ≡ m → map f (range_with_len a n) ++ f m ∷ [] ≡ map f (range_with_len a (suc n))
+map-more f a zero m same = let here : m ≡ a = omega (arith, same) in ap (λ k. f k ∷ []) here
+map-more f a (suc n) m same = ap (λ xs. f a ∷ xs) (map-more f (a + 1) n m (omega (arith, same)))
+
+-- one more session
+pub new-more : (xs : List OwnedView) (n : ℕ) → xs ≡ map newcomer (range_with_len 1 n) → xs ++ newcomer (n + 1) ∷ [] ≡ map newcomer (range_with_len 1 (n + 1))
+new-more xs n so =
+    let count : suc n ≡ n + 1 = omega arith in
+    ap (λ ys. ys ++ newcomer (n + 1) ∷ []) so ∙ map-more newcomer 1 n (n + 1) (omega arith) ∙ ap (λ k. map newcomer (range_with_len 1 k)) count
+
+abbrev nothing : Own
+nothing = record { held = []; wait = None }
+
+-- what these have is nothing
+abbrev AreFresh : List SeatView → Type 0
+AreFresh [] = Unit {0}
+AreFresh (seat ∷ seats) = (own_of seat ≡ nothing) × AreFresh seats
+
+fresh-replicate : (n : ℕ) → AreFresh (replicate n empty_seat)
+fresh-replicate zero = tt
+fresh-replicate (suc n) = (refl, fresh-replicate n)
+
+fresh-at : (seats : List SeatView) (i : ℕ) → AreFresh seats → own_of (get_or seats i empty_seat) ≡ nothing
+fresh-at [] i fresh = refl
+fresh-at (seat ∷ seats) zero fresh = fresh.0
+fresh-at (seat ∷ seats) (suc i) fresh = fresh-at seats i fresh.1
+
+attended-new : (space : Core) (who : ℕ) → SpeaksFor space who → own_at space who ≡ nothing → Attends SpeaksFor own_at Knows space (newcomer who).context
+attended-new space who speaks has =
+    record { speaks = speaks; serves = rw has (record { held = refl; wait = refl }); known = All-nil _; places = All-nil _; wish = tt }
+
+served-new : (space : Core) (a n : ℕ) → ((who : ℕ) → a ≤ who → who < a + n → SpeaksFor space who) → ((who : ℕ) → own_at space who ≡ nothing)
+    → AreServed space a (map newcomer (range_with_len a n))
+served-new space a zero speaks has = tt
+served-new space a (suc n) speaks has =
+    (refl, attended-new space a (speaks a (omega arith) (omega arith)) (has a), served-new space (a + 1) n (λ who least most. speaks who (omega (arith, least)) (omega (arith, most))) has)
+
+-- a new space serves new sessions
+pub served-first : (space : Core) (places n : ℕ) (xs : List OwnedView) → space ≡ empty_core places n → ((who : ℕ) → 1 ≤ who → who ≤ n → SpeaksFor space who)
+    → xs ≡ map newcomer (range_with_len 1 n) → AreServed space 1 xs
+served-first space places n xs made speaks new =
+    subst (AreServed space 1) (sym new)
+    (served-new space 1 n (λ who least most. speaks who least (omega (arith, most)))
+    (λ who. ap (λ (core : Core). own_at core who) made ∙ fresh-at (replicate n empty_seat) (who - 1) (fresh-replicate n)))

@@ -1,11 +1,16 @@
--- Two sessions over one lock space, that of one thread.
-use Rattle.std.specs.Prelude.{◌≡◌}
+-- Sessions over one lock space, that of one thread.
+use Rattle.std.specs.Prelude.{◌≡◌, ℕ, ◌+◌, List, [], ◌∷◌, None}
 use Rattle.mdl_core.specs.Words.{Core, SpeaksFor, own_at, Knows}
-use Rattle.mdl_context.specs.Contexts.{ContextView, Attends}
+use Rattle.mdl_context.specs.Contexts.{Attends}
+use Rattle.mdl_stmt.specs.KeptStages.{OwnedView}
+use Rattle.mdl_stmt.specs.States.{at_first}
 
--- the contexts are those of the sessions 1 and 2, and the space serves both
-pub record ServesBoth (space : Core) (first second : ContextView) : Type 0 where
-  pub one : first.who ≡ 1
-  pub two : second.who ≡ 2
-  pub first_served : Attends SpeaksFor own_at Knows space first
-  pub second_served : Attends SpeaksFor own_at Knows space second
+-- a session that has done nothing
+abbrev pub newcomer : ℕ → OwnedView
+newcomer who = record { context = record { who = who; kept = []; known = []; wait = None }; state = at_first; work = None }
+
+-- these are the sessions from this number on, and the space serves each of them
+abbrev pub AreServed : Core → ℕ → List OwnedView → Type 0
+AreServed space who [] = Unit {0}
+AreServed space who (session ∷ sessions) =
+    (session.context.who ≡ who) × Attends SpeaksFor own_at Knows space session.context × AreServed space (who + 1) sessions

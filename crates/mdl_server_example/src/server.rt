@@ -1,131 +1,152 @@
-//! The server: a lock space, and the statements of two sessions over it.
-ghost use Rattle.std.specs.Prelude.{◌≡◌};
+//! The server: a lock space, and the statements of its sessions.
+ghost use Rattle.std.specs.Prelude.{◌≡◌, ◌<◌, IfOk, IfSome, length, map};
+ghost use Rattle.std.specs.List.{range_with_len};
 ghost use Rattle.mdl_core.specs.Words.{SpeaksFor, own_at, Knows};
 ghost use Rattle.mdl_context.specs.Contexts.{Attends, LeavesOthers};
+ghost use Rattle.mdl_server_example.specs.Servers.{AreServed, newcomer};
 
 use mdl_space::{CoreSpace, NewError};
-use mdl_stmt::{OutOfMemory, Progress, Runner};
+use mdl_stmt::{OutOfMemory, OwnedRunner, Progress};
 use mdl_syntax::Statement;
-use std::alloc::Global;
+use std::alloc::{AllocError, Global};
 use std::marker::Model;
 
-// How many keys can be locked, and how many sessions there are.
+// How many keys can be locked.
 const PLACES: u16 = 256;
 
-const SESSIONS: u16 = 2;
-
-/// Which of the two sessions.
-#[derive(Clone, Copy, Debug, PartialEq, Eq)]
-pub enum Who {
-    /// Session 1.
-    First,
-    /// Session 2.
-    Second,
-}
-
-impl Who {
-    /// The session of a number, if there is one.
-    pub fn of(number: u16) -> Option<Who> {
-        match number {
-            1 => Some(Who::First),
-            2 => Some(Who::Second),
-            _ => None,
-        }
-    }
-
-    /// The number of the session.
-    pub fn number(self) -> u16 {
-        match self {
-            Who::First => 1,
-            Who::Second => 2,
-        }
-    }
-}
-
-/// A lock space, and a runner for each of its sessions. A session's statements go through its runner alone, which knows what the session
-/// holds and waits for.
+/// What the server answers.
 #[derive(Drop)]
-pub struct Server<'s> {
-    space: CoreSpace,
-    first: Runner<'s, CoreSpace>,
-    second: Runner<'s, CoreSpace>,
+pub enum Answer {
+    /// The statement has come this far.
+    Progress(Progress),
+    /// There was no memory for the statement. It has ended.
+    OutOfMemory,
+    /// An earlier statement of the session still waits, so this one isn't started.
+    Busy,
+    /// There is no such session.
+    NoSession,
 }
 
-// The space serves both runners, which is what their calls ask for.
-impl<'s> Model for Server<'s> {
-    ghost use Rattle.mdl_server_example.specs.Servers.{ServesBoth};
+impl From<Result<Progress, OutOfMemory>> for Answer {
+    fn from(outcome: Result<Progress, OutOfMemory>) -> Answer {
+        match outcome {
+            Ok(progress) => Answer::Progress(progress),
+            Err(OutOfMemory) => Answer::OutOfMemory,
+        }
+    }
+}
+
+/// A lock space, and a runner for each of its sessions: session 1 has the first. All statements of a session go through its runner, which
+/// knows what the session holds and waits for.
+#[derive(Drop)]
+pub struct Server {
+    space: CoreSpace,
+    runners: Vec<OwnedRunner<CoreSpace>>,
+}
+
+// The space serves each runner, which is what their calls require.
+impl Model for Server {
+    ghost use Rattle.mdl_server_example.specs.Servers.{AreServed};
 
     ghost Value = { Unit };
 
     ghost view = { λ _. tt };
 
-    ghost invariant = { λ server. ServesBoth server.space server.first.context server.second.context };
+    ghost invariant = { λ server. AreServed server.space 1 server.runners.items };
 }
 
-impl<'s> Server<'s> {
-    /// Nobody has asked for anything.
-    pub fn new(alloc: Global) -> Result<Server<'s>, NewError> {
-        let space = CoreSpace::new(alloc, PLACES, SESSIONS)?;
-        Ok(Server {
-            space,
-            first: Runner::new(alloc, 1),
-            second: Runner::new(alloc, 2),
-        })
-    }
-
-    /// Starts a statement of a session, unless the session waits.
-    pub fn start(
-        &mut self,
-        who: Who,
-        statement: &'s Statement,
-    ) -> Result<Option<Progress>, OutOfMemory> {
-        match who {
-            Who::First => start(&mut self.space, &mut self.first, statement),
-            Who::Second => start(&mut self.space, &mut self.second, statement),
+impl Server {
+    /// A server for the sessions from 1 to this number. None of them holds a lock.
+    pub fn new(alloc: Global, sessions: u16) -> Result<Server, NewError> {
+        let space = CoreSpace::new(alloc, PLACES, sessions)?;
+        match new_runners(alloc, sessions) {
+            Ok(runners) => Ok(Server { space, runners }),
+            Err(AllocError) => Err(NewError::OutOfMemory),
         }
     }
 
-    /// Lets the statement of a session go on, if it waits and its wait is settled.
-    pub fn go_on(&mut self, who: Who) -> Result<Option<Progress>, OutOfMemory> {
-        match who {
-            Who::First => go_on(&mut self.space, &mut self.first),
-            Who::Second => go_on(&mut self.space, &mut self.second),
+    /// Starts a statement of a session, unless the session waits. The statement isn't kept.
+    pub fn start(&mut self, who: u16, statement: &Statement) -> Answer {
+        match index_of(&self.runners, who) {
+            Some(index) => start(&mut self.space, &mut self.runners[index], statement),
+            None => Answer::NoSession,
         }
     }
+
+    /// Goes on with the statement of a session, if it waits and its wait is settled.
+    pub fn go_on(&mut self, who: u16) -> Option<Answer> {
+        let index = index_of(&self.runners, who)?;
+        go_on(&mut self.space, &mut self.runners[index])
+    }
+
+    /// Ends all sessions: each gives up its wait and its locks.
+    pub fn close(self) {
+        let Server { mut space, runners } = self;
+        leave_all(&mut space, runners);
+    }
+}
+
+// The index of a session's runner, if there is such a session.
+fn index_of(runners: &[OwnedRunner<CoreSpace>], who: u16) -> Option<usize>
+    ensures { IfSome result (λ index. index < length runners.now) }
+{
+    let index = usize::from(who).checked_sub(1)?;
+    if index < runners.len() {
+        Some(index)
+    } else {
+        None
+    }
+}
+
+// The runners of the sessions from 1 to this number.
+fn new_runners(alloc: Global, sessions: u16) -> Result<Vec<OwnedRunner<CoreSpace>>, AllocError>
+    ensures { IfOk result (λ runners. runners.items ≡ map newcomer (range_with_len 1 sessions)) }
+{
+    let mut runners = Vec::new(alloc);
+    for index in 0..sessions {
+        runners.push(OwnedRunner::new(alloc, index + 1))?;
+    }
+    Ok(runners)
 }
 
 // Starts a statement, unless the session waits.
-fn start<'s>(
+fn start(
     space: &mut CoreSpace,
-    runner: &mut Runner<'s, CoreSpace>,
-    statement: &'s Statement,
-) -> Result<Option<Progress>, OutOfMemory>
+    runner: &mut OwnedRunner<CoreSpace>,
+    statement: &Statement,
+) -> Answer
     requires { Attends SpeaksFor own_at Knows space.old runner.old.context }
     ensures attends { Attends SpeaksFor own_at Knows space.new runner.new.context }
     ensures who { runner.new.context.who ≡ runner.old.context.who }
     ensures others { LeavesOthers SpeaksFor own_at Knows runner.old.context.who space.old space.new }
 {
     if runner.is_waiting() {
-        return Ok(None);
+        return Answer::Busy;
     }
-    Ok(Some(runner.start(space, statement)?))
+    runner.start(space, statement).into()
 }
 
-// Lets a statement that waits go on. While the wait isn't settled it is pending, and there is nothing new.
-fn go_on<'s>(
-    space: &mut CoreSpace,
-    runner: &mut Runner<'s, CoreSpace>,
-) -> Result<Option<Progress>, OutOfMemory>
+// Goes on with a statement that waits. While its wait isn't settled there is nothing to answer.
+fn go_on(space: &mut CoreSpace, runner: &mut OwnedRunner<CoreSpace>) -> Option<Answer>
     requires { Attends SpeaksFor own_at Knows space.old runner.old.context }
     ensures attends { Attends SpeaksFor own_at Knows space.new runner.new.context }
     ensures who { runner.new.context.who ≡ runner.old.context.who }
     ensures others { LeavesOthers SpeaksFor own_at Knows runner.old.context.who space.old space.new }
 {
     if !runner.is_waiting() {
-        return Ok(None);
+        return None;
     }
-    match runner.go_on(space)? {
-        Progress::Pending => Ok(None),
-        progress => Ok(Some(progress)),
+    match runner.go_on(space) {
+        Ok(Progress::Pending) => None,
+        outcome => Some(outcome.into()),
+    }
+}
+
+// Ends the sessions of these runners, one after the other.
+fn leave_all(space: &mut CoreSpace, runners: Vec<OwnedRunner<CoreSpace>>)
+    requires { AreServed space.old 1 runners.items }
+{
+    for runner in runners {
+        runner.leave(space);
     }
 }

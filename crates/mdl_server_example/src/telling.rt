@@ -1,11 +1,20 @@
-//! How far statements come, in words.
-use crate::server::Who;
+//! The server's answers in words.
+use crate::server::Answer;
 use mdl_stmt::{Progress, Reply, TableShown};
 use std::io::{self, Write};
 
-/// Tells how far the statement of a session has come.
-pub fn tell<W: Write>(output: &mut W, who: Who, progress: &Progress) -> io::Result<()> {
-    let who = who.number();
+/// Prints what the server answers a session.
+pub fn tell<W: Write>(output: &mut W, who: u16, answer: &Answer) -> io::Result<()> {
+    match answer {
+        Answer::Progress(progress) => tell_progress(output, who, progress),
+        Answer::OutOfMemory => writeln!(output, "session {who}: out of memory"),
+        Answer::Busy => writeln!(output, "session {who} is busy"),
+        Answer::NoSession => writeln!(output, "there is no session {who}"),
+    }
+}
+
+// Prints how far a statement has come.
+fn tell_progress<W: Write>(output: &mut W, who: u16, progress: &Progress) -> io::Result<()> {
     match progress {
         Progress::Waiting(key, mode) => writeln!(output, "session {who} waits for {key} in {mode}"),
         Progress::Pending => writeln!(output, "session {who} still waits"),
@@ -13,7 +22,7 @@ pub fn tell<W: Write>(output: &mut W, who: Who, progress: &Progress) -> io::Resu
     }
 }
 
-// Tells how a statement has ended.
+// Prints how a statement has ended.
 fn tell_reply<W: Write>(output: &mut W, who: u16, reply: &Reply) -> io::Result<()> {
     match reply {
         Reply::Ok => writeln!(output, "session {who}: done"),

@@ -1,12 +1,6 @@
--- A new space serves both sessions.
-use Rattle.std.proofs.Common.{ap, arith}
-use Rattle.mdl_core.specs.Words.{own_at}
-use Rattle.mdl_server_example.proofs.ServerLemmas.{fresh_both}
+-- A new space serves its sessions.
+use Rattle.mdl_server_example.proofs.ServerLemmas.{served-first}
 use Rattle.mdl_server_example.proofs.server.Server.new.Goals as goal
 
 pub invariant_of-result : goal.invariant_of-result
-invariant_of-result c =
-    let speaks = c.in_ok-space.ensures.speaks in
-    let made = c.in_ok-space.ensures.made in
-    fresh_both c.in_ok-space.space _ _ (ap (λ r. r.context) c.new-2.ensures) (ap (λ r. r.context) c.new-3.ensures)
-    (speaks 1 (omega arith) (omega arith)) (speaks 2 (omega arith) (omega arith)) (ap (λ s. own_at s 1) made) (ap (λ s. own_at s 2) made)
+invariant_of-result c = served-first c.in_ok-space.space 256 c.args.sessions c.in-Ok.runners.items c.in_ok-space.ensures.made c.in_ok-space.ensures.speaks c.in-Ok.ensures
