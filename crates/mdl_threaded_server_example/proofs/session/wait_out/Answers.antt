@@ -1,0 +1,17 @@
+-- A timeout takes nothing from the session.
+use Rattle.std.proofs.Common.{ℕ, refl, subst, sym}
+use Rattle.mdl_calls.specs.Words.{Settle_timeout, timed_out}
+use Rattle.mdl_context.proofs.AttendLemmas.{attends-still}
+use Rattle.mdl_threaded_server_example.proofs.session.wait_out.Goals as goal
+
+pub settle_timeout-settled-requires : goal.settle_timeout-settled-requires
+settle_timeout-settled-requires g c =
+    let kept = c.loop-poll.invariant in
+    subst (λ (w : ℕ). g.S.LockSpace.speaks_for c.loop-poll.space w) kept.who kept.attends.speaks
+
+pub go_on-requires-2-clause-attends : goal.go_on-requires-2-clause-attends
+go_on-requires-2-clause-attends g c =
+    let laws = g.met.S.LockSpace in
+    let kept = c.loop-poll.invariant in
+    let step = subst (λ (w : ℕ). g.S.LockSpace.joins c.loop-poll.space (Settle_timeout w) (timed_out c.settle_timeout-settled.result) c.settle_timeout-settled.new.self) (sym kept.who) c.settle_timeout-settled.ensures in
+    attends-still laws.keeps laws.changes laws.remembers _ _ _ _ c.loop-poll.runner.context kept.attends refl refl refl step
