@@ -1,2 +1,2 @@
 //! Examples of crates, which the heads of their `src/lib.rt` show, too.
-mod mdl;
+mod facade;
