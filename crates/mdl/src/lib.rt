@@ -10,17 +10,26 @@
 //! # Example
 //!
 //! ```
-//! use mdl::{Attempt, Begun, CoreSpace, Key, LockSpace, Mode};
+//! use mdl::{Book, Key, Mode, Ticket, Word};
 //!
 //! let alloc = rt.alloc();
-//! let mut space = CoreSpace::new(alloc, 256, 64)?; // keys and sessions: there can't be more
-//! let place = space.resolve(1, &Key::table(alloc, "test", "orders")?)?;
-//! assert_eq!(rt; space.try_now(1, place, Mode::SR)?, Attempt::Granted(1));
-//! assert_eq!(rt; space.begin_wait(2, place, Mode::X)?, Begun::Waiting(1));
-//! for book in space.books() {
-//!     assert_eq!(rt; book.granted().len(), 1); // session 1, which reads
-//!     assert_eq!(rt; book.waiting().len(), 1); // session 2, which wants to change the table
-//! }
+//! let word = Word(0); // no fast tickets
+//! let mut book = Book::new(alloc, Key::table(alloc, "test", "orders")?);
+//! let reader = Ticket {
+//!     session: 1,
+//!     number: 1,
+//!     mode: Mode::SR,
+//! };
+//! book.grant(reader, word)?;
+//! // Session 2 wants to change the table, and waits for session 1.
+//! assert!(rt; !book.can_grant(2, Mode::X, word));
+//! book.enqueue(Ticket {
+//!     session: 2,
+//!     mode: Mode::X,
+//!     ..reader
+//! })?;
+//! assert_eq!(rt; book.granted().len(), 1);
+//! assert_eq!(rt; book.waiting().len(), 1);
 //! ```
 #![tactic(auto)]
 

@@ -4,20 +4,20 @@ ghost use Rattle.mdl.specs.mdl_core.Words.{Knows, SpeaksFor, own_at};
 
 use mdl::space::NewError;
 use mdl::stmt::OutOfMemory;
-use mdl::{CoreSpace, Progress, Runner, Statement, parse};
+use mdl::{CoreSpace, OwnedRunner, Progress, Statement, parse};
 use std::alloc::Global;
 use std::marker::Model;
 use std::test::Fail;
 
 /// A lock space with one session, and the runner of its statements.
 #[derive(Drop)]
-struct Desk<'s> {
+struct Desk {
     space: CoreSpace,
-    runner: Runner<'s, CoreSpace>,
+    runner: OwnedRunner<CoreSpace>,
 }
 
 // The space attends to the session, which is what the calls of its runner ask for.
-impl<'s> Model for Desk<'s> {
+impl Model for Desk {
     ghost use Rattle.mdl.specs.mdl_context.Contexts.{Attends};
     ghost use Rattle.mdl.specs.mdl_core.Words.{Knows, SpeaksFor, own_at};
 
@@ -28,27 +28,27 @@ impl<'s> Model for Desk<'s> {
     ghost invariant = { λ desk. Attends SpeaksFor own_at Knows desk.space desk.runner.context };
 }
 
-impl<'s> Desk<'s> {
+impl Desk {
     // Nobody has asked for anything.
-    fn new(alloc: Global) -> Result<Desk<'s>, NewError> {
+    fn new(alloc: Global) -> Result<Desk, NewError> {
         let space = CoreSpace::new(alloc, 256, 1)?;
         Ok(Desk {
             space,
-            runner: Runner::new(alloc, 1),
+            runner: OwnedRunner::new(alloc, 1),
         })
     }
 
     // Starts a statement, unless the session waits.
-    fn start(&mut self, statement: &'s Statement) -> Result<Option<Progress>, OutOfMemory> {
+    fn start(&mut self, statement: &Statement) -> Result<Option<Progress>, OutOfMemory> {
         start(&mut self.space, &mut self.runner, statement)
     }
 }
 
 // Starts a statement, unless the session waits.
-fn start<'s>(
+fn start(
     space: &mut CoreSpace,
-    runner: &mut Runner<'s, CoreSpace>,
-    statement: &'s Statement,
+    runner: &mut OwnedRunner<CoreSpace>,
+    statement: &Statement,
 ) -> Result<Option<Progress>, OutOfMemory>
     requires { Attends SpeaksFor own_at Knows space.old runner.old.context }
     ensures { Attends SpeaksFor own_at Knows space.new runner.new.context }
