@@ -1,0 +1,71 @@
+//! One session's statements over the space of one thread.
+ghost use Rattle.mdl.specs.mdl_context.Contexts.{Attends};
+ghost use Rattle.mdl.specs.mdl_core.Words.{Knows, SpeaksFor, own_at};
+
+use mdl::space::NewError;
+use mdl::stmt::OutOfMemory;
+use mdl::{CoreSpace, OwnedRunner, Progress, Statement, parse};
+use std::alloc::Global;
+use std::marker::Model;
+use std::test::Fail;
+
+/// A lock space with one session, and the runner of its statements.
+#[derive(Drop)]
+struct Desk {
+    space: CoreSpace,
+    runner: OwnedRunner<CoreSpace>,
+}
+
+// The space attends to the session, which is what the calls of its runner ask for.
+impl Model for Desk {
+    ghost use Rattle.mdl.specs.mdl_context.Contexts.{Attends};
+    ghost use Rattle.mdl.specs.mdl_core.Words.{Knows, SpeaksFor, own_at};
+
+    ghost Value = { Unit };
+
+    ghost view = { λ _. tt };
+
+    ghost invariant = { λ desk. Attends SpeaksFor own_at Knows desk.space desk.runner.context };
+}
+
+impl Desk {
+    // Nobody has asked for anything.
+    fn new(alloc: Global) -> Result<Desk, NewError> {
+        let space = CoreSpace::new(alloc, 256, 1)?;
+        Ok(Desk {
+            space,
+            runner: OwnedRunner::new(alloc, 1),
+        })
+    }
+
+    // Starts a statement, unless the session waits.
+    fn start(&mut self, statement: &Statement) -> Result<Option<Progress>, OutOfMemory> {
+        start(&mut self.space, &mut self.runner, statement)
+    }
+}
+
+// Starts a statement, unless the session waits.
+fn start(
+    space: &mut CoreSpace,
+    runner: &mut OwnedRunner<CoreSpace>,
+    statement: &Statement,
+) -> Result<Option<Progress>, OutOfMemory>
+    requires { Attends SpeaksFor own_at Knows space.old runner.old.context }
+    ensures { Attends SpeaksFor own_at Knows space.new runner.new.context }
+{
+    if runner.is_waiting() {
+        return Ok(None);
+    }
+    Ok(Some(runner.start(space, statement)?))
+}
+
+#[test]
+fn one_session_has_its_statements_done(rt: HostRuntime) -> Result<(), Fail> {
+    let script = parse(rt.alloc(), b"1 CREATE SCHEMA shop\n1 BEGIN\n1 COMMIT\n")?;
+    let mut desk = Desk::new(rt.alloc())?;
+    for line in script.lines() {
+        let outcome = desk.start(&line.statement);
+        assert!(rt; matches!(outcome, Ok(Some(Progress::Done(_)))));
+    }
+    Ok(())
+}

@@ -1,0 +1,2 @@
+//! Examples of crates, which the heads of their `src/lib.rt` show, too.
+mod facade;
