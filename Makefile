@@ -36,7 +36,7 @@ help:
 	@echo 'make growths               refuses each growth of some short lives in turn'
 	@echo 'make wrong [CRATE=NAME]    has the prover refuse the wrong bodies, of all crates or of one'
 	@echo 'make bench                 times scripts and calls'
-	@echo 'make install [PREFIX=DIR]  builds mdlsim, proved, and installs it with its manual page and completions'
+	@echo 'make install [PREFIX=DIR]  builds mdlsim, proved, with its commit, and installs it with its manual page and completions'
 	@echo 'make dist                  packs the program that was built last, for machines without the kit, into dist/'
 	@echo 'make dist-check            unpacks that into an empty folder, and tries it there without the kit'
 	@echo 'make dist-libraries        packs the libraries that were proved last, for checkouts that are to trust them, into dist/'

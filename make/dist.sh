@@ -1,7 +1,8 @@
 #!/bin/sh
 # Packs programs, as they were built last, for machines without the kit: dist/gazmirov-VERSION-x86_64-linux.tar.gz, and its checksum beside it.
-# The object file of the proved build is linked again without shared libraries. Where that can't be done, the program is packed as it is, and
-# the README of the tarball says which C library it needs.
+# With git, the program is built once more with the commit in what `--version` prints: make/program_of.sh. The object file of the proved build is
+# linked again without shared libraries. Where that can't be done, the program is packed as it is, and the README of the tarball says which C
+# library it needs.
 # Usage: sh make/dist.sh PROGRAM..    each the name of a crate
 cd "$(dirname "$0")/.." || exit 1
 sh make/needs.sh rt awk cmp tar gzip sha256sum readelf || exit 1
@@ -31,23 +32,16 @@ look_at() {
     done
 }
 
-# Whether the object file beside a program is the one that it was linked from: linked so again, it gives the same program.
+# Whether the object file beside a program is the one that it was linked from: linked so again, it gives the same program. FOLDER PROGRAM
 has_object() {
-    [ -s "crates/$1/out/$1.o" ] && "$kit/bin/rattle-link" --target x86_64-unknown-linux-gnu --toolchain "$kit/toolchain" -o "$made/again" \
-        "crates/$1/out/$1.o" "$kit/c/libos_c.a" "$kit/c/liblibc_c.a" 2> /dev/null && cmp -s "$made/again" "crates/$1/out/$1"
-}
-
-# Where a program was proved by an earlier `rt ci`, the object file isn't there, and is made over the libraries that are.
-get_object() {
-    has_object "$1" && return
-    echo "crates/$1/out/$1.o isn't there, or of another build: making it anew" >&2
-    sh make/dist_libraries.sh object "$1" >&2 && has_object "$1"
+    [ -s "$1/$2.o" ] && "$kit/bin/rattle-link" --target x86_64-unknown-linux-gnu --toolchain "$kit/toolchain" -o "$made/again" \
+        "$1/$2.o" "$kit/c/libos_c.a" "$kit/c/liblibc_c.a" 2> /dev/null && cmp -s "$made/again" "$1/$2"
 }
 
 # Links a program without shared libraries, and lays the files beside it from which whoever has another C library can link it again.
 link_static() {
-    get_object "$1" || return 1
-    mkdir -p "$top/relink" && cp "crates/$1/out/$1.o" "$kit/c/libos_c.a" "$kit/c/liblibc_c.a" "$top/relink" || return 1
+    from=$(sh make/program_of.sh "$1") && has_object "$from" "$1" || return 1
+    mkdir -p "$top/relink" && cp "$from/$1.o" "$kit/c/libos_c.a" "$kit/c/liblibc_c.a" "$top/relink" || return 1
     chmod 644 "$top/relink"/*
     (cd "$top/relink" && ${CC:-cc} -static -s -o ../bin/"$1" "$1.o" libos_c.a liblibc_c.a) 2> "$made/linking"
 }
@@ -121,7 +115,7 @@ for program in "$@"; do
         echo "$program can't be linked without shared libraries, and is packed as it was built" >&2
         cat "$made/linking" >&2 2> /dev/null
         rm -rf "$top/relink/$program.o"
-        cp "crates/$program/out/$program" "$top/bin/$program"
+        cp "$(sh make/program_of.sh "$program")/$program" "$top/bin/$program" || exit 1
     fi
 done
 put_pages && put_licences "$@" && put_readme "$@" || exit 1

@@ -4,6 +4,7 @@
 # Usage: sh make/dist_check.sh PROGRAM..
 cd "$(dirname "$0")/.." || exit 1
 version=$(cat VERSION)
+commit=$(sh make/commit.sh)
 name=gazmirov-$version-x86_64-linux
 folder=$(mktemp -d)
 trap 'rm -rf "$folder"' EXIT
@@ -38,7 +39,7 @@ completes() {
 tar -C "$folder" -xzf "dist/$name.tar.gz" && cd "$folder/$name" || fail "it can't be unpacked"
 alone sh check.sh || exit 1
 for program in "$@"; do
-    [ "$(alone "bin/$program" --version)" = "$program $version" ] || fail "$program --version doesn't print $program $version"
+    [ "$(alone "bin/$program" --version)" = "$program $version${commit:+ ($commit)}" ] || fail "$program --version doesn't print $version and $commit"
     renders "$program" || fail "man has complaints of share/man/man1/$program.1"
 done
 refuses_a_script || fail 'a script with a session 65 is not refused as it ought to be'

@@ -5,7 +5,8 @@
 # stamps, so they are written here. The file `proved_elsewhere` beside a stamp has make/build.sh say that the library is trusted.
 # Usage: sh make/dist_libraries.sh pack PROGRAM..
 #        sh make/dist_libraries.sh check PROGRAM..     unpacks them in a new clone, and builds the programs there
-#        sh make/dist_libraries.sh object PROGRAM      builds the program so, and takes its object file from there
+#        sh make/dist_libraries.sh program PROGRAM..    builds the programs so once more, with the commit in what `--version` prints. They and their
+#                                                      object files go to out/of_commit of their crates
 cd "$(dirname "$0")/.." || exit 1
 sh make/needs.sh rt python3 git tar gzip sha256sum || exit 1
 LC_ALL=C
@@ -77,9 +78,26 @@ build() {
     return "$status"
 }
 
-object() {
+# Puts the commit behind the version that a program prints, in its code and in the definition that its contract cites.
+name_commit() {
+    sed -i "s/\"$1 $version/& ($2)/" "crates/$1/src/program.rt" "crates/$1/specs/CommandLine.antt"
+}
+
+# What differs from the commit goes to the clone, too.
+program() {
     here=$PWD
-    lay_all "$1" && clone && cp -r "$made/crates" . && are_of_these_sources "$1" && build "$1" && cp "crates/$1/out/$1.o" "$here/crates/$1/out/$1.o"
+    commit=$(sh make/commit.sh)
+    lay_all "$@" && git diff --binary HEAD > "$made/changes" && clone && cp -r "$made/crates" . || return 1
+    if [ -s "$made/changes" ]; then
+        git apply "$made/changes" || return 1
+    fi
+    are_of_these_sources "$@" || return 1
+    for program in "$@"; do
+        to=$here/crates/$program/out/of_commit
+        rm -rf "$to"
+        name_commit "$program" "$commit" && build "$program" && mkdir -p "$to" && cp "crates/$program/out/$program" "crates/$program/out/$program.o" "$to" \
+            && echo "$commit" > "$to/commit" || return 1
+    done
 }
 
 # Nothing but the programs is proved there.
@@ -97,6 +115,6 @@ check() {
 }
 
 case "$1" in
-    pack | check | object) "$@" || exit 1 ;;
-    *) echo 'Usage: sh make/dist_libraries.sh pack|check|object PROGRAM..' >&2; exit 1 ;;
+    pack | check | program) "$@" || exit 1 ;;
+    *) echo 'Usage: sh make/dist_libraries.sh pack|check|program PROGRAM..' >&2; exit 1 ;;
 esac

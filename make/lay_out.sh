@@ -1,6 +1,6 @@
 #!/bin/sh
-# Copies programs, as they were built last, with their manual pages and completions into a folder such as /usr/local. A manual page gets the
-# commit of the sources in place of its line `.\" COMMIT`.
+# Copies programs, as they were built last, with their manual pages and completions into a folder such as /usr/local. With git, the programs are
+# those that print their commit (make/program_of.sh), and a manual page gets it in place of its line `.\" COMMIT`.
 # Usage: sh make/lay_out.sh FOLDER PROGRAM.., at the top of the repository
 folder=$1
 shift
@@ -26,7 +26,7 @@ put_completion() {
 }
 
 for program in "$@"; do
-    put "crates/$program/out/$program" "$folder/bin/$program" 755 \
+    from=$(sh make/program_of.sh "$program") && put "$from/$program" "$folder/bin/$program" 755 \
         && put_page "$program" "$folder/share/man/man1/$program.1" \
         && put_completion "$program.bash" "$folder/share/bash-completion/completions/$program" \
         && put_completion "_$program" "$folder/share/zsh/site-functions/_$program" \
