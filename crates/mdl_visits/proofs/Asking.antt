@@ -3,6 +3,7 @@ use Rattle.std.proofs.Common.{◌≡◌, ℕ, Bool, true, false, cond, List, [],
 use Rattle.std.specs.Prelude.{filter, is_some}
 use Rattle.std.proofs.lemmas.List.{map-append}
 use Rattle.std.proofs.lemmas.List.Elements.{All-nil, All-push, All-weaker, filter-append}
+use Rattle.mdl_steps.specs.declared.step_kind.StepKind.TheVariants.{PutLatch}
 use Rattle.mdl_steps.specs.declared.view.Held.{Held}
 use Rattle.mdl_steps.specs.declared.view.Known.{Known}
 use Rattle.mdl_steps.specs.declared.view.Met.{Met}
@@ -44,7 +45,7 @@ asked_within who a b c d x before was after = (was.0, step_within a b c d was.0 
 
 module _ (place : ℕ) (m m′ m″ : Mine) (inside : IsInside place m m′) (put : m″ ≡ unlatched place [] m′) where
   puts : Met
-  puts = record { word = latch_word place; found = m.0.number; held = inside.latches; directory = m.0.directory }
+  puts = record { kind = PutLatch; deeds = []; word = latch_word place; found = m.0.number; held = inside.latches; directory = m.0.directory }
 
   pub looked : MakesSteps m m″
   looked = let visit = visits_put place [] m m′ m″ inside put in (visit.made, visit.now)

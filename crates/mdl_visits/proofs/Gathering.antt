@@ -2,6 +2,7 @@
 use Rattle.std.proofs.Common.{◌≡◌, ℕ, ◌+◌, ◌-◌, ◌<◌, ◌≤◌, List, [], ◌∷◌, ◌++◌, length, map, Some, refl, sym, ap, ◌∙◌, subst, inl, inr, ⊎_elim, arith, append_assoc, append-nil, length-append}
 use Rattle.std.specs.Prelude.{slice_get}
 use Rattle.mdl_key.specs.Words.{KeyName}
+use Rattle.mdl_steps.specs.declared.step_kind.StepKind.TheVariants.{PutLatch, TakeLatch}
 use Rattle.mdl_steps.specs.declared.view.Held.{Held}
 use Rattle.mdl_steps.specs.declared.view.Keys.{Keys}
 use Rattle.mdl_steps.specs.declared.view.Met.{Met}
@@ -78,7 +79,7 @@ module _ (place : ℕ) (h : Held) (made : List Met) (m m′ : Mine) (here : h.pl
   rising_next rising = subst (IsRising (place + 1)) (sym taken) (omega arith, each_below m.0.latches place (place + 1) (omega arith) rising)
 
   abbrev took : Met
-  took = record { word = latch_word place; found = 0; held = h ∷ m.0.latches; directory = m.0.directory }
+  took = record { kind = TakeLatch; deeds = []; word = latch_word place; found = 0; held = h ∷ m.0.latches; directory = m.0.directory }
 
   log_then : m′.0.log ≡ m.0.log ++ (made ++ took ∷ [])
   log_then = ap (λ (x : Mine). x.0.log) taken ∙ append_assoc m.0.log made (took ∷ [])
@@ -89,7 +90,7 @@ module _ (place : ℕ) (h : Held) (made : List Met) (m m′ : Mine) (here : h.pl
 
   module _ (m″ m‴ : Mine) (steps : MakesSteps m′ m″) (put : m‴ ≡ unlatched place [] m″) where
     abbrev gave : Met
-    gave = record { word = latch_word place; found = m″.0.number; held = m″.0.latches; directory = m″.0.directory }
+    gave = record { kind = PutLatch; deeds = []; word = latch_word place; found = m″.0.number; held = m″.0.latches; directory = m″.0.directory }
 
     log_put : m‴.0.log ≡ m″.0.log ++ gave ∷ []
     log_put = ap (λ (x : Mine). x.0.log) put
@@ -190,10 +191,10 @@ module _ (slots : ℕ) (k : Keys) (made : List Met) (m m′ m″ : Mine) (taken 
     makes_all = knows_nothing slots k made m idle is steps.0 k 0 m‴ all_put refl
 
     abbrev first : Met
-    first = record { word = latch_word 0; found = 0; held = m.0.latches; directory = Some k }
+    first = record { kind = TakeLatch; deeds = []; word = latch_word 0; found = 0; held = m.0.latches; directory = Some k }
 
     abbrev final : Met
-    final = record { word = latch_word 0; found = m″.0.number; held = m″.0.latches; directory = m″.0.directory }
+    final = record { kind = PutLatch; deeds = []; word = latch_word 0; found = m″.0.number; held = m″.0.latches; directory = m″.0.directory }
 
     log_first : m′.0.log ≡ m.0.log ++ (made ++ first ∷ [])
     log_first = ap (λ (x : Mine). x.0.log) taken ∙ append_assoc m.0.log made (first ∷ [])

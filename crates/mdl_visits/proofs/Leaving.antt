@@ -7,6 +7,7 @@ use lib.ListN.{get_elem?}
 use Rattle.mdl_book.specs.Tickets.{is_ticket, ticket_of}
 use Rattle.mdl_book.specs.declared.book_view.BookView.{BookView}
 use Rattle.mdl_steps.specs.declared.deed.Deed.{Deed}
+use Rattle.mdl_steps.specs.declared.step_kind.StepKind.TheVariants.{LowerFlags, PutLatch}
 use Rattle.mdl_steps.specs.declared.view.Met.{Met}
 use Rattle.mdl_steps.specs.declared.view.Own.{Own}
 use Rattle.mdl_steps.specs.Cells.{own_at, ticket_by}
@@ -26,10 +27,10 @@ needed false up e = refl
 
 module _ (place : ℕ) (ds : List Deed) (found : ℕ) (book : BookView) (slow obtrusive : Bool) (m : Mine) where
   lowers : Met
-  lowers = record { word = lock_word place; found = found; held = m.0.latches; directory = m.0.directory }
+  lowers = record { kind = LowerFlags slow obtrusive; deeds = ds; word = lock_word place; found = found; held = m.0.latches; directory = m.0.directory }
 
   puts : Met
-  puts = record { word = latch_word place; found = m.0.number; held = (settled place ds found book slow obtrusive m).0.latches; directory = m.0.directory }
+  puts = record { kind = PutLatch; deeds = []; word = latch_word place; found = m.0.number; held = (settled place ds found book slow obtrusive m).0.latches; directory = m.0.directory }
 
   abbrev last : Mine
   last = unlatched place [] (settled place ds found book slow obtrusive m)

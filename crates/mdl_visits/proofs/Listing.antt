@@ -2,6 +2,7 @@
 use Rattle.std.proofs.Common.{◌≡◌, ℕ, ◌-◌, ◌<◌, List, [], ◌∷◌, ◌++◌, length, None, Some, ap, ◌∙◌, subst, arith, append_assoc, append-nil}
 use Rattle.std.specs.Prelude.{Option}
 use Rattle.std.proofs.lemmas.List.Elements.{All-weaker}
+use Rattle.mdl_steps.specs.declared.step_kind.StepKind.TheVariants.{PutLatch, TakeLatch}
 use Rattle.mdl_steps.specs.declared.view.Keys.{Keys}
 use Rattle.mdl_steps.specs.declared.view.Known.{Known}
 use Rattle.mdl_steps.specs.declared.view.Met.{Met}
@@ -32,10 +33,10 @@ all_within slots k tables fit stand =
 module _ (slots : ℕ) (k : Keys) (made : List Met) (old : Mine) (idle : IsIdle old) (is : IsDirectory slots k (and_made made old))
     (more : List Known) (new : Mine) (e : new ≡ informed more (consulted k (and_made made old))) where
   abbrev took : Met
-  took = record { word = latch_word 0; found = 0; held = old.0.latches; directory = Some k }
+  took = record { kind = TakeLatch; deeds = []; word = latch_word 0; found = 0; held = old.0.latches; directory = Some k }
 
   abbrev gave : Met
-  gave = record { word = latch_word 0; found = old.0.number; held = old.0.latches; directory = Some k }
+  gave = record { kind = PutLatch; deeds = []; word = latch_word 0; found = old.0.number; held = old.0.latches; directory = Some k }
 
   abbrev all : List Met
   all = made ++ (took ∷ gave ∷ [])

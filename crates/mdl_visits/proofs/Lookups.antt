@@ -6,6 +6,7 @@ use Rattle.std.proofs.lemmas.Bool.{lt-ltb}
 use Rattle.std.proofs.lemmas.List.{nil_from_length}
 use Rattle.mdl_key.specs.Words.{KeyName}
 use Rattle.mdl_steps.specs.declared.slot.Slot.{Slot}
+use Rattle.mdl_steps.specs.declared.step_kind.StepKind.TheVariants.{PutLatch, TakeLatch}
 use Rattle.mdl_steps.specs.declared.view.Keys.{Keys}
 use Rattle.mdl_steps.specs.declared.view.Known.{Known}
 use Rattle.mdl_steps.specs.declared.view.Met.{Met}
@@ -103,10 +104,10 @@ module _ (slots : ℕ) (k : Keys) (made : List Met) (old : Mine) (idle : IsIdle 
     (more : List Met) (after : Keys) (place : ℕ) (new : Mine)
     (e : new ≡ informed (learnt (relisted more after (consulted k (and_made made old))) place) (relisted more after (consulted k (and_made made old)))) where
   abbrev took : Met
-  took = record { word = latch_word 0; found = 0; held = old.0.latches; directory = Some k }
+  took = record { kind = TakeLatch; deeds = []; word = latch_word 0; found = 0; held = old.0.latches; directory = Some k }
 
   abbrev gave : Met
-  gave = record { word = latch_word 0; found = old.0.number; held = old.0.latches; directory = Some after }
+  gave = record { kind = PutLatch; deeds = []; word = latch_word 0; found = old.0.number; held = old.0.latches; directory = Some after }
 
   abbrev all : List Met
   all = made ++ (took ∷ more ++ gave ∷ [])

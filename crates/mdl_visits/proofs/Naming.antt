@@ -8,6 +8,7 @@ use Rattle.mdl_book.specs.declared.book_view.BookView.{BookView}
 use Rattle.mdl_book.specs.Books.{empty_book, has_obtrusive, has_tickets}
 use Rattle.mdl_steps.specs.declared.slot.Slot.{Slot}
 use Rattle.mdl_steps.specs.declared.slot.Slot.TheVariants as slot
+use Rattle.mdl_steps.specs.declared.step_kind.StepKind.TheVariants.{PutLatch, TakeLatch}
 use Rattle.mdl_steps.specs.declared.view.Held.{Held}
 use Rattle.mdl_steps.specs.declared.view.Keys.{Keys}
 use Rattle.mdl_steps.specs.declared.view.Met.{Met}
@@ -49,8 +50,8 @@ pub named_is : (place : ℕ) (key : KeyName) (k : Keys) (h : Held) (made : List 
     → AllHad old.0.directory made → new ≡ named place key (written place (empty_book key) (latched place h (and_made made old)))
     → HasNamed key k old new
 named_is place key k h made old new here alone is lingered e =
-    let took : Met = record { word = latch_word place; found = 0; held = h ∷ old.0.latches; directory = old.0.directory } in
-    let gave : Met = record { word = latch_word place; found = old.0.number; held = h ∷ old.0.latches; directory = option_map (listing key) old.0.directory } in
+    let took : Met = record { kind = TakeLatch; deeds = []; word = latch_word place; found = 0; held = h ∷ old.0.latches; directory = old.0.directory } in
+    let gave : Met = record { kind = PutLatch; deeds = []; word = latch_word place; found = old.0.number; held = h ∷ old.0.latches; directory = option_map (listing key) old.0.directory } in
     let log : ((old.0.log ++ made) ++ took ∷ []) ++ gave ∷ [] ≡ old.0.log ++ ((made ++ took ∷ []) ++ gave ∷ []) =
     ap (λ (l : List Met). l ++ gave ∷ []) (append_assoc old.0.log made (took ∷ [])) ∙ append_assoc old.0.log (made ++ took ∷ []) (gave ∷ []) in
     let left : List Held = filter (λ x. not (x.place == place)) (h ∷ old.0.latches) in

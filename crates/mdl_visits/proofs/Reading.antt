@@ -4,6 +4,7 @@ use Rattle.std.specs.Prelude.{IfOk, Result}
 use Rattle.mdl_key.specs.Words.{KeyName}
 use Rattle.mdl_defs.specs.Standings.{MayStand}
 use Rattle.mdl_defs.specs.declared.standing.Standing.{Standing}
+use Rattle.mdl_steps.specs.declared.step_kind.StepKind.TheVariants.{PutLatch}
 use Rattle.mdl_steps.specs.declared.view.Held.{Held}
 use Rattle.mdl_steps.specs.declared.view.Met.{Met}
 use Rattle.mdl_steps.specs.Cells.{held_at}
@@ -30,7 +31,7 @@ follows {place} {h} {m} fresh = record {
 
 module _ (place : ℕ) (standing : Standing) (m m′ m″ : Mine) (inside : IsInside place m m′) (read : m″ ≡ read_and_put place standing m′) where
   puts : Met
-  puts = record { word = latch_word place; found = m.0.number; held = inside.latches; directory = m.0.directory }
+  puts = record { kind = PutLatch; deeds = []; word = latch_word place; found = m.0.number; held = inside.latches; directory = m.0.directory }
 
   pub learns : Learns place standing m m″
   unfolding puts

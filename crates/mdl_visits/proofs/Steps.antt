@@ -1,6 +1,7 @@
 -- Steps between two of a session's views are steps between any two that are farther apart.
 use Rattle.std.proofs.Common.{◌≡◌, ℕ, List, [], ◌∷◌, ◌++◌, refl, sym, ap, ◌∙◌, subst, append_assoc, append-nil}
 use Rattle.std.specs.Prelude.{Option}
+use Rattle.mdl_steps.specs.declared.step_kind.StepKind.TheVariants.{PutLatch, TakeLatch}
 use Rattle.mdl_steps.specs.declared.view.Held.{Held}
 use Rattle.mdl_steps.specs.declared.view.Keys.{Keys}
 use Rattle.mdl_steps.specs.declared.view.Met.{Met}
@@ -56,8 +57,8 @@ keeps_on a b c first same more = (
 pub keeps_there : (place : ℕ) (h : Held) (made : List Met) (a b c d : Mine) → AllHad a.0.directory made → b ≡ latched place h (and_made made a) → KeepsDirectory b c
     → c.0.directory ≡ b.0.directory → d ≡ unlatched place [] c → KeepsDirectory a d
 keeps_there place h made a b c d had taken inside same put =
-    let took : Met = record { word = latch_word place; found = 0; held = h ∷ a.0.latches; directory = a.0.directory } in
-    let gave : Met = record { word = latch_word place; found = c.0.number; held = c.0.latches; directory = c.0.directory } in
+    let took : Met = record { kind = TakeLatch; deeds = []; word = latch_word place; found = 0; held = h ∷ a.0.latches; directory = a.0.directory } in
+    let gave : Met = record { kind = PutLatch; deeds = []; word = latch_word place; found = c.0.number; held = c.0.latches; directory = c.0.directory } in
     let first : KeepsDirectory a b = (
       made ++ took ∷ [],
       ap (λ (x : Mine). x.0.log) taken ∙ append_assoc a.0.log made (took ∷ []),

@@ -10,6 +10,7 @@ use Rattle.mdl_book.specs.declared.ticket.Ticket.{Ticket}
 use Rattle.mdl_book.specs.Books.{any_obtrusive, cancelling, lock_kind}
 use Rattle.mdl_book.specs.Tickets.{is_ticket, ticket_of, without}
 use Rattle.mdl_steps.specs.declared.slot.Slot.TheVariants as slot
+use Rattle.mdl_steps.specs.declared.step_kind.StepKind.TheVariants.{EndWait}
 use Rattle.mdl_steps.specs.declared.view.Ask.{Ask}
 use Rattle.mdl_steps.specs.declared.view.Held.{Held}
 use Rattle.mdl_steps.specs.declared.view.Met.{Met}
@@ -113,7 +114,7 @@ module _ (place : ℕ) (h : Held) (m m₁ m₂ : Mine) (may : MayEnd place h m) 
   pub ends_there : (id : TableId) (slots state : ℕ) (m₃ : Mine) → m₂ ≡ ended_lost slots place may.may.ask.number state m₁ → elsewhere place m₂ ≡ elsewhere place m₁ → LeavesWay id place [] m₂ m₃
       → EndsThere id place m m₃
   ends_there id slots state m₃ ended apart left =
-      let e : Met = record { word = wait_word slots m.0.number; found = wait_in m.0.waits state; held = m.0.latches; directory = m.0.directory } in
+      let e : Met = record { kind = EndWait; deeds = []; word = wait_word slots m.0.number; found = wait_in m.0.waits state; held = m.0.latches; directory = m.0.directory } in
       let others : elsewhere place m₂ ≡ elsewhere place m = apart ∙ ap (elsewhere place) wrote in
       let same : m₂ ≡ ended_lost slots place may.may.ask.number state (written place (cancelling m.0.number may.may.ask.number h.book) m) =
       ended ∙ ap (ended_lost slots place may.may.ask.number state) wrote in

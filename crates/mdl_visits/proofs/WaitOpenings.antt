@@ -13,6 +13,7 @@ use Rattle.mdl_book.specs.declared.book_error.BookError.TheVariants as fault
 use Rattle.mdl_book.specs.Books.{any_obtrusive, enqueueing, lock_kind, ticket_count}
 use Rattle.mdl_book.specs.FastTickets.{can_be_granted}
 use Rattle.mdl_steps.specs.declared.slot.Slot.TheVariants as slot
+use Rattle.mdl_steps.specs.declared.step_kind.StepKind.TheVariants.{OpenWait, PutLatch, ReadWord}
 use Rattle.mdl_steps.specs.declared.view.Held.{Held}
 use Rattle.mdl_steps.specs.declared.view.Met.{Met}
 use Rattle.mdl_steps.specs.Cells.{held_at}
@@ -128,10 +129,10 @@ module _ (slots place : ℕ) (mode : Mode) (m m′ m″ : Mine) (inside : IsInsi
   held = map (λ (h : Held). cond (h.place == place) (with_waiting (asked_ticket mode m.0) h) h) inside.latches
 
   opens_step : Met
-  opens_step = record { word = wait_word slots m.0.number; found = 8 * m.0.waits; held = held; directory = m.0.directory }
+  opens_step = record { kind = OpenWait; deeds = []; word = wait_word slots m.0.number; found = 8 * m.0.waits; held = held; directory = m.0.directory }
 
   puts_step : Met
-  puts_step = record { word = latch_word place; found = m.0.number; held = held; directory = m.0.directory }
+  puts_step = record { kind = PutLatch; deeds = []; word = latch_word place; found = m.0.number; held = held; directory = m.0.directory }
 
   log : ((m.0.log ++ inside.made) ++ opens_step ∷ []) ++ puts_step ∷ [] ≡ m.0.log ++ (inside.made ++ opens_step ∷ puts_step ∷ [])
   log = append_assoc (m.0.log ++ inside.made) (opens_step ∷ []) (puts_step ∷ []) ∙ append_assoc m.0.log inside.made (opens_step ∷ puts_step ∷ [])
@@ -139,7 +140,7 @@ module _ (slots place : ℕ) (mode : Mode) (m m′ m″ : Mine) (inside : IsInsi
   pub opens : Opens place mode m m″
   unfolding came held opens_step puts_step
   opens =
-      let others = elsewhere-stepped place 0 (with_waiting (asked_ticket mode m.0)) came (λ x. refl) ∙ inside.others in
+      let others = elsewhere-stepped OpenWait place 0 (with_waiting (asked_ticket mode m.0)) came (λ x. refl) ∙ inside.others in
       let is_log = log in record {
         made = inside.made ++ opens_step ∷ puts_step ∷ [];
         now = made ∙ ap (λ (x : Mine). unlatched place [] (opened slots place mode x)) inside.now
@@ -169,15 +170,15 @@ module _ (slots place : ℕ) (mode : Mode) (m m′ m″ : Mine) (inside : IsInsi
 
   pub goes_on : GoesOn m′ m″
   goes_on =
-      let opens_there : Met = record { word = wait_word slots m′.0.number; found = 8 * m′.0.waits; held = (opened slots place mode m′).0.latches; directory = m′.0.directory } in
-      let puts_there : Met = record { word = latch_word place; found = m′.0.number; held = (opened slots place mode m′).0.latches; directory = m′.0.directory } in
+      let opens_there : Met = record { kind = OpenWait; deeds = []; word = wait_word slots m′.0.number; found = 8 * m′.0.waits; held = (opened slots place mode m′).0.latches; directory = m′.0.directory } in
+      let puts_there : Met = record { kind = PutLatch; deeds = []; word = latch_word place; found = m′.0.number; held = (opened slots place mode m′).0.latches; directory = m′.0.directory } in
       (opens_there ∷ puts_there ∷ [], ap (λ (x : Mine). x.0.log) made ∙ append_assoc m′.0.log (opens_there ∷ []) (puts_there ∷ []))
 
 -- ---- what the step that read the word tells
 
 module _ (place word : ℕ) (asks : Bool) (m m′ m″ : Mine) (entered : Enters place asks word m m′) (goes : GoesOn m′ m″) where
   read_step : Met
-  read_step = record { word = lock_word place; found = word; held = m′.0.latches; directory = m′.0.directory }
+  read_step = record { kind = ReadWord; deeds = []; word = lock_word place; found = word; held = m′.0.latches; directory = m′.0.directory }
 
   read_there : IsStepOf m m″ read_step
   unfolding read_step

@@ -8,6 +8,7 @@ use Rattle.mdl_book.specs.declared.ticket.Ticket.{Ticket}
 use Rattle.mdl_steps.specs.declared.deed.Deed.{Deed}
 use Rattle.mdl_steps.specs.declared.deed.Deed.TheVariants.{Gain, Alter, Lose}
 use Rattle.mdl_steps.specs.declared.slot.Slot.TheVariants as slot
+use Rattle.mdl_steps.specs.declared.step_kind.StepKind.TheVariants.{LowerFlags, PutLatch, ReadWord}
 use Rattle.mdl_steps.specs.declared.view.Held.{Held}
 use Rattle.mdl_steps.specs.declared.view.Met.{Met}
 use Rattle.mdl_steps.specs.declared.view.Settlement.{Settlement}
@@ -74,7 +75,7 @@ module _ (id : TableId) (place : ℕ) (a b c : Mine) (more : GoesOn a b) where
 
 module _ (id : TableId) (place : ℕ) (h : Held) (m c : Mine) (has : Holds place h h.book m) (nobody : h.book.waiting ≡ []) (put : c ≡ unlatched place [] m) where
   abbrev puts : Met
-  puts = record { word = latch_word place; found = m.0.number; held = m.0.latches; directory = m.0.directory }
+  puts = record { kind = PutLatch; deeds = []; word = latch_word place; found = m.0.number; held = m.0.latches; directory = m.0.directory }
 
   pub leaves_none : LeavesWay id place [] m c
   leaves_none = record {
@@ -98,13 +99,13 @@ module _ (id : TableId) (place : ℕ) (h : Held) (m c : Mine) (has : Holds place
 
 -- ---- somebody does: the word was read, waits were granted, and the latch was given back
 
-module _ (id : TableId) (place word : ℕ) (g : Held) (m a b c : Mine) (read : a ≡ stepped place word (noting word) m) (way : MakesWay id.slots place a b) (has : Holds place g g.book b)
+module _ (id : TableId) (place word : ℕ) (g : Held) (m a b c : Mine) (read : a ≡ stepped ReadWord place word (noting word) m) (way : MakesWay id.slots place a b) (has : Holds place g g.book b)
     (may : MayServe word g) (none : ForgetsNobody id word g a b) (put : c ≡ unlatched place [] b) where
   abbrev reads : Met
-  reads = record { word = lock_word place; found = word; held = (changed place (noting word) m.0).latches; directory = m.0.directory }
+  reads = record { kind = ReadWord; deeds = []; word = lock_word place; found = word; held = (changed place (noting word) m.0).latches; directory = m.0.directory }
 
   abbrev frees : Met
-  frees = record { word = latch_word place; found = b.0.number; held = b.0.latches; directory = b.0.directory }
+  frees = record { kind = PutLatch; deeds = []; word = latch_word place; found = b.0.number; held = b.0.latches; directory = b.0.directory }
 
   m_a : GoesOn m a
   m_a = (reads ∷ [], ap (λ (x : Mine). x.0.log) read)
@@ -123,10 +124,10 @@ module _ (id : TableId) (place word : ℕ) (g : Held) (m a b c : Mine) (read : a
   after_loop x = (record x.0 { latches = way.latches; told = way.told; settles = x.0.settles ++ way.grants; log = x.0.log ++ way.made }, (place, slot.Place way.book) ∷ rest x.1)
 
   abbrev last : Met
-  last = record { word = latch_word place; found = m.0.number; held = way.latches; directory = m.0.directory }
+  last = record { kind = PutLatch; deeds = []; word = latch_word place; found = m.0.number; held = way.latches; directory = m.0.directory }
 
   others : filter (λ (x : Held). not (x.place == place)) way.latches ≡ elsewhere place m
-  others = way.others ∙ ap (elsewhere place) read ∙ elsewhere-stepped place word (noting word) m (λ x. refl)
+  others = way.others ∙ ap (elsewhere place) read ∙ elsewhere-stepped ReadWord place word (noting word) m (λ x. refl)
 
   log_is : ((m.0.log ++ reads ∷ []) ++ way.made) ++ last ∷ [] ≡ m.0.log ++ reads ∷ (way.made ++ last ∷ [])
   log_is = append_assoc (m.0.log ++ reads ∷ []) way.made (last ∷ []) ∙ append_assoc m.0.log (reads ∷ []) (way.made ++ last ∷ [])
@@ -173,7 +174,7 @@ serves_read word h orderly = (orderly, λ up. rw up refl)
 
 module _ (id : TableId) (place : ℕ) (ds : List Deed) (m b c : Mine) (low : IsLowered place ds m b) (left : LeavesWay id place [] b c) where
   abbrev lowers : Met
-  lowers = record { word = lock_word place; found = low.0; held = m.0.latches; directory = m.0.directory }
+  lowers = record { kind = LowerFlags low.2 low.3; deeds = ds; word = lock_word place; found = low.0; held = m.0.latches; directory = m.0.directory }
 
   m_low : GoesOn m b
   m_low = (lowers ∷ [], ap (λ (x : Mine). x.0.log) low.4)

@@ -2,6 +2,7 @@
 use Rattle.std.specs.Prelude.{◌≡◌, ℕ, ◌+◌, ◌<◌, ◌≤◌, ◌⊎◌, List, ◌∷◌, [], ◌++◌, length, Some, None, Result, Ok, Err, IfOk}
 use Rattle.mdl_key.specs.Words.{KeyName}
 use Rattle.mdl_steps.specs.declared.slot.Slot.TheVariants as slot
+use Rattle.mdl_steps.specs.declared.step_kind.StepKind.TheVariants.{PutLatch}
 use Rattle.mdl_steps.specs.declared.view.Keys.{Keys}
 use Rattle.mdl_steps.specs.declared.view.Known.{Known}
 use Rattle.mdl_steps.specs.declared.view.Met.{Met}
@@ -20,7 +21,7 @@ knowing known m = (record m.0 { known = m.0.known ++ known ∷ [] }, m.1)
 
 -- the step that gives the directory's latch back, by whose record these are the keys
 abbrev pub given_back : Keys → Mine → Met
-given_back k m = record { word = latch_word 0; found = m.0.number; held = m.0.latches; directory = Some k }
+given_back k m = record { kind = PutLatch; deeds = []; word = latch_word 0; found = m.0.number; held = m.0.latches; directory = Some k }
 
 -- at the step the session had one of these two records of the directory
 abbrev pub HadEither : Keys → Keys → Met → Type 0

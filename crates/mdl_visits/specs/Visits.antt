@@ -13,6 +13,7 @@ use Rattle.mdl_book.specs.FastTickets.{AreOfOthers, CountsFastTickets, can_be_gr
 use Rattle.mdl_book.specs.Granting.{goes_first, is_grantable}
 use Rattle.mdl_steps.specs.declared.deed.Deed.{Deed}
 use Rattle.mdl_steps.specs.declared.slot.Slot.TheVariants as slot
+use Rattle.mdl_steps.specs.declared.step_kind.StepKind.TheVariants.{ReadWord}
 use Rattle.mdl_steps.specs.declared.view.Held.{Held}
 use Rattle.mdl_steps.specs.declared.view.Keys.{Keys}
 use Rattle.mdl_steps.specs.declared.view.Known.{Known}
@@ -77,7 +78,7 @@ pub record Enters (place : ℕ) (obtrusive : Bool) (word : ℕ) (m m′ : Mine) 
   pub fresh : IsFresh place found m
   pub holds : Holds place (noting word (raised true obtrusive found)) found.book m′
   pub inside : IsInside place m m′
-  pub read : (before : List Met) × (m′.0.log ≡ (m.0.log ++ before) ++ record { word = lock_word place; found = word; held = m′.0.latches; directory = m′.0.directory } ∷ [])
+  pub read : (before : List Met) × (m′.0.log ≡ (m.0.log ++ before) ++ record { kind = ReadWord; deeds = []; word = lock_word place; found = word; held = m′.0.latches; directory = m′.0.directory } ∷ [])
 
 -- it may go: the book is as it was, and the flags tell of each ticket in it
 abbrev pub MayLeave : ℕ → Mine → Type 0
