@@ -30,9 +30,10 @@ use Rattle.mdl_steps.proofs.Views.{by_bool, held_at-first, held_at-changed}
 use Rattle.mdl_visits.specs.Leavings.{Learns, knowing}
 use Rattle.mdl_visits.specs.Numbers.{numbered, is_ask_apart}
 use Rattle.mdl_visits.specs.Readings.{Follows}
-use Rattle.mdl_visits.specs.Redefinitions.{AreStepsOf, HasExclusiveAt, IsNamed, IsRefusedFor, MeetsFault, Redefines, redefined_and_put}
-use Rattle.mdl_visits.specs.Visits.{IsInside, IsStepOf, and_made}
+use Rattle.mdl_visits.specs.Redefinitions.{HasExclusiveAt, IsNamed, IsRefusedFor, MeetsFault, Redefines, redefined_and_put}
+use Rattle.mdl_visits.specs.Visits.{AreStepsOf, IsInside, IsStepOf, and_made}
 use Rattle.mdl_visits.proofs.Numbers.{not_waited}
+use Rattle.mdl_visits.proofs.Steps.{none_then}
 
 -- a seat has one record of a latch
 pub one_record : {place : ℕ} {h g : Held} {b c : BookView} {m : Mine} → Holds place h b m → Holds place g c m → h ≡ g
@@ -111,6 +112,7 @@ module _ (place : ℕ) (standing : Standing) (m m′ m″ : Mine) (put : m″ �
       let log = append_assoc (m.0.log ++ inside.made) (writes ∷ []) (puts ∷ []) ∙ append_assoc m.0.log inside.made (writes ∷ puts ∷ []) in (
         inside.made ++ writes ∷ puts ∷ [],
         put ∙ ap (redefined_and_put place standing) inside.now ∙ (λ i. (record (knowing place standing m.0) { latches = others i; log = log i }, m.1)),
+        none_then inside.made (writes ∷ puts ∷ []) [] inside.did refl,
       )
 
 -- where nothing is told but memory, there is no fault

@@ -17,9 +17,9 @@ use Rattle.mdl_visits.specs.declared.audited.Audited.{Audited}
 use Rattle.mdl_visits.specs.Audits.{AreKeyed, AreRecorded, Audits, Gathers, HadLatches}
 use Rattle.mdl_visits.specs.Idle.{IsIdle}
 use Rattle.mdl_visits.specs.Lookups.{HadEither, TookDirectory, given_back, relisted}
-use Rattle.mdl_visits.specs.Visits.{AllHad, IsInside, IsStepOf, KeepsDirectory, MakesSteps, and_made}
+use Rattle.mdl_visits.specs.Visits.{AllHad, IsInside, IsStepOf, KeepsDirectory, MakesSteps, and_made, deeds_of}
 use Rattle.mdl_visits.proofs.Lookups.{had_none, put_after, knows_nothing, no_latches}
-use Rattle.mdl_visits.proofs.Steps.{each_map}
+use Rattle.mdl_visits.proofs.Steps.{each_map, none_then}
 use Rattle.mdl_visits.proofs.Visiting.{inside_at, visits_put, makes_none}
 
 -- ---- steps
@@ -56,6 +56,7 @@ inside_steps place m m′ m″ inside steps = record {
   book = inside.book;
   now = steps.1 ∙ ap (and_made steps.0) inside.now ∙ (λ i. inside_at place inside.latches inside.book m (append_assoc m.0.log inside.made steps.0 i));
   others = inside.others;
+  did = none_then inside.made steps.0 [] inside.did steps.2;
 }
 
 -- the latch that was given back is that of the place
@@ -65,7 +66,7 @@ unlatched_at place q m m′ at put = subst (λ (p : ℕ). m′ ≡ unlatched p [
 pub there_and_back : (place : ℕ) (m m′ m″ m‴ : Mine) → IsInside place m m′ → MakesSteps m′ m″ → m‴ ≡ unlatched place [] m″ → MakesSteps m m‴
 there_and_back place m m′ m″ m‴ inside steps put =
     let visit = visits_put place [] m m″ m‴ (inside_steps place m m′ m″ inside steps) put in
-    (visit.made, visit.now)
+    (visit.made, visit.now, visit.did)
 
 pub may_put : (place : ℕ) (h : Held) (m m′ : Mine) → TellsLists h.book h.slow h.obtrusive → Holds place h h.book m → MakesSteps m m′ → MayPut place [] m′
 may_put place h m m′ tells holds steps = subst (MayPut place []) (sym steps.1) (
@@ -187,8 +188,8 @@ module _ (slots : ℕ) (k : Keys) (made : List Met) (m m′ m″ : Mine) (taken 
     all_put : m‴ ≡ informed (learnt (relisted steps.0 k (consulted k (and_made made m))) 0) (relisted steps.0 k (consulted k (and_made made m)))
     all_put = put_after k made steps.0 k 0 m m′ m″ m‴ taken same_hand put
 
-    pub makes_all : MakesSteps m m‴
-    makes_all = knows_nothing slots k made m idle is steps.0 k 0 m‴ all_put refl
+    pub makes_all : deeds_of made ≡ [] → MakesSteps m m‴
+    makes_all did = knows_nothing slots k made m idle is steps.0 k 0 m‴ all_put did steps.2 refl
 
     abbrev first : Met
     first = record { kind = TakeLatch; deeds = []; word = latch_word 0; found = 0; held = m.0.latches; directory = Some k }

@@ -47,6 +47,7 @@ module _ (slots session number : ℕ) (m m′ : Mine) (lost : m′ ≡ settled_l
     told = (meeting session (wait_in number 3) m.0).told;
     settles = m.0.settles ++ record { session = session; wait = number; state = 3 } ∷ [];
     now = lost;
+    did = refl;
     stays = stays_lost slots session number m.0 own;
     had = (refl, tt);
   }

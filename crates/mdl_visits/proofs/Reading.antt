@@ -13,6 +13,7 @@ use Rattle.mdl_steps.specs.Plays.{Mine, IsFresh, read_and_put}
 use Rattle.mdl_visits.specs.Leavings.{Learns, MeetsStanding, knowing}
 use Rattle.mdl_visits.specs.Readings.{Follows}
 use Rattle.mdl_visits.specs.Visits.{IsInside, IsStepOf}
+use Rattle.mdl_visits.proofs.Steps.{none_then}
 
 -- what is told of a result tells what follows from it
 pub ok_told : {A E : Type 0} {P Q : A → Type 0} (result : Result A E) → ((a : A) → P a → Q a) → IfOk result P → IfOk result Q
@@ -39,6 +40,7 @@ module _ (place : ℕ) (standing : Standing) (m m′ m″ : Mine) (inside : IsIn
     inside.made ++ puts ∷ [],
     read ∙ ap (read_and_put place standing) inside.now
         ∙ (λ i. (record (knowing place standing m.0) { latches = inside.others i; log = append_assoc m.0.log inside.made (puts ∷ []) i }, m.1)),
+    none_then inside.made (puts ∷ []) [] inside.did refl,
   )
 
   pub meets_standing : (h : Held) (who : ℕ) → m.0.number ≡ who → held_at place m′.0.latches ≡ Some h → standing ≡ h.book.standing

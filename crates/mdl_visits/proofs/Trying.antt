@@ -144,18 +144,20 @@ module _ (place word session number : ℕ) (mode : Mode) (kind : Kind) (asks : B
         (altered_exactly session number mode book asks entered.found.obtrusive up (sym asks_here ∙ up) (stands unwaited has))
         wrote
 
-  -- the step that gave it back shows that the wish could be granted
-  pub grantable : (m″ m‴ : Mine) (wrote : BookView) (ds : List Deed) → m.0.number ≡ session → can_be_granted (lock_kind book) book.granted book.waiting word session mode ≡ true
-      → m″ ≡ written place wrote m′ → m‴ ≡ unlatched place ds m″ → (e : Met) × IsStepOf m m‴ e × MeetsGrantable place session mode e
-  grantable m″ m‴ wrote ds mine can writes puts =
-      let e : Met = record { kind = PutLatch; deeds = ds; word = latch_word place; found = m′.0.number; held = m′.0.latches; directory = m′.0.directory } in (
+  -- the step that gave it back, with a deed, shows that the wish could be granted
+  pub grantable : (m″ m‴ : Mine) (wrote : BookView) (deed : Deed) → m.0.number ≡ session → can_be_granted (lock_kind book) book.granted book.waiting word session mode ≡ true
+      → m″ ≡ written place wrote m′ → m‴ ≡ unlatched place (deed ∷ []) m″ → (e : Met) × IsStepOf m m‴ e × MeetsGrantable place session mode deed e
+  grantable m″ m‴ wrote deed mine can writes puts =
+      let e : Met = record { kind = PutLatch; deeds = deed ∷ []; word = latch_word place; found = m′.0.number; held = m′.0.latches; directory = m′.0.directory } in (
         e,
         (
           entered.inside.made,
           [],
-          ap (λ (x : Mine). x.0.log) (puts ∙ ap (unlatched place ds) writes) ∙ ap (λ (log : List Met). log ++ e ∷ []) (ap (λ (x : Mine). x.0.log) entered.inside.now),
+          ap (λ (x : Mine). x.0.log) (puts ∙ ap (unlatched place (deed ∷ [])) writes) ∙ ap (λ (log : List Met). log ++ e ∷ []) (ap (λ (x : Mine). x.0.log) entered.inside.now),
         ),
         record {
+          kind = refl;
+          did = refl;
           word = refl;
           freed = ap (λ (x : Mine). x.0.number) entered.inside.now ∙ mine;
           latch = latch;

@@ -13,19 +13,19 @@ use Rattle.mdl_steps.specs.Layout.{latch_word, lock_word}
 use Rattle.mdl_steps.specs.Plays.{Mine, IsFresh, latched, unlatched, missed_latch, stepped, raised, noting, changed}
 use Rattle.mdl_steps.specs.Seats.{Holds, IsRising, written}
 use Rattle.mdl_steps.proofs.Hands.{elsewhere-stepped, elsewhere-rising}
-use Rattle.mdl_visits.specs.Visits.{and_made, MakesSteps, Lingers, IsInside, Visits, Enters}
-use Rattle.mdl_visits.proofs.Steps.{each_append}
+use Rattle.mdl_visits.specs.Visits.{and_made, deeds_of, MakesSteps, Lingers, IsInside, Visits, Enters}
+use Rattle.mdl_visits.proofs.Steps.{each_append, none_then}
 
 -- ---- steps
 
 pub makes_none : (m : Mine) → MakesSteps m m
-makes_none m = ([], λ i. and_log (sym (append-nil m.0.log) i))
+makes_none m = ([], (λ i. and_log (sym (append-nil m.0.log) i)), refl)
   where
     and_log : List Met → Mine
     and_log log = (record m.0 { log = log }, m.1)
 
 pub lingers_none : (m : Mine) → Lingers m m
-lingers_none m = ([], λ i. (record m.0 { log = sym (append-nil m.0.log) i }, m.1), tt)
+lingers_none m = ([], (λ i. (record m.0 { log = sym (append-nil m.0.log) i }, m.1)), tt, refl)
 
 -- one that only met something
 pub lingers_one : (place found : ℕ) (m m′ m″ : Mine) → Lingers m m′ → m″ ≡ missed_latch place found m′ → Lingers m m″
@@ -35,6 +35,7 @@ lingers_one place found m m′ m″ steps met =
       met ∙ ap (missed_latch place found) steps.1
           ∙ (λ i. (record m.0 { log = append_assoc m.0.log steps.0 (e ∷ []) i }, m.1)),
       each_append (λ (x : Met). x.directory ≡ m.0.directory) steps.0 (e ∷ []) steps.2 (refl, tt),
+      none_then steps.0 (e ∷ []) [] steps.3 refl,
     )
 
 -- ---- inside
@@ -49,8 +50,8 @@ fresh_before place h m m′ steps fresh =
     let f : IsFresh place h (and_made steps.0 m) = subst (IsFresh place h) steps.1 fresh in
     record { here = f.here; exact = f.exact; unnoted = f.unnoted; lawful = f.lawful; modes = f.modes; own = f.own; named = f.named; keyed = f.keyed; vacant = f.vacant; once = f.once; single = f.single; wished = f.wished; lost = f.lost; stands = f.stands; reads = f.reads; noted = f.noted; fast_noted = f.fast_noted; fast_few = f.fast_few; fast_plain = f.fast_plain; fast_beside = f.fast_beside }
 
-pub inside_taken : (place : ℕ) (h : Held) (m m′ : Mine) (made : List Met) → IsRising place m → h.place ≡ place → m′ ≡ latched place h (and_made made m) → IsInside place m m′
-inside_taken place h m m′ made rising here taken =
+pub inside_taken : (place : ℕ) (h : Held) (m m′ : Mine) (made : List Met) → IsRising place m → h.place ≡ place → m′ ≡ latched place h (and_made made m) → deeds_of made ≡ [] → IsInside place m m′
+inside_taken place h m m′ made rising here taken did =
     let e : Met = record { kind = TakeLatch; deeds = []; word = latch_word place; found = 0; held = h ∷ m.0.latches; directory = m.0.directory } in
     record {
       latches = h ∷ m.0.latches;
@@ -58,6 +59,7 @@ inside_taken place h m m′ made rising here taken =
       book = h.book;
       now = taken ∙ (λ i. inside_at place (h ∷ m.0.latches) h.book m (append_assoc m.0.log made (e ∷ []) i));
       others = rw (eq-eqb h.place place here) (elsewhere-rising place m.0.latches rising);
+      did = none_then made (e ∷ []) [] did refl;
     }
 
 pub inside_stepped : (kind : StepKind) (place found : ℕ) (f : Held → Held) (m m′ m″ : Mine) → ((h : Held) → (f h).place ≡ h.place) → IsInside place m m′ → m″ ≡ stepped kind place found f m′ → IsInside place m m″
@@ -71,6 +73,7 @@ inside_stepped kind place found f m m′ m″ stays inside made =
       book = inside.book;
       now = made ∙ ap (stepped kind place found f) inside.now ∙ (λ i. inside_at place latches inside.book m (append_assoc m.0.log inside.made (e ∷ []) i));
       others = elsewhere-stepped kind place found f (inside_at place inside.latches inside.book m log) stays ∙ inside.others;
+      did = none_then inside.made (e ∷ []) [] inside.did refl;
     }
 
 -- another book was written
@@ -81,6 +84,7 @@ inside_written place book m m′ m″ inside made = record {
   book = book;
   now = made ∙ ap (written place book) inside.now;
   others = inside.others;
+  did = inside.did;
 }
 
 -- ---- out again
@@ -92,6 +96,7 @@ visits_put place ds m m′ m″ inside put =
       made = inside.made ++ e ∷ [];
       now = put ∙ ap (unlatched place ds) inside.now
           ∙ (λ i. (record (all_done place ds m.0) { latches = inside.others i; log = append_assoc m.0.log inside.made (e ∷ []) i }, m.1));
+      did = none_then inside.made (e ∷ []) ds inside.did (append-nil ds);
     }
 
 -- ---- as it was entered

@@ -125,6 +125,7 @@ module _ (place : ℕ) (h : Held) (m m₁ m₂ : Mine) (may : MayEnd place h m) 
         now = left.now
             ∙ ap (λ (x : Mine). (record x.0 { latches = elsewhere place m₂; told = left.told; settles = left.settles; log = x.0.log ++ left.made }, rest x.1)) same
             ∙ (λ i. (record (idle m.0) { latches = others i; told = left.told; settles = left.settles; log = append_assoc m.0.log (e ∷ []) left.made i }, rest m.1));
+        did = left.did;
         way = way_after id place (without_wait m) m₂ m₃ (e ∷ [], ap (λ (x : Mine). x.0.log) same) (ap (λ (x : Mine). x.0.settles) same) (ap (λ (x : Mine). x.0.told) same)
             (ap (λ (x : Mine). x.0.number) same) (ap (λ (x : Mine). x.0.asks) same) left.way;
       }
@@ -154,5 +155,5 @@ module _ (place : ℕ) (m m′ : Mine) (inside : IsInside place m m′) where
   pub ends : (id : TableId) (m″ : Mine) → EndsThere id place m′ m″ → EndsLost id place m m″
   ends id m″ ended =
       visits_for_way id place [] (without_wait m) (without_wait m′) m″
-      (record { latches = inside.latches; made = inside.made; book = inside.book; now = ap without_wait inside.now; others = inside.others })
+      (record { latches = inside.latches; made = inside.made; book = inside.book; now = ap without_wait inside.now; others = inside.others; did = inside.did })
       ended

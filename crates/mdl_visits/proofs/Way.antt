@@ -18,7 +18,7 @@ use Rattle.mdl_steps.proofs.Hands.{elsewhere-stepped}
 use Rattle.mdl_steps.proofs.Views.{by_bool, held_at-changed}
 use Rattle.mdl_visits.specs.Grantings.{IsReady, MakesWay, MeetsGranted, StaysTold, WasSettled}
 use Rattle.mdl_visits.specs.Visits.{GoesOn, IsStepOf}
-use Rattle.mdl_visits.proofs.Steps.{each_append, each_map, step_after, step_before}
+use Rattle.mdl_visits.proofs.Steps.{each_append, each_map, none_then, step_after, step_before}
 
 -- ---- what is told of one's own wait
 
@@ -78,6 +78,7 @@ module _ (slots place : ℕ) where
     stays = λ state e. e;
     unasked = λ none. refl;
     granted = tt;
+    did = refl;
   }
 
   -- ---- one step
@@ -95,6 +96,7 @@ module _ (slots place : ℕ) where
     stays = stays_met slots session found m.0 own;
     unasked = unasked_met slots session found m.0 own;
     granted = tt;
+    did = refl;
   }
 
   -- a word was read
@@ -145,6 +147,7 @@ module _ (slots place : ℕ) where
         (grants_it, ([], [], ap (λ (x : Mine). x.0.log) is ∙ ap (λ (log : List Met). log ++ grants_it ∷ []) (sym (append-nil m.0.log))), meets wish_number),
         tt,
       );
+      did = refl;
     }
 
   -- the book in hand was written
@@ -160,6 +163,7 @@ module _ (slots place : ℕ) where
     stays = λ state e. e;
     unasked = λ none. refl;
     granted = tt;
+    did = refl;
   }
 
   -- ---- one after another
@@ -185,6 +189,7 @@ module _ (slots place : ℕ) where
         (λ g met. (met.0, step_before a b c (steps_of b c y) met.0 met.1, met.2)) x.grants x.granted)
         (each_map (λ (g : Settlement). (e : Met) × IsStepOf b c e × MeetsGranted slots place g e) (λ (g : Settlement). (e : Met) × IsStepOf a c e × MeetsGranted slots place g e)
         (λ g met. (met.0, step_after a b c (steps_of a b x) met.0 met.1, met.2)) y.grants y.granted);
+    did = none_then x.made y.made [] x.did y.did;
   }
 
 -- ---- what was settled

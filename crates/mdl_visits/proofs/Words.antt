@@ -18,7 +18,7 @@ use Rattle.mdl_visits.specs.declared.hearing.Heard.{Heard}
 use Rattle.mdl_visits.specs.Searches.{Hears, WasHeard, hearing, sessions_to}
 use Rattle.mdl_visits.specs.Visits.{AllHad, GoesOn}
 use Rattle.mdl_visits.proofs.Asking.{goes_nowhere, step_within}
-use Rattle.mdl_visits.proofs.Steps.{each_append}
+use Rattle.mdl_visits.proofs.Steps.{each_append, none_then}
 use Rattle.mdl_visits.proofs.Way.{stays_met}
 
 -- ---- what becomes of the session
@@ -29,6 +29,7 @@ hears_none m = record {
   told = m.0.told;
   settles = m.0.settles;
   now = λ i. hearing_at (sym (append-nil m.0.log) i);
+  did = refl;
   stays = λ state told. told;
   had = tt;
 }
@@ -43,6 +44,7 @@ hears_then a b c one two = record {
   settles = two.settles;
   now = two.now ∙ ap (hearing two.made two.told two.settles) one.now
       ∙ (λ i. (record a.0 { log = append_assoc a.0.log one.made two.made i; told = two.told; settles = two.settles }, a.1));
+  did = none_then one.made two.made [] one.did two.did;
   stays = λ state told. two.stays state (ap (λ (x : Mine). x.0.told) one.now ∙ one.stays state told);
   had = each_append (λ (e : Met). e.directory ≡ a.0.directory) one.made two.made one.had
       (subst (λ (d : Option Keys). AllHad d two.made) (ap (λ (x : Mine). x.0.directory) one.now) two.had);
@@ -62,6 +64,7 @@ hears_word kind slots session found m m′ own met = record {
   told = (meeting session found m.0).told;
   settles = m.0.settles;
   now = met;
+  did = refl;
   stays = stays_met slots session found m.0 own;
   had = (refl, tt);
 }

@@ -13,7 +13,7 @@ use Rattle.mdl_steps.specs.Rule.{key_at}
 use Rattle.mdl_steps.specs.Seats.{place_among, rest}
 use Rattle.mdl_visits.specs.declared.resolve_error.ResolveError.{ResolveError}
 use Rattle.mdl_visits.specs.declared.resolve_error.ResolveError.TheVariants.{NoPlace, OutOfMemory}
-use Rattle.mdl_visits.specs.Visits.{AllHad, and_made}
+use Rattle.mdl_visits.specs.Visits.{AllHad, and_made, deeds_of}
 
 -- the seat whose session knows one key more
 abbrev pub knowing : Known → Mine → Mine
@@ -54,18 +54,19 @@ abbrev pub relisted : List Met → Keys → Mine → Mine
 relisted made k m = (record m.0 { log = m.0.log ++ made; directory = Some k }, (0, slot.Directory k) ∷ rest m.1)
 
 -- the key's place was asked for by a record that the seat had: it has this one then, by which the key stands at the place that was answered, and nothing
--- else became of what it had
+-- else became of what it had but steps without deeds
 pub record HasLooked (slots : ℕ) (key : KeyName) (k : Keys) (result : Result ℕ ResolveError) (old new : Mine) : Type 0 where
   pub made : List Met
   pub left : Keys
   pub seat : new ≡ relisted made left old
   pub had : Each (HadEither k left) made
+  pub did : deeds_of made ≡ []
   pub answer : IsAnswer slots key k left result
   pub stands : IfOk result (λ place. (0 < place) × (place < slots) × (key_at left.keys place ≡ Some key))
 
 -- the new key was given its place: the seat has the record with it from then on, and at each step before it had one of the two
 abbrev pub HasNamed : KeyName → Keys → Mine → Mine → Type 0
-HasNamed key k old new = (made : List Met) × (new ≡ relisted made (listing key k) old) × Each (HadEither k (listing key k)) made
+HasNamed key k old new = (made : List Met) × (new ≡ relisted made (listing key k) old) × Each (HadEither k (listing key k)) made × (deeds_of made ≡ [])
 
 -- a new key was added to the directory in hand for the next place, which isn't recorded yet
 pub record IsListed (place : ℕ) (key : KeyName) (k : Keys) (m : Mine) : Type 0 where
