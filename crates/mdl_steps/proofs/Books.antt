@@ -17,11 +17,12 @@ use Rattle.mdl_steps.specs.declared.view.Ask.{Ask}
 use Rattle.mdl_steps.specs.declared.view.Own.{Own}
 use Rattle.mdl_steps.specs.declared.view.View.{View}
 use Rattle.mdl_steps.specs.Cells.{Part, part_at, own_at, due, pending, all_fast}
-use Rattle.mdl_steps.specs.Deeds.{May, MayAll, NotWaited, booked, all_booked, done, all_done, owned, next_after}
+use Rattle.mdl_steps.specs.Deeds.{NotWaited, booked, all_booked, done, all_done, owned, next_after}
 use Rattle.mdl_steps.specs.Lists.{Each}
 use Rattle.mdl_steps.specs.Rule.{BookOk, PartOk, NotedCounts, Numbered, NoteAgrees}
 use Rattle.mdl_steps.proofs.Deeds.{Deeded, gains, loses, alters, all_fast-set, set_twice, may_join}
 use Rattle.mdl_steps.proofs.Latch.{due_asked}
+use Rattle.mdl_steps.proofs.OneEvent.{May, MayAll}
 use Rattle.mdl_steps.proofs.Owns.{each-note, each-owned, each-from_at, each-to_at}
 use Rattle.mdl_steps.proofs.Views.{at_inside}
 use Rattle.mdl_steps.proofs.Waiting.{waiting_kept}

@@ -8,6 +8,7 @@ pub mod Flags
 pub mod Tickets
 pub mod Owns
 pub mod Deeds
+pub mod OneEvent
 pub mod Books
 pub mod WaitWords
 pub mod WaitBooks
