@@ -9,6 +9,7 @@ pub mod Tickets
 pub mod Owns
 pub mod Deeds
 pub mod OneEvent
+pub mod Unmixed
 pub mod Books
 pub mod WaitWords
 pub mod WaitBooks

@@ -139,7 +139,7 @@ module _ (slots id place : ℕ) (me : Mine) (some_number : 0 < me.0.number) (fir
           number = refl;
           spare = refl;
           waiter = refl;
-          numbered = record { fast = numbered.fast; slow = numbered.slow; asks = numbered.asks; apart = numbered.apart; unfast = numbered.unfast };
+          numbered = record { fast = numbered.fast; slow = numbered.slow; unmixed = numbered.unmixed; asks = numbered.asks; apart = numbered.apart; unfast = numbered.unfast };
           slots = length-set s.homes place (some (slot.Place book));
           home_else = λ q else. set_else s.homes place q (some (slot.Place book)) else;
           part_else = λ q else. λ i. record (part_at (waits s) q me.0) { slow = all_owned_else place q ds me.0.slow else i };
@@ -166,7 +166,7 @@ module _ (slots id place : ℕ) (me : Mine) (some_number : 0 < me.0.number) (fir
           number = refl;
           spare = refl;
           waiter = refl;
-          numbered = record { fast = numbered.fast; slow = numbered.slow; asks = numbered.asks; apart = numbered.apart; unfast = numbered.unfast };
+          numbered = record { fast = numbered.fast; slow = numbered.slow; unmixed = numbered.unmixed; asks = numbered.asks; apart = numbered.apart; unfast = numbered.unfast };
           slots = refl;
           home_else = λ q else. refl;
           part_else = λ q else. λ i. record (part_at (waits s) q me.0) { slow = all_owned_else place q ds me.0.slow else i };

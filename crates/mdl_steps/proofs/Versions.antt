@@ -26,6 +26,7 @@ use Rattle.mdl_steps.proofs.Lift.{Table, after, on_version, alone, alone_parts, 
 use Rattle.mdl_steps.proofs.Holder.{under, holder_cell}
 use Rattle.mdl_steps.proofs.Put.{one_hand}
 use Rattle.mdl_steps.proofs.Notes.{numbered_notes, apart_notes, reads_older}
+use Rattle.mdl_steps.proofs.Unmixed.{unmixed_notes}
 use Rattle.mdl_steps.proofs.Noting.{noted_part, noted_here, noted_away, noted_ok, fast_same}
 use Rattle.mdl_steps.proofs.Exclusive.{others_fast, others_slow}
 
@@ -85,6 +86,7 @@ module _ (slots id place : ℕ) (me : Mine) (some_number : 0 < me.0.number) (fir
           numbered = record {
             fast = numbered_notes place standing.version me.0.next me.0.fast row.fast;
             slow = numbered_notes place standing.version me.0.next me.0.slow row.slow;
+            unmixed = unmixed_notes place standing.version me.0.fast me.0.slow row.unmixed;
             asks = row.asks;
             apart = λ a e. apart_notes place standing.version a.number me.0.slow (row.apart a e);
             unfast = λ a e. ap (noting_version place standing.version) (row.unfast a e);
