@@ -56,6 +56,10 @@ GoesOn m m′ = (made : List Met) × (m′.0.log ≡ m.0.log ++ made)
 abbrev pub IsStepOf : Mine → Mine → Met → Type 0
 IsStepOf m m′ e = (before : List Met) × (after : List Met) × (m′.0.log ≡ (m.0.log ++ before) ++ e ∷ after)
 
+-- likewise, with the list of steps that there was just before it
+abbrev pub IsStepAfter : Mine → Mine → Mine → Met → Type 0
+IsStepAfter m a m′ e = GoesOn m a × (after : List Met) × (m′.0.log ≡ a.0.log ++ e ∷ after)
+
 -- ---- a visit
 
 -- the session came to a place: it took the latch there and made steps, a book of the place is in its hand, and nothing else changed
