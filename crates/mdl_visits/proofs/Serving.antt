@@ -23,7 +23,7 @@ use Rattle.mdl_steps.specs.WaitPlays.{met_wait, settled_granted, wait_in, with_a
 use Rattle.mdl_steps.specs.WaitSeats.{IsSession}
 use Rattle.mdl_steps.proofs.Hands.{holds_written}
 use Rattle.mdl_steps.proofs.Views.{other}
-use Rattle.mdl_visits.specs.Grantings.{AreTried, IsGrantedFrom, IsLookedThrough, IsReady, IsServed, IsTried, MakesWayInTurn, MayServe, MeetsWaiter, ahead_of}
+use Rattle.mdl_visits.specs.Grantings.{AreTried, HasJustMet, IsGrantedFrom, IsLookedThrough, IsReady, IsServed, IsTried, MakesWayInTurn, MayServe, MeetsWaiter, ahead_of}
 use Rattle.mdl_visits.specs.Visits.{GoesOn, IsStepOf}
 use Rattle.mdl_visits.proofs.Losing.{taken_out}
 use Rattle.mdl_visits.proofs.Steps.{goes_by, step_after, step_before}
@@ -57,7 +57,7 @@ waiter_met slots place session number found h m m′ is has ready =
 
 -- ---- the exchange
 
-module _ (id : TableId) (place session number wait count : ℕ) (h : Held) (m a b : Mine) (has : Holds place h h.book m) (ready : IsReady session number h)
+module _ (id : TableId) (place session number wait count : ℕ) (h : Held) (m a b : Mine) (has : Holds place h h.book m) (ready : IsReady session number h) (just : HasJustMet id.slots place session h m)
     (result : Result Ticket BookError) (made : a ≡ settled_granted id.slots place session number count m) (keeps : Holds place (with_admitted session number h) h.book a)
     (own : TellsOwn id.slots session (wait_in count 1) m.0) (refused : result ≡ ok_or (ticket_of session number h.book.waiting) NotHere)
     (done : OnOk result (b ≡ written place (admitting session number h.book) a)) where
@@ -73,7 +73,7 @@ module _ (id : TableId) (place session number wait count : ℕ) (h : Held) (m a 
   pub way_admitted : MakesWayInTurn id place session number m b
   way_admitted start g mine looked =
       way_then id place start m a b
-      (way_granted id place start session number count h h.book m a has ready
+      (way_granted id place start session number count h h.book m a has ready just
       (subst (λ (x : Held). IsLookedThrough id place x (ahead_of session number x.book.waiting) start m) (one_record place g h m mine has) looked)
       made (found_number session number h.book.waiting ready.wish ready.waits) own)
       (way_written id place start h.book (admitting session number h.book) a b keeps.carried admitted)
@@ -94,6 +94,9 @@ module _ (id : TableId) (place session number word : ℕ) (h : Held) (m a : Mine
 
   goes : GoesOn m a
   goes = (record { word = wait_word id.slots session; found = word; held = m.0.latches; directory = m.0.directory } ∷ [], ap (λ (x : Mine). x.0.log) is)
+
+  pub just_met : HasJustMet id.slots place session h a
+  just_met = (m.0.log, record { word = wait_word id.slots session; found = word; held = m.0.latches; directory = m.0.directory }, ap (λ (x : Mine). x.0.log) is, refl, has.recorded)
 
   -- it met the wait settled
   pub is_settled : word % 8 ≢ 1 → (g : Held) → Holds place g g.book m → IsServed id place session number g m a

@@ -16,7 +16,7 @@ use Rattle.mdl_steps.specs.Seats.{Holds, elsewhere, rest, written}
 use Rattle.mdl_steps.specs.WaitPlays.{wait_in, met_wait, meeting, settled_granted, with_admitted, TellsOwn}
 use Rattle.mdl_steps.proofs.Hands.{elsewhere-stepped}
 use Rattle.mdl_steps.proofs.Views.{by_bool, held_at-changed}
-use Rattle.mdl_visits.specs.Grantings.{AreGranted, ArePassedOver, IsLookedThrough, IsReady, MakesWay, MeetsGranted, StaysTold, WasSettled, ahead_of}
+use Rattle.mdl_visits.specs.Grantings.{AreGranted, ArePassedOver, HasJustMet, IsLookedThrough, IsReady, MakesWay, MeetsGranted, StaysTold, WasSettled, ahead_of}
 use Rattle.mdl_visits.specs.Visits.{GoesOn, IsStepAfter}
 use Rattle.mdl_visits.proofs.Steps.{each_append, each_map, goes_on, step_after, step_before}
 
@@ -147,6 +147,7 @@ meets_since id place first start x g e more met = record {
   word = met.word;
   unsettled = met.unsettled;
   before = met.before;
+  just = met.just;
   wish = met.wish;
   held = met.held;
   waits = met.waits;
@@ -211,7 +212,7 @@ module _ (id : TableId) (place : ℕ) (start : Mine) where
     granted = tt;
   }
 
-  module _ (session ticket number : ℕ) (h : Held) (book : BookView) (m m′ : Mine) (has : Holds place h book m) (ready : IsReady session ticket h)
+  module _ (session ticket number : ℕ) (h : Held) (book : BookView) (m m′ : Mine) (has : Holds place h book m) (ready : IsReady session ticket h) (just : HasJustMet id.slots place session h m)
       (looked : IsLookedThrough id place h (ahead_of session ticket h.book.waiting) start m) (is : m′ ≡ settled_granted id.slots place session ticket number m) where
     latches_then : List Held
     latches_then = (changed place (with_admitted session ticket) m.0).latches
@@ -226,6 +227,7 @@ module _ (id : TableId) (place : ℕ) (start : Mine) where
       word = refl;
       unsettled = refl;
       before = h;
+      just = just;
       wish = ready.wish;
       held = subst (λ (n : ℕ). held_at place latches_then ≡ Some (with_admitted session n h)) (sym wish_number)
           (held_at-changed place (with_admitted session ticket) (λ x. refl) m.0.latches h has.recorded);

@@ -68,14 +68,20 @@ pub record IsLookedThrough (id : TableId) (place : ℕ) (latch : Held) (tickets 
 abbrev pub ahead_of : ℕ → ℕ → List Ticket → List Ticket
 ahead_of session number tickets = before_first (is_ticket session number) tickets
 
--- a step that granted a wait of a session, which was unsettled: by the record of the latch just before it, the session's ticket waited there,
--- might stand beside all that was granted, and waited behind no other; those that arrived before it were passed over, by steps between the two;
--- just after it the ticket is granted
+-- the last of a session's steps met the word of a wait, with this record of the latch of a place
+abbrev pub HasJustMet : ℕ → ℕ → ℕ → Held → Mine → Type 0
+HasJustMet slots place session h m =
+    (log : List Met) × (e : Met) × (m.0.log ≡ log ++ e ∷ []) × (e.word ≡ wait_word slots session) × (held_at place e.held ≡ Some h)
+
+-- a step that granted a wait of a session, which was unsettled. By the record of the latch just before it, the session's ticket waited there,
+-- might stand beside all that was granted, and waited behind no other; those that arrived before it were passed over, as the steps between the
+-- two tell, the last of which met the wait; just after it the ticket is granted
 pub record MeetsGranted (id : TableId) (place : ℕ) (m m′ : Mine) (g : Settlement) (e : Met) : Type 0 where
   pub state : g.state ≡ 2
   pub word : e.word ≡ wait_word id.slots g.session
   pub unsettled : e.found ≡ wait_in g.wait 1
   pub before : Held
+  pub just : HasJustMet id.slots place g.session before m′
   pub wish : Ticket
   pub held : held_at place e.held ≡ Some (with_admitted g.session wish.number before)
   pub waits : ticket_of g.session wish.number before.book.waiting ≡ Some wish

@@ -4,7 +4,7 @@ ghost use Rattle.mdl_steps.specs.declared.view.Held.{Held};
 ghost use Rattle.mdl_steps.specs.Layout.{wait_word};
 ghost use Rattle.mdl_steps.specs.Seats.{IsSized, IsPlace, Holds};
 ghost use Rattle.mdl_steps.specs.WaitSeats.{IsSession};
-ghost use Rattle.mdl_visits.specs.Grantings.{IsGrantedFrom, IsLookedThrough, IsOrderly, IsReady, IsServed, MakesWay, MakesWayInTurn};
+ghost use Rattle.mdl_visits.specs.Grantings.{HasJustMet, IsGrantedFrom, IsLookedThrough, IsOrderly, IsReady, IsServed, MakesWay, MakesWayInTurn};
 
 use mdl_book::Sessions;
 use mdl_steps::{Latched, OwnedTable, WaitWord, Worker};
@@ -79,7 +79,7 @@ fn serve_session(
     }
 }
 
-// Grants a wait that was met unsettled, if it is so still.
+// Grants a wait that was met unsettled just before, if it is so still.
 fn grant(
     worker: &mut Worker,
     table: &OwnedTable,
@@ -91,7 +91,8 @@ fn grant(
     requires table { (worker.old.seat.table_id ≡ table.now.shared.table_id) × IsSized table.now.shared.table_id }
     requires place { IsPlace table.now.shared.table_id latch.now.place }
     requires session { IsSession table.now.shared.table_id session }
-    requires ready { (h : Held) × Holds latch.now.place h h.book worker.old.seat.me × IsReady session number h }
+    requires ready { (h : Held) × Holds latch.now.place h h.book worker.old.seat.me × IsReady session number h
+        × HasJustMet table.now.shared.table_id.slots latch.now.place session h worker.old.seat.me }
     requires unsettled { wait.0 % 8 ≡ 1 }
     ensures seat { (worker.new.seat.table_id ≡ worker.old.seat.table_id) × (worker.new.number ≡ worker.old.number) }
     ensures granted { (h : Held) → Holds latch.now.place h h.book worker.old.seat.me

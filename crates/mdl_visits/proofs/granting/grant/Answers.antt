@@ -23,7 +23,7 @@ returns-then-eq-clause-granted c =
     let keeps = c.grant_wait-met.ensures.keeps found h h.book ready.1 in
     let made = subst (λ (n : ℕ). a ≡ settled_granted n place session c.args.number c.number.result m) c.slot_count-slots.ensures (c.grant_wait-met.ensures.granted found) in
     let own = subst (λ (n : ℕ). TellsOwn n session (wait_in c.number.result 1) m.0) c.slot_count-slots.ensures (subst (λ (w : ℕ). TellsOwn slots session w m.0) found c.grant_wait-met.ensures.own) in
-    is_admitted id place session c.args.number c.args.wait.0 c.number.result h m a c.write_admission-granted.new.self.seat.me ready.1 ready.2 c.write_admission-granted.result made keeps own
+    is_admitted id place session c.args.number c.args.wait.0 c.number.result h m a c.write_admission-granted.new.self.seat.me ready.1 ready.2 ready.3 c.write_admission-granted.result made keeps own
     (c.write_admission-granted.ensures.refused h.book keeps.carried) (c.write_admission-granted.ensures.written h.book keeps.carried)
 
 pub returns-then-eq-clause-way : goal.returns-then-eq-clause-way
@@ -43,7 +43,7 @@ returns-then-eq-clause-way c =
     let keeps = c.grant_wait-met.ensures.keeps found h h.book ready.1 in
     let made = subst (λ (n : ℕ). a ≡ settled_granted n place session c.args.number c.number.result m) c.slot_count-slots.ensures (c.grant_wait-met.ensures.granted found) in
     let own = subst (λ (n : ℕ). TellsOwn n session (wait_in c.number.result 1) m.0) c.slot_count-slots.ensures (subst (λ (w : ℕ). TellsOwn slots session w m.0) found c.grant_wait-met.ensures.own) in
-    way_admitted id place session c.args.number c.args.wait.0 c.number.result h m a c.write_admission-granted.new.self.seat.me ready.1 ready.2 c.write_admission-granted.result made keeps own
+    way_admitted id place session c.args.number c.args.wait.0 c.number.result h m a c.write_admission-granted.new.self.seat.me ready.1 ready.2 ready.3 c.write_admission-granted.result made keeps own
     (c.write_admission-granted.ensures.refused h.book keeps.carried) (c.write_admission-granted.ensures.written h.book keeps.carried)
 
 pub returns-else-eq-clause-granted : goal.returns-else-eq-clause-granted

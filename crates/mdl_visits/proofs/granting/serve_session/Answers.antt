@@ -2,8 +2,19 @@
 use Rattle.std.proofs.Common.{◌≡◌, ℕ, sym, ap, ◌∙◌, subst}
 use Rattle.mdl_steps.specs.Plays.{Mine}
 use Rattle.mdl_steps.specs.WaitPlays.{met_wait, TellsOwn}
-use Rattle.mdl_visits.proofs.Serving.{is_settled, is_tried, way_missed, way_tried}
+use Rattle.mdl_visits.proofs.Serving.{holds_met, is_settled, is_tried, just_met, way_missed, way_tried}
 use Rattle.mdl_visits.proofs.granting.serve_session.Goals as goal
+
+pub grant-requires-clause-ready : goal.grant-requires-clause-ready
+grant-requires-clause-ready c =
+    let id = c.args.table.now.shared.table_id in
+    let place = c.args.latch.now.place in
+    let m : Mine = c.args.worker.now.seat.me in
+    let a : Mine = c.read_wait-wait.new.self.seat.me in
+    let word = c.read_wait-wait.result.0 in
+    let read : a ≡ met_wait id.slots c.args.session word m = c.read_wait-wait.ensures.made ∙ ap (λ (n : ℕ). met_wait n c.args.session word m) c.slot_count.ensures in
+    let ready = c.requires.ready in
+    (ready.0, holds_met id.slots place c.args.session word ready.0 m a read ready.1, ready.2, just_met id place c.args.session c.args.number word ready.0 m a ready.1 ready.2 read)
 
 pub returns-then-state-eq-UNSETTLED-clause-served : goal.returns-then-state-eq-UNSETTLED-clause-served
 returns-then-state-eq-UNSETTLED-clause-served c =
