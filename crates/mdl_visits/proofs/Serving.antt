@@ -23,7 +23,7 @@ use Rattle.mdl_steps.specs.WaitPlays.{met_wait, settled_granted, wait_in, with_a
 use Rattle.mdl_steps.specs.WaitSeats.{IsSession}
 use Rattle.mdl_steps.proofs.Hands.{holds_written}
 use Rattle.mdl_steps.proofs.Views.{other}
-use Rattle.mdl_visits.specs.Grantings.{AreTried, HasJustMet, IsGrantedFrom, IsLookedThrough, IsReady, IsServed, IsTried, MakesWayInTurn, MayServe, MeetsWaiter, ahead_of}
+use Rattle.mdl_visits.specs.Grantings.{AreTried, ForgetsNobody, HasJustMet, IsGrantedFrom, IsLookedThrough, IsReady, IsServed, IsTried, MakesWayInTurn, MayServe, MeetsWaiter, ahead_of}
 use Rattle.mdl_visits.specs.Visits.{GoesOn, IsStepOf}
 use Rattle.mdl_visits.proofs.Losing.{taken_out}
 use Rattle.mdl_visits.proofs.Steps.{goes_by, step_after, step_before}
@@ -232,5 +232,5 @@ module _ (id : TableId) (place word : ℕ) (untried : set.FinSet nat_cmp) (h : H
   looks_ahead session number told = looks (ahead_of session number h.book.waiting) (waits_ahead session number h.book.waiting) (none_ahead word session number untried h told)
 
   -- all, where nobody is next
-  pub looks_through : None ≡ option_map ticket_id (next_grantable word untried h.book) → IsLookedThrough id place h h.book.waiting m a
-  looks_through told = looks h.book.waiting (λ t among. among) (nobody_next word untried h told)
+  pub forgets_nobody : None ≡ option_map ticket_id (next_grantable word untried h.book) → ForgetsNobody id place h m a
+  forgets_nobody told = looks h.book.waiting (λ t among. among) (nobody_next word untried h told)

@@ -18,7 +18,7 @@ use Rattle.mdl_steps.specs.Plays.{Mine, changed, noting, settled, stepped, unlat
 use Rattle.mdl_steps.specs.Rule.{TellsLists}
 use Rattle.mdl_steps.specs.Seats.{Holds, elsewhere, rest, written}
 use Rattle.mdl_steps.proofs.Hands.{elsewhere-settled, elsewhere-stepped}
-use Rattle.mdl_visits.specs.Grantings.{IsLookedThrough, IsLowered, LeavesWay, MadeWay, MakesWay, StandsOnce, VisitsForWay, WaitsOnce}
+use Rattle.mdl_visits.specs.Grantings.{ForgetsNobody, IsLowered, LeavesWay, MadeWay, MakesWay, StandsOnce, VisitsForWay, WaitsOnce}
 use Rattle.mdl_visits.specs.Visits.{GoesOn, IsInside, IsStepOf}
 use Rattle.mdl_visits.proofs.Steps.{step_after, step_before}
 use Rattle.mdl_visits.proofs.Way.{granted_after, granted_before, granted_since, looked_after, looked_before, steps_of}
@@ -26,7 +26,7 @@ use Rattle.mdl_visits.proofs.Way.{granted_after, granted_before, granted_since, 
 -- ---- of what went before
 
 module _ (id : TableId) (place : ℕ) (a b c : Mine) (more : GoesOn a b) where
-  served_after : (latch : Held) → (latch.book.waiting ≡ []) ⊎ IsLookedThrough id place latch latch.book.waiting b c → (latch.book.waiting ≡ []) ⊎ IsLookedThrough id place latch latch.book.waiting a c
+  served_after : (latch : Held) → (latch.book.waiting ≡ []) ⊎ ForgetsNobody id place latch b c → (latch.book.waiting ≡ []) ⊎ ForgetsNobody id place latch a c
   served_after latch (inl none) = inl none
   served_after latch (inr looked) = inr (looked_after a b c id place latch latch.book.waiting more looked)
 
@@ -72,7 +72,7 @@ module _ (id : TableId) (place : ℕ) (h : Held) (m c : Mine) (has : Holds place
 
 -- ---- somebody does: waits were granted, and the latch was given back
 
-module _ (id : TableId) (place : ℕ) (g : Held) (m b c : Mine) (way : MakesWay id place m m b) (has : Holds place g g.book b) (looked : IsLookedThrough id place g g.book.waiting m b)
+module _ (id : TableId) (place : ℕ) (g : Held) (m b c : Mine) (way : MakesWay id place m m b) (has : Holds place g g.book b) (none : ForgetsNobody id place g m b)
     (put : c ≡ unlatched place [] b) where
   abbrev frees : Met
   frees = record { word = latch_word place; found = b.0.number; held = b.0.latches; directory = b.0.directory }
@@ -105,7 +105,7 @@ module _ (id : TableId) (place : ℕ) (g : Held) (m b c : Mine) (way : MakesWay 
           freed = ap (λ (x : Mine). x.0.number) way.now;
           latch = g;
           held = has.recorded;
-          served = inr (looked_before m b c id place g g.book.waiting b_c looked);
+          served = inr (looked_before m b c id place g g.book.waiting b_c none);
         },
       );
       stays = λ state e. ap (λ (x : Mine). x.0.told) put ∙ ap (λ (x : Mine). x.0.told) way.now ∙ way.stays state e;

@@ -64,6 +64,10 @@ pub record IsLookedThrough (id : TableId) (place : ℕ) (latch : Held) (tickets 
   pub noted : latch.obtrusive ≡ true → latch.noted ≡ Some read.found
   pub passed : ArePassedOver id place read.found latch tickets m m′
 
+-- nobody is forgotten by the record of a latch: all that wait by it are passed over
+abbrev pub ForgetsNobody : TableId → ℕ → Held → Mine → Mine → Type 0
+ForgetsNobody id place latch m m′ = IsLookedThrough id place latch latch.book.waiting m m′
+
 -- the tickets that arrived before one, in a list in order of arrival
 abbrev pub ahead_of : ℕ → ℕ → List Ticket → List Ticket
 ahead_of session number tickets = before_first (is_ticket session number) tickets
@@ -114,10 +118,6 @@ pub record IsReady (session number : ℕ) (h : Held) : Type 0 where
   pub waits : ticket_of session number h.book.waiting ≡ Some wish
   pub beside : MayJoin session h.book h.noted wish.mode
   pub first : goes_first (lock_kind h.book) h.book.waiting session wish.mode ≡ true
-
--- nobody is forgotten: all that wait by the record are passed over
-abbrev pub ForgetsNobody : TableId → ℕ → ℕ → Held → Mine → Mine → Type 0
-ForgetsNobody id place word h m m′ = ArePassedOver id place word h h.book.waiting m m′
 
 -- a ticket was tried: the table has no such session, or a step met its wait settled
 abbrev pub IsTried : TableId → ℕ → ℕ → ℕ → Mine → Mine → Type 0
@@ -180,7 +180,7 @@ pub record MeetsServed (id : TableId) (place who : ℕ) (m m′ : Mine) (e : Met
   pub freed : e.found ≡ who
   pub latch : Held
   pub held : held_at place e.held ≡ Some latch
-  pub served : (latch.book.waiting ≡ []) ⊎ IsLookedThrough id place latch latch.book.waiting m m′
+  pub served : (latch.book.waiting ≡ []) ⊎ ForgetsNobody id place latch m m′
 
 -- way was made at a place between the two: waits were granted by steps between them, nobody was forgotten as the latch was given back, and
 -- what was told of the session's own wait stays so. A session without a wait is told of none

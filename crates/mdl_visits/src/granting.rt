@@ -4,7 +4,7 @@ ghost use Rattle.mdl_steps.specs.declared.view.Held.{Held};
 ghost use Rattle.mdl_steps.specs.Layout.{wait_word};
 ghost use Rattle.mdl_steps.specs.Seats.{IsSized, IsPlace, Holds};
 ghost use Rattle.mdl_steps.specs.WaitSeats.{IsSession};
-ghost use Rattle.mdl_visits.specs.Grantings.{HasJustMet, IsGrantedFrom, IsLookedThrough, IsOrderly, IsReady, IsServed, MakesWay, MakesWayInTurn};
+ghost use Rattle.mdl_visits.specs.Grantings.{ForgetsNobody, HasJustMet, IsGrantedFrom, IsOrderly, IsReady, IsServed, MakesWay, MakesWayInTurn};
 
 use mdl_book::Sessions;
 use mdl_steps::{Latched, OwnedTable, WaitWord, Worker};
@@ -17,7 +17,7 @@ pub(crate) fn grant_waiters(worker: &mut Worker, table: &OwnedTable, latch: &Lat
     requires held { (h : Held) × Holds latch.now.place h h.book worker.old.seat.me × IsOrderly h }
     ensures seat { (worker.new.seat.table_id ≡ worker.old.seat.table_id) × (worker.new.number ≡ worker.old.number) }
     ensures served { (h : Held) × Holds latch.now.place h h.book worker.new.seat.me × IsOrderly h
-        × IsLookedThrough table.now.shared.table_id latch.now.place h h.book.waiting worker.old.seat.me worker.new.seat.me }
+        × ForgetsNobody table.now.shared.table_id latch.now.place h worker.old.seat.me worker.new.seat.me }
     ensures way { MakesWay table.now.shared.table_id latch.now.place worker.old.seat.me worker.old.seat.me worker.new.seat.me }
 {
     let word = worker.read_word(&table.shared, latch);

@@ -5,8 +5,8 @@ use Rattle.std.specs.Ordering.{nat_cmp}
 use Rattle.mdl_steps.specs.declared.view.Held.{Held}
 use Rattle.mdl_steps.specs.Plays.{Mine, noting}
 use Rattle.mdl_steps.specs.Seats.{Holds}
-use Rattle.mdl_visits.specs.Grantings.{AreTried, IsLookedThrough, IsOrderly, MakesWay}
-use Rattle.mdl_visits.proofs.Serving.{WasRead, fewer_untried, looks_ahead, looks_through, read_before, read_first, tried_first, turn_done}
+use Rattle.mdl_visits.specs.Grantings.{AreTried, ForgetsNobody, IsOrderly, MakesWay}
+use Rattle.mdl_visits.proofs.Serving.{WasRead, fewer_untried, forgets_nobody, looks_ahead, read_before, read_first, tried_first, turn_done}
 use Rattle.mdl_visits.proofs.Waiting.{is_next, serves_read}
 use Rattle.mdl_visits.proofs.Way.{steps_of, way_read, way_then}
 use Rattle.mdl_visits.proofs.granting.grant_waiters.Goals as goal
@@ -94,8 +94,8 @@ returns-clause-served c =
     let held = c.loop-session.invariant.held in
     let h = held.0 in
     let none = c.in_default.ensures.told h.book held.1.carried in
-    subst (λ (x : Mine). (g : Held) × Holds place g g.book x × IsOrderly g × IsLookedThrough id place g g.book.waiting m x) (sym c.next_grantable.ensures.same)
-    (h, held.1, held.2.0, looks_through id place word c.loop-session.untried h m c.loop-session.worker.seat.me held.2 c.loop-session.invariant.read held.3 none)
+    subst (λ (x : Mine). (g : Held) × Holds place g g.book x × IsOrderly g × ForgetsNobody id place g m x) (sym c.next_grantable.ensures.same)
+    (h, held.1, held.2.0, forgets_nobody id place word c.loop-session.untried h m c.loop-session.worker.seat.me held.2 c.loop-session.invariant.read held.3 none)
 
 pub returns-clause-way : goal.returns-clause-way
 returns-clause-way c =

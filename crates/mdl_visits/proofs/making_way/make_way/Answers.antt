@@ -3,7 +3,7 @@ use Rattle.std.proofs.Common.{[], sym, ap, ◌∙◌, subst}
 use Rattle.mdl_steps.specs.declared.worker.Worker.{Worker}
 use Rattle.mdl_steps.specs.Plays.{Mine, unlatched}
 use Rattle.mdl_steps.specs.Seats.{Holds}
-use Rattle.mdl_visits.specs.Grantings.{IsLookedThrough, MakesWay}
+use Rattle.mdl_visits.specs.Grantings.{ForgetsNobody, MakesWay}
 use Rattle.mdl_visits.proofs.WayOut.{leaves_none, leaves_served, nobody_waits}
 use Rattle.mdl_visits.proofs.making_way.make_way.Goals as goal
 use Rattle.mdl_visits.proofs.making_way.make_way.Goals.{then-has_waiters, else-has_waiters}
@@ -27,8 +27,8 @@ returns-clause-left c =
           let b : Mine = w.grant_waiters.new.worker.seat.me in
           let same = c.has_waiters.ensures.same in
           let served = w.grant_waiters.ensures.served in
-          let looked = subst (λ (x : Mine). IsLookedThrough id place served.0 served.0.book.waiting x b) same served.3 in
-          leaves_served id place served.0 m b out (subst (λ (x : Mine). MakesWay id place x x b) same w.grant_waiters.ensures.way) served.1 looked
+          let none = subst (λ (x : Mine). ForgetsNobody id place served.0 x b) same served.3 in
+          leaves_served id place served.0 m b out (subst (λ (x : Mine). MakesWay id place x x b) same w.grant_waiters.ensures.way) served.1 none
           (c.put_latch.ensures.made ∙ ap (λ (x : Worker). unlatched place [] x.seat.me) w.worker-is)
       | else-has_waiters w ↦
           leaves_none id place h m out held.1 (nobody_waits h.book.waiting (sym (c.has_waiters.ensures.told h.book held.1.carried) ∙ w.if-has_waiters.false))
