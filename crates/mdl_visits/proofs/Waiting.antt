@@ -232,10 +232,10 @@ none_before p q (x ∷ xs) t found here =
     (λ miss.
     ap (find p) (first-miss q x xs miss)
     ∙ by_bool (p x)
-        (λ passes. let is : x ≡ t = (let first : cond (p x) (Some x) (find p xs) ≡ Some x = ap (λ b. cond b (Some x) (find p xs)) passes in cc) in
-        let no : q t ≡ false = subst (λ (y : Ticket). q y ≡ false) is miss in
-        absurd (cc))
-        (λ fails. ap (λ b. cond b (Some x) (find p (before_first q xs))) fails ∙ none_before p q xs t (sym (ap (λ b. cond b (Some x) (find p xs)) fails) ∙ found) here))
+    (λ passes. let is : x ≡ t = (let first : cond (p x) (Some x) (find p xs) ≡ Some x = ap (λ b. cond b (Some x) (find p xs)) passes in cc) in
+    let no : q t ≡ false = subst (λ (y : Ticket). q y ≡ false) is miss in
+    absurd (cc))
+    (λ fails. ap (λ b. cond b (Some x) (find p (before_first q xs))) fails ∙ none_before p q xs t (sym (ap (λ b. cond b (Some x) (find p xs)) fails) ∙ found) here))
   where
     first-hit : (q : Ticket → Bool) (x : Ticket) (xs : List Ticket) → q x ≡ true → before_first q (x ∷ xs) ≡ []
     first-hit q x xs e = rw e refl

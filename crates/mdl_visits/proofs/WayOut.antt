@@ -1,5 +1,5 @@
 -- Way is made, and the latch given back.
-use Rattle.std.proofs.Common.{◌≡◌, ℕ, ◌==◌, nat_lt, not, filter, length, arith, true, false, List, [], ◌∷◌, ◌++◌, Some, refl, sym, ap, ◌∙◌, subst, inl, inr, append_assoc, append-nil}
+use Rattle.std.proofs.Common.{◌≡◌, ℕ, nat_lt, length, arith, true, false, List, [], ◌∷◌, ◌++◌, Some, refl, sym, ap, ◌∙◌, subst, inl, inr, append_assoc, append-nil}
 use Rattle.std.specs.Prelude.{◌⊎◌}
 use Rattle.std.proofs.lemmas.Bool.{lt-ltb}
 use Rattle.atomic_table.specs.Seated.{TableId}
@@ -7,17 +7,15 @@ use Rattle.mdl_book.specs.declared.book_view.BookView.{BookView}
 use Rattle.mdl_book.specs.declared.ticket.Ticket.{Ticket}
 use Rattle.mdl_steps.specs.declared.deed.Deed.{Deed}
 use Rattle.mdl_steps.specs.declared.deed.Deed.TheVariants.{Gain, Alter, Lose}
-use Rattle.mdl_steps.specs.declared.slot.Slot.TheVariants as slot
 use Rattle.mdl_steps.specs.declared.view.Held.{Held}
 use Rattle.mdl_steps.specs.declared.view.Met.{Met}
 use Rattle.mdl_steps.specs.declared.view.Settlement.{Settlement}
 use Rattle.mdl_steps.specs.Deeds.{all_booked, all_done}
 use Rattle.mdl_steps.specs.Cells.{held_at}
 use Rattle.mdl_steps.specs.Layout.{latch_word, lock_word}
-use Rattle.mdl_steps.specs.Plays.{Mine, changed, noting, settled, stepped, unlatched}
-use Rattle.mdl_steps.specs.Rule.{TellsLists}
+use Rattle.mdl_steps.specs.Plays.{Mine, unlatched}
 use Rattle.mdl_steps.specs.Seats.{Holds, elsewhere, rest, written}
-use Rattle.mdl_steps.proofs.Hands.{elsewhere-settled, elsewhere-stepped}
+use Rattle.mdl_steps.proofs.Hands.{elsewhere-settled}
 use Rattle.mdl_visits.specs.Grantings.{ForgetsNobody, IsLowered, LeavesWay, MadeWay, MakesWay, StandsOnce, VisitsForWay, WaitsOnce}
 use Rattle.mdl_visits.specs.Visits.{GoesOn, IsInside, IsStepOf}
 use Rattle.mdl_visits.proofs.Steps.{step_after, step_before}
