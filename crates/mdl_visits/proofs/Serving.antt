@@ -14,12 +14,14 @@ use Rattle.mdl_book.specs.Books.{admitting, is_ready, lock_kind, next_grantable}
 use Rattle.mdl_book.specs.FastTickets.{can_be_granted}
 use Rattle.mdl_book.specs.SessionSets.{IsEverySession}
 use Rattle.mdl_book.specs.Tickets.{ticket_id, ticket_of}
+use Rattle.mdl_steps.specs.declared.step_kind.StepKind.{StepKind}
+use Rattle.mdl_steps.specs.declared.step_kind.StepKind.TheVariants.{ReadWait, ReadWord}
 use Rattle.mdl_steps.specs.declared.view.Held.{Held}
 use Rattle.mdl_steps.specs.declared.view.Met.{Met}
 use Rattle.mdl_steps.specs.Layout.{lock_word, wait_word}
 use Rattle.mdl_steps.specs.Plays.{Mine, changed, noting, stepped}
 use Rattle.mdl_steps.specs.Seats.{Holds, written}
-use Rattle.mdl_steps.specs.WaitPlays.{met_wait, settled_granted, wait_in, with_admitted, TellsOwn}
+use Rattle.mdl_steps.specs.WaitPlays.{met_wait_by, settled_granted, wait_in, with_admitted, TellsOwn}
 use Rattle.mdl_steps.proofs.Hands.{holds_written}
 use Rattle.mdl_steps.proofs.Views.{other}
 use Rattle.mdl_visits.specs.Grantings.{AreTried, ForgetsNobody, HasJustMet, IsGrantedFrom, IsLookedThrough, IsReady, IsServed, IsTried, MakesWayInTurn, MayServe, MeetsWaiter, ahead_of}
@@ -36,18 +38,18 @@ one_record place h g m x y = same h g (sym x.recorded ∙ y.recorded)
     same : (h g : Held) → Some h ≡ Some g → h ≡ g
     same h g e = cc
 
-pub holds_met : (slots place session found : ℕ) (h : Held) (m m′ : Mine) → m′ ≡ met_wait slots session found m → Holds place h h.book m → Holds place h h.book m′
-holds_met slots place session found h m m′ is has =
+pub holds_met : (kind : StepKind) (slots place session found : ℕ) (h : Held) (m m′ : Mine) → m′ ≡ met_wait_by kind slots session found m → Holds place h h.book m → Holds place h h.book m′
+holds_met kind slots place session found h m m′ is has =
     subst (λ (x : Mine). Holds place h h.book x) (sym is) (record { recorded = has.recorded; carried = has.carried })
 
 some_is : (o : Option Ticket) (t : Ticket) → o ≡ Some t → is_some o ≡ true
 some_is o t e = ap is_some e
 
 -- a step that only met a wait's word, while its ticket waits there, and what was met
-pub waiter_met : (slots place session number found : ℕ) (h : Held) (m m′ : Mine) → m′ ≡ met_wait slots session found m → Holds place h h.book m → IsReady session number h
+pub waiter_met : (kind : StepKind) (slots place session number found : ℕ) (h : Held) (m m′ : Mine) → m′ ≡ met_wait_by kind slots session found m → Holds place h h.book m → IsReady session number h
     → (e : Met) × IsStepOf m m′ e × MeetsWaiter slots place session number e × (e.found ≡ found)
-waiter_met slots place session number found h m m′ is has ready =
-    let e : Met = record { word = wait_word slots session; found = found; held = m.0.latches; directory = m.0.directory } in (
+waiter_met kind slots place session number found h m m′ is has ready =
+    let e : Met = record { kind = kind; deeds = []; word = wait_word slots session; found = found; held = m.0.latches; directory = m.0.directory } in (
       e,
       ([], [], ap (λ (x : Mine). x.0.log) is ∙ ap (λ (log : List Met). log ++ e ∷ []) (sym (append-nil m.0.log))),
       record { word = refl; latch = h; held = has.recorded; waits = some_is (ticket_of session number h.book.waiting) ready.wish ready.waits },
@@ -77,30 +79,32 @@ module _ (id : TableId) (place session number wait count : ℕ) (h : Held) (m a 
       made (found_number session number h.book.waiting ready.wish ready.waits) own)
       (way_written id place start h.book (admitting session number h.book) a b keeps.carried admitted)
 
-module _ (id : TableId) (place session number word : ℕ) (h : Held) (m a : Mine) (has : Holds place h h.book m) (ready : IsReady session number h) (is : a ≡ met_wait id.slots session word m) where
+module _ (kind : StepKind) (id : TableId) (place session number word : ℕ) (h : Held) (m a : Mine) (has : Holds place h h.book m) (ready : IsReady session number h)
+    (is : a ≡ met_wait_by kind id.slots session word m) where
   -- it met another word
   pub is_missed : (wait : ℕ) → word ≢ wait → (g : Held) → Holds place g g.book m → IsGrantedFrom id.slots place session number wait g m a
   is_missed wait other g mine =
-      let step = waiter_met id.slots place session number word h m a is has ready in
+      let step = waiter_met kind id.slots place session number word h m a is has ready in
       subst (λ (x : Held). IsGrantedFrom id.slots place session number wait x m a) (one_record place h g m has mine)
-      (inl ((step.0, step.1, step.2, λ same. other (sym step.3 ∙ same)), holds_met id.slots place session word h m a is has))
+      (inl ((step.0, step.1, step.2, λ same. other (sym step.3 ∙ same)), holds_met kind id.slots place session word h m a is has))
 
   -- a step that met the word makes way
   pub way_missed : TellsOwn id.slots session word m.0 → MakesWayInTurn id place session number m a
-  way_missed own start g mine looked = way_met id place start session word g.book m a mine.carried own is
+  way_missed own start g mine looked = way_met id place start kind session word g.book m a mine.carried own is
 
   -- ---- the read before it
 
   goes : GoesOn m a
-  goes = (record { word = wait_word id.slots session; found = word; held = m.0.latches; directory = m.0.directory } ∷ [], ap (λ (x : Mine). x.0.log) is)
+  goes = (record { kind = kind; deeds = []; word = wait_word id.slots session; found = word; held = m.0.latches; directory = m.0.directory } ∷ [], ap (λ (x : Mine). x.0.log) is)
 
-  pub just_met : HasJustMet id.slots place session h a
-  just_met = (m.0.log, record { word = wait_word id.slots session; found = word; held = m.0.latches; directory = m.0.directory }, ap (λ (x : Mine). x.0.log) is, refl, has.recorded)
+  pub just_met : kind ≡ ReadWait → HasJustMet id.slots place session h a
+  just_met read =
+      (m.0.log, record { kind = kind; deeds = []; word = wait_word id.slots session; found = word; held = m.0.latches; directory = m.0.directory }, ap (λ (x : Mine). x.0.log) is, read, refl, has.recorded)
 
   -- it met the wait settled
   pub is_settled : word % 8 ≢ 1 → (g : Held) → Holds place g g.book m → IsServed id place session number g m a
   is_settled state g mine =
-      let step = waiter_met id.slots place session number word h m a is has ready in
+      let step = waiter_met kind id.slots place session number word h m a is has ready in
       subst (λ (x : Held). IsServed id place session number x m a) (one_record place h g m has mine)
       (inl (
         inr (record {
@@ -112,14 +116,14 @@ module _ (id : TableId) (place session number word : ℕ) (h : Held) (m a : Mine
           of_same = step.2;
           settled = λ same. let found = step.3 in (let again : step.0.found ≡ 8 * (step.0.found / 8) + 1 = same in state (omega arith));
         }),
-        holds_met id.slots place session word h m a is has,
+        holds_met kind id.slots place session word h m a is has,
       ))
 
   -- it met the wait unsettled, and the exchange was tried
   pub is_tried : (b : Mine) → word % 8 ≡ 1 → ((g : Held) → Holds place g g.book a → IsGrantedFrom id.slots place session number word g a b) → (g : Held) → Holds place g g.book m → IsServed id place session number g m b
-  is_tried b state tried g mine = elim (tried g (holds_met id.slots place session word g m a is mine)) [
+  is_tried b state tried g mine = elim (tried g (holds_met kind id.slots place session word g m a is mine)) [
     | inl missed ↦
-        let step = waiter_met id.slots place session number word h m a is has ready in
+        let step = waiter_met kind id.slots place session number word h m a is has ready in
         let met = missed.0 in
         inl (
           inr (record {
@@ -139,7 +143,7 @@ module _ (id : TableId) (place session number word : ℕ) (h : Held) (m a : Mine
   pub way_tried : (b : Mine) → TellsOwn id.slots session word m.0 → MakesWayInTurn id place session number a b → MakesWayInTurn id place session number m b
   way_tried b own way start g mine looked =
       way_then id place start m a b (way_missed own start g mine looked)
-      (way start g (holds_met id.slots place session word g m a is mine) (looked_before start m a id place g (ahead_of session number g.book.waiting) goes looked))
+      (way start g (holds_met kind id.slots place session word g m a is mine) (looked_before start m a id place g (ahead_of session number g.book.waiting) goes looked))
 
 -- ---- turn by turn
 
@@ -199,15 +203,15 @@ module _ (id : TableId) (place session number word : ℕ) (h : Held) (m a b : Mi
 
 -- a step that read the word of a lock
 abbrev pub WasRead : ℕ → ℕ → Mine → Mine → Type 0
-WasRead place word m m′ = (e : Met) × IsStepOf m m′ e × (e.word ≡ lock_word place) × (e.found ≡ word)
+WasRead place word m m′ = (e : Met) × IsStepOf m m′ e × (e.kind ≡ ReadWord) × (e.word ≡ lock_word place) × (e.found ≡ word)
 
-pub read_first : (place word : ℕ) (m m′ : Mine) → m′ ≡ stepped place word (noting word) m → WasRead place word m m′
+pub read_first : (place word : ℕ) (m m′ : Mine) → m′ ≡ stepped ReadWord place word (noting word) m → WasRead place word m m′
 read_first place word m m′ is =
-    let e : Met = record { word = lock_word place; found = word; held = (changed place (noting word) m.0).latches; directory = m.0.directory } in
-    (e, ([], [], ap (λ (x : Mine). x.0.log) is ∙ ap (λ (log : List Met). log ++ e ∷ []) (sym (append-nil m.0.log))), refl, refl)
+    let e : Met = record { kind = ReadWord; deeds = []; word = lock_word place; found = word; held = (changed place (noting word) m.0).latches; directory = m.0.directory } in
+    (e, ([], [], ap (λ (x : Mine). x.0.log) is ∙ ap (λ (log : List Met). log ++ e ∷ []) (sym (append-nil m.0.log))), refl, refl, refl)
 
 pub read_before : (place word : ℕ) (a b c : Mine) → GoesOn b c → WasRead place word a b → WasRead place word a c
-read_before place word a b c more read = (read.0, step_before a b c more read.0 read.1, read.2, read.3)
+read_before place word a b c more read = (read.0, step_before a b c more read.0 read.1, read.2, read.3, read.4)
 
 module _ (id : TableId) (place word : ℕ) (untried : set.FinSet nat_cmp) (h : Held) (m a : Mine) (may : MayServe word h) (read : WasRead place word m a) (tried : AreTried id place untried h m a) where
   -- those of whom none is next
@@ -215,14 +219,15 @@ module _ (id : TableId) (place word : ℕ) (untried : set.FinSet nat_cmp) (h : H
   looks tickets waits none = record {
     read = read.0;
     read_then = read.1;
-    of_lock = read.2;
-    noted = λ up. may.1 up ∙ ap (λ (w : ℕ). Some w) (sym read.3);
+    kind = read.2;
+    of_lock = read.3;
+    noted = λ up. may.1 up ∙ ap (λ (w : ℕ). Some w) (sym read.4);
     passed = λ t among known is. elim (not_ready word untried h tickets none t among) [
       | inl out ↦ elim (tried t (waits t among) is out) [
         | inl unknown ↦ absurd (unknown known)
         | inr settled ↦ inl settled
       ]
-      | inr cannot ↦ inr (subst (λ (w : ℕ). can_be_granted (lock_kind h.book) h.book.granted h.book.waiting w t.session t.mode ≡ false) (sym read.3) cannot)
+      | inr cannot ↦ inr (subst (λ (w : ℕ). can_be_granted (lock_kind h.book) h.book.granted h.book.waiting w t.session t.mode ≡ false) (sym read.4) cannot)
     ];
   }
 

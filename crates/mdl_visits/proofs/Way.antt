@@ -5,6 +5,8 @@ use Rattle.atomic_table.specs.Seated.{TableId}
 use Rattle.mdl_book.specs.declared.book_view.BookView.{BookView}
 use Rattle.mdl_book.specs.declared.ticket.Ticket.{Ticket}
 use Rattle.mdl_steps.specs.declared.slot.Slot.TheVariants as slot
+use Rattle.mdl_steps.specs.declared.step_kind.StepKind.{StepKind}
+use Rattle.mdl_steps.specs.declared.step_kind.StepKind.TheVariants.{GrantWait, ReadWord}
 use Rattle.mdl_steps.specs.declared.view.Held.{Held}
 use Rattle.mdl_steps.specs.declared.view.Met.{Met}
 use Rattle.mdl_steps.specs.declared.view.Settlement.{Settlement}
@@ -13,12 +15,12 @@ use Rattle.mdl_steps.specs.Cells.{held_at}
 use Rattle.mdl_steps.specs.Layout.{lock_word, wait_word}
 use Rattle.mdl_steps.specs.Plays.{Mine, changed, noting, stepped}
 use Rattle.mdl_steps.specs.Seats.{Holds, elsewhere, rest, written}
-use Rattle.mdl_steps.specs.WaitPlays.{wait_in, met_wait, meeting, settled_granted, with_admitted, TellsOwn}
+use Rattle.mdl_steps.specs.WaitPlays.{wait_in, met_wait_by, meeting, settled_granted, with_admitted, TellsOwn}
 use Rattle.mdl_steps.proofs.Hands.{elsewhere-stepped}
 use Rattle.mdl_steps.proofs.Views.{by_bool, held_at-changed}
 use Rattle.mdl_visits.specs.Grantings.{AreGranted, ArePassedOver, HasJustMet, IsLookedThrough, IsReady, MakesWay, MeetsGranted, StaysTold, WasSettled, ahead_of}
 use Rattle.mdl_visits.specs.Visits.{GoesOn, IsStepAfter}
-use Rattle.mdl_visits.proofs.Steps.{each_append, each_map, goes_on, step_after, step_before}
+use Rattle.mdl_visits.proofs.Steps.{each_append, each_map, goes_on, none_then, step_after, step_before}
 
 -- ---- what is told of one's own wait
 
@@ -105,6 +107,7 @@ module _ (a b c : Mine) where
     looked_before more looked = record {
       read = looked.read;
       read_then = step_before a b c more looked.read looked.read_then;
+      kind = looked.kind;
       of_lock = looked.of_lock;
       noted = looked.noted;
       passed = passed_before looked.read.found more looked.passed;
@@ -114,6 +117,7 @@ module _ (a b c : Mine) where
     looked_after more looked = record {
       read = looked.read;
       read_then = step_after a b c more looked.read looked.read_then;
+      kind = looked.kind;
       of_lock = looked.of_lock;
       noted = looked.noted;
       passed = passed_after looked.read.found more looked.passed;
@@ -144,6 +148,7 @@ module _ (id : TableId) (place : ℕ) (grants : List Settlement) (start a b c : 
 meets_since : (id : TableId) (place : ℕ) (first start x : Mine) (g : Settlement) (e : Met) → GoesOn first start → MeetsGranted id place start x g e → MeetsGranted id place first x g e
 meets_since id place first start x g e more met = record {
   state = met.state;
+  kind = met.kind;
   word = met.word;
   unsettled = met.unsettled;
   before = met.before;
@@ -178,38 +183,41 @@ module _ (id : TableId) (place : ℕ) (start : Mine) where
     stays = λ state e. e;
     unasked = λ none. refl;
     granted = tt;
+    did = refl;
   }
 
   -- ---- one step
 
-  pub way_met : (session found : ℕ) (book : BookView) (m m′ : Mine) → m.1 ≡ (place, slot.Place book) ∷ rest m.1 → TellsOwn id.slots session found m.0 → m′ ≡ met_wait id.slots session found m
-      → MakesWay id place start m m′
-  way_met session found book m m′ carried own is = record {
+  pub way_met : (kind : StepKind) (session found : ℕ) (book : BookView) (m m′ : Mine) → m.1 ≡ (place, slot.Place book) ∷ rest m.1 → TellsOwn id.slots session found m.0
+      → m′ ≡ met_wait_by kind id.slots session found m → MakesWay id place start m m′
+  way_met kind session found book m m′ carried own is = record {
     latches = m.0.latches;
     told = (meeting session found m.0).told;
     grants = [];
-    made = record { word = wait_word id.slots session; found = found; held = m.0.latches; directory = m.0.directory } ∷ [];
+    made = record { kind = kind; deeds = []; word = wait_word id.slots session; found = found; held = m.0.latches; directory = m.0.directory } ∷ [];
     book = book;
-    now = is ∙ (λ i. (record (met_wait id.slots session found m).0 { settles = sym (append-nil m.0.settles) i }, carried i));
+    now = is ∙ (λ i. (record (met_wait_by kind id.slots session found m).0 { settles = sym (append-nil m.0.settles) i }, carried i));
     others = refl;
     stays = stays_met id.slots session found m.0 own;
     unasked = unasked_met id.slots session found m.0 own;
     granted = tt;
+    did = refl;
   }
 
   -- the lock's word was read
-  pub way_read : (word : ℕ) (book : BookView) (m m′ : Mine) → m.1 ≡ (place, slot.Place book) ∷ rest m.1 → m′ ≡ stepped place word (noting word) m → MakesWay id place start m m′
+  pub way_read : (word : ℕ) (book : BookView) (m m′ : Mine) → m.1 ≡ (place, slot.Place book) ∷ rest m.1 → m′ ≡ stepped ReadWord place word (noting word) m → MakesWay id place start m m′
   way_read word book m m′ carried is = record {
     latches = (changed place (noting word) m.0).latches;
     told = m.0.told;
     grants = [];
-    made = record { word = lock_word place; found = word; held = (changed place (noting word) m.0).latches; directory = m.0.directory } ∷ [];
+    made = record { kind = ReadWord; deeds = []; word = lock_word place; found = word; held = (changed place (noting word) m.0).latches; directory = m.0.directory } ∷ [];
     book = book;
-    now = is ∙ (λ i. (record (stepped place word (noting word) m).0 { settles = sym (append-nil m.0.settles) i }, carried i));
-    others = elsewhere-stepped place word (noting word) m (λ x. refl);
+    now = is ∙ (λ i. (record (stepped ReadWord place word (noting word) m).0 { settles = sym (append-nil m.0.settles) i }, carried i));
+    others = elsewhere-stepped ReadWord place word (noting word) m (λ x. refl);
     stays = λ state e. e;
     unasked = λ none. refl;
     granted = tt;
+    did = refl;
   }
 
   module _ (session ticket number : ℕ) (h : Held) (book : BookView) (m m′ : Mine) (has : Holds place h book m) (ready : IsReady session ticket h) (just : HasJustMet id.slots place session h m)
@@ -218,12 +226,13 @@ module _ (id : TableId) (place : ℕ) (start : Mine) where
     latches_then = (changed place (with_admitted session ticket) m.0).latches
 
     grants_it : Met
-    grants_it = record { word = wait_word id.slots session; found = wait_in number 1; held = latches_then; directory = m.0.directory }
+    grants_it = record { kind = GrantWait; deeds = []; word = wait_word id.slots session; found = wait_in number 1; held = latches_then; directory = m.0.directory }
 
     meets : (wish_number : ready.wish.number ≡ ticket) → MeetsGranted id place start m (record { session = session; wait = number; state = 2 }) grants_it
     unfolding grants_it latches_then
     meets wish_number = record {
       state = refl;
+      kind = refl;
       word = refl;
       unsettled = refl;
       before = h;
@@ -246,13 +255,14 @@ module _ (id : TableId) (place : ℕ) (start : Mine) where
       made = grants_it ∷ [];
       book = book;
       now = is ∙ (λ i. ((settled_granted id.slots place session ticket number m).0, has.carried i));
-      others = elsewhere-stepped place 0 (with_admitted session ticket) m (λ x. refl);
+      others = elsewhere-stepped GrantWait place 0 (with_admitted session ticket) m (λ x. refl);
       stays = stays_granted id.slots session number m.0 own;
       unasked = unasked_granted id.slots session number m.0 own;
       granted = (
         (grants_it, m, (([], sym (append-nil m.0.log)), [], ap (λ (x : Mine). x.0.log) is), meets wish_number),
         tt,
       );
+      did = refl;
     }
 
   -- the book in hand was written
@@ -268,6 +278,7 @@ module _ (id : TableId) (place : ℕ) (start : Mine) where
     stays = λ state e. e;
     unasked = λ none. refl;
     granted = tt;
+    did = refl;
   }
 
   -- ---- one after another
@@ -290,4 +301,5 @@ module _ (id : TableId) (place : ℕ) (start : Mine) where
     unasked = λ none. y.unasked (ap (λ (w : Mine). w.0.asks) x.now ∙ none) ∙ ap (λ (w : Mine). w.0.told) x.now ∙ x.unasked none;
     granted = each_append (λ (g : Settlement). (e : Met) × (s : Mine) × IsStepAfter a s c e × MeetsGranted id place start s g e) x.grants y.grants
         (granted_before id place x.grants start a b c (steps_of b c y) x.granted) (granted_after id place y.grants start a b c (steps_of a b x) y.granted);
+    did = none_then x.made y.made [] x.did y.did;
   }

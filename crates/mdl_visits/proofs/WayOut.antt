@@ -7,6 +7,7 @@ use Rattle.mdl_book.specs.declared.book_view.BookView.{BookView}
 use Rattle.mdl_book.specs.declared.ticket.Ticket.{Ticket}
 use Rattle.mdl_steps.specs.declared.deed.Deed.{Deed}
 use Rattle.mdl_steps.specs.declared.deed.Deed.TheVariants.{Gain, Alter, Lose}
+use Rattle.mdl_steps.specs.declared.step_kind.StepKind.TheVariants.{LowerFlags, PutLatch}
 use Rattle.mdl_steps.specs.declared.view.Held.{Held}
 use Rattle.mdl_steps.specs.declared.view.Met.{Met}
 use Rattle.mdl_steps.specs.declared.view.Settlement.{Settlement}
@@ -18,7 +19,7 @@ use Rattle.mdl_steps.specs.Seats.{Holds, elsewhere, rest, written}
 use Rattle.mdl_steps.proofs.Hands.{elsewhere-settled}
 use Rattle.mdl_visits.specs.Grantings.{ForgetsNobody, IsLowered, LeavesWay, MadeWay, MakesWay, StandsOnce, VisitsForWay, WaitsOnce}
 use Rattle.mdl_visits.specs.Visits.{GoesOn, IsInside, IsStepOf}
-use Rattle.mdl_visits.proofs.Steps.{step_after, step_before}
+use Rattle.mdl_visits.proofs.Steps.{last_after, none_then, step_before}
 use Rattle.mdl_visits.proofs.Way.{granted_after, granted_before, granted_since, looked_after, looked_before, steps_of}
 
 -- ---- of what went before
@@ -37,7 +38,7 @@ module _ (id : TableId) (place : ℕ) (a b c : Mine) (more : GoesOn a b) where
         grants = way.grants;
         settles = way.settles ∙ ap (λ (xs : List Settlement). xs ++ way.grants) settles;
         granted = granted_since id place way.grants a b a c more (granted_after id place way.grants b a b c more way.granted);
-        served = (s.0, step_after a b c more s.0 s.1, record { word = m.word; freed = m.freed ∙ number; latch = m.latch; held = m.held; served = served_after m.latch m.served });
+        served = (s.0, last_after a b c more s.0 s.1, record { kind = m.kind; did = m.did; word = m.word; freed = m.freed ∙ number; latch = m.latch; held = m.held; served = served_after m.latch m.served });
         stays = λ state e. way.stays state (told ∙ e);
         unasked = λ none. way.unasked (asks ∙ none) ∙ told;
       }
@@ -46,7 +47,7 @@ module _ (id : TableId) (place : ℕ) (a b c : Mine) (more : GoesOn a b) where
 
 module _ (id : TableId) (place : ℕ) (h : Held) (m c : Mine) (has : Holds place h h.book m) (nobody : h.book.waiting ≡ []) (put : c ≡ unlatched place [] m) where
   abbrev puts : Met
-  puts = record { word = latch_word place; found = m.0.number; held = m.0.latches; directory = m.0.directory }
+  puts = record { kind = PutLatch; deeds = []; word = latch_word place; found = m.0.number; held = m.0.latches; directory = m.0.directory }
 
   pub leaves_none : LeavesWay id place [] m c
   leaves_none = record {
@@ -54,14 +55,15 @@ module _ (id : TableId) (place : ℕ) (h : Held) (m c : Mine) (has : Holds place
     settles = m.0.settles;
     made = puts ∷ [];
     now = put;
+    did = refl;
     way = record {
       grants = [];
       settles = ap (λ (x : Mine). x.0.settles) put ∙ sym (append-nil m.0.settles);
       granted = tt;
       served = (
         puts,
-        ([], [], ap (λ (x : Mine). x.0.log) put ∙ ap (λ (log : List Met). log ++ puts ∷ []) (sym (append-nil m.0.log))),
-        record { word = refl; freed = refl; latch = h; held = has.recorded; served = inl nobody },
+        ([], ap (λ (x : Mine). x.0.log) put ∙ ap (λ (log : List Met). log ++ puts ∷ []) (sym (append-nil m.0.log))),
+        record { kind = refl; did = refl; word = refl; freed = refl; latch = h; held = has.recorded; served = inl nobody },
       );
       stays = λ state e. ap (λ (x : Mine). x.0.told) put ∙ e;
       unasked = λ none. ap (λ (x : Mine). x.0.told) put;
@@ -73,7 +75,7 @@ module _ (id : TableId) (place : ℕ) (h : Held) (m c : Mine) (has : Holds place
 module _ (id : TableId) (place : ℕ) (g : Held) (m b c : Mine) (way : MakesWay id place m m b) (has : Holds place g g.book b) (none : ForgetsNobody id place g m b)
     (put : c ≡ unlatched place [] b) where
   abbrev frees : Met
-  frees = record { word = latch_word place; found = b.0.number; held = b.0.latches; directory = b.0.directory }
+  frees = record { kind = PutLatch; deeds = []; word = latch_word place; found = b.0.number; held = b.0.latches; directory = b.0.directory }
 
   b_c : GoesOn b c
   b_c = (frees ∷ [], ap (λ (x : Mine). x.0.log) put)
@@ -82,13 +84,14 @@ module _ (id : TableId) (place : ℕ) (g : Held) (m b c : Mine) (way : MakesWay 
   m_b = steps_of id place m m b way
 
   abbrev last : Met
-  last = record { word = latch_word place; found = m.0.number; held = way.latches; directory = m.0.directory }
+  last = record { kind = PutLatch; deeds = []; word = latch_word place; found = m.0.number; held = way.latches; directory = m.0.directory }
 
   pub leaves_served : LeavesWay id place [] m c
   leaves_served = record {
     told = way.told;
     settles = m.0.settles ++ way.grants;
     made = way.made ++ last ∷ [];
+    did = none_then way.made (last ∷ []) [] way.did refl;
     now = put ∙ ap (unlatched place []) way.now
         ∙ (λ i. (record m.0 { latches = way.others i; told = way.told; settles = m.0.settles ++ way.grants; log = append_assoc m.0.log way.made (last ∷ []) i }, rest m.1));
     way = record {
@@ -97,8 +100,10 @@ module _ (id : TableId) (place : ℕ) (g : Held) (m b c : Mine) (way : MakesWay 
       granted = granted_before id place way.grants m m b c b_c way.granted;
       served = (
         frees,
-        step_after m b c m_b frees ([], [], ap (λ (x : Mine). x.0.log) put ∙ ap (λ (log : List Met). log ++ frees ∷ []) (sym (append-nil b.0.log))),
+        last_after m b c m_b frees ([], ap (λ (x : Mine). x.0.log) put ∙ ap (λ (log : List Met). log ++ frees ∷ []) (sym (append-nil b.0.log))),
         record {
+          kind = refl;
+          did = refl;
           word = refl;
           freed = ap (λ (x : Mine). x.0.number) way.now;
           latch = g;
@@ -115,7 +120,7 @@ module _ (id : TableId) (place : ℕ) (g : Held) (m b c : Mine) (way : MakesWay 
 
 module _ (id : TableId) (place : ℕ) (ds : List Deed) (m b c : Mine) (low : IsLowered place ds m b) (left : LeavesWay id place [] b c) where
   abbrev lowers : Met
-  lowers = record { word = lock_word place; found = low.0; held = m.0.latches; directory = m.0.directory }
+  lowers = record { kind = LowerFlags low.2 low.3; deeds = ds; word = lock_word place; found = low.0; held = m.0.latches; directory = m.0.directory }
 
   m_low : GoesOn m b
   m_low = (lowers ∷ [], ap (λ (x : Mine). x.0.log) low.4)
@@ -136,13 +141,15 @@ module _ (id : TableId) (place : ℕ) (ds : List Deed) (m b c : Mine) (low : IsL
           },
           rest m.1,
         ));
+    did = ap (λ (all : List Deed). ds ++ all) left.did ∙ append-nil ds;
     way = way_after id place m b c m_low (ap (λ (x : Mine). x.0.settles) low.4) (ap (λ (x : Mine). x.0.told) low.4) (ap (λ (x : Mine). x.0.number) low.4) (ap (λ (x : Mine). x.0.asks) low.4) left.way;
   }
 
-  pub step_lowered : (e : Met) × IsStepOf m c e × (e.word ≡ lock_word place) × (e.held ≡ m.0.latches)
+  pub step_lowered : (e : Met) × IsStepOf m c e × (e.word ≡ lock_word place) × (e.held ≡ m.0.latches) × (e.deeds ≡ ds)
   step_lowered = (
     lowers,
     step_before m b c (left.made, ap (λ (x : Mine). x.0.log) left.now) lowers ([], [], ap (λ (x : Mine). x.0.log) low.4 ∙ ap (λ (log : List Met). log ++ lowers ∷ []) (sym (append-nil m.0.log))),
+    refl,
     refl,
     refl,
   )
@@ -164,6 +171,7 @@ visits_for_way id place ds m a c inside left = record {
   now = left.now
       ∙ ap (λ (x : Mine). (record (all_done place ds x.0) { latches = elsewhere place x; told = left.told; settles = left.settles; log = x.0.log ++ left.made }, rest x.1)) inside.now
       ∙ (λ i. (record (all_done place ds m.0) { latches = inside.others i; told = left.told; settles = left.settles; log = append_assoc m.0.log inside.made left.made i }, m.1));
+  did = none_then inside.made left.made ds inside.did left.did;
   way = way_after id place m a c (inside.made, ap (λ (x : Mine). x.0.log) inside.now) (ap (λ (x : Mine). x.0.settles) inside.now) (ap (λ (x : Mine). x.0.told) inside.now)
       (ap (λ (x : Mine). x.0.number) inside.now) (ap (λ (x : Mine). x.0.asks) inside.now) left.way;
 }
@@ -173,7 +181,7 @@ pub way_before_write : (id : TableId) (place : ℕ) (ds : List Deed) (book : Boo
 way_before_write id place ds book m b c is left = shown (subst (λ (x : Mine). LeavesWay id place ds x c) is left)
   where
     shown : LeavesWay id place ds (written place book m) c → LeavesWay id place ds m c
-    shown l = record { told = l.told; settles = l.settles; made = l.made; now = l.now; way = way_after id place m (written place book m) c ([], sym (append-nil m.0.log)) refl refl refl refl l.way }
+    shown l = record { told = l.told; settles = l.settles; made = l.made; now = l.now; did = l.did; way = way_after id place m (written place book m) c ([], sym (append-nil m.0.log)) refl refl refl refl l.way }
 
 -- a list with no element
 pub nobody_waits : (ts : List Ticket) → nat_lt 0 (length ts) ≡ false → ts ≡ []

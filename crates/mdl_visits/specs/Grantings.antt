@@ -13,6 +13,7 @@ use Rattle.mdl_book.specs.SessionSets.{is_session}
 use Rattle.mdl_book.specs.Tickets.{is_ticket, ticket_of}
 use Rattle.mdl_steps.specs.declared.deed.Deed.{Deed}
 use Rattle.mdl_steps.specs.declared.slot.Slot.TheVariants as slot
+use Rattle.mdl_steps.specs.declared.step_kind.StepKind.TheVariants.{GrantWait, PutLatch, ReadWait, ReadWord}
 use Rattle.mdl_steps.specs.declared.view.Held.{Held}
 use Rattle.mdl_steps.specs.declared.view.Met.{Met}
 use Rattle.mdl_steps.specs.declared.view.Settlement.{Settlement}
@@ -25,7 +26,7 @@ use Rattle.mdl_steps.specs.Rule.{Lawful, NotedCounts, TellsLists}
 use Rattle.mdl_steps.specs.Seats.{Holds, elsewhere, rest}
 use Rattle.mdl_steps.specs.WaitPlays.{wait_in, with_admitted}
 use Rattle.mdl_steps.specs.WaitSeats.{IsSession}
-use Rattle.mdl_visits.specs.Visits.{IsStepAfter, IsStepOf}
+use Rattle.mdl_visits.specs.Visits.{IsLastStepOf, IsStepAfter, IsStepOf, deeds_of}
 
 -- ---- what a step met
 
@@ -60,6 +61,7 @@ ArePassedOver id place word h tickets m m′ =
 pub record IsLookedThrough (id : TableId) (place : ℕ) (latch : Held) (tickets : List Ticket) (m m′ : Mine) : Type 0 where
   pub read : Met
   pub read_then : IsStepOf m m′ read
+  pub kind : read.kind ≡ ReadWord
   pub of_lock : read.word ≡ lock_word place
   pub noted : latch.obtrusive ≡ true → latch.noted ≡ Some read.found
   pub passed : ArePassedOver id place read.found latch tickets m m′
@@ -72,16 +74,17 @@ ForgetsNobody id place latch m m′ = IsLookedThrough id place latch latch.book.
 abbrev pub ahead_of : ℕ → ℕ → List Ticket → List Ticket
 ahead_of session number tickets = before_first (is_ticket session number) tickets
 
--- the last of a session's steps met the word of a wait, with this record of the latch of a place
+-- the last of a session's steps read the word of a wait, with this record of the latch of a place
 abbrev pub HasJustMet : ℕ → ℕ → ℕ → Held → Mine → Type 0
 HasJustMet slots place session h m =
-    (log : List Met) × (e : Met) × (m.0.log ≡ log ++ e ∷ []) × (e.word ≡ wait_word slots session) × (held_at place e.held ≡ Some h)
+    (log : List Met) × (e : Met) × (m.0.log ≡ log ++ e ∷ []) × (e.kind ≡ ReadWait) × (e.word ≡ wait_word slots session) × (held_at place e.held ≡ Some h)
 
 -- a step that granted a wait of a session, which was unsettled. By the record of the latch just before it, the session's ticket waited there,
 -- might stand beside all that was granted, and waited behind no other; those that arrived before it were passed over, as the steps between the
--- two tell, the last of which met the wait; just after it the ticket is granted
+-- two tell, the last of which read the wait's word; just after it the ticket is granted
 pub record MeetsGranted (id : TableId) (place : ℕ) (m m′ : Mine) (g : Settlement) (e : Met) : Type 0 where
   pub state : g.state ≡ 2
+  pub kind : e.kind ≡ GrantWait
   pub word : e.word ≡ wait_word id.slots g.session
   pub unsettled : e.found ≡ wait_in g.wait 1
   pub before : Held
@@ -153,7 +156,7 @@ AreGranted id place grants start m m′ =
     Each (λ g. (e : Met) × (a : Mine) × IsStepAfter m a m′ e × MeetsGranted id place start a g e) grants
 
 -- waits were granted under the latch of a place, which the session holds: nothing else changed but the record of the latch, the book in hand,
--- what was told of its own wait and its steps. Those that were passed over were met so from a start on
+-- what was told of its own wait and its steps, which are without deeds. Those that were passed over were met so from a start on
 pub record MakesWay (id : TableId) (place : ℕ) (start m m′ : Mine) : Type 0 where
   pub latches : List Held
   pub told : Option ℕ
@@ -165,6 +168,7 @@ pub record MakesWay (id : TableId) (place : ℕ) (start m m′ : Mine) : Type 0 
   pub stays : StaysTold m.0.told told
   pub unasked : m.0.asks ≡ None → told ≡ m.0.told
   pub granted : AreGranted id place grants start m m′
+  pub did : deeds_of made ≡ []
 
 -- way is made for a ticket in its turn: from each start, if those that arrived before it were passed over since
 abbrev pub MakesWayInTurn : TableId → ℕ → ℕ → ℕ → Mine → Mine → Type 0
@@ -174,39 +178,44 @@ MakesWayInTurn id place session number m m′ =
 
 -- ---- and the latch is given back
 
--- a step that gave the latch of a place back, by whose record nobody waits there, or nobody is forgotten
+-- a step without deeds that gave the latch of a place back, by whose record nobody waits there, or nobody is forgotten
 pub record MeetsServed (id : TableId) (place who : ℕ) (m m′ : Mine) (e : Met) : Type 0 where
+  pub kind : e.kind ≡ PutLatch
+  pub did : e.deeds ≡ []
   pub word : e.word ≡ latch_word place
   pub freed : e.found ≡ who
   pub latch : Held
   pub held : held_at place e.held ≡ Some latch
   pub served : (latch.book.waiting ≡ []) ⊎ ForgetsNobody id place latch m m′
 
--- way was made at a place between the two: waits were granted by steps between them, nobody was forgotten as the latch was given back, and
--- what was told of the session's own wait stays so. A session without a wait is told of none
+-- way was made at a place between the two: waits were granted by steps between them, nobody was forgotten at the last of them, as the latch was
+-- given back, and what was told of the session's own wait stays so. A session without a wait is told of none
 pub record MadeWay (id : TableId) (place : ℕ) (m m′ : Mine) : Type 0 where
   pub grants : List Settlement
   pub settles : m′.0.settles ≡ m.0.settles ++ grants
   pub granted : AreGranted id place grants m m m′
-  pub served : (e : Met) × IsStepOf m m′ e × MeetsServed id place m.0.number m m′ e
+  pub served : (e : Met) × IsLastStepOf m m′ e × MeetsServed id place m.0.number m m′ e
   pub stays : StaysTold m.0.told m′.0.told
   pub unasked : m.0.asks ≡ None → m′.0.told ≡ m.0.told
 
 -- the latch of a place, which the session held, and the slot that it took last were given back after these deeds and after way was made there,
--- and nothing else changed
+-- and nothing else changed. The steps tell just these deeds
 pub record LeavesWay (id : TableId) (place : ℕ) (ds : List Deed) (m m′ : Mine) : Type 0 where
   pub told : Option ℕ
   pub settles : List Settlement
   pub made : List Met
   pub now : m′ ≡ (record (all_done place ds m.0) { latches = elsewhere place m; told = told; settles = settles; log = m.0.log ++ made }, rest m.1)
+  pub did : deeds_of made ≡ ds
   pub way : MadeWay id place m m′
 
--- the session came to a place, did these deeds there, made way and went: it has the latches and the slots that it had, and nothing else changed
+-- the session came to a place, did these deeds there, made way and went: it has the latches and the slots that it had, and nothing else changed.
+-- Its steps tell just these deeds
 pub record VisitsForWay (id : TableId) (place : ℕ) (ds : List Deed) (m m′ : Mine) : Type 0 where
   pub told : Option ℕ
   pub settles : List Settlement
   pub made : List Met
   pub now : m′ ≡ (record (all_done place ds m.0) { told = told; settles = settles; log = m.0.log ++ made }, m.1)
+  pub did : deeds_of made ≡ ds
   pub way : MadeWay id place m m′
 
 -- flags of a place were lowered after these deeds, and nothing else changed
