@@ -24,7 +24,7 @@ use Rattle.mdl_steps.specs.Seats.{Holds, written}
 use Rattle.mdl_steps.specs.WaitPlays.{met_wait_by, settled_granted, wait_in, with_admitted, TellsOwn}
 use Rattle.mdl_steps.proofs.Hands.{holds_written}
 use Rattle.mdl_steps.proofs.Views.{other}
-use Rattle.mdl_visits.specs.Grantings.{AreTried, ForgetsNobody, HasJustMet, IsGrantedFrom, IsLookedThrough, IsReady, IsServed, IsTried, MakesWayInTurn, MayServe, MeetsWaiter, ahead_of}
+use Rattle.mdl_visits.specs.Grantings.{AreTried, ForgetsNobody, HasJustMet, IsGrantedFrom, IsLookedThrough, IsReady, IsServed, IsTried, MakesWayInTurn, MayServe, MeetsWaiter, OnlyMeets, ahead_of}
 use Rattle.mdl_visits.specs.Visits.{GoesOn, IsStepOf}
 use Rattle.mdl_visits.proofs.Losing.{taken_out}
 use Rattle.mdl_visits.proofs.Steps.{goes_by, step_after, step_before}
@@ -46,13 +46,13 @@ some_is : (o : Option Ticket) (t : Ticket) → o ≡ Some t → is_some o ≡ tr
 some_is o t e = ap is_some e
 
 -- a step that only met a wait's word, while its ticket waits there, and what was met
-pub waiter_met : (kind : StepKind) (slots place session number found : ℕ) (h : Held) (m m′ : Mine) → m′ ≡ met_wait_by kind slots session found m → Holds place h h.book m → IsReady session number h
+pub waiter_met : (kind : StepKind) → OnlyMeets kind → (slots place session number found : ℕ) (h : Held) (m m′ : Mine) → m′ ≡ met_wait_by kind slots session found m → Holds place h h.book m → IsReady session number h
     → (e : Met) × IsStepOf m m′ e × MeetsWaiter slots place session number e × (e.found ≡ found)
-waiter_met kind slots place session number found h m m′ is has ready =
+waiter_met kind only slots place session number found h m m′ is has ready =
     let e : Met = record { kind = kind; deeds = []; word = wait_word slots session; found = found; held = m.0.latches; directory = m.0.directory } in (
       e,
       ([], [], ap (λ (x : Mine). x.0.log) is ∙ ap (λ (log : List Met). log ++ e ∷ []) (sym (append-nil m.0.log))),
-      record { word = refl; latch = h; held = has.recorded; waits = some_is (ticket_of session number h.book.waiting) ready.wish ready.waits },
+      record { kind = only; word = refl; latch = h; held = has.recorded; waits = some_is (ticket_of session number h.book.waiting) ready.wish ready.waits },
       refl,
     )
 
@@ -79,12 +79,12 @@ module _ (id : TableId) (place session number wait count : ℕ) (h : Held) (m a 
       made (found_number session number h.book.waiting ready.wish ready.waits) own)
       (way_written id place start h.book (admitting session number h.book) a b keeps.carried admitted)
 
-module _ (kind : StepKind) (id : TableId) (place session number word : ℕ) (h : Held) (m a : Mine) (has : Holds place h h.book m) (ready : IsReady session number h)
+module _ (kind : StepKind) (only : OnlyMeets kind) (id : TableId) (place session number word : ℕ) (h : Held) (m a : Mine) (has : Holds place h h.book m) (ready : IsReady session number h)
     (is : a ≡ met_wait_by kind id.slots session word m) where
   -- it met another word
   pub is_missed : (wait : ℕ) → word ≢ wait → (g : Held) → Holds place g g.book m → IsGrantedFrom id.slots place session number wait g m a
   is_missed wait other g mine =
-      let step = waiter_met kind id.slots place session number word h m a is has ready in
+      let step = waiter_met kind only id.slots place session number word h m a is has ready in
       subst (λ (x : Held). IsGrantedFrom id.slots place session number wait x m a) (one_record place h g m has mine)
       (inl ((step.0, step.1, step.2, λ same. other (sym step.3 ∙ same)), holds_met kind id.slots place session word h m a is has))
 
@@ -104,7 +104,7 @@ module _ (kind : StepKind) (id : TableId) (place session number word : ℕ) (h :
   -- it met the wait settled
   pub is_settled : word % 8 ≢ 1 → (g : Held) → Holds place g g.book m → IsServed id place session number g m a
   is_settled state g mine =
-      let step = waiter_met kind id.slots place session number word h m a is has ready in
+      let step = waiter_met kind only id.slots place session number word h m a is has ready in
       subst (λ (x : Held). IsServed id place session number x m a) (one_record place h g m has mine)
       (inl (
         inr (record {
@@ -123,7 +123,7 @@ module _ (kind : StepKind) (id : TableId) (place session number word : ℕ) (h :
   pub is_tried : (b : Mine) → word % 8 ≡ 1 → ((g : Held) → Holds place g g.book a → IsGrantedFrom id.slots place session number word g a b) → (g : Held) → Holds place g g.book m → IsServed id place session number g m b
   is_tried b state tried g mine = elim (tried g (holds_met kind id.slots place session word g m a is mine)) [
     | inl missed ↦
-        let step = waiter_met kind id.slots place session number word h m a is has ready in
+        let step = waiter_met kind only id.slots place session number word h m a is has ready in
         let met = missed.0 in
         inl (
           inr (record {

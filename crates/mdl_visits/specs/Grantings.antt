@@ -13,7 +13,8 @@ use Rattle.mdl_book.specs.SessionSets.{is_session}
 use Rattle.mdl_book.specs.Tickets.{is_ticket, ticket_of}
 use Rattle.mdl_steps.specs.declared.deed.Deed.{Deed}
 use Rattle.mdl_steps.specs.declared.slot.Slot.TheVariants as slot
-use Rattle.mdl_steps.specs.declared.step_kind.StepKind.TheVariants.{GrantWait, PutLatch, ReadWait, ReadWord}
+use Rattle.mdl_steps.specs.declared.step_kind.StepKind.{StepKind}
+use Rattle.mdl_steps.specs.declared.step_kind.StepKind.TheVariants.{GrantWait, MissWait, PutLatch, ReadWait, ReadWord}
 use Rattle.mdl_steps.specs.declared.view.Held.{Held}
 use Rattle.mdl_steps.specs.declared.view.Met.{Met}
 use Rattle.mdl_steps.specs.declared.view.Settlement.{Settlement}
@@ -30,9 +31,14 @@ use Rattle.mdl_visits.specs.Visits.{IsLastStepOf, IsStepAfter, IsStepOf, deeds_o
 
 -- ---- what a step met
 
--- a step that met the word of a session's wait, while the session's ticket of this number waited by the record of the place's latch. That wait
--- can't end as long as the ticket waits, so all words that are met so are of the same wait
+-- a step that only met a wait's word, as it read it or by an exchange that failed
+abbrev pub OnlyMeets : StepKind → Type 0
+OnlyMeets kind = (kind ≡ ReadWait) ⊎ (kind ≡ MissWait)
+
+-- a step that only met the word of a session's wait, while the session's ticket of this number waited by the record of the place's latch. That
+-- wait can't end as long as the ticket waits, so all words that are met so are of the same wait
 pub record MeetsWaiter (slots place session number : ℕ) (e : Met) : Type 0 where
+  pub kind : OnlyMeets e.kind
   pub word : e.word ≡ wait_word slots session
   pub latch : Held
   pub held : held_at place e.held ≡ Some latch

@@ -1,5 +1,5 @@
 -- The exchange grants the wait that was met, or meets another word.
-use Rattle.std.proofs.Common.{◌≡◌, ◌≢◌, ◌+◌, ◌*◌, ℕ, sym, ◌∙◌, subst, arith}
+use Rattle.std.proofs.Common.{◌≡◌, ◌≢◌, ◌+◌, ◌*◌, ℕ, inr, refl, sym, ◌∙◌, subst, arith}
 use Rattle.std.proofs.lemmas.Bool.{eqb-true, eq-eqb}
 use Rattle.mdl_steps.specs.declared.step_kind.StepKind.TheVariants.{MissWait}
 use Rattle.mdl_steps.specs.Plays.{Mine}
@@ -59,7 +59,7 @@ returns-else-eq-clause-granted c =
     let differs : word ≢ c.args.wait.0 = λ same. let yes = eq-eqb word c.args.wait.0 same in let no = sym c.eq.ensures ∙ c.if-eq.false in absurd (cc) in
     let other : word ≢ 8 * c.number.result + 1 = λ same. differs (omega arith) in
     let made = subst (λ (n : ℕ). a ≡ missed_wait n c.args.session word m) c.slot_count-slots.ensures (c.grant_wait-met.ensures.missed other) in
-    is_missed MissWait id c.args.latch.now.place c.args.session c.args.number word ready.0 m a ready.1 ready.2 made c.args.wait.0 differs
+    is_missed MissWait (inr refl) id c.args.latch.now.place c.args.session c.args.number word ready.0 m a ready.1 ready.2 made c.args.wait.0 differs
 
 pub returns-else-eq-clause-way : goal.returns-else-eq-clause-way
 returns-else-eq-clause-way c =
@@ -73,5 +73,5 @@ returns-else-eq-clause-way c =
     let differs : word ≢ c.args.wait.0 = λ same. let yes = eq-eqb word c.args.wait.0 same in let no = sym c.eq.ensures ∙ c.if-eq.false in absurd (cc) in
     let other : word ≢ 8 * c.number.result + 1 = λ same. differs (omega arith) in
     let made = subst (λ (n : ℕ). a ≡ missed_wait n c.args.session word m) c.slot_count-slots.ensures (c.grant_wait-met.ensures.missed other) in
-    way_missed MissWait id c.args.latch.now.place c.args.session c.args.number word ready.0 m a ready.1 ready.2 made
+    way_missed MissWait (inr refl) id c.args.latch.now.place c.args.session c.args.number word ready.0 m a ready.1 ready.2 made
     (subst (λ (n : ℕ). TellsOwn n c.args.session word m.0) c.slot_count-slots.ensures c.grant_wait-met.ensures.own)
