@@ -8,6 +8,7 @@ use Rattle.mdl_calls.specs.declared.answers.Search.{Search}
 use Rattle.mdl_calls.specs.declared.answers.Search.TheVariants.{NoCycle, Victim}
 use Rattle.mdl_graph.specs.Graphs.{deadlock_in, victim_in}
 use Rattle.mdl_graph.specs.WaitsFor.{SessionTest}
+use Rattle.mdl_steps.specs.declared.step_kind.StepKind.TheVariants.{SettleWait}
 use Rattle.mdl_steps.specs.declared.view.Held.{Held}
 use Rattle.mdl_steps.specs.declared.view.Keys.{Keys}
 use Rattle.mdl_steps.specs.declared.view.Met.{Met}
@@ -21,7 +22,7 @@ use Rattle.mdl_visits.specs.declared.hearing.Heard.{Heard}
 use Rattle.mdl_visits.specs.Audits.{AreRecorded, Gathers}
 use Rattle.mdl_visits.specs.Grantings.{StaysTold}
 use Rattle.mdl_visits.specs.Polls.{MeetsWait, Settles, SettlesNothing}
-use Rattle.mdl_visits.specs.Visits.{AllHad, IsStepOf}
+use Rattle.mdl_visits.specs.Visits.{AllHad, IsStepOf, deeds_of}
 
 -- ---- the words of waits
 
@@ -55,13 +56,14 @@ books_of audited = map (λ (a : Audited). a.book) audited
 abbrev pub AreQueuesOf : List Audited → List Queues → Type 0
 AreQueuesOf audited lists = map (λ (a : Audited). queues_of a.book) audited ≡ lists
 
--- one of the steps between the two met the unsettled wait of a session while the session that searches had just these latches, and it alone was
--- settled then, as the victim's
+-- one of the steps between the two met the unsettled wait of a session and settled it, as the victim's, while the session that searches had just
+-- these latches, and no other wait was settled
 pub record Fells (slots victim : ℕ) (latches : List Held) (m m′ : Mine) : Type 0 where
   pub wait : ℕ
   pub settles : Settles victim wait 3 m m′
   pub moment : Met
   pub step : IsStepOf m m′ moment
+  pub kind : moment.kind ≡ SettleWait
   pub met : MeetsWait slots victim wait 1 moment
   pub held : moment.held ≡ latches
 
@@ -114,12 +116,13 @@ pub record Searched (id : TableId) (who : ℕ) (k : Keys) (found : Search) (m m�
 abbrev pub hearing : List Met → Option ℕ → List Settlement → Mine → Mine
 hearing made told settles m = (record m.0 { log = m.0.log ++ made; told = told; settles = settles }, m.1)
 
--- likewise, and nothing else changed. What was told of its own wait stays so
+-- likewise, without deeds, and nothing else changed. What was told of its own wait stays so
 pub record Listens (m m′ : Mine) : Type 0 where
   pub made : List Met
   pub told : Option ℕ
   pub settles : List Settlement
   pub now : m′ ≡ hearing made told settles m
+  pub did : deeds_of made ≡ []
   pub stays : StaysTold m.0.told told
 
 -- likewise, and at each step the session had of the directory what it had before
@@ -128,5 +131,6 @@ pub record Hears (m m′ : Mine) : Type 0 where
   pub told : Option ℕ
   pub settles : List Settlement
   pub now : m′ ≡ hearing made told settles m
+  pub did : deeds_of made ≡ []
   pub stays : StaysTold m.0.told told
   pub had : AllHad m.0.directory made
