@@ -17,7 +17,7 @@ pub fn granted_waits_were_grantable()
     ensures { GrantedWaitsWereGrantable }
 {}
 
-/// A wait that was left as way was made couldn't be granted, whichever fast tickets the lock's word counted, or was settled before.
+/// A wait that was passed over as way was made couldn't be granted, whichever fast tickets the lock's word counted, or was settled before.
 pub fn waits_left_werent_grantable()
     ensures { WaitsLeftWerentGrantable }
 {}
