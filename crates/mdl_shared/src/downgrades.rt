@@ -9,6 +9,7 @@ ghost use Rattle.mdl_shared.specs.Keepings.{SeesWait};
 ghost use Rattle.mdl_visits.specs.Leavings.{MeetsOwn};
 ghost use Rattle.mdl_visits.specs.Numbers.{numbered};
 ghost use Rattle.mdl_shared.specs.Modes.{downgrade_fault, in_mode_at, is_fit};
+ghost use Rattle.mdl_visits.specs.Polls.{SettlesNothing};
 ghost use Rattle.mdl_visits.specs.Readings.{ReadsNothing};
 ghost use Rattle.mdl_visits.specs.Visits.{IsStepOf};
 ghost use Rattle.mdl_system.specs.Strength.{covers};
@@ -49,6 +50,7 @@ impl<R: Wait> Session<R> {
             × (self.new.member.next ≡ self.old.member.next) × (self.new.member.known.items ≡ self.old.member.known.items) }
         ensures wait { SeesWait self.old.member self.new.member }
         ensures reads { ReadsNothing self.old.member.worker.seat.me self.new.member.worker.seat.me }
+        ensures settles { OnErr result (SettlesNothing self.old.member.worker.seat.me self.new.member.worker.seat.me) }
         ensures downgraded { OnOk result ((t : Own) × (numbered id self.old.member.tickets.items ≡ Some t)
             × (self.new.member.tickets.items ≡ in_mode_at t.place id mode self.old.member.tickets.items)
             × ((e : Met) × IsStepOf self.old.member.worker.seat.me self.new.member.worker.seat.me e × MeetsOwn t.place self.old.member.worker.number id e)) }

@@ -8,6 +8,7 @@ ghost use Rattle.mdl_visits.specs.Leavings.{MeetsOwn};
 ghost use Rattle.mdl_visits.specs.Numbers.{numbered};
 ghost use Rattle.mdl_shared.specs.Members.{without_at};
 ghost use Rattle.mdl_shared.specs.Modes.{in_mode_at, may_merge, merge_fault};
+ghost use Rattle.mdl_visits.specs.Polls.{SettlesNothing};
 ghost use Rattle.mdl_visits.specs.Readings.{ReadsNothing};
 ghost use Rattle.mdl_visits.specs.Visits.{IsStepOf};
 
@@ -31,6 +32,7 @@ impl Member {
         ensures same { (self.new.table ≡ self.old.table) × (self.new.worker.number ≡ self.old.worker.number) × (self.new.next ≡ self.old.next) × (self.new.known.items ≡ self.old.known.items) }
         ensures wait { KeepsWait self.old self.new }
         ensures reads { ReadsNothing self.old.worker.seat.me self.new.worker.seat.me }
+        ensures settles { SettlesNothing self.old.worker.seat.me self.new.worker.seat.me }
         ensures folded { self.new.tickets.items ≡ without_at kept.place gone.number (in_mode_at kept.place kept.number gone.mode self.old.tickets.items) }
         ensures step { (e : Met) × IsStepOf self.old.worker.seat.me self.new.worker.seat.me e
             × MeetsOwn kept.place self.old.worker.number kept.number e × MeetsOwn kept.place self.old.worker.number gone.number e }
@@ -56,6 +58,7 @@ impl<R: Wait> Session<R> {
             × (self.new.member.next ≡ self.old.member.next) × (self.new.member.known.items ≡ self.old.member.known.items) }
         ensures wait { KeepsWait self.old.member self.new.member }
         ensures reads { ReadsNothing self.old.member.worker.seat.me self.new.member.worker.seat.me }
+        ensures settles { SettlesNothing self.old.member.worker.seat.me self.new.member.worker.seat.me }
         ensures merged { OnOk result ((kept : Own) × (gone : Own) × (numbered old self.old.member.tickets.items ≡ Some kept) × (numbered new self.old.member.tickets.items ≡ Some gone)
             × (self.new.member.tickets.items ≡ without_at kept.place new (in_mode_at kept.place old gone.mode self.old.member.tickets.items))
             × ((e : Met) × IsStepOf self.old.member.worker.seat.me self.new.member.worker.seat.me e

@@ -12,6 +12,7 @@ ghost use Rattle.mdl_shared.specs.Keepings.{SeesWait};
 ghost use Rattle.mdl_visits.specs.Leavings.{MeetsOwn};
 ghost use Rattle.mdl_visits.specs.Numbers.{numbered};
 ghost use Rattle.mdl_shared.specs.Members.{without_at, holding_fault};
+ghost use Rattle.mdl_visits.specs.Polls.{SettlesNothing};
 ghost use Rattle.mdl_visits.specs.Readings.{ReadsNothing};
 ghost use Rattle.mdl_visits.specs.Visits.{IsStepOf};
 
@@ -70,6 +71,7 @@ impl<R: Wait> Session<R> {
             × (self.new.member.next ≡ self.old.member.next) × (self.new.member.known.items ≡ self.old.member.known.items) }
         ensures wait { SeesWait self.old.member self.new.member }
         ensures reads { ReadsNothing self.old.member.worker.seat.me self.new.member.worker.seat.me }
+        ensures settles { OnErr result (SettlesNothing self.old.member.worker.seat.me self.new.member.worker.seat.me) }
         ensures released { OnOk result ((t : Own) × (numbered id self.old.member.tickets.items ≡ Some t)
             × (self.new.member.tickets.items ≡ without_at t.place id self.old.member.tickets.items)
             × ((e : Met) × IsStepOf self.old.member.worker.seat.me self.new.member.worker.seat.me e × MeetsOwn t.place self.old.member.worker.number id e)) }

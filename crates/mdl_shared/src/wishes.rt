@@ -9,6 +9,7 @@ ghost use Rattle.mdl_steps.specs.declared.view.Met.{Met};
 ghost use Rattle.mdl_steps.specs.declared.view.Own.{Own};
 ghost use Rattle.mdl_shared.specs.Keepings.{KeepsWait};
 ghost use Rattle.mdl_shared.specs.Members.{kind_known, most_numbers, wish_fault};
+ghost use Rattle.mdl_visits.specs.Polls.{SettlesNothing};
 ghost use Rattle.mdl_visits.specs.Readings.{ReadsNothing};
 ghost use Rattle.mdl_visits.specs.Visits.{IsStepOf, MeetsBlocked, MeetsFull, MeetsGrantable};
 
@@ -50,6 +51,7 @@ impl Member {
         ensures same { (self.new.table ≡ self.old.table) × (self.new.worker.number ≡ self.old.worker.number) × (self.new.known.items ≡ self.old.known.items) }
         ensures wait { KeepsWait self.old self.new }
         ensures reads { ReadsNothing self.old.worker.seat.me self.new.worker.seat.me }
+        ensures settles { SettlesNothing self.old.worker.seat.me self.new.worker.seat.me }
         ensures granted { (id : ℕ) → result ≡ Ok (Granted id) → (id ≡ self.old.next)
             × (self.new.tickets.items ≡ self.old.tickets.items ++ record { number = id; place = place; mode = mode; noted = note_at place self.old.tickets.items } ∷ [])
             × ((e : Met) × IsStepOf self.old.worker.seat.me self.new.worker.seat.me e × MeetsGrantable place self.old.worker.number mode e) }
@@ -98,6 +100,7 @@ impl<R: Wait> Session<R> {
             × (self.new.member.known.items ≡ self.old.member.known.items) }
         ensures wait { KeepsWait self.old.member self.new.member }
         ensures reads { ReadsNothing self.old.member.worker.seat.me self.new.member.worker.seat.me }
+        ensures settles { SettlesNothing self.old.member.worker.seat.me self.new.member.worker.seat.me }
         ensures granted { (id : ℕ) → result ≡ Ok (Granted id) → (id ≡ self.old.member.next)
             × (self.new.member.tickets.items ≡ self.old.member.tickets.items ++ record { number = id; place = place; mode = mode; noted = note_at place self.old.member.tickets.items } ∷ [])
             × ((e : Met) × IsStepOf self.old.member.worker.seat.me self.new.member.worker.seat.me e × MeetsGrantable place self.old.member.worker.number mode e) }
