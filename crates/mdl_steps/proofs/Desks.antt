@@ -18,7 +18,7 @@ use Rattle.mdl_steps.specs.declared.view.View.{View}
 use Rattle.mdl_steps.specs.Cells.{Desk, Waiter, part_at, holder_at, desk_of, waiter_of, waits, cell}
 use Rattle.mdl_steps.specs.Layout.{latch_word, lock_word, version_word, enrol_word}
 use Rattle.mdl_steps.specs.Lists.{Each}
-use Rattle.mdl_steps.specs.Plays.{Mine, consulted, informed, logged, takes_directory, puts_directory}
+use Rattle.mdl_steps.specs.Plays.{Mine, consulted, informed, missed_latch, takes_directory, puts_directory}
 use Rattle.mdl_steps.specs.Rule.{Rule, PlaceOk, DirectoryOk, Numbered, KnowsKeys, WaitsAgree, key_at}
 use Rattle.mdl_steps.specs.Seats.{HasDirectory, learnt}
 use Rattle.mdl_steps.proofs.Lift.{Table, Homes, after}
@@ -154,7 +154,7 @@ module _ (slots id : ℕ) (me : Mine) (some_number : 0 < me.0.number) where
         })
 
     missed : View
-    missed = logged (latch_word 0) (get_or s.words 0 0) me.0.latches me.0
+    missed = (missed_latch 0 (get_or s.words 0 0) me).0
 
     missed_rule : Rule (after s (latch_word 0) (get_or s.words 0 0) id missed s.homes)
     unfolding missed

@@ -3,6 +3,7 @@ use Rattle.std.proofs.Common.{◌≡◌, ℕ, Bool, true, false, cond, List, [],
 use Rattle.std.specs.Prelude.{filter, is_some}
 use Rattle.std.proofs.lemmas.List.{map-append}
 use Rattle.std.proofs.lemmas.List.Elements.{All-nil, All-push, All-weaker, filter-append}
+use Rattle.mdl_steps.specs.declared.step_kind.StepKind.TheVariants.{PutLatch}
 use Rattle.mdl_steps.specs.declared.view.Held.{Held}
 use Rattle.mdl_steps.specs.declared.view.Known.{Known}
 use Rattle.mdl_steps.specs.declared.view.Met.{Met}
@@ -11,6 +12,7 @@ use Rattle.mdl_steps.specs.Layout.{latch_word}
 use Rattle.mdl_steps.specs.Plays.{Mine, unlatched}
 use Rattle.mdl_visits.specs.Tables.{Asked, HasAsked, MeetsDefinition, WasAsked, told}
 use Rattle.mdl_visits.specs.Visits.{GoesOn, IsInside, IsStepOf, MakesSteps, and_made}
+use Rattle.mdl_visits.proofs.Steps.{none_then}
 use Rattle.mdl_visits.proofs.Visiting.{visits_put}
 
 -- ---- steps of a call's parts are steps of the call
@@ -19,6 +21,7 @@ pub steps_then : (m m′ m″ : Mine) → MakesSteps m m′ → MakesSteps m′ 
 steps_then m m′ m″ first second = (
   first.0 ++ second.0,
   second.1 ∙ ap (and_made second.0) first.1 ∙ (λ i. (record m.0 { log = append_assoc m.0.log first.0 second.0 i }, m.1)),
+  none_then first.0 second.0 [] first.2 second.2,
 )
 
 pub goes_on : (m m′ : Mine) → MakesSteps m m′ → GoesOn m m′
@@ -44,10 +47,10 @@ asked_within who a b c d x before was after = (was.0, step_within a b c d was.0 
 
 module _ (place : ℕ) (m m′ m″ : Mine) (inside : IsInside place m m′) (put : m″ ≡ unlatched place [] m′) where
   puts : Met
-  puts = record { word = latch_word place; found = m.0.number; held = inside.latches; directory = m.0.directory }
+  puts = record { kind = PutLatch; deeds = []; word = latch_word place; found = m.0.number; held = inside.latches; directory = m.0.directory }
 
   pub looked : MakesSteps m m″
-  looked = let visit = visits_put place [] m m′ m″ inside put in (visit.made, visit.now)
+  looked = let visit = visits_put place [] m m′ m″ inside put in (visit.made, visit.now, visit.did)
 
   pub meets_definition : (h : Held) (who : ℕ) (defined : Bool) → m.0.number ≡ who → held_at place m′.0.latches ≡ Some h → defined ≡ is_some h.book.standing.definition
       → (e : Met) × IsStepOf m m″ e × MeetsDefinition place who defined e

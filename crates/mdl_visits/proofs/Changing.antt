@@ -16,6 +16,7 @@ use Rattle.mdl_book.specs.Books.{redefining}
 use Rattle.mdl_book.specs.Tickets.{is_ticket, ticket_of}
 use Rattle.mdl_book.proofs.TicketLemmas.{find-contains}
 use Rattle.mdl_steps.specs.declared.slot.Slot.TheVariants as slot
+use Rattle.mdl_steps.specs.declared.step_kind.StepKind.TheVariants.{PutLatch, TakeLatch, WriteVersion}
 use Rattle.mdl_steps.specs.declared.view.Held.{Held}
 use Rattle.mdl_steps.specs.declared.view.Met.{Met}
 use Rattle.mdl_steps.specs.declared.view.Own.{Own}
@@ -29,9 +30,10 @@ use Rattle.mdl_steps.proofs.Views.{by_bool, held_at-first, held_at-changed}
 use Rattle.mdl_visits.specs.Leavings.{Learns, knowing}
 use Rattle.mdl_visits.specs.Numbers.{numbered, is_ask_apart}
 use Rattle.mdl_visits.specs.Readings.{Follows}
-use Rattle.mdl_visits.specs.Redefinitions.{AreStepsOf, HasExclusiveAt, IsNamed, IsRefusedFor, MeetsFault, Redefines, redefined_and_put}
-use Rattle.mdl_visits.specs.Visits.{IsInside, IsStepOf, and_made}
+use Rattle.mdl_visits.specs.Redefinitions.{HasExclusiveAt, IsNamed, IsRefusedFor, MeetsFault, Redefines, redefined_and_put}
+use Rattle.mdl_visits.specs.Visits.{AreStepsOf, IsInside, IsStepOf, and_made}
 use Rattle.mdl_visits.proofs.Numbers.{not_waited}
+use Rattle.mdl_visits.proofs.Steps.{none_then}
 
 -- a seat has one record of a latch
 pub one_record : {place : ℕ} {h g : Held} {b c : BookView} {m : Mine} → Holds place h b m → Holds place g c m → h ≡ g
@@ -87,12 +89,12 @@ exclusive_there place h m fresh apart held =
 module _ (place : ℕ) (standing : Standing) (m m′ m″ : Mine) (put : m″ ≡ redefined_and_put place standing m′) where
   -- the step that wrote the version came right after the one that took the latch
   steps : (h : Held) (made : List Met) → m′ ≡ latched place h (and_made made m)
-      → AreStepsOf m m″ (record { word = latch_word place; found = 0; held = h ∷ m.0.latches; directory = m.0.directory })
-      (record { word = version_word place; found = standing.version - 1; held = (redefined place standing m′).0.latches; directory = m′.0.directory })
+      → AreStepsOf m m″ (record { kind = TakeLatch; deeds = []; word = latch_word place; found = 0; held = h ∷ m.0.latches; directory = m.0.directory })
+      (record { kind = WriteVersion; deeds = []; word = version_word place; found = standing.version - 1; held = (redefined place standing m′).0.latches; directory = m′.0.directory })
   steps h made took =
-      let takes : Met = record { word = latch_word place; found = 0; held = h ∷ m.0.latches; directory = m.0.directory } in
-      let writes : Met = record { word = version_word place; found = standing.version - 1; held = (redefined place standing m′).0.latches; directory = m′.0.directory } in
-      let puts : Met = record { word = latch_word place; found = m′.0.number; held = (redefined place standing m′).0.latches; directory = m′.0.directory } in (
+      let takes : Met = record { kind = TakeLatch; deeds = []; word = latch_word place; found = 0; held = h ∷ m.0.latches; directory = m.0.directory } in
+      let writes : Met = record { kind = WriteVersion; deeds = []; word = version_word place; found = standing.version - 1; held = (redefined place standing m′).0.latches; directory = m′.0.directory } in
+      let puts : Met = record { kind = PutLatch; deeds = []; word = latch_word place; found = m′.0.number; held = (redefined place standing m′).0.latches; directory = m′.0.directory } in (
         made,
         puts ∷ [],
         ap (λ (x : Mine). x.0.log) put
@@ -104,12 +106,13 @@ module _ (place : ℕ) (standing : Standing) (m m′ m″ : Mine) (put : m″ �
   learns : IsInside place m m′ → Learns place standing m m″
   learns inside =
       let came : Mine = (record m.0 { latches = inside.latches; log = m.0.log ++ inside.made }, (place, slot.Place inside.book) ∷ m.1) in
-      let writes : Met = record { word = version_word place; found = standing.version - 1; held = (redefined place standing came).0.latches; directory = came.0.directory } in
-      let puts : Met = record { word = latch_word place; found = m.0.number; held = (redefined place standing came).0.latches; directory = came.0.directory } in
+      let writes : Met = record { kind = WriteVersion; deeds = []; word = version_word place; found = standing.version - 1; held = (redefined place standing came).0.latches; directory = came.0.directory } in
+      let puts : Met = record { kind = PutLatch; deeds = []; word = latch_word place; found = m.0.number; held = (redefined place standing came).0.latches; directory = came.0.directory } in
       let others = elsewhere-redefined place standing came ∙ inside.others in
       let log = append_assoc (m.0.log ++ inside.made) (writes ∷ []) (puts ∷ []) ∙ append_assoc m.0.log inside.made (writes ∷ puts ∷ []) in (
         inside.made ++ writes ∷ puts ∷ [],
         put ∙ ap (redefined_and_put place standing) inside.now ∙ (λ i. (record (knowing place standing m.0) { latches = others i; log = log i }, m.1)),
+        none_then inside.made (writes ∷ puts ∷ []) [] inside.did refl,
       )
 
 -- where nothing is told but memory, there is no fault
@@ -138,8 +141,8 @@ module _ (place : ℕ) (change : Change) (h : Held) (m m′ m″ : Mine) (inside
       let standing : Standing = standing_after change h.book.standing in
       let knows = learns place standing m m′ m″ done.1 inside in (
         record {
-          take = record { word = latch_word place; found = 0; held = h ∷ m.0.latches; directory = m.0.directory };
-          write = record { word = version_word place; found = standing.version - 1; held = (redefined place standing m′).0.latches; directory = m′.0.directory };
+          take = record { kind = TakeLatch; deeds = []; word = latch_word place; found = 0; held = h ∷ m.0.latches; directory = m.0.directory };
+          write = record { kind = WriteVersion; deeds = []; word = version_word place; found = standing.version - 1; held = (redefined place standing m′).0.latches; directory = m′.0.directory };
           steps = steps place standing m m′ m″ done.1 h made took;
           meets = record {
             latched = refl;
@@ -169,7 +172,7 @@ module _ (place : ℕ) (change : Change) (h : Held) (m m′ m″ : Mine) (inside
     where
       meets : standing_fault h.book.key.namespace change h.book.standing ≡ Some why → (e : Met) × IsStepOf m m″ e × (met : MeetsFault place who change why e) × Follows place met.latch.book.standing m × IsNamed place met.latch.book.key m
       meets fault =
-          let puts : Met = record { word = latch_word place; found = m.0.number; held = inside.latches; directory = m.0.directory } in (
+          let puts : Met = record { kind = PutLatch; deeds = []; word = latch_word place; found = m.0.number; held = inside.latches; directory = m.0.directory } in (
             puts,
             (inside.made, [], ap (λ (x : Mine). x.0.log) (put ∙ ap (unlatched place []) inside.now)),
             record { word = refl; freed = mine; latch = h; held = ap (λ (x : Mine). held_at place x.0.latches) (sym inside.now) ∙ has.recorded; fault = fault },

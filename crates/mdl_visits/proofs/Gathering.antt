@@ -2,6 +2,7 @@
 use Rattle.std.proofs.Common.{◌≡◌, ℕ, ◌+◌, ◌-◌, ◌<◌, ◌≤◌, List, [], ◌∷◌, ◌++◌, length, map, Some, refl, sym, ap, ◌∙◌, subst, inl, inr, ⊎_elim, arith, append_assoc, append-nil, length-append}
 use Rattle.std.specs.Prelude.{slice_get}
 use Rattle.mdl_key.specs.Words.{KeyName}
+use Rattle.mdl_steps.specs.declared.step_kind.StepKind.TheVariants.{PutLatch, TakeLatch}
 use Rattle.mdl_steps.specs.declared.view.Held.{Held}
 use Rattle.mdl_steps.specs.declared.view.Keys.{Keys}
 use Rattle.mdl_steps.specs.declared.view.Met.{Met}
@@ -16,9 +17,9 @@ use Rattle.mdl_visits.specs.declared.audited.Audited.{Audited}
 use Rattle.mdl_visits.specs.Audits.{AreKeyed, AreRecorded, Audits, Gathers, HadLatches}
 use Rattle.mdl_visits.specs.Idle.{IsIdle}
 use Rattle.mdl_visits.specs.Lookups.{HadEither, TookDirectory, given_back, relisted}
-use Rattle.mdl_visits.specs.Visits.{AllHad, IsInside, IsStepOf, KeepsDirectory, MakesSteps, and_made}
+use Rattle.mdl_visits.specs.Visits.{AllHad, IsInside, IsStepOf, KeepsDirectory, MakesSteps, and_made, deeds_of}
 use Rattle.mdl_visits.proofs.Lookups.{had_none, put_after, knows_nothing, no_latches}
-use Rattle.mdl_visits.proofs.Steps.{each_map}
+use Rattle.mdl_visits.proofs.Steps.{each_map, none_then}
 use Rattle.mdl_visits.proofs.Visiting.{inside_at, visits_put, makes_none}
 
 -- ---- steps
@@ -55,6 +56,7 @@ inside_steps place m m′ m″ inside steps = record {
   book = inside.book;
   now = steps.1 ∙ ap (and_made steps.0) inside.now ∙ (λ i. inside_at place inside.latches inside.book m (append_assoc m.0.log inside.made steps.0 i));
   others = inside.others;
+  did = none_then inside.made steps.0 [] inside.did steps.2;
 }
 
 -- the latch that was given back is that of the place
@@ -64,7 +66,7 @@ unlatched_at place q m m′ at put = subst (λ (p : ℕ). m′ ≡ unlatched p [
 pub there_and_back : (place : ℕ) (m m′ m″ m‴ : Mine) → IsInside place m m′ → MakesSteps m′ m″ → m‴ ≡ unlatched place [] m″ → MakesSteps m m‴
 there_and_back place m m′ m″ m‴ inside steps put =
     let visit = visits_put place [] m m″ m‴ (inside_steps place m m′ m″ inside steps) put in
-    (visit.made, visit.now)
+    (visit.made, visit.now, visit.did)
 
 pub may_put : (place : ℕ) (h : Held) (m m′ : Mine) → TellsLists h.book h.slow h.obtrusive → Holds place h h.book m → MakesSteps m m′ → MayPut place [] m′
 may_put place h m m′ tells holds steps = subst (MayPut place []) (sym steps.1) (
@@ -78,7 +80,7 @@ module _ (place : ℕ) (h : Held) (made : List Met) (m m′ : Mine) (here : h.pl
   rising_next rising = subst (IsRising (place + 1)) (sym taken) (omega arith, each_below m.0.latches place (place + 1) (omega arith) rising)
 
   abbrev took : Met
-  took = record { word = latch_word place; found = 0; held = h ∷ m.0.latches; directory = m.0.directory }
+  took = record { kind = TakeLatch; deeds = []; word = latch_word place; found = 0; held = h ∷ m.0.latches; directory = m.0.directory }
 
   log_then : m′.0.log ≡ m.0.log ++ (made ++ took ∷ [])
   log_then = ap (λ (x : Mine). x.0.log) taken ∙ append_assoc m.0.log made (took ∷ [])
@@ -89,7 +91,7 @@ module _ (place : ℕ) (h : Held) (made : List Met) (m m′ : Mine) (here : h.pl
 
   module _ (m″ m‴ : Mine) (steps : MakesSteps m′ m″) (put : m‴ ≡ unlatched place [] m″) where
     abbrev gave : Met
-    gave = record { word = latch_word place; found = m″.0.number; held = m″.0.latches; directory = m″.0.directory }
+    gave = record { kind = PutLatch; deeds = []; word = latch_word place; found = m″.0.number; held = m″.0.latches; directory = m″.0.directory }
 
     log_put : m‴.0.log ≡ m″.0.log ++ gave ∷ []
     log_put = ap (λ (x : Mine). x.0.log) put
@@ -186,14 +188,14 @@ module _ (slots : ℕ) (k : Keys) (made : List Met) (m m′ m″ : Mine) (taken 
     all_put : m‴ ≡ informed (learnt (relisted steps.0 k (consulted k (and_made made m))) 0) (relisted steps.0 k (consulted k (and_made made m)))
     all_put = put_after k made steps.0 k 0 m m′ m″ m‴ taken same_hand put
 
-    pub makes_all : MakesSteps m m‴
-    makes_all = knows_nothing slots k made m idle is steps.0 k 0 m‴ all_put refl
+    pub makes_all : deeds_of made ≡ [] → MakesSteps m m‴
+    makes_all did = knows_nothing slots k made m idle is steps.0 k 0 m‴ all_put did steps.2 refl
 
     abbrev first : Met
-    first = record { word = latch_word 0; found = 0; held = m.0.latches; directory = Some k }
+    first = record { kind = TakeLatch; deeds = []; word = latch_word 0; found = 0; held = m.0.latches; directory = Some k }
 
     abbrev final : Met
-    final = record { word = latch_word 0; found = m″.0.number; held = m″.0.latches; directory = m″.0.directory }
+    final = record { kind = PutLatch; deeds = []; word = latch_word 0; found = m″.0.number; held = m″.0.latches; directory = m″.0.directory }
 
     log_first : m′.0.log ≡ m.0.log ++ (made ++ first ∷ [])
     log_first = ap (λ (x : Mine). x.0.log) taken ∙ append_assoc m.0.log made (first ∷ [])

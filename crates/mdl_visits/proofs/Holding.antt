@@ -1,6 +1,7 @@
 -- A search while latches are taken and given back around it.
 use Rattle.std.proofs.Common.{◌≡◌, ℕ, ◌+◌, List, [], ◌∷◌, ◌++◌, length, map, Some, refl, sym, ap, ◌∙◌, subst, inl, inr, ⊎_elim, arith, append_assoc, append-nil}
 use Rattle.std.specs.Prelude.{Option}
+use Rattle.std.proofs.lemmas.List.{append_cancel_left}
 use Rattle.atomic_table.specs.Seated.{TableId}
 use Rattle.mdl_calls.specs.declared.answers.Search.{Search}
 use Rattle.mdl_steps.specs.declared.view.Held.{Held}
@@ -16,7 +17,7 @@ use Rattle.mdl_visits.specs.Audits.{AreRecorded, Gathers, HadLatches}
 use Rattle.mdl_visits.specs.Idle.{IsIdle}
 use Rattle.mdl_visits.specs.Lookups.{TookDirectory}
 use Rattle.mdl_visits.specs.Searches.{Hears, Listens, Judges, Searched, Searches, hearing, if_waited}
-use Rattle.mdl_visits.specs.Visits.{AllHad, GoesOn, IsInside, KeepsDirectory, MakesSteps, and_made}
+use Rattle.mdl_visits.specs.Visits.{AllHad, GoesOn, IsInside, KeepsDirectory, MakesSteps, and_made, deeds_of}
 use Rattle.mdl_visits.proofs.Gathering.{gathers_more, keys_from, makes_all, moment_of, more_latches, there_and_back, took_first}
 use Rattle.mdl_visits.proofs.Outcomes.{judges_if_waited, judges_within}
 use Rattle.mdl_visits.proofs.Steps.{keeps_there}
@@ -70,15 +71,17 @@ pub back_heard : (place : ℕ) (h : Held) (made : List Met) (m m′ m″ m‴ : 
     → m‴ ≡ unlatched place [] m″ → Hears m m‴
 back_heard place h made m m′ m″ m‴ inside had taken hears put =
     let stepped : Mine = and_made hears.made m′ in
-    let visit : MakesSteps m (unlatched place [] stepped) = there_and_back place m m′ stepped (unlatched place [] stepped) inside (hears.made, refl) refl in
+    let visit : MakesSteps m (unlatched place [] stepped) = there_and_back place m m′ stepped (unlatched place [] stepped) inside (hears.made, refl, hears.did) refl in
     let keeps : KeepsDirectory m (unlatched place [] stepped) = keeps_there place h made m m′ stepped (unlatched place [] stepped) had taken (hears.made, refl, hears.had) refl refl in
     let log : m.0.log ++ visit.0 ≡ m.0.log ++ keeps.0 = sym (ap (λ (x : Mine). x.0.log) visit.1) ∙ keeps.1 in
+    let same : visit.0 ≡ keeps.0 = append_cancel_left m.0.log visit.0 keeps.0 log in
     record {
       made = keeps.0;
       told = hears.told;
       settles = hears.settles;
       now = put ∙ ap (unlatched place []) hears.now ∙ ap (retold hears.told hears.settles) visit.1
           ∙ ap (λ (l : List Met). (record m.0 { log = l; told = hears.told; settles = hears.settles }, m.1)) log;
+      did = ap deeds_of (sym same) ∙ visit.2;
       stays = λ state told. hears.stays state (ap (λ (x : Mine). x.0.told) inside.now ∙ told);
       had = keeps.2;
     }
@@ -128,9 +131,9 @@ module _ (id : TableId) (who place last : ℕ) (found : Search) where
         let inner : Gathers (place + 1) last (one ∷ []) books m′ stepped =
         behind_one (place + 1) last one more.books m′ stepped (same_gathers (place + 1) last [] more.books m′ m″ stepped (sym log_stepped) more.gathers) in
         let outer : Gathers place last [] books m (unlatched place [] stepped) =
-        gathers_more place h made m m′ here taken stepped (unlatched place [] stepped) (hears.made, refl) refl fresh last q [] (one ∷ []) books at recorded refl inner in
+        gathers_more place h made m m′ here taken stepped (unlatched place [] stepped) (hears.made, refl, hears.did) refl fresh last q [] (one ∷ []) books at recorded refl inner in
         let same : outer.latches ≡ more.gathers.latches =
-        more_latches place h made m m′ here taken stepped (unlatched place [] stepped) (hears.made, refl) refl fresh last q [] (one ∷ []) books at recorded refl inner in
+        more_latches place h made m m′ here taken stepped (unlatched place [] stepped) (hears.made, refl, hears.did) refl fresh last q [] (one ∷ []) books at recorded refl inner in
         let judged = judges_within id who more.gathers.latches (middle ++ more.books) found m m′ m″ m‴ before_then (ap (λ (x : Mine). x.0.settles) taken) after_then
         (ap (λ (x : Mine). x.0.settles) put) more.judges in
         let all = judges_if_waited id who more.gathers.latches one before more.books found m m‴
@@ -159,16 +162,17 @@ module _ (id : TableId) (k : Keys) (made : List Met) (m m′ m″ : Mine) (taken
     unfolding met over
     as_over = put ∙ ap (λ (x : Mine). informed (learnt x 0) x) hears.now
 
-    all_steps : MakesSteps m over
+    all_steps : deeds_of made ≡ [] → MakesSteps m over
     unfolding met over
-    all_steps = makes_all id.slots k made m m′ met taken (hears.made, refl) over refl idle is
+    all_steps did = makes_all id.slots k made m m′ met taken (hears.made, refl, hears.did) over refl idle is did
 
-    pub hears_all : Listens m m‴
-    hears_all = record {
-      made = all_steps.0;
+    pub hears_all : deeds_of made ≡ [] → Listens m m‴
+    hears_all did = record {
+      made = (all_steps did).0;
       told = hears.told;
       settles = hears.settles;
-      now = as_over ∙ ap (retold hears.told hears.settles) all_steps.1;
+      now = as_over ∙ ap (retold hears.told hears.settles) (all_steps did).1;
+      did = (all_steps did).2;
       stays = λ state told. hears.stays state (ap (λ (x : Mine). x.0.told) taken ∙ told);
     }
 
@@ -178,7 +182,7 @@ module _ (id : TableId) (k : Keys) (made : List Met) (m m′ m″ : Mine) (taken
     pub took_heard : AllHad m.0.directory made → TookDirectory id.slots k k m m‴
     unfolding met over
     took_heard lingered =
-        let took = took_first id.slots k made m m′ met taken (hears.made, refl) over refl idle is lingered (hears.made, refl, hears.had) in
+        let took = took_first id.slots k made m m′ met taken (hears.made, refl, hears.did) over refl idle is lingered (hears.made, refl, hears.had) in
         record {
           before = took.before;
           within = took.within;
@@ -203,7 +207,7 @@ module _ (id : TableId) (k : Keys) (made : List Met) (m m′ m″ : Mine) (taken
         let gathers = searches.gathers in
         let inner : HadLatches gathers.latches m′ met =
         ⊎_elim (λ at_once. inl at_once) (λ later. inr (later.0, (later.1.0, later.1.1, sym (ap (λ (x : Mine). x.0.log) hears.now) ∙ later.1.2), later.2, later.3)) gathers.had in
-        let moment = moment_of id.slots k made m m′ met taken (hears.made, refl) over refl idle is gathers.latches inner in
+        let moment = moment_of id.slots k made m m′ met taken (hears.made, refl, hears.did) over refl idle is gathers.latches inner in
         let judged = judges_within id who gathers.latches audited found m m′ m″ m‴ begins (ap (λ (x : Mine). x.0.settles) taken) ends (ap (λ (x : Mine). x.0.settles) put) searches.judges in
         let all = gathers.all in
         let long = ap (λ (xs : List Audited). length xs) gathers.listed in

@@ -7,6 +7,7 @@ use lib.ListN.{get_elem?}
 use Rattle.mdl_book.specs.Tickets.{is_ticket, ticket_of}
 use Rattle.mdl_book.specs.declared.book_view.BookView.{BookView}
 use Rattle.mdl_steps.specs.declared.deed.Deed.{Deed}
+use Rattle.mdl_steps.specs.declared.step_kind.StepKind.TheVariants.{LowerFlags, PutLatch}
 use Rattle.mdl_steps.specs.declared.view.Met.{Met}
 use Rattle.mdl_steps.specs.declared.view.Own.{Own}
 use Rattle.mdl_steps.specs.Cells.{own_at, ticket_by}
@@ -18,6 +19,7 @@ use Rattle.mdl_steps.proofs.Hands.{elsewhere-settled}
 use Rattle.mdl_steps.proofs.Views.{by_bool}
 use Rattle.mdl_visits.specs.Leavings.{HasTicket, Leaves}
 use Rattle.mdl_visits.specs.Visits.{IsInside, IsStepOf, Visits, and_made}
+use Rattle.mdl_visits.proofs.Steps.{none_then}
 
 -- a flag that has to be up and is
 pub needed : (needs up : Bool) → (needs ≡ true → up ≡ true) → (needs && up) ≡ needs
@@ -26,10 +28,10 @@ needed false up e = refl
 
 module _ (place : ℕ) (ds : List Deed) (found : ℕ) (book : BookView) (slow obtrusive : Bool) (m : Mine) where
   lowers : Met
-  lowers = record { word = lock_word place; found = found; held = m.0.latches; directory = m.0.directory }
+  lowers = record { kind = LowerFlags slow obtrusive; deeds = ds; word = lock_word place; found = found; held = m.0.latches; directory = m.0.directory }
 
   puts : Met
-  puts = record { word = latch_word place; found = m.0.number; held = (settled place ds found book slow obtrusive m).0.latches; directory = m.0.directory }
+  puts = record { kind = PutLatch; deeds = []; word = latch_word place; found = m.0.number; held = (settled place ds found book slow obtrusive m).0.latches; directory = m.0.directory }
 
   abbrev last : Mine
   last = unlatched place [] (settled place ds found book slow obtrusive m)
@@ -41,13 +43,14 @@ module _ (place : ℕ) (ds : List Deed) (found : ℕ) (book : BookView) (slow ob
   unfolding lowers puts
   leaves = (
     lowers ∷ puts ∷ [],
-    λ i. (record (all_done place ds m.0) { latches = elsewhere-settled place ds found slow obtrusive book m i; log = both i }, rest m.1),
+    (λ i. (record (all_done place ds m.0) { latches = elsewhere-settled place ds found slow obtrusive book m i; log = both i }, rest m.1)),
+    append-nil ds,
   )
 
-  -- the first of its two steps was on the word, while the session had what it had
-  pub first_step : (e : Met) × IsStepOf m last e × (e.word ≡ lock_word place) × (e.held ≡ m.0.latches)
+  -- the first of its two steps was on the word, while the session had what it had, and did the deeds
+  pub first_step : (e : Met) × IsStepOf m last e × (e.word ≡ lock_word place) × (e.held ≡ m.0.latches) × (e.deeds ≡ ds)
   unfolding lowers puts
-  first_step = (lowers, ([], puts ∷ [], both ∙ ap (λ (log : List Met). log ++ lowers ∷ puts ∷ []) (sym (append-nil m.0.log))), refl, refl)
+  first_step = (lowers, ([], puts ∷ [], both ∙ ap (λ (log : List Met). log ++ lowers ∷ puts ∷ []) (sym (append-nil m.0.log))), refl, refl, refl)
 
 -- ---- of a session that came to the place before
 
@@ -57,6 +60,7 @@ module _ (place : ℕ) (m m′ m″ : Mine) (inside : IsInside place m m′) whe
     made = inside.made ++ left.0;
     now = left.1 ∙ ap (λ (x : Mine). and_made left.0 (record (all_done place ds x.0) { latches = elsewhere place x }, rest x.1)) inside.now
         ∙ (λ i. (record (all_done place ds m.0) { latches = inside.others i; log = append_assoc m.0.log inside.made left.0 i }, m.1));
+    did = none_then inside.made left.0 ds inside.did left.2;
   }
 
   pub step_later : (e : Met) → IsStepOf m′ m″ e → IsStepOf m m″ e

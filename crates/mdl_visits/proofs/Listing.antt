@@ -1,7 +1,8 @@
 -- What a session has after it asked the directory for the tables of a schema.
-use Rattle.std.proofs.Common.{◌≡◌, ℕ, ◌-◌, ◌<◌, List, [], ◌∷◌, ◌++◌, length, None, Some, ap, ◌∙◌, subst, arith, append_assoc, append-nil}
+use Rattle.std.proofs.Common.{◌≡◌, ℕ, ◌-◌, ◌<◌, List, [], ◌∷◌, ◌++◌, length, None, Some, refl, ap, ◌∙◌, subst, arith, append_assoc, append-nil}
 use Rattle.std.specs.Prelude.{Option}
 use Rattle.std.proofs.lemmas.List.Elements.{All-weaker}
+use Rattle.mdl_steps.specs.declared.step_kind.StepKind.TheVariants.{PutLatch, TakeLatch}
 use Rattle.mdl_steps.specs.declared.view.Keys.{Keys}
 use Rattle.mdl_steps.specs.declared.view.Known.{Known}
 use Rattle.mdl_steps.specs.declared.view.Met.{Met}
@@ -12,9 +13,9 @@ use Rattle.mdl_steps.specs.Schemas.{StandThere, unknown}
 use Rattle.mdl_visits.specs.Idle.{IsIdle}
 use Rattle.mdl_visits.specs.Lookups.{TookDirectory, given_back}
 use Rattle.mdl_visits.specs.Tables.{AreTables, AreWithin, knowing_all}
-use Rattle.mdl_visits.specs.Visits.{AllHad, KeepsDirectory, MakesSteps, and_made}
+use Rattle.mdl_visits.specs.Visits.{AllHad, KeepsDirectory, MakesSteps, and_made, deeds_of}
 use Rattle.mdl_visits.proofs.Lookups.{had_none, no_record, some_there}
-use Rattle.mdl_visits.proofs.Steps.{each_append}
+use Rattle.mdl_visits.proofs.Steps.{each_append, none_then}
 
 -- ---- the tables stand where the directory says
 
@@ -32,10 +33,10 @@ all_within slots k tables fit stand =
 module _ (slots : ℕ) (k : Keys) (made : List Met) (old : Mine) (idle : IsIdle old) (is : IsDirectory slots k (and_made made old))
     (more : List Known) (new : Mine) (e : new ≡ informed more (consulted k (and_made made old))) where
   abbrev took : Met
-  took = record { word = latch_word 0; found = 0; held = old.0.latches; directory = Some k }
+  took = record { kind = TakeLatch; deeds = []; word = latch_word 0; found = 0; held = old.0.latches; directory = Some k }
 
   abbrev gave : Met
-  gave = record { word = latch_word 0; found = old.0.number; held = old.0.latches; directory = Some k }
+  gave = record { kind = PutLatch; deeds = []; word = latch_word 0; found = old.0.number; held = old.0.latches; directory = Some k }
 
   abbrev all : List Met
   all = made ++ (took ∷ gave ∷ [])
@@ -60,16 +61,21 @@ module _ (slots : ℕ) (k : Keys) (made : List Met) (old : Mine) (idle : IsIdle 
     none_after = tt;
   }
 
-  pub knows_tables : (tables : List Known) → more ≡ unknown old.0.known tables → MakesSteps (knowing_all tables old) new
-  knows_tables tables those = (
+  did_all : deeds_of made ≡ [] → deeds_of all ≡ []
+  did_all did = none_then made (took ∷ gave ∷ []) [] did refl
+
+  pub knows_tables : deeds_of made ≡ [] → (tables : List Known) → more ≡ unknown old.0.known tables → MakesSteps (knowing_all tables old) new
+  knows_tables did tables those = (
     all,
     informed_is ∙ ap (λ (known : List Known). (record old.0 { log = old.0.log ++ all; known = old.0.known ++ known }, old.1)) those,
+    did_all did,
   )
 
-  pub knows_no_more : more ≡ [] → MakesSteps old new
-  knows_no_more none = (
+  pub knows_no_more : deeds_of made ≡ [] → more ≡ [] → MakesSteps old new
+  knows_no_more did none = (
     all,
     informed_is ∙ ap (λ (known : List Known). (record old.0 { log = old.0.log ++ all; known = known }, old.1)) (ap (λ (ks : List Known). old.0.known ++ ks) none ∙ append-nil old.0.known),
+    did_all did,
   )
 
 -- the calls one after the other

@@ -6,6 +6,7 @@ use Rattle.std.proofs.lemmas.Bool.{lt-ltb}
 use Rattle.std.proofs.lemmas.List.{nil_from_length}
 use Rattle.mdl_key.specs.Words.{KeyName}
 use Rattle.mdl_steps.specs.declared.slot.Slot.{Slot}
+use Rattle.mdl_steps.specs.declared.step_kind.StepKind.TheVariants.{PutLatch, TakeLatch}
 use Rattle.mdl_steps.specs.declared.view.Keys.{Keys}
 use Rattle.mdl_steps.specs.declared.view.Known.{Known}
 use Rattle.mdl_steps.specs.declared.view.Met.{Met}
@@ -18,7 +19,8 @@ use Rattle.mdl_steps.proofs.Looking.{there}
 use Rattle.mdl_visits.specs.declared.resolve_error.ResolveError.{ResolveError}
 use Rattle.mdl_visits.specs.Idle.{IsIdle}
 use Rattle.mdl_visits.specs.Lookups.{TookDirectory, HadEither, HasLooked, HasNamed, IsAnswer, knowing, relisted}
-use Rattle.mdl_visits.specs.Visits.{AllHad, and_made, MakesSteps}
+use Rattle.mdl_visits.specs.Visits.{AllHad, and_made, deeds_of, MakesSteps}
+use Rattle.mdl_visits.proofs.Steps.{none_then}
 use Rattle.mdl_steps.proofs.NewKeys.{key_last}
 
 -- ---- a session between two calls
@@ -58,12 +60,12 @@ found_there slots key place k m new has fit e same =
     let at = there key k.keys place e in
     let inside = some_there k.keys (place - 1) key at.1 in
     let first = at.0 in
-    record { made = []; left = k; seat = same ∙ relisted_nothing k m has; had = tt; answer = inl (e, refl); stands = (first, omega arith, at.1) }
+    record { made = []; left = k; seat = same ∙ relisted_nothing k m has; had = tt; did = refl; answer = inl (e, refl); stands = (first, omega arith, at.1) }
 
 -- a new one has none yet
 pub found_nowhere : (slots : ℕ) (key : KeyName) (why : ResolveError) (k : Keys) (m new : Mine) → HasDirectory k m → IsAnswer slots key k k (Err why) → new ≡ m
     → HasLooked slots key k (Err why) m new
-found_nowhere slots key why k m new has is same = record { made = []; left = k; seat = same ∙ relisted_nothing k m has; had = tt; answer = is; stands = tt }
+found_nowhere slots key why k m new has is same = record { made = []; left = k; seat = same ∙ relisted_nothing k m has; had = tt; did = refl; answer = is; stands = tt }
 
 -- it stands at the next place then
 pub stands_next : (slots : ℕ) (key : KeyName) (place : ℕ) (k : Keys) (m new : Mine) → HasNamed key k m new → place_among key k.keys ≡ None → place ≡ length k.keys + 1 → place < slots
@@ -75,6 +77,7 @@ stands_next slots key place k m new named none next fit =
       left = listing key k;
       seat = named.1;
       had = named.2;
+      did = named.3;
       answer = inr (none, next, refl);
       stands = (omega arith, fit, ap (slice_get (k.keys ++ key ∷ [])) at ∙ key_last k.keys key);
     }
@@ -103,16 +106,20 @@ module _ (slots : ℕ) (k : Keys) (made : List Met) (old : Mine) (idle : IsIdle 
     (more : List Met) (after : Keys) (place : ℕ) (new : Mine)
     (e : new ≡ informed (learnt (relisted more after (consulted k (and_made made old))) place) (relisted more after (consulted k (and_made made old)))) where
   abbrev took : Met
-  took = record { word = latch_word 0; found = 0; held = old.0.latches; directory = Some k }
+  took = record { kind = TakeLatch; deeds = []; word = latch_word 0; found = 0; held = old.0.latches; directory = Some k }
 
   abbrev gave : Met
-  gave = record { word = latch_word 0; found = old.0.number; held = old.0.latches; directory = Some after }
+  gave = record { kind = PutLatch; deeds = []; word = latch_word 0; found = old.0.number; held = old.0.latches; directory = Some after }
 
   abbrev all : List Met
   all = made ++ (took ∷ more ++ gave ∷ [])
 
   joined : (((old.0.log ++ made) ++ took ∷ []) ++ more) ++ gave ∷ [] ≡ old.0.log ++ all
   joined = simp append_assoc
+
+  -- none of the steps has deeds
+  did_all : deeds_of made ≡ [] → deeds_of more ≡ [] → deeds_of all ≡ []
+  did_all first later = none_then made (took ∷ more ++ gave ∷ []) [] first (none_then more (gave ∷ []) [] later refl)
 
   -- only steps were made, and this is known
   pub put_is : new ≡ (record old.0 { log = old.0.log ++ all; known = old.0.known ++ learning after place }, old.1)
@@ -135,14 +142,19 @@ module _ (slots : ℕ) (k : Keys) (made : List Met) (old : Mine) (idle : IsIdle 
     none_after = tt;
   }
 
-  pub knows_one : (key : KeyName) → 0 < place → key_at after.keys place ≡ Some key → MakesSteps (knowing (record { key = key; place = place }) old) new
-  knows_one key some at =
-      (all, put_is ∙ ap (λ (more_known : List Known). (record old.0 { log = old.0.log ++ all; known = old.0.known ++ more_known }, old.1)) (learning_one after place key some at))
+  pub knows_one : deeds_of made ≡ [] → deeds_of more ≡ [] → (key : KeyName) → 0 < place → key_at after.keys place ≡ Some key
+      → MakesSteps (knowing (record { key = key; place = place }) old) new
+  knows_one first later key some at = (
+    all,
+    put_is ∙ ap (λ (more_known : List Known). (record old.0 { log = old.0.log ++ all; known = old.0.known ++ more_known }, old.1)) (learning_one after place key some at),
+    did_all first later,
+  )
 
-  pub knows_nothing : place ≡ 0 → MakesSteps old new
-  knows_nothing none = (
+  pub knows_nothing : deeds_of made ≡ [] → deeds_of more ≡ [] → place ≡ 0 → MakesSteps old new
+  knows_nothing first later none = (
     all,
     put_is
         ∙ ap (λ (p : ℕ). (record old.0 { log = old.0.log ++ all; known = old.0.known ++ learning after p }, old.1)) none
         ∙ ap (λ (known : List Known). (record old.0 { log = old.0.log ++ all; known = known }, old.1)) (append-nil old.0.known),
+    did_all first later,
   )

@@ -95,10 +95,10 @@ pub left_written : (place : ℕ) (ds : List Deed) (book : BookView) (m m′ n : 
 left_written place ds book m m′ n is left = subst (λ (x : Mine). Leaves place ds x n) is left
 
 -- and a step on the word after it was one that met the ticket
-pub met_own : (place who number : ℕ) (h : Held) (book : BookView) (m m′ n : Mine) → held_at place m.0.latches ≡ Some h → is_some (ticket_of who number h.book.granted) ≡ true
-    → m′ ≡ written place book m → (e : Met) × IsStepOf m′ n e × (e.word ≡ lock_word place) × (e.held ≡ m′.0.latches)
-    → (e : Met) × IsStepOf m n e × MeetsOwn place who number e
-met_own place who number h book m m′ n recorded there is step =
+pub met_own : (place who number : ℕ) (ds : List Deed) (h : Held) (book : BookView) (m m′ n : Mine) → held_at place m.0.latches ≡ Some h → is_some (ticket_of who number h.book.granted) ≡ true
+    → m′ ≡ written place book m → (e : Met) × IsStepOf m′ n e × (e.word ≡ lock_word place) × (e.held ≡ m′.0.latches) × (e.deeds ≡ ds)
+    → (e : Met) × IsStepOf m n e × MeetsOwn place who number e × (e.deeds ≡ ds)
+met_own place who number ds h book m m′ n recorded there is step =
     let same : m′.0 ≡ m.0 = ap (λ (x : Mine). x.0) is in
     let made = subst (λ (x : Mine). IsStepOf x n step.0) is step.1 in
-    (step.0, made, record { word = step.2; latch = h; held = ap (held_at place) (step.3 ∙ ap (λ (v : View). v.latches) same) ∙ recorded; there = there })
+    (step.0, made, record { word = step.2; latch = h; held = ap (held_at place) (step.3 ∙ ap (λ (v : View). v.latches) same) ∙ recorded; there = there }, step.4)

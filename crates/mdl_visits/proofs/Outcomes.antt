@@ -8,13 +8,14 @@ use Rattle.mdl_calls.specs.declared.answers.Search.{Search}
 use Rattle.mdl_calls.specs.declared.answers.Search.TheVariants.{NoCycle, Victim}
 use Rattle.mdl_graph.specs.Graphs.{deadlock_in}
 use Rattle.mdl_graph.specs.Victims.{victim_of}
+use Rattle.mdl_steps.specs.declared.step_kind.StepKind.TheVariants.{SettleWait}
 use Rattle.mdl_steps.specs.declared.view.Held.{Held}
 use Rattle.mdl_steps.specs.declared.view.Met.{Met}
 use Rattle.mdl_steps.specs.declared.view.Settlement.{Settlement}
 use Rattle.mdl_steps.specs.declared.view.View.{View}
 use Rattle.mdl_steps.specs.Layout.{wait_word}
 use Rattle.mdl_steps.specs.Plays.{Mine}
-use Rattle.mdl_steps.specs.WaitPlays.{TellsOwn, meeting, met_wait, settled_lost, wait_in}
+use Rattle.mdl_steps.specs.WaitPlays.{TellsOwn, meeting, missed_wait, settled_lost, wait_in}
 use Rattle.mdl_steps.proofs.Views.{by_bool}
 use Rattle.mdl_visits.specs.declared.audited.Audited.{Audited}
 use Rattle.mdl_visits.specs.declared.hearing.Heard.{Heard}
@@ -23,7 +24,7 @@ use Rattle.mdl_visits.specs.Searches.{Fells, Hears, IsOutcome, Judges, KnowsFall
 use Rattle.mdl_visits.specs.Visits.{GoesOn}
 use Rattle.mdl_visits.proofs.Asking.{step_within}
 use Rattle.mdl_visits.proofs.Deadlocks.{same_if_waited}
-use Rattle.mdl_visits.proofs.Words.{all_within, hears_met}
+use Rattle.mdl_visits.proofs.Words.{all_within, hears_missed}
 
 -- ---- a wait is settled as the victim's
 
@@ -42,17 +43,18 @@ stays_lost slots session number v own state told =
 module _ (slots session number : ℕ) (m m′ : Mine) (lost : m′ ≡ settled_lost slots session number 3 m) where
   hears_lost : TellsOwn slots session (wait_in number 1) m.0 → Hears m m′
   hears_lost own = record {
-    made = record { word = wait_word slots session; found = wait_in number 1; held = m.0.latches; directory = m.0.directory } ∷ [];
+    made = record { kind = SettleWait; deeds = []; word = wait_word slots session; found = wait_in number 1; held = m.0.latches; directory = m.0.directory } ∷ [];
     told = (meeting session (wait_in number 3) m.0).told;
     settles = m.0.settles ++ record { session = session; wait = number; state = 3 } ∷ [];
     now = lost;
+    did = refl;
     stays = stays_lost slots session number m.0 own;
     had = (refl, tt);
   }
 
   pub fells_one : Fells slots session m.0.latches m m′
   fells_one =
-      let e : Met = record { word = wait_word slots session; found = wait_in number 1; held = m.0.latches; directory = m.0.directory } in
+      let e : Met = record { kind = SettleWait; deeds = []; word = wait_word slots session; found = wait_in number 1; held = m.0.latches; directory = m.0.directory } in
       record {
         wait = number;
         settles = ap (λ (x : Mine). x.0.settles) lost;
@@ -75,13 +77,13 @@ knows_on who (Victim victim) m m′ same knows = λ own. same ∙ knows own
 
 -- whichever word was met
 pub hears_settling : (slots session number found : ℕ) (m m′ : Mine) → TellsOwn slots session found m.0 → (found ≡ wait_in number 1 → m′ ≡ settled_lost slots session number 3 m)
-    → (found ≢ wait_in number 1 → m′ ≡ met_wait slots session found m) → Hears m m′
+    → (found ≢ wait_in number 1 → m′ ≡ missed_wait slots session found m) → Hears m m′
 hears_settling slots session number found m m′ own settled missed =
     by_bool (found == wait_in number 1)
     (λ same.
     let is = eqb-true found (wait_in number 1) same in
     hears_lost slots session number m m′ (settled is) (rw (sym is) own))
-    (λ differ. hears_met slots session found m m′ own (missed (λ is. false≢true (sym differ ∙ eq-eqb found (wait_in number 1) is))))
+    (λ differ. hears_missed slots session found m m′ own (missed (λ is. false≢true (sym differ ∙ eq-eqb found (wait_in number 1) is))))
 
 -- ---- of a call that did something before and after
 

@@ -4,6 +4,7 @@ use Rattle.std.specs.Prelude.{IfOk, Result}
 use Rattle.mdl_key.specs.Words.{KeyName}
 use Rattle.mdl_defs.specs.Standings.{MayStand}
 use Rattle.mdl_defs.specs.declared.standing.Standing.{Standing}
+use Rattle.mdl_steps.specs.declared.step_kind.StepKind.TheVariants.{PutLatch}
 use Rattle.mdl_steps.specs.declared.view.Held.{Held}
 use Rattle.mdl_steps.specs.declared.view.Met.{Met}
 use Rattle.mdl_steps.specs.Cells.{held_at}
@@ -12,6 +13,7 @@ use Rattle.mdl_steps.specs.Plays.{Mine, IsFresh, read_and_put}
 use Rattle.mdl_visits.specs.Leavings.{Learns, MeetsStanding, knowing}
 use Rattle.mdl_visits.specs.Readings.{Follows}
 use Rattle.mdl_visits.specs.Visits.{IsInside, IsStepOf}
+use Rattle.mdl_visits.proofs.Steps.{none_then}
 
 -- what is told of a result tells what follows from it
 pub ok_told : {A E : Type 0} {P Q : A → Type 0} (result : Result A E) → ((a : A) → P a → Q a) → IfOk result P → IfOk result Q
@@ -30,7 +32,7 @@ follows {place} {h} {m} fresh = record {
 
 module _ (place : ℕ) (standing : Standing) (m m′ m″ : Mine) (inside : IsInside place m m′) (read : m″ ≡ read_and_put place standing m′) where
   puts : Met
-  puts = record { word = latch_word place; found = m.0.number; held = inside.latches; directory = m.0.directory }
+  puts = record { kind = PutLatch; deeds = []; word = latch_word place; found = m.0.number; held = inside.latches; directory = m.0.directory }
 
   pub learns : Learns place standing m m″
   unfolding puts
@@ -38,6 +40,7 @@ module _ (place : ℕ) (standing : Standing) (m m′ m″ : Mine) (inside : IsIn
     inside.made ++ puts ∷ [],
     read ∙ ap (read_and_put place standing) inside.now
         ∙ (λ i. (record (knowing place standing m.0) { latches = inside.others i; log = append_assoc m.0.log inside.made (puts ∷ []) i }, m.1)),
+    none_then inside.made (puts ∷ []) [] inside.did refl,
   )
 
   pub meets_standing : (h : Held) (who : ℕ) → m.0.number ≡ who → held_at place m′.0.latches ≡ Some h → standing ≡ h.book.standing

@@ -13,12 +13,14 @@ use Rattle.mdl_book.specs.declared.ticket.Ticket.{Ticket}
 use Rattle.mdl_book.specs.Books.{admitting, next_grantable}
 use Rattle.mdl_book.specs.SessionSets.{IsEverySession}
 use Rattle.mdl_book.specs.Tickets.{ticket_id, ticket_of}
+use Rattle.mdl_steps.specs.declared.step_kind.StepKind.{StepKind}
+use Rattle.mdl_steps.specs.declared.step_kind.StepKind.TheVariants.{MissWait, ReadWait}
 use Rattle.mdl_steps.specs.declared.view.Held.{Held}
 use Rattle.mdl_steps.specs.declared.view.Met.{Met}
 use Rattle.mdl_steps.specs.Layout.{wait_word}
 use Rattle.mdl_steps.specs.Plays.{Mine}
 use Rattle.mdl_steps.specs.Seats.{Holds, written}
-use Rattle.mdl_steps.specs.WaitPlays.{met_wait, settled_granted, wait_in, with_admitted, TellsOwn}
+use Rattle.mdl_steps.specs.WaitPlays.{met_wait_by, met_wait, missed_wait, settled_granted, wait_in, with_admitted, TellsOwn}
 use Rattle.mdl_steps.specs.WaitSeats.{IsSession}
 use Rattle.mdl_steps.proofs.Hands.{holds_written}
 use Rattle.mdl_steps.proofs.Views.{other}
@@ -30,9 +32,9 @@ use Rattle.mdl_visits.proofs.Waiting.{found_number, none_next, none_of_session, 
 use Rattle.mdl_visits.proofs.Way.{settled_after, settled_before, steps_of, way_granted, way_then, way_written}
 
 -- a step that only met a wait's word, and what was met
-pub step_met : (slots session found : ℕ) (m m′ : Mine) → m′ ≡ met_wait slots session found m → (e : Met) × IsStepOf m m′ e × (e.word ≡ wait_word slots session) × (e.found ≡ found)
-step_met slots session found m m′ is =
-    let e : Met = record { word = wait_word slots session; found = found; held = m.0.latches; directory = m.0.directory } in
+pub step_met : (kind : StepKind) (slots session found : ℕ) (m m′ : Mine) → m′ ≡ met_wait_by kind slots session found m → (e : Met) × IsStepOf m m′ e × (e.word ≡ wait_word slots session) × (e.found ≡ found)
+step_met kind slots session found m m′ is =
+    let e : Met = record { kind = kind; deeds = []; word = wait_word slots session; found = found; held = m.0.latches; directory = m.0.directory } in
     (e, ([], [], ap (λ (x : Mine). x.0.log) is ∙ ap (λ (log : List Met). log ++ e ∷ []) (sym (append-nil m.0.log))), refl, refl)
 
 -- a seat has one record of a place's latch
@@ -42,8 +44,8 @@ one_record place h g m x y = same h g (sym x.recorded ∙ y.recorded)
     same : (h g : Held) → Some h ≡ Some g → h ≡ g
     same h g e = cc
 
-pub holds_met : (slots place session found : ℕ) (h : Held) (m m′ : Mine) → m′ ≡ met_wait slots session found m → Holds place h h.book m → Holds place h h.book m′
-holds_met slots place session found h m m′ is has =
+pub holds_met : (kind : StepKind) (slots place session found : ℕ) (h : Held) (m m′ : Mine) → m′ ≡ met_wait_by kind slots session found m → Holds place h h.book m → Holds place h h.book m′
+holds_met kind slots place session found h m m′ is has =
     subst (λ (x : Mine). Holds place h h.book x) (sym is) (record { recorded = has.recorded; carried = has.carried })
 
 some_is : (o : Option Ticket) (t : Ticket) → o ≡ Some t → is_some o ≡ true
@@ -69,16 +71,16 @@ module _ (slots place session number wait count : ℕ) (h : Held) (m a b : Mine)
       (way_granted slots place session number count h h.book m a has ready made (found_number session number h.book.waiting ready.wish ready.waits) own)
       (way_written slots place h.book (admitting session number h.book) a b keeps.carried admitted)
 
-pub is_missed : (slots place session number wait met : ℕ) (m a : Mine) → a ≡ met_wait slots session met m → met ≢ wait → (g : Held) → Holds place g g.book m → IsGrantedFrom slots place session number wait g m a
+pub is_missed : (slots place session number wait met : ℕ) (m a : Mine) → a ≡ missed_wait slots session met m → met ≢ wait → (g : Held) → Holds place g g.book m → IsGrantedFrom slots place session number wait g m a
 is_missed slots place session number wait met m a is other g has =
-    let step = step_met slots session met m a is in
-    inl ((step.0, step.1, step.2, λ same. other (sym step.3 ∙ same)), holds_met slots place session met g m a is has)
+    let step = step_met MissWait slots session met m a is in
+    inl ((step.0, step.1, step.2, λ same. other (sym step.3 ∙ same)), holds_met MissWait slots place session met g m a is has)
 
 -- ---- the read before it
 
 module _ (id : TableId) (place session number word : ℕ) (m a : Mine) (is : a ≡ met_wait id.slots session word m) where
   read_step : (e : Met) × IsStepOf m a e × (e.word ≡ wait_word id.slots session) × (e.found ≡ word)
-  read_step = step_met id.slots session word m a is
+  read_step = step_met ReadWait id.slots session word m a is
 
   -- it met the wait settled
   pub is_settled : word % 8 ≢ 1 → (g : Held) → Holds place g g.book m → IsServed id place session number g m a
@@ -94,13 +96,13 @@ module _ (id : TableId) (place session number word : ℕ) (m a : Mine) (is : a �
           of_same = step.2;
           settled = λ same. let found = step.3 in (let again : step.0.found ≡ 8 * (step.0.found / 8) + 1 = same in state (omega arith));
         }),
-        holds_met id.slots place session word g m a is has,
+        holds_met ReadWait id.slots place session word g m a is has,
       )
 
   -- it met the wait unsettled, and the exchange was tried
   pub is_tried : (b : Mine) → word % 8 ≡ 1 → MakesWay id.slots place a b → ((g : Held) → Holds place g g.book a → IsGrantedFrom id.slots place session number word g a b)
       → (g : Held) → Holds place g g.book m → IsServed id place session number g m b
-  is_tried b state way tried g has = elim (tried g (holds_met id.slots place session word g m a is has)) [
+  is_tried b state way tried g has = elim (tried g (holds_met ReadWait id.slots place session word g m a is has)) [
     | inl missed ↦
         let step = read_step in
         let met = missed.0 in
@@ -111,7 +113,7 @@ module _ (id : TableId) (place session number word : ℕ) (m a : Mine) (is : a �
             read_then = step_before m a b more step.0 step.1;
             of_wait = step.2;
             met = met.0;
-            met_then = step_after m a b (record { word = wait_word id.slots session; found = word; held = m.0.latches; directory = m.0.directory } ∷ [], ap (λ (x : Mine). x.0.log) is) met.0 met.1;
+            met_then = step_after m a b (record { kind = ReadWait; deeds = []; word = wait_word id.slots session; found = word; held = m.0.latches; directory = m.0.directory } ∷ [], ap (λ (x : Mine). x.0.log) is) met.0 met.1;
             of_same = met.2;
             settled = λ same. (let found = step.3 in let again : met.0.found ≡ 8 * (step.0.found / 8) + 1 = same in met.3 (omega arith));
           }),

@@ -1,13 +1,15 @@
 -- Steps between two of a session's views are steps between any two that are farther apart.
 use Rattle.std.proofs.Common.{◌≡◌, ℕ, List, [], ◌∷◌, ◌++◌, refl, sym, ap, ◌∙◌, subst, append_assoc, append-nil}
 use Rattle.std.specs.Prelude.{Option}
+use Rattle.mdl_steps.specs.declared.deed.Deed.{Deed}
+use Rattle.mdl_steps.specs.declared.step_kind.StepKind.TheVariants.{PutLatch, TakeLatch}
 use Rattle.mdl_steps.specs.declared.view.Held.{Held}
 use Rattle.mdl_steps.specs.declared.view.Keys.{Keys}
 use Rattle.mdl_steps.specs.declared.view.Met.{Met}
 use Rattle.mdl_steps.specs.Layout.{latch_word}
 use Rattle.mdl_steps.specs.Lists.{Each}
 use Rattle.mdl_steps.specs.Plays.{Mine, latched, unlatched}
-use Rattle.mdl_visits.specs.Visits.{AllHad, GoesOn, IsStepOf, KeepsDirectory, and_made}
+use Rattle.mdl_visits.specs.Visits.{AllHad, Does, GoesOn, IsLastStepOf, IsStepOf, KeepsDirectory, and_made, deeds_of}
 
 module _ (a b c : Mine) where
   -- more steps follow
@@ -26,8 +28,38 @@ module _ (a b c : Mine) where
     step.2 ∙ ap (λ (log : List Met). (log ++ step.0) ++ e ∷ step.1) more.1 ∙ ap (λ (log : List Met). log ++ e ∷ step.1) (append_assoc a.0.log more.0 step.0),
   )
 
+  -- the last one stays the last
+  pub last_after : GoesOn a b → (e : Met) → IsLastStepOf b c e → IsLastStepOf a c e
+  last_after more e step = (
+    more.0 ++ step.0,
+    step.1 ∙ ap (λ (log : List Met). (log ++ step.0) ++ e ∷ []) more.1 ∙ ap (λ (log : List Met). log ++ e ∷ []) (append_assoc a.0.log more.0 step.0),
+  )
+
   pub goes_on : GoesOn a b → GoesOn b c → GoesOn a c
   goes_on first more = (first.0 ++ more.0, more.1 ∙ ap (λ (log : List Met). log ++ more.0) first.1 ∙ append_assoc a.0.log first.0 more.0)
+
+-- ---- deeds
+
+-- the deeds of steps, and then those of further ones
+deeds_append : (xs ys : List Met) → deeds_of (xs ++ ys) ≡ deeds_of xs ++ deeds_of ys
+deeds_append [] ys = refl
+deeds_append (e ∷ xs) ys = ap (λ (ds : List Deed). e.deeds ++ ds) (deeds_append xs ys) ∙ sym (append_assoc e.deeds (deeds_of xs) (deeds_of ys))
+
+pub deeds_then : (xs ys : List Met) (ds more : List Deed) → deeds_of xs ≡ ds → deeds_of ys ≡ more → deeds_of (xs ++ ys) ≡ ds ++ more
+deeds_then xs ys ds more first later =
+    deeds_append xs ys ∙ ap (λ (all : List Deed). all ++ deeds_of ys) first ∙ ap (λ (all : List Deed). ds ++ all) later
+
+-- where none were done at the first steps
+pub none_then : (xs ys : List Met) (ds : List Deed) → deeds_of xs ≡ [] → deeds_of ys ≡ ds → deeds_of (xs ++ ys) ≡ ds
+none_then xs ys ds = deeds_then xs ys [] ds
+
+-- of one session's calls, one after the other
+pub does_then : (ds more : List Deed) (a b c : Mine) → Does ds a b → Does more b c → Does (ds ++ more) a c
+does_then ds more a b c first later = (
+  first.0 ++ later.0,
+  later.1 ∙ ap (λ (log : List Met). log ++ later.0) first.1 ∙ append_assoc a.0.log first.0 later.0,
+  deeds_then first.0 later.0 ds more first.2 later.2,
+)
 
 -- ---- what each element of a list is
 
@@ -56,8 +88,8 @@ keeps_on a b c first same more = (
 pub keeps_there : (place : ℕ) (h : Held) (made : List Met) (a b c d : Mine) → AllHad a.0.directory made → b ≡ latched place h (and_made made a) → KeepsDirectory b c
     → c.0.directory ≡ b.0.directory → d ≡ unlatched place [] c → KeepsDirectory a d
 keeps_there place h made a b c d had taken inside same put =
-    let took : Met = record { word = latch_word place; found = 0; held = h ∷ a.0.latches; directory = a.0.directory } in
-    let gave : Met = record { word = latch_word place; found = c.0.number; held = c.0.latches; directory = c.0.directory } in
+    let took : Met = record { kind = TakeLatch; deeds = []; word = latch_word place; found = 0; held = h ∷ a.0.latches; directory = a.0.directory } in
+    let gave : Met = record { kind = PutLatch; deeds = []; word = latch_word place; found = c.0.number; held = c.0.latches; directory = c.0.directory } in
     let first : KeepsDirectory a b = (
       made ++ took ∷ [],
       ap (λ (x : Mine). x.0.log) taken ∙ append_assoc a.0.log made (took ∷ []),

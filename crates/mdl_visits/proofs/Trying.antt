@@ -16,6 +16,7 @@ use Rattle.mdl_book.specs.FastTickets.{can_be_granted, may_stand}
 use Rattle.mdl_book.specs.Tickets.{ticket_of}
 use Rattle.mdl_steps.specs.declared.deed.Deed.{Deed}
 use Rattle.mdl_steps.specs.declared.deed.Deed.TheVariants.{Gain, Alter}
+use Rattle.mdl_steps.specs.declared.step_kind.StepKind.TheVariants.{PutLatch, ReadWord}
 use Rattle.mdl_steps.specs.declared.view.Held.{Held}
 use Rattle.mdl_steps.specs.declared.view.Met.{Met}
 use Rattle.mdl_steps.specs.Deeds.{May, MayJoin, NotWaited, booked}
@@ -143,18 +144,20 @@ module _ (place word session number : ℕ) (mode : Mode) (kind : Kind) (asks : B
         (altered_exactly session number mode book asks entered.found.obtrusive up (sym asks_here ∙ up) (stands unwaited has))
         wrote
 
-  -- the step that gave it back shows that the wish could be granted
-  pub grantable : (m″ m‴ : Mine) (wrote : BookView) (ds : List Deed) → m.0.number ≡ session → can_be_granted (lock_kind book) book.granted book.waiting word session mode ≡ true
-      → m″ ≡ written place wrote m′ → m‴ ≡ unlatched place ds m″ → (e : Met) × IsStepOf m m‴ e × MeetsGrantable place session mode e
-  grantable m″ m‴ wrote ds mine can writes puts =
-      let e : Met = record { word = latch_word place; found = m′.0.number; held = m′.0.latches; directory = m′.0.directory } in (
+  -- the step that gave it back, with a deed, shows that the wish could be granted
+  pub grantable : (m″ m‴ : Mine) (wrote : BookView) (deed : Deed) → m.0.number ≡ session → can_be_granted (lock_kind book) book.granted book.waiting word session mode ≡ true
+      → m″ ≡ written place wrote m′ → m‴ ≡ unlatched place (deed ∷ []) m″ → (e : Met) × IsStepOf m m‴ e × MeetsGrantable place session mode deed e
+  grantable m″ m‴ wrote deed mine can writes puts =
+      let e : Met = record { kind = PutLatch; deeds = deed ∷ []; word = latch_word place; found = m′.0.number; held = m′.0.latches; directory = m′.0.directory } in (
         e,
         (
           entered.inside.made,
           [],
-          ap (λ (x : Mine). x.0.log) (puts ∙ ap (unlatched place ds) writes) ∙ ap (λ (log : List Met). log ++ e ∷ []) (ap (λ (x : Mine). x.0.log) entered.inside.now),
+          ap (λ (x : Mine). x.0.log) (puts ∙ ap (unlatched place (deed ∷ [])) writes) ∙ ap (λ (log : List Met). log ++ e ∷ []) (ap (λ (x : Mine). x.0.log) entered.inside.now),
         ),
         record {
+          kind = refl;
+          did = refl;
           word = refl;
           freed = ap (λ (x : Mine). x.0.number) entered.inside.now ∙ mine;
           latch = latch;
@@ -175,7 +178,7 @@ module _ (place word : ℕ) (asks : Bool) (m m′ : Mine) (entered : Enters plac
 
   -- the step that read the word
   abbrev read : Met
-  read = record { word = lock_word place; found = word; held = m′.0.latches; directory = m′.0.directory }
+  read = record { kind = ReadWord; deeds = []; word = lock_word place; found = word; held = m′.0.latches; directory = m′.0.directory }
 
   read_there : (m″ : Mine) → GoesOn m′ m″ → IsStepOf m m″ read
   read_there m″ goes = (

@@ -4,35 +4,38 @@ use Rattle.std.proofs.lemmas.Bool.{eq-eqb}
 use Rattle.mdl_book.specs.declared.book_view.BookView.{BookView}
 use Rattle.mdl_steps.specs.declared.deed.Deed.{Deed}
 use Rattle.mdl_steps.specs.declared.slot.Slot.TheVariants as slot
+use Rattle.mdl_steps.specs.declared.step_kind.StepKind.{StepKind}
+use Rattle.mdl_steps.specs.declared.step_kind.StepKind.TheVariants.{MissLatch, PutLatch, RaiseFlags, ReadWord, TakeLatch}
 use Rattle.mdl_steps.specs.declared.view.Held.{Held}
 use Rattle.mdl_steps.specs.declared.view.Met.{Met}
 use Rattle.mdl_steps.specs.Deeds.{all_done}
 use Rattle.mdl_steps.specs.Layout.{latch_word, lock_word}
-use Rattle.mdl_steps.specs.Plays.{Mine, IsFresh, latched, unlatched, logged, stepped, raised, noting, changed}
+use Rattle.mdl_steps.specs.Plays.{Mine, IsFresh, latched, unlatched, missed_latch, stepped, raised, noting, changed}
 use Rattle.mdl_steps.specs.Seats.{Holds, IsRising, written}
 use Rattle.mdl_steps.proofs.Hands.{elsewhere-stepped, elsewhere-rising}
-use Rattle.mdl_visits.specs.Visits.{and_made, MakesSteps, Lingers, IsInside, Visits, Enters}
-use Rattle.mdl_visits.proofs.Steps.{each_append}
+use Rattle.mdl_visits.specs.Visits.{and_made, deeds_of, MakesSteps, Lingers, IsInside, Visits, Enters}
+use Rattle.mdl_visits.proofs.Steps.{each_append, none_then}
 
 -- ---- steps
 
 pub makes_none : (m : Mine) → MakesSteps m m
-makes_none m = ([], λ i. and_log (sym (append-nil m.0.log) i))
+makes_none m = ([], (λ i. and_log (sym (append-nil m.0.log) i)), refl)
   where
     and_log : List Met → Mine
     and_log log = (record m.0 { log = log }, m.1)
 
 pub lingers_none : (m : Mine) → Lingers m m
-lingers_none m = ([], λ i. (record m.0 { log = sym (append-nil m.0.log) i }, m.1), tt)
+lingers_none m = ([], (λ i. (record m.0 { log = sym (append-nil m.0.log) i }, m.1)), tt, refl)
 
 -- one that only met something
-pub lingers_one : (word found : ℕ) (m m′ m″ : Mine) → Lingers m m′ → m″ ≡ (logged word found m′.0.latches m′.0, m′.1) → Lingers m m″
-lingers_one word found m m′ m″ steps met =
-    let e : Met = record { word = word; found = found; held = m.0.latches; directory = m.0.directory } in (
+pub lingers_one : (place found : ℕ) (m m′ m″ : Mine) → Lingers m m′ → m″ ≡ missed_latch place found m′ → Lingers m m″
+lingers_one place found m m′ m″ steps met =
+    let e : Met = record { kind = MissLatch; deeds = []; word = latch_word place; found = found; held = m.0.latches; directory = m.0.directory } in (
       steps.0 ++ e ∷ [],
-      met ∙ ap (λ (x : Mine). (logged word found x.0.latches x.0, x.1)) steps.1
+      met ∙ ap (missed_latch place found) steps.1
           ∙ (λ i. (record m.0 { log = append_assoc m.0.log steps.0 (e ∷ []) i }, m.1)),
       each_append (λ (x : Met). x.directory ≡ m.0.directory) steps.0 (e ∷ []) steps.2 (refl, tt),
+      none_then steps.0 (e ∷ []) [] steps.3 refl,
     )
 
 -- ---- inside
@@ -47,28 +50,30 @@ fresh_before place h m m′ steps fresh =
     let f : IsFresh place h (and_made steps.0 m) = subst (IsFresh place h) steps.1 fresh in
     record { here = f.here; exact = f.exact; unnoted = f.unnoted; lawful = f.lawful; modes = f.modes; own = f.own; named = f.named; keyed = f.keyed; vacant = f.vacant; once = f.once; single = f.single; wished = f.wished; lost = f.lost; stands = f.stands; reads = f.reads; noted = f.noted; fast_noted = f.fast_noted; fast_few = f.fast_few; fast_plain = f.fast_plain; fast_beside = f.fast_beside }
 
-pub inside_taken : (place : ℕ) (h : Held) (m m′ : Mine) (made : List Met) → IsRising place m → h.place ≡ place → m′ ≡ latched place h (and_made made m) → IsInside place m m′
-inside_taken place h m m′ made rising here taken =
-    let e : Met = record { word = latch_word place; found = 0; held = h ∷ m.0.latches; directory = m.0.directory } in
+pub inside_taken : (place : ℕ) (h : Held) (m m′ : Mine) (made : List Met) → IsRising place m → h.place ≡ place → m′ ≡ latched place h (and_made made m) → deeds_of made ≡ [] → IsInside place m m′
+inside_taken place h m m′ made rising here taken did =
+    let e : Met = record { kind = TakeLatch; deeds = []; word = latch_word place; found = 0; held = h ∷ m.0.latches; directory = m.0.directory } in
     record {
       latches = h ∷ m.0.latches;
       made = made ++ e ∷ [];
       book = h.book;
       now = taken ∙ (λ i. inside_at place (h ∷ m.0.latches) h.book m (append_assoc m.0.log made (e ∷ []) i));
       others = rw (eq-eqb h.place place here) (elsewhere-rising place m.0.latches rising);
+      did = none_then made (e ∷ []) [] did refl;
     }
 
-pub inside_stepped : (place found : ℕ) (f : Held → Held) (m m′ m″ : Mine) → ((h : Held) → (f h).place ≡ h.place) → IsInside place m m′ → m″ ≡ stepped place found f m′ → IsInside place m m″
-inside_stepped place found f m m′ m″ stays inside made =
+pub inside_stepped : (kind : StepKind) (place found : ℕ) (f : Held → Held) (m m′ m″ : Mine) → ((h : Held) → (f h).place ≡ h.place) → IsInside place m m′ → m″ ≡ stepped kind place found f m′ → IsInside place m m″
+inside_stepped kind place found f m m′ m″ stays inside made =
     let latches = map (λ (h : Held). cond (h.place == place) (f h) h) inside.latches in
-    let e : Met = record { word = lock_word place; found = found; held = latches; directory = m.0.directory } in
+    let e : Met = record { kind = kind; deeds = []; word = lock_word place; found = found; held = latches; directory = m.0.directory } in
     let log = m.0.log ++ inside.made in
     record {
       latches = latches;
       made = inside.made ++ e ∷ [];
       book = inside.book;
-      now = made ∙ ap (stepped place found f) inside.now ∙ (λ i. inside_at place latches inside.book m (append_assoc m.0.log inside.made (e ∷ []) i));
-      others = elsewhere-stepped place found f (inside_at place inside.latches inside.book m log) stays ∙ inside.others;
+      now = made ∙ ap (stepped kind place found f) inside.now ∙ (λ i. inside_at place latches inside.book m (append_assoc m.0.log inside.made (e ∷ []) i));
+      others = elsewhere-stepped kind place found f (inside_at place inside.latches inside.book m log) stays ∙ inside.others;
+      did = none_then inside.made (e ∷ []) [] inside.did refl;
     }
 
 -- another book was written
@@ -79,34 +84,36 @@ inside_written place book m m′ m″ inside made = record {
   book = book;
   now = made ∙ ap (written place book) inside.now;
   others = inside.others;
+  did = inside.did;
 }
 
 -- ---- out again
 
 pub visits_put : (place : ℕ) (ds : List Deed) (m m′ m″ : Mine) → IsInside place m m′ → m″ ≡ unlatched place ds m′ → Visits place ds m m″
 visits_put place ds m m′ m″ inside put =
-    let e : Met = record { word = latch_word place; found = m.0.number; held = inside.latches; directory = m.0.directory } in
+    let e : Met = record { kind = PutLatch; deeds = ds; word = latch_word place; found = m.0.number; held = inside.latches; directory = m.0.directory } in
     record {
       made = inside.made ++ e ∷ [];
       now = put ∙ ap (unlatched place ds) inside.now
           ∙ (λ i. (record (all_done place ds m.0) { latches = inside.others i; log = append_assoc m.0.log inside.made (e ∷ []) i }, m.1));
+      did = none_then inside.made (e ∷ []) ds inside.did (append-nil ds);
     }
 
 -- ---- as it was entered
 
-pub enters : (place found word : ℕ) (obtrusive : Bool) (h : Held) (m a b c : Mine) → IsFresh place h m → IsInside place m a → b ≡ stepped place found (raised true obtrusive) a
-    → c ≡ stepped place word (noting word) b → Holds place (noting word (raised true obtrusive h)) h.book c → Enters place obtrusive word m c
+pub enters : (place found word : ℕ) (obtrusive : Bool) (h : Held) (m a b c : Mine) → IsFresh place h m → IsInside place m a → b ≡ stepped (RaiseFlags true obtrusive) place found (raised true obtrusive) a
+    → c ≡ stepped ReadWord place word (noting word) b → Holds place (noting word (raised true obtrusive h)) h.book c → Enters place obtrusive word m c
 enters place found word obtrusive h m a b c fresh inside raise read holds =
-    let up = inside_stepped place found (raised true obtrusive) m a b (λ x. refl) inside raise in
+    let up = inside_stepped (RaiseFlags true obtrusive) place found (raised true obtrusive) m a b (λ x. refl) inside raise in
     record {
       found = h;
       fresh = fresh;
       holds = holds;
-      inside = inside_stepped place word (noting word) m b c (λ x. refl) up read;
+      inside = inside_stepped ReadWord place word (noting word) m b c (λ x. refl) up read;
       read = (
         up.made,
         ap (λ (x : Mine). x.0.log) read
-            ∙ ap (λ (log : List Met). log ++ record { word = lock_word place; found = word; held = (changed place (noting word) b.0).latches; directory = b.0.directory } ∷ []) (ap (λ (x : Mine). x.0.log) up.now)
-            ∙ ap (λ (x : Mine). (m.0.log ++ up.made) ++ record { word = lock_word place; found = word; held = x.0.latches; directory = x.0.directory } ∷ []) (sym read),
+            ∙ ap (λ (log : List Met). log ++ record { kind = ReadWord; deeds = []; word = lock_word place; found = word; held = (changed place (noting word) b.0).latches; directory = b.0.directory } ∷ []) (ap (λ (x : Mine). x.0.log) up.now)
+            ∙ ap (λ (x : Mine). (m.0.log ++ up.made) ++ record { kind = ReadWord; deeds = []; word = lock_word place; found = word; held = x.0.latches; directory = x.0.directory } ∷ []) (sym read),
       );
     }

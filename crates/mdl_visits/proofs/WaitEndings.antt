@@ -10,6 +10,7 @@ use Rattle.mdl_book.specs.declared.ticket.Ticket.{Ticket}
 use Rattle.mdl_book.specs.Books.{any_obtrusive, cancelling, lock_kind}
 use Rattle.mdl_book.specs.Tickets.{is_ticket, ticket_of, without}
 use Rattle.mdl_steps.specs.declared.slot.Slot.TheVariants as slot
+use Rattle.mdl_steps.specs.declared.step_kind.StepKind.TheVariants.{EndWait}
 use Rattle.mdl_steps.specs.declared.view.Ask.{Ask}
 use Rattle.mdl_steps.specs.declared.view.Held.{Held}
 use Rattle.mdl_steps.specs.declared.view.Met.{Met}
@@ -113,7 +114,7 @@ module _ (place : ℕ) (h : Held) (m m₁ m₂ : Mine) (may : MayEnd place h m) 
   pub ends_there : (id : TableId) (slots state : ℕ) (m₃ : Mine) → m₂ ≡ ended_lost slots place may.may.ask.number state m₁ → elsewhere place m₂ ≡ elsewhere place m₁ → LeavesWay id place [] m₂ m₃
       → EndsThere id place m m₃
   ends_there id slots state m₃ ended apart left =
-      let e : Met = record { word = wait_word slots m.0.number; found = wait_in m.0.waits state; held = m.0.latches; directory = m.0.directory } in
+      let e : Met = record { kind = EndWait; deeds = []; word = wait_word slots m.0.number; found = wait_in m.0.waits state; held = m.0.latches; directory = m.0.directory } in
       let others : elsewhere place m₂ ≡ elsewhere place m = apart ∙ ap (elsewhere place) wrote in
       let same : m₂ ≡ ended_lost slots place may.may.ask.number state (written place (cancelling m.0.number may.may.ask.number h.book) m) =
       ended ∙ ap (ended_lost slots place may.may.ask.number state) wrote in
@@ -124,6 +125,7 @@ module _ (place : ℕ) (h : Held) (m m₁ m₂ : Mine) (may : MayEnd place h m) 
         now = left.now
             ∙ ap (λ (x : Mine). (record x.0 { latches = elsewhere place m₂; told = left.told; settles = left.settles; log = x.0.log ++ left.made }, rest x.1)) same
             ∙ (λ i. (record (idle m.0) { latches = others i; told = left.told; settles = left.settles; log = append_assoc m.0.log (e ∷ []) left.made i }, rest m.1));
+        did = left.did;
         way = way_after id place (without_wait m) m₂ m₃ (e ∷ [], ap (λ (x : Mine). x.0.log) same) (ap (λ (x : Mine). x.0.settles) same) (ap (λ (x : Mine). x.0.told) same)
             (ap (λ (x : Mine). x.0.number) same) (ap (λ (x : Mine). x.0.asks) same) left.way;
       }
@@ -153,5 +155,5 @@ module _ (place : ℕ) (m m′ : Mine) (inside : IsInside place m m′) where
   pub ends : (id : TableId) (m″ : Mine) → EndsThere id place m′ m″ → EndsLost id place m m″
   ends id m″ ended =
       visits_for_way id place [] (without_wait m) (without_wait m′) m″
-      (record { latches = inside.latches; made = inside.made; book = inside.book; now = ap without_wait inside.now; others = inside.others })
+      (record { latches = inside.latches; made = inside.made; book = inside.book; now = ap without_wait inside.now; others = inside.others; did = inside.did })
       ended

@@ -13,6 +13,7 @@ use Rattle.mdl_book.specs.declared.book_error.BookError.TheVariants as fault
 use Rattle.mdl_book.specs.Books.{any_obtrusive, enqueueing, lock_kind, ticket_count}
 use Rattle.mdl_book.specs.FastTickets.{can_be_granted}
 use Rattle.mdl_steps.specs.declared.slot.Slot.TheVariants as slot
+use Rattle.mdl_steps.specs.declared.step_kind.StepKind.TheVariants.{OpenWait, PutLatch, ReadWord}
 use Rattle.mdl_steps.specs.declared.view.Held.{Held}
 use Rattle.mdl_steps.specs.declared.view.Met.{Met}
 use Rattle.mdl_steps.specs.Cells.{held_at}
@@ -25,7 +26,8 @@ use Rattle.mdl_steps.specs.WaitSeats.{MayOpen}
 use Rattle.mdl_steps.proofs.Hands.{holds_written, elsewhere-stepped}
 use Rattle.mdl_steps.proofs.Views.{held_at-changed}
 use Rattle.mdl_visits.specs.WaitOpenings.{MayQueue, MeetsOpening, Opens, awaiting}
-use Rattle.mdl_visits.specs.Visits.{Enters, GoesOn, IsInside, IsStepOf, KnowsKind, MeetsBlocked, MeetsFull}
+use Rattle.mdl_visits.specs.Visits.{AreStepsOf, Enters, GoesOn, IsInside, IsStepOf, KnowsKind, MeetsBlocked, MeetsFull}
+use Rattle.mdl_visits.proofs.Steps.{none_then}
 
 -- ---- flags
 
@@ -128,10 +130,10 @@ module _ (slots place : ℕ) (mode : Mode) (m m′ m″ : Mine) (inside : IsInsi
   held = map (λ (h : Held). cond (h.place == place) (with_waiting (asked_ticket mode m.0) h) h) inside.latches
 
   opens_step : Met
-  opens_step = record { word = wait_word slots m.0.number; found = 8 * m.0.waits; held = held; directory = m.0.directory }
+  opens_step = record { kind = OpenWait; deeds = []; word = wait_word slots m.0.number; found = 8 * m.0.waits; held = held; directory = m.0.directory }
 
   puts_step : Met
-  puts_step = record { word = latch_word place; found = m.0.number; held = held; directory = m.0.directory }
+  puts_step = record { kind = PutLatch; deeds = []; word = latch_word place; found = m.0.number; held = held; directory = m.0.directory }
 
   log : ((m.0.log ++ inside.made) ++ opens_step ∷ []) ++ puts_step ∷ [] ≡ m.0.log ++ (inside.made ++ opens_step ∷ puts_step ∷ [])
   log = append_assoc (m.0.log ++ inside.made) (opens_step ∷ []) (puts_step ∷ []) ∙ append_assoc m.0.log inside.made (opens_step ∷ puts_step ∷ [])
@@ -139,45 +141,61 @@ module _ (slots place : ℕ) (mode : Mode) (m m′ m″ : Mine) (inside : IsInsi
   pub opens : Opens place mode m m″
   unfolding came held opens_step puts_step
   opens =
-      let others = elsewhere-stepped place 0 (with_waiting (asked_ticket mode m.0)) came (λ x. refl) ∙ inside.others in
+      let others = elsewhere-stepped OpenWait place 0 (with_waiting (asked_ticket mode m.0)) came (λ x. refl) ∙ inside.others in
       let is_log = log in record {
         made = inside.made ++ opens_step ∷ puts_step ∷ [];
         now = made ∙ ap (λ (x : Mine). unlatched place [] (opened slots place mode x)) inside.now
             ∙ (λ i. (record (awaiting place mode m.0) { latches = others i; log = is_log i }, m.1));
+        did = none_then inside.made (opens_step ∷ puts_step ∷ []) [] inside.did refl;
       }
 
-  pub opening : (h : Held) → held_at place m′.0.latches ≡ Some h → (e : Met) × IsStepOf m m″ e × MeetsOpening slots place m.0.number m.0.waits m.0.next mode e
-  unfolding came held opens_step puts_step
-  opening h recorded =
-      let there : held_at place inside.latches ≡ Some h = ap (λ (x : Mine). held_at place x.0.latches) (sym inside.now) ∙ recorded in (
-        opens_step,
-        (
-          inside.made,
-          puts_step ∷ [],
-          ap (λ (x : Mine). x.0.log) (made ∙ ap (λ (x : Mine). unlatched place [] (opened slots place mode x)) inside.now)
-              ∙ append_assoc (m.0.log ++ inside.made) (opens_step ∷ []) (puts_step ∷ []),
-        ),
-        record {
-          word = refl;
-          idle = refl;
-          latch = with_waiting (asked_ticket mode m.0) h;
-          held = held_at-changed place (with_waiting (asked_ticket mode m.0)) (λ x. refl) inside.latches h there;
-          before = h.book.waiting;
-          last = refl;
-        },
-      )
+  -- the two steps of it, by what the session had before
+  abbrev opens_there : Met
+  opens_there = record { kind = OpenWait; deeds = []; word = wait_word slots m′.0.number; found = 8 * m′.0.waits; held = (opened slots place mode m′).0.latches; directory = m′.0.directory }
+
+  abbrev puts_there : Met
+  puts_there = record { kind = PutLatch; deeds = []; word = latch_word place; found = m′.0.number; held = (opened slots place mode m′).0.latches; directory = m′.0.directory }
+
+  log_there : m″.0.log ≡ m′.0.log ++ opens_there ∷ puts_there ∷ []
+  log_there = ap (λ (x : Mine). x.0.log) made ∙ append_assoc m′.0.log (opens_there ∷ []) (puts_there ∷ [])
 
   pub goes_on : GoesOn m′ m″
-  goes_on =
-      let opens_there : Met = record { word = wait_word slots m′.0.number; found = 8 * m′.0.waits; held = (opened slots place mode m′).0.latches; directory = m′.0.directory } in
-      let puts_there : Met = record { word = latch_word place; found = m′.0.number; held = (opened slots place mode m′).0.latches; directory = m′.0.directory } in
-      (opens_there ∷ puts_there ∷ [], ap (λ (x : Mine). x.0.log) made ∙ append_assoc m′.0.log (opens_there ∷ []) (puts_there ∷ []))
+  goes_on = (opens_there ∷ puts_there ∷ [], log_there)
 
--- ---- what the step that read the word tells
+  -- the first opens the wait
+  opening : (h : Held) → held_at place m′.0.latches ≡ Some h → MeetsOpening slots place m.0.number m.0.waits m.0.next mode opens_there
+  opening h recorded = record {
+    kind = refl;
+    word = ap (λ (x : Mine). wait_word slots x.0.number) inside.now;
+    idle = ap (λ (x : Mine). 8 * x.0.waits) inside.now;
+    latch = with_waiting (asked_ticket mode m′.0) h;
+    held = held_at-changed place (with_waiting (asked_ticket mode m′.0)) (λ x. refl) m′.0.latches h recorded;
+    before = h.book.waiting;
+    last = ap (λ (x : Mine). h.book.waiting ++ asked_ticket mode x.0 ∷ []) inside.now;
+  }
+
+  -- right after the one that read the word
+  pub blocked_then : (word who : ℕ) (asks : Bool) (entered : Enters place asks word m m′)
+      → can_be_granted (lock_kind entered.found.book) entered.found.book.granted entered.found.book.waiting word who mode ≡ false
+      → (e f : Met) × AreStepsOf m m″ e f × MeetsBlocked place who mode e × MeetsOpening slots place m.0.number m.0.waits m.0.next mode f
+  blocked_then word who asks entered never =
+      let read : Met = record { kind = ReadWord; deeds = []; word = lock_word place; found = word; held = m′.0.latches; directory = m′.0.directory } in (
+        read,
+        opens_there,
+        (
+          entered.read.0,
+          puts_there ∷ [],
+          log_there ∙ ap (λ (all : List Met). all ++ opens_there ∷ puts_there ∷ []) entered.read.1 ∙ append_assoc (m.0.log ++ entered.read.0) (read ∷ []) (opens_there ∷ puts_there ∷ []),
+        ),
+        record { kind = refl; word = refl; latch = noting word (raised true asks entered.found); held = entered.holds.recorded; blocked = never },
+        opening (noting word (raised true asks entered.found)) entered.holds.recorded,
+      )
+
+-- ---- what the step that read the word tells of a full book
 
 module _ (place word : ℕ) (asks : Bool) (m m′ m″ : Mine) (entered : Enters place asks word m m′) (goes : GoesOn m′ m″) where
   read_step : Met
-  read_step = record { word = lock_word place; found = word; held = m′.0.latches; directory = m′.0.directory }
+  read_step = record { kind = ReadWord; deeds = []; word = lock_word place; found = word; held = m′.0.latches; directory = m′.0.directory }
 
   read_there : IsStepOf m m″ read_step
   unfolding read_step
@@ -185,15 +203,6 @@ module _ (place word : ℕ) (asks : Bool) (m m′ m″ : Mine) (entered : Enters
     entered.read.0,
     goes.0,
     goes.1 ∙ ap (λ (log : List Met). log ++ goes.0) entered.read.1 ∙ append_assoc (m.0.log ++ entered.read.0) (read_step ∷ []) goes.0,
-  )
-
-  pub blocked : (who : ℕ) (mode : Mode)
-      → can_be_granted (lock_kind entered.found.book) entered.found.book.granted entered.found.book.waiting word who mode ≡ false → (e : Met) × IsStepOf m m″ e × MeetsBlocked place who mode e
-  unfolding read_step
-  blocked who mode never = (
-    read_step,
-    read_there,
-    record { word = refl; latch = noting word (raised true asks entered.found); held = entered.holds.recorded; blocked = never },
   )
 
   pub full : (cause : BookError) → (cause ≡ fault.OutOfMemory) ⊎ ((cause ≡ fault.Full) × (65535 ≤ ticket_count entered.found.book))

@@ -3,6 +3,8 @@ use Rattle.std.proofs.Common.{◌≡◌, ℕ, ◌+◌, ◌*◌, ◌%◌, ◌<◌
 use Rattle.std.proofs.lemmas.Bool.{and_parts, eqb-true, ltb-true}
 use Rattle.mdl_book.specs.declared.book_view.BookView.{BookView}
 use Rattle.mdl_steps.specs.declared.slot.Slot.TheVariants as slot
+use Rattle.mdl_steps.specs.declared.step_kind.StepKind.{StepKind}
+use Rattle.mdl_steps.specs.declared.step_kind.StepKind.TheVariants.{GrantWait, MissWait, ReadWait}
 use Rattle.mdl_steps.specs.declared.view.Held.{Held}
 use Rattle.mdl_steps.specs.declared.view.Met.{Met}
 use Rattle.mdl_steps.specs.declared.view.Settlement.{Settlement}
@@ -11,12 +13,12 @@ use Rattle.mdl_steps.specs.Cells.{held_at}
 use Rattle.mdl_steps.specs.Layout.{wait_word}
 use Rattle.mdl_steps.specs.Plays.{Mine, changed}
 use Rattle.mdl_steps.specs.Seats.{Holds, elsewhere, rest, written}
-use Rattle.mdl_steps.specs.WaitPlays.{wait_in, met_wait, meeting, settled_granted, with_admitted, TellsOwn}
+use Rattle.mdl_steps.specs.WaitPlays.{wait_in, met_wait_by, met_wait, missed_wait, meeting, settled_granted, with_admitted, TellsOwn}
 use Rattle.mdl_steps.proofs.Hands.{elsewhere-stepped}
 use Rattle.mdl_steps.proofs.Views.{by_bool, held_at-changed}
 use Rattle.mdl_visits.specs.Grantings.{IsReady, MakesWay, MeetsGranted, StaysTold, WasSettled}
 use Rattle.mdl_visits.specs.Visits.{GoesOn, IsStepOf}
-use Rattle.mdl_visits.proofs.Steps.{each_append, each_map, step_after, step_before}
+use Rattle.mdl_visits.proofs.Steps.{each_append, each_map, none_then, step_after, step_before}
 
 -- ---- what is told of one's own wait
 
@@ -76,31 +78,43 @@ module _ (slots place : ℕ) where
     stays = λ state e. e;
     unasked = λ none. refl;
     granted = tt;
+    did = refl;
   }
 
   -- ---- one step
 
-  pub way_met : (session found : ℕ) (book : BookView) (m m′ : Mine) → m.1 ≡ (place, slot.Place book) ∷ rest m.1 → TellsOwn slots session found m.0 → m′ ≡ met_wait slots session found m
-      → MakesWay slots place m m′
-  way_met session found book m m′ carried own is = record {
+  way_word : (kind : StepKind) (session found : ℕ) (book : BookView) (m m′ : Mine) → m.1 ≡ (place, slot.Place book) ∷ rest m.1 → TellsOwn slots session found m.0
+      → m′ ≡ met_wait_by kind slots session found m → MakesWay slots place m m′
+  way_word kind session found book m m′ carried own is = record {
     latches = m.0.latches;
     told = (meeting session found m.0).told;
     grants = [];
-    made = record { word = wait_word slots session; found = found; held = m.0.latches; directory = m.0.directory } ∷ [];
+    made = record { kind = kind; deeds = []; word = wait_word slots session; found = found; held = m.0.latches; directory = m.0.directory } ∷ [];
     book = book;
-    now = is ∙ (λ i. (record (met_wait slots session found m).0 { settles = sym (append-nil m.0.settles) i }, carried i));
+    now = is ∙ (λ i. (record (met_wait_by kind slots session found m).0 { settles = sym (append-nil m.0.settles) i }, carried i));
     others = refl;
     stays = stays_met slots session found m.0 own;
     unasked = unasked_met slots session found m.0 own;
     granted = tt;
+    did = refl;
   }
+
+  -- a word was read
+  pub way_met : (session found : ℕ) (book : BookView) (m m′ : Mine) → m.1 ≡ (place, slot.Place book) ∷ rest m.1 → TellsOwn slots session found m.0 → m′ ≡ met_wait slots session found m
+      → MakesWay slots place m m′
+  way_met = way_word ReadWait
+
+  -- or another one was met than the step expected
+  pub way_missed : (session found : ℕ) (book : BookView) (m m′ : Mine) → m.1 ≡ (place, slot.Place book) ∷ rest m.1 → TellsOwn slots session found m.0 → m′ ≡ missed_wait slots session found m
+      → MakesWay slots place m m′
+  way_missed = way_word MissWait
 
   module _ (session ticket number : ℕ) (h : Held) (book : BookView) (m m′ : Mine) (has : Holds place h book m) (ready : IsReady session ticket h) (is : m′ ≡ settled_granted slots place session ticket number m) where
     latches_then : List Held
     latches_then = (changed place (with_admitted session ticket) m.0).latches
 
     grants_it : Met
-    grants_it = record { word = wait_word slots session; found = wait_in number 1; held = latches_then; directory = m.0.directory }
+    grants_it = record { kind = GrantWait; deeds = []; word = wait_word slots session; found = wait_in number 1; held = latches_then; directory = m.0.directory }
 
     meets : (wish_number : ready.wish.number ≡ ticket) → MeetsGranted slots place (record { session = session; wait = number; state = 2 }) grants_it
     unfolding grants_it latches_then
@@ -126,13 +140,14 @@ module _ (slots place : ℕ) where
       made = grants_it ∷ [];
       book = book;
       now = is ∙ (λ i. ((settled_granted slots place session ticket number m).0, has.carried i));
-      others = elsewhere-stepped place 0 (with_admitted session ticket) m (λ x. refl);
+      others = elsewhere-stepped GrantWait place 0 (with_admitted session ticket) m (λ x. refl);
       stays = stays_granted slots session number m.0 own;
       unasked = unasked_granted slots session number m.0 own;
       granted = (
         (grants_it, ([], [], ap (λ (x : Mine). x.0.log) is ∙ ap (λ (log : List Met). log ++ grants_it ∷ []) (sym (append-nil m.0.log))), meets wish_number),
         tt,
       );
+      did = refl;
     }
 
   -- the book in hand was written
@@ -148,6 +163,7 @@ module _ (slots place : ℕ) where
     stays = λ state e. e;
     unasked = λ none. refl;
     granted = tt;
+    did = refl;
   }
 
   -- ---- one after another
@@ -173,6 +189,7 @@ module _ (slots place : ℕ) where
         (λ g met. (met.0, step_before a b c (steps_of b c y) met.0 met.1, met.2)) x.grants x.granted)
         (each_map (λ (g : Settlement). (e : Met) × IsStepOf b c e × MeetsGranted slots place g e) (λ (g : Settlement). (e : Met) × IsStepOf a c e × MeetsGranted slots place g e)
         (λ g met. (met.0, step_after a b c (steps_of a b x) met.0 met.1, met.2)) y.grants y.granted);
+    did = none_then x.made y.made [] x.did y.did;
   }
 
 -- ---- what was settled

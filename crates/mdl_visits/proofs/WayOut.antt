@@ -8,6 +8,7 @@ use Rattle.mdl_book.specs.declared.ticket.Ticket.{Ticket}
 use Rattle.mdl_steps.specs.declared.deed.Deed.{Deed}
 use Rattle.mdl_steps.specs.declared.deed.Deed.TheVariants.{Gain, Alter, Lose}
 use Rattle.mdl_steps.specs.declared.slot.Slot.TheVariants as slot
+use Rattle.mdl_steps.specs.declared.step_kind.StepKind.TheVariants.{LowerFlags, PutLatch, ReadWord}
 use Rattle.mdl_steps.specs.declared.view.Held.{Held}
 use Rattle.mdl_steps.specs.declared.view.Met.{Met}
 use Rattle.mdl_steps.specs.declared.view.Settlement.{Settlement}
@@ -20,7 +21,7 @@ use Rattle.mdl_steps.specs.Seats.{Holds, elsewhere, rest, written}
 use Rattle.mdl_steps.proofs.Hands.{elsewhere-settled, elsewhere-stepped}
 use Rattle.mdl_visits.specs.Grantings.{AreGranted, ForgetsNobody, IsLookedThrough, IsLowered, LeavesWay, MadeWay, MakesWay, MayServe, MeetsGranted, StandsOnce, VisitsForWay, WaitsOnce}
 use Rattle.mdl_visits.specs.Visits.{GoesOn, IsInside, IsStepOf}
-use Rattle.mdl_visits.proofs.Steps.{each_map, goes_on, step_after, step_before}
+use Rattle.mdl_visits.proofs.Steps.{each_map, goes_on, last_after, none_then, step_after, step_before}
 use Rattle.mdl_visits.proofs.Way.{settled_after, settled_before, steps_of}
 
 -- ---- of what went before and after
@@ -65,7 +66,7 @@ module _ (id : TableId) (place : ℕ) (a b c : Mine) (more : GoesOn a b) where
         grants = way.grants;
         settles = way.settles ∙ ap (λ (xs : List Settlement). xs ++ way.grants) settles;
         granted = granted_after way.grants way.granted;
-        served = (s.0, step_after a b c more s.0 s.1, record { word = m.word; freed = m.freed ∙ number; latch = m.latch; held = m.held; served = served_after m.latch m.served });
+        served = (s.0, last_after a b c more s.0 s.1, record { kind = m.kind; did = m.did; word = m.word; freed = m.freed ∙ number; latch = m.latch; held = m.held; served = served_after m.latch m.served });
         stays = λ state e. way.stays state (told ∙ e);
         unasked = λ none. way.unasked (asks ∙ none) ∙ told;
       }
@@ -74,7 +75,7 @@ module _ (id : TableId) (place : ℕ) (a b c : Mine) (more : GoesOn a b) where
 
 module _ (id : TableId) (place : ℕ) (h : Held) (m c : Mine) (has : Holds place h h.book m) (nobody : h.book.waiting ≡ []) (put : c ≡ unlatched place [] m) where
   abbrev puts : Met
-  puts = record { word = latch_word place; found = m.0.number; held = m.0.latches; directory = m.0.directory }
+  puts = record { kind = PutLatch; deeds = []; word = latch_word place; found = m.0.number; held = m.0.latches; directory = m.0.directory }
 
   pub leaves_none : LeavesWay id place [] m c
   leaves_none = record {
@@ -82,14 +83,15 @@ module _ (id : TableId) (place : ℕ) (h : Held) (m c : Mine) (has : Holds place
     settles = m.0.settles;
     made = puts ∷ [];
     now = put;
+    did = refl;
     way = record {
       grants = [];
       settles = ap (λ (x : Mine). x.0.settles) put ∙ sym (append-nil m.0.settles);
       granted = tt;
       served = (
         puts,
-        ([], [], ap (λ (x : Mine). x.0.log) put ∙ ap (λ (log : List Met). log ++ puts ∷ []) (sym (append-nil m.0.log))),
-        record { word = refl; freed = refl; latch = h; held = has.recorded; served = inl nobody },
+        ([], ap (λ (x : Mine). x.0.log) put ∙ ap (λ (log : List Met). log ++ puts ∷ []) (sym (append-nil m.0.log))),
+        record { kind = refl; did = refl; word = refl; freed = refl; latch = h; held = has.recorded; served = inl nobody },
       );
       stays = λ state e. ap (λ (x : Mine). x.0.told) put ∙ e;
       unasked = λ none. ap (λ (x : Mine). x.0.told) put;
@@ -98,13 +100,13 @@ module _ (id : TableId) (place : ℕ) (h : Held) (m c : Mine) (has : Holds place
 
 -- ---- somebody does: the word was read, waits were granted, and the latch was given back
 
-module _ (id : TableId) (place word : ℕ) (g : Held) (m a b c : Mine) (read : a ≡ stepped place word (noting word) m) (way : MakesWay id.slots place a b) (has : Holds place g g.book b)
+module _ (id : TableId) (place word : ℕ) (g : Held) (m a b c : Mine) (read : a ≡ stepped ReadWord place word (noting word) m) (way : MakesWay id.slots place a b) (has : Holds place g g.book b)
     (may : MayServe word g) (none : ForgetsNobody id word g a b) (put : c ≡ unlatched place [] b) where
   abbrev reads : Met
-  reads = record { word = lock_word place; found = word; held = (changed place (noting word) m.0).latches; directory = m.0.directory }
+  reads = record { kind = ReadWord; deeds = []; word = lock_word place; found = word; held = (changed place (noting word) m.0).latches; directory = m.0.directory }
 
   abbrev frees : Met
-  frees = record { word = latch_word place; found = b.0.number; held = b.0.latches; directory = b.0.directory }
+  frees = record { kind = PutLatch; deeds = []; word = latch_word place; found = b.0.number; held = b.0.latches; directory = b.0.directory }
 
   m_a : GoesOn m a
   m_a = (reads ∷ [], ap (λ (x : Mine). x.0.log) read)
@@ -123,10 +125,10 @@ module _ (id : TableId) (place word : ℕ) (g : Held) (m a b c : Mine) (read : a
   after_loop x = (record x.0 { latches = way.latches; told = way.told; settles = x.0.settles ++ way.grants; log = x.0.log ++ way.made }, (place, slot.Place way.book) ∷ rest x.1)
 
   abbrev last : Met
-  last = record { word = latch_word place; found = m.0.number; held = way.latches; directory = m.0.directory }
+  last = record { kind = PutLatch; deeds = []; word = latch_word place; found = m.0.number; held = way.latches; directory = m.0.directory }
 
   others : filter (λ (x : Held). not (x.place == place)) way.latches ≡ elsewhere place m
-  others = way.others ∙ ap (elsewhere place) read ∙ elsewhere-stepped place word (noting word) m (λ x. refl)
+  others = way.others ∙ ap (elsewhere place) read ∙ elsewhere-stepped ReadWord place word (noting word) m (λ x. refl)
 
   log_is : ((m.0.log ++ reads ∷ []) ++ way.made) ++ last ∷ [] ≡ m.0.log ++ reads ∷ (way.made ++ last ∷ [])
   log_is = append_assoc (m.0.log ++ reads ∷ []) way.made (last ∷ []) ∙ append_assoc m.0.log (reads ∷ []) (way.made ++ last ∷ [])
@@ -138,6 +140,7 @@ module _ (id : TableId) (place word : ℕ) (g : Held) (m a b c : Mine) (read : a
     made = reads ∷ (way.made ++ last ∷ []);
     now = put ∙ ap (unlatched place []) way.now ∙ ap (λ (x : Mine). unlatched place [] (after_loop x)) read
         ∙ (λ i. (record m.0 { latches = others i; told = way.told; settles = m.0.settles ++ way.grants; log = log_is i }, rest m.1));
+    did = none_then way.made (last ∷ []) [] way.did refl;
     way = record {
       grants = way.grants;
       settles = ap (λ (x : Mine). x.0.settles) put ∙ ap (λ (x : Mine). x.0.settles) way.now ∙ ap (λ (x : Mine). x.0.settles ++ way.grants) read;
@@ -145,8 +148,10 @@ module _ (id : TableId) (place word : ℕ) (g : Held) (m a b c : Mine) (read : a
           (λ s met. (met.0, step_after m a c m_a met.0 (step_before a b c b_c met.0 met.1), met.2)) way.grants way.granted;
       served = (
         frees,
-        step_after m b c m_b frees ([], [], ap (λ (x : Mine). x.0.log) put ∙ ap (λ (log : List Met). log ++ frees ∷ []) (sym (append-nil b.0.log))),
+        last_after m b c m_b frees ([], ap (λ (x : Mine). x.0.log) put ∙ ap (λ (log : List Met). log ++ frees ∷ []) (sym (append-nil b.0.log))),
         record {
+          kind = refl;
+          did = refl;
           word = refl;
           freed = ap (λ (x : Mine). x.0.number) way.now ∙ ap (λ (x : Mine). x.0.number) read;
           latch = g;
@@ -173,7 +178,7 @@ serves_read word h orderly = (orderly, λ up. rw up refl)
 
 module _ (id : TableId) (place : ℕ) (ds : List Deed) (m b c : Mine) (low : IsLowered place ds m b) (left : LeavesWay id place [] b c) where
   abbrev lowers : Met
-  lowers = record { word = lock_word place; found = low.0; held = m.0.latches; directory = m.0.directory }
+  lowers = record { kind = LowerFlags low.2 low.3; deeds = ds; word = lock_word place; found = low.0; held = m.0.latches; directory = m.0.directory }
 
   m_low : GoesOn m b
   m_low = (lowers ∷ [], ap (λ (x : Mine). x.0.log) low.4)
@@ -194,13 +199,15 @@ module _ (id : TableId) (place : ℕ) (ds : List Deed) (m b c : Mine) (low : IsL
           },
           rest m.1,
         ));
+    did = ap (λ (all : List Deed). ds ++ all) left.did ∙ append-nil ds;
     way = way_after id place m b c m_low (ap (λ (x : Mine). x.0.settles) low.4) (ap (λ (x : Mine). x.0.told) low.4) (ap (λ (x : Mine). x.0.number) low.4) (ap (λ (x : Mine). x.0.asks) low.4) left.way;
   }
 
-  pub step_lowered : (e : Met) × IsStepOf m c e × (e.word ≡ lock_word place) × (e.held ≡ m.0.latches)
+  pub step_lowered : (e : Met) × IsStepOf m c e × (e.word ≡ lock_word place) × (e.held ≡ m.0.latches) × (e.deeds ≡ ds)
   step_lowered = (
     lowers,
     step_before m b c (left.made, ap (λ (x : Mine). x.0.log) left.now) lowers ([], [], ap (λ (x : Mine). x.0.log) low.4 ∙ ap (λ (log : List Met). log ++ lowers ∷ []) (sym (append-nil m.0.log))),
+    refl,
     refl,
     refl,
   )
@@ -222,6 +229,7 @@ visits_for_way id place ds m a c inside left = record {
   now = left.now
       ∙ ap (λ (x : Mine). (record (all_done place ds x.0) { latches = elsewhere place x; told = left.told; settles = left.settles; log = x.0.log ++ left.made }, rest x.1)) inside.now
       ∙ (λ i. (record (all_done place ds m.0) { latches = inside.others i; told = left.told; settles = left.settles; log = append_assoc m.0.log inside.made left.made i }, m.1));
+  did = none_then inside.made left.made ds inside.did left.did;
   way = way_after id place m a c (inside.made, ap (λ (x : Mine). x.0.log) inside.now) (ap (λ (x : Mine). x.0.settles) inside.now) (ap (λ (x : Mine). x.0.told) inside.now)
       (ap (λ (x : Mine). x.0.number) inside.now) (ap (λ (x : Mine). x.0.asks) inside.now) left.way;
 }
@@ -231,7 +239,7 @@ pub way_before_write : (id : TableId) (place : ℕ) (ds : List Deed) (book : Boo
 way_before_write id place ds book m b c is left = shown (subst (λ (x : Mine). LeavesWay id place ds x c) is left)
   where
     shown : LeavesWay id place ds (written place book m) c → LeavesWay id place ds m c
-    shown l = record { told = l.told; settles = l.settles; made = l.made; now = l.now; way = way_after id place m (written place book m) c ([], sym (append-nil m.0.log)) refl refl refl refl l.way }
+    shown l = record { told = l.told; settles = l.settles; made = l.made; now = l.now; did = l.did; way = way_after id place m (written place book m) c ([], sym (append-nil m.0.log)) refl refl refl refl l.way }
 
 -- a list with no element
 pub nobody_waits : (ts : List Ticket) → nat_lt 0 (length ts) ≡ false → ts ≡ []

@@ -5,18 +5,20 @@ use Rattle.std.proofs.lemmas.List.{map-append}
 use Rattle.std.proofs.lemmas.List.Elements.{All-nil, All-push, All-weaker}
 use Rattle.atomic_table.specs.Seated.{TableId}
 use Rattle.mdl_book.specs.SessionSets.{is_session}
+use Rattle.mdl_steps.specs.declared.step_kind.StepKind.{StepKind}
+use Rattle.mdl_steps.specs.declared.step_kind.StepKind.TheVariants.{MissWait, ReadWait}
 use Rattle.mdl_steps.specs.declared.view.Held.{Held}
 use Rattle.mdl_steps.specs.declared.view.Keys.{Keys}
 use Rattle.mdl_steps.specs.declared.view.Met.{Met}
 use Rattle.mdl_steps.specs.Layout.{wait_word}
 use Rattle.mdl_steps.specs.Plays.{Mine}
-use Rattle.mdl_steps.specs.WaitPlays.{TellsOwn, meeting, met_wait}
+use Rattle.mdl_steps.specs.WaitPlays.{TellsOwn, meeting, met_wait_by, met_wait, missed_wait}
 use Rattle.mdl_steps.specs.WaitSeats.{IsSession}
 use Rattle.mdl_visits.specs.declared.hearing.Heard.{Heard}
 use Rattle.mdl_visits.specs.Searches.{Hears, WasHeard, hearing, sessions_to}
 use Rattle.mdl_visits.specs.Visits.{AllHad, GoesOn}
 use Rattle.mdl_visits.proofs.Asking.{goes_nowhere, step_within}
-use Rattle.mdl_visits.proofs.Steps.{each_append}
+use Rattle.mdl_visits.proofs.Steps.{each_append, none_then}
 use Rattle.mdl_visits.proofs.Way.{stays_met}
 
 -- ---- what becomes of the session
@@ -27,6 +29,7 @@ hears_none m = record {
   told = m.0.told;
   settles = m.0.settles;
   now = λ i. hearing_at (sym (append-nil m.0.log) i);
+  did = refl;
   stays = λ state told. told;
   had = tt;
 }
@@ -41,6 +44,7 @@ hears_then a b c one two = record {
   settles = two.settles;
   now = two.now ∙ ap (hearing two.made two.told two.settles) one.now
       ∙ (λ i. (record a.0 { log = append_assoc a.0.log one.made two.made i; told = two.told; settles = two.settles }, a.1));
+  did = none_then one.made two.made [] one.did two.did;
   stays = λ state told. two.stays state (ap (λ (x : Mine). x.0.told) one.now ∙ one.stays state told);
   had = each_append (λ (e : Met). e.directory ≡ a.0.directory) one.made two.made one.had
       (subst (λ (d : Option Keys). AllHad d two.made) (ap (λ (x : Mine). x.0.directory) one.now) two.had);
@@ -54,15 +58,22 @@ pub same_latches : (m m′ : Mine) → Hears m m′ → m′.0.latches ≡ m.0.l
 same_latches m m′ hears = ap (λ (x : Mine). x.0.latches) hears.now
 
 -- a word was met
-pub hears_met : (slots session found : ℕ) (m m′ : Mine) → TellsOwn slots session found m.0 → m′ ≡ met_wait slots session found m → Hears m m′
-hears_met slots session found m m′ own met = record {
-  made = record { word = wait_word slots session; found = found; held = m.0.latches; directory = m.0.directory } ∷ [];
+hears_word : (kind : StepKind) (slots session found : ℕ) (m m′ : Mine) → TellsOwn slots session found m.0 → m′ ≡ met_wait_by kind slots session found m → Hears m m′
+hears_word kind slots session found m m′ own met = record {
+  made = record { kind = kind; deeds = []; word = wait_word slots session; found = found; held = m.0.latches; directory = m.0.directory } ∷ [];
   told = (meeting session found m.0).told;
   settles = m.0.settles;
   now = met;
+  did = refl;
   stays = stays_met slots session found m.0 own;
   had = (refl, tt);
 }
+
+pub hears_met : (slots session found : ℕ) (m m′ : Mine) → TellsOwn slots session found m.0 → m′ ≡ met_wait slots session found m → Hears m m′
+hears_met = hears_word ReadWait
+
+pub hears_missed : (slots session found : ℕ) (m m′ : Mine) → TellsOwn slots session found m.0 → m′ ≡ missed_wait slots session found m → Hears m m′
+hears_missed = hears_word MissWait
 
 -- ---- one word more
 
@@ -76,7 +87,7 @@ all_within slots latches a b c d words before after all =
 
 pub was_heard : (slots : ℕ) (session : ℕ) (h : Heard) (m m′ : Mine) → h.session ≡ session → m′ ≡ met_wait slots session h.word.0 m → WasHeard slots m.0.latches m m′ h
 was_heard slots session h m m′ same met =
-    let e : Met = record { word = wait_word slots session; found = h.word.0; held = m.0.latches; directory = m.0.directory } in (
+    let e : Met = record { kind = ReadWait; deeds = []; word = wait_word slots session; found = h.word.0; held = m.0.latches; directory = m.0.directory } in (
       e,
       ([], [], ap (λ (x : Mine). x.0.log) met ∙ ap (λ (log : List Met). log ++ e ∷ []) (sym (append-nil m.0.log))),
       ap (wait_word slots) (sym same),

@@ -12,6 +12,7 @@ use Rattle.mdl_book.specs.SessionSets.{is_session}
 use Rattle.mdl_book.specs.Tickets.{ticket_of}
 use Rattle.mdl_steps.specs.declared.deed.Deed.{Deed}
 use Rattle.mdl_steps.specs.declared.slot.Slot.TheVariants as slot
+use Rattle.mdl_steps.specs.declared.step_kind.StepKind.TheVariants.{PutLatch}
 use Rattle.mdl_steps.specs.declared.view.Held.{Held}
 use Rattle.mdl_steps.specs.declared.view.Met.{Met}
 use Rattle.mdl_steps.specs.declared.view.Settlement.{Settlement}
@@ -24,7 +25,7 @@ use Rattle.mdl_steps.specs.Rule.{Lawful, NotedCounts, TellsLists}
 use Rattle.mdl_steps.specs.Seats.{Holds, elsewhere, rest}
 use Rattle.mdl_steps.specs.WaitPlays.{wait_in, with_admitted}
 use Rattle.mdl_steps.specs.WaitSeats.{IsSession}
-use Rattle.mdl_visits.specs.Visits.{IsStepOf}
+use Rattle.mdl_visits.specs.Visits.{IsLastStepOf, IsStepOf, deeds_of}
 
 -- ---- what a step met
 
@@ -117,7 +118,7 @@ abbrev pub AreGranted : ℕ → ℕ → List Settlement → Mine → Mine → Ty
 AreGranted slots place grants m m′ = Each (λ g. (e : Met) × IsStepOf m m′ e × MeetsGranted slots place g e) grants
 
 -- waits were granted under the latch of a place, which the session holds: nothing else changed but the record of the latch, the book in hand,
--- what was told of its own wait and its steps
+-- what was told of its own wait and its steps, which are without deeds
 pub record MakesWay (slots place : ℕ) (m m′ : Mine) : Type 0 where
   pub latches : List Held
   pub told : Option ℕ
@@ -129,6 +130,7 @@ pub record MakesWay (slots place : ℕ) (m m′ : Mine) : Type 0 where
   pub stays : StaysTold m.0.told told
   pub unasked : m.0.asks ≡ None → told ≡ m.0.told
   pub granted : AreGranted slots place grants m m′
+  pub did : deeds_of made ≡ []
 
 -- ---- and the latch is given back
 
@@ -140,39 +142,44 @@ pub record IsLookedThrough (id : TableId) (place : ℕ) (latch : Held) (m m′ :
   pub noted : latch.obtrusive ≡ true → latch.noted ≡ Some read.found
   pub none : ForgetsNobody id read.found latch m m′
 
--- a step that gave the latch of a place back, by whose record nobody waits there, or nobody is forgotten
+-- a step without deeds that gave the latch of a place back, by whose record nobody waits there, or nobody is forgotten
 pub record MeetsServed (id : TableId) (place who : ℕ) (m m′ : Mine) (e : Met) : Type 0 where
+  pub kind : e.kind ≡ PutLatch
+  pub did : e.deeds ≡ []
   pub word : e.word ≡ latch_word place
   pub freed : e.found ≡ who
   pub latch : Held
   pub held : held_at place e.held ≡ Some latch
   pub served : (latch.book.waiting ≡ []) ⊎ IsLookedThrough id place latch m m′
 
--- way was made at a place between the two: waits were granted by steps between them, nobody was forgotten as the latch was given back, and
--- what was told of the session's own wait stays so. A session without a wait is told of none
+-- way was made at a place between the two: waits were granted by steps between them, nobody was forgotten at the last of them, as the latch was
+-- given back, and what was told of the session's own wait stays so. A session without a wait is told of none
 pub record MadeWay (id : TableId) (place : ℕ) (m m′ : Mine) : Type 0 where
   pub grants : List Settlement
   pub settles : m′.0.settles ≡ m.0.settles ++ grants
   pub granted : AreGranted id.slots place grants m m′
-  pub served : (e : Met) × IsStepOf m m′ e × MeetsServed id place m.0.number m m′ e
+  pub served : (e : Met) × IsLastStepOf m m′ e × MeetsServed id place m.0.number m m′ e
   pub stays : StaysTold m.0.told m′.0.told
   pub unasked : m.0.asks ≡ None → m′.0.told ≡ m.0.told
 
 -- the latch of a place, which the session held, and the slot that it took last were given back after these deeds and after way was made there,
--- and nothing else changed
+-- and nothing else changed. The steps tell just these deeds
 pub record LeavesWay (id : TableId) (place : ℕ) (ds : List Deed) (m m′ : Mine) : Type 0 where
   pub told : Option ℕ
   pub settles : List Settlement
   pub made : List Met
   pub now : m′ ≡ (record (all_done place ds m.0) { latches = elsewhere place m; told = told; settles = settles; log = m.0.log ++ made }, rest m.1)
+  pub did : deeds_of made ≡ ds
   pub way : MadeWay id place m m′
 
--- the session came to a place, did these deeds there, made way and went: it has the latches and the slots that it had, and nothing else changed
+-- the session came to a place, did these deeds there, made way and went: it has the latches and the slots that it had, and nothing else changed.
+-- Its steps tell just these deeds
 pub record VisitsForWay (id : TableId) (place : ℕ) (ds : List Deed) (m m′ : Mine) : Type 0 where
   pub told : Option ℕ
   pub settles : List Settlement
   pub made : List Met
   pub now : m′ ≡ (record (all_done place ds m.0) { told = told; settles = settles; log = m.0.log ++ made }, m.1)
+  pub did : deeds_of made ≡ ds
   pub way : MadeWay id place m m′
 
 -- flags of a place were lowered after these deeds, and nothing else changed

@@ -14,12 +14,12 @@ use Rattle.mdl_steps.specs.Deeds.{all_done}
 use Rattle.mdl_steps.specs.Layout.{latch_word, lock_word}
 use Rattle.mdl_steps.specs.Plays.{Mine, noting_version}
 use Rattle.mdl_steps.specs.Seats.{elsewhere, rest}
-use Rattle.mdl_visits.specs.Visits.{and_made}
+use Rattle.mdl_visits.specs.Visits.{and_made, deeds_of}
 
--- the latch of a place, which the session held, and the slot that it took last were given back after these deeds, steps were made, and nothing
--- else changed
+-- the latch of a place, which the session held, and the slot that it took last were given back after these deeds, steps were made that tell just
+-- these, and nothing else changed
 abbrev pub Leaves : ℕ → List Deed → Mine → Mine → Type 0
-Leaves place ds m m′ = (made : List Met) × (m′ ≡ and_made made (record (all_done place ds m.0) { latches = elsewhere place m }, rest m.1))
+Leaves place ds m m′ = (made : List Met) × (m′ ≡ and_made made (record (all_done place ds m.0) { latches = elsewhere place m }, rest m.1)) × (deeds_of made ≡ ds)
 
 -- what a session knows once it has read what stands at a place: this, under each ticket that it has there
 abbrev pub knowing : ℕ → Standing → View → View
@@ -40,9 +40,10 @@ pub record MeetsOwn (place session number : ℕ) (e : Met) : Type 0 where
 abbrev pub HasTicket : ℕ → ℕ → List Own → Type 0
 HasTicket place number tickets = (k : ℕ) × (t : Own) × (get_elem? tickets k ≡ some t) × (t.place ≡ place) × (t.number ≡ number)
 
--- the session came to a place, read what stands there and went: it knows that, and nothing else changed but its list of steps
+-- the session came to a place, read what stands there and went: it knows that, and nothing else changed but its list of steps, which are without
+-- deeds
 abbrev pub Learns : ℕ → Standing → Mine → Mine → Type 0
-Learns place standing m m′ = (made : List Met) × (m′ ≡ and_made made (knowing place standing m.0, m.1))
+Learns place standing m m′ = (made : List Met) × (m′ ≡ and_made made (knowing place standing m.0, m.1)) × (deeds_of made ≡ [])
 
 -- a step that gave the latch of a place back, whose record tells that this stood there
 pub record MeetsStanding (place session : ℕ) (standing : Standing) (e : Met) : Type 0 where

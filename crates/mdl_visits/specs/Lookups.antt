@@ -2,6 +2,7 @@
 use Rattle.std.specs.Prelude.{◌≡◌, ℕ, ◌+◌, ◌<◌, ◌≤◌, ◌⊎◌, List, ◌∷◌, [], ◌++◌, length, Some, None, Result, Ok, Err, IfOk}
 use Rattle.mdl_key.specs.Words.{KeyName}
 use Rattle.mdl_steps.specs.declared.slot.Slot.TheVariants as slot
+use Rattle.mdl_steps.specs.declared.step_kind.StepKind.TheVariants.{PutLatch}
 use Rattle.mdl_steps.specs.declared.view.Keys.{Keys}
 use Rattle.mdl_steps.specs.declared.view.Known.{Known}
 use Rattle.mdl_steps.specs.declared.view.Met.{Met}
@@ -12,7 +13,7 @@ use Rattle.mdl_steps.specs.Rule.{key_at}
 use Rattle.mdl_steps.specs.Seats.{place_among, rest}
 use Rattle.mdl_visits.specs.declared.resolve_error.ResolveError.{ResolveError}
 use Rattle.mdl_visits.specs.declared.resolve_error.ResolveError.TheVariants.{NoPlace, OutOfMemory}
-use Rattle.mdl_visits.specs.Visits.{AllHad, and_made}
+use Rattle.mdl_visits.specs.Visits.{AllHad, and_made, deeds_of}
 
 -- the seat whose session knows one key more
 abbrev pub knowing : Known → Mine → Mine
@@ -20,7 +21,7 @@ knowing known m = (record m.0 { known = m.0.known ++ known ∷ [] }, m.1)
 
 -- the step that gives the directory's latch back, by whose record these are the keys
 abbrev pub given_back : Keys → Mine → Met
-given_back k m = record { word = latch_word 0; found = m.0.number; held = m.0.latches; directory = Some k }
+given_back k m = record { kind = PutLatch; deeds = []; word = latch_word 0; found = m.0.number; held = m.0.latches; directory = Some k }
 
 -- at the step the session had one of these two records of the directory
 abbrev pub HadEither : Keys → Keys → Met → Type 0
@@ -53,18 +54,19 @@ abbrev pub relisted : List Met → Keys → Mine → Mine
 relisted made k m = (record m.0 { log = m.0.log ++ made; directory = Some k }, (0, slot.Directory k) ∷ rest m.1)
 
 -- the key's place was asked for by a record that the seat had: it has this one then, by which the key stands at the place that was answered, and nothing
--- else became of what it had
+-- else became of what it had but steps without deeds
 pub record HasLooked (slots : ℕ) (key : KeyName) (k : Keys) (result : Result ℕ ResolveError) (old new : Mine) : Type 0 where
   pub made : List Met
   pub left : Keys
   pub seat : new ≡ relisted made left old
   pub had : Each (HadEither k left) made
+  pub did : deeds_of made ≡ []
   pub answer : IsAnswer slots key k left result
   pub stands : IfOk result (λ place. (0 < place) × (place < slots) × (key_at left.keys place ≡ Some key))
 
 -- the new key was given its place: the seat has the record with it from then on, and at each step before it had one of the two
 abbrev pub HasNamed : KeyName → Keys → Mine → Mine → Type 0
-HasNamed key k old new = (made : List Met) × (new ≡ relisted made (listing key k) old) × Each (HadEither k (listing key k)) made
+HasNamed key k old new = (made : List Met) × (new ≡ relisted made (listing key k) old) × Each (HadEither k (listing key k)) made × (deeds_of made ≡ [])
 
 -- a new key was added to the directory in hand for the next place, which isn't recorded yet
 pub record IsListed (place : ℕ) (key : KeyName) (k : Keys) (m : Mine) : Type 0 where

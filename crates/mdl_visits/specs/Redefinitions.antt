@@ -23,7 +23,7 @@ use Rattle.mdl_steps.specs.Layout.{latch_word, version_word}
 use Rattle.mdl_steps.specs.Plays.{Mine, redefined, restood, unlatched}
 use Rattle.mdl_visits.specs.Numbers.{numbered}
 use Rattle.mdl_visits.specs.Readings.{Follows}
-use Rattle.mdl_visits.specs.Visits.{IsStepOf}
+use Rattle.mdl_visits.specs.Visits.{AreStepsOf, IsStepOf}
 
 -- why nothing is changed under a ticket: there is none, or it isn't exclusive
 abbrev pub exclusive_fault : Option Own → Option SpaceError
@@ -37,10 +37,6 @@ HasExclusiveAt place tickets = (number : ℕ) × (t : Own) × (numbered number t
 -- the version was written of what stands at a place from now on, and the latch was given back
 abbrev pub redefined_and_put : ℕ → Standing → Mine → Mine
 redefined_and_put place standing m = unlatched place [] (redefined place standing m)
-
--- two steps, the second right after the first, that were made between the two
-abbrev pub AreStepsOf : Mine → Mine → Met → Met → Type 0
-AreStepsOf m m′ first second = (before : List Met) × (after : List Met) × (m′.0.log ≡ (m.0.log ++ before) ++ first ∷ second ∷ after)
 
 -- what a change to this version met: a step that took the latch, by whose record what stood at the place could be changed so, and one that wrote the
 -- version. There it found the version before, and by its record the change stands; the rest of the record is the same

@@ -21,7 +21,7 @@ use Rattle.mdl_visits.specs.declared.hearing.Heard.{Heard}
 use Rattle.mdl_visits.specs.Audits.{AreRecorded, Gathers}
 use Rattle.mdl_visits.specs.Grantings.{StaysTold}
 use Rattle.mdl_visits.specs.Polls.{MeetsWait, Settles, SettlesNothing}
-use Rattle.mdl_visits.specs.Visits.{AllHad, IsStepOf}
+use Rattle.mdl_visits.specs.Visits.{AllHad, IsStepOf, deeds_of}
 
 -- ---- the words of waits
 
@@ -114,12 +114,13 @@ pub record Searched (id : TableId) (who : ℕ) (k : Keys) (found : Search) (m m�
 abbrev pub hearing : List Met → Option ℕ → List Settlement → Mine → Mine
 hearing made told settles m = (record m.0 { log = m.0.log ++ made; told = told; settles = settles }, m.1)
 
--- likewise, and nothing else changed. What was told of its own wait stays so
+-- likewise, without deeds, and nothing else changed. What was told of its own wait stays so
 pub record Listens (m m′ : Mine) : Type 0 where
   pub made : List Met
   pub told : Option ℕ
   pub settles : List Settlement
   pub now : m′ ≡ hearing made told settles m
+  pub did : deeds_of made ≡ []
   pub stays : StaysTold m.0.told told
 
 -- likewise, and at each step the session had of the directory what it had before
@@ -128,5 +129,6 @@ pub record Hears (m m′ : Mine) : Type 0 where
   pub told : Option ℕ
   pub settles : List Settlement
   pub now : m′ ≡ hearing made told settles m
+  pub did : deeds_of made ≡ []
   pub stays : StaysTold m.0.told told
   pub had : AllHad m.0.directory made

@@ -13,6 +13,7 @@ use Rattle.mdl_book.specs.FastTickets.{AreOfOthers, CountsFastTickets, can_be_gr
 use Rattle.mdl_book.specs.Granting.{goes_first, is_grantable}
 use Rattle.mdl_steps.specs.declared.deed.Deed.{Deed}
 use Rattle.mdl_steps.specs.declared.slot.Slot.TheVariants as slot
+use Rattle.mdl_steps.specs.declared.step_kind.StepKind.TheVariants.{PutLatch, ReadWord}
 use Rattle.mdl_steps.specs.declared.view.Held.{Held}
 use Rattle.mdl_steps.specs.declared.view.Keys.{Keys}
 use Rattle.mdl_steps.specs.declared.view.Known.{Known}
@@ -32,9 +33,18 @@ use Rattle.mdl_steps.specs.Seats.{Holds}
 abbrev pub and_made : List Met → Mine → Mine
 and_made made m = (record m.0 { log = m.0.log ++ made }, m.1)
 
--- steps were made between the two, and nothing else changed
+-- what the session did to its own tickets at these steps, in order
+abbrev pub deeds_of : List Met → List Deed
+deeds_of [] = []
+deeds_of (e ∷ more) = e.deeds ++ deeds_of more
+
+-- at the steps that were made between the two the session did just these deeds
+abbrev pub Does : List Deed → Mine → Mine → Type 0
+Does ds m m′ = (made : List Met) × (m′.0.log ≡ m.0.log ++ made) × (deeds_of made ≡ ds)
+
+-- steps without deeds were made between the two, and nothing else changed
 abbrev pub MakesSteps : Mine → Mine → Type 0
-MakesSteps m m′ = (made : List Met) × (m′ ≡ and_made made m)
+MakesSteps m m′ = (made : List Met) × (m′ ≡ and_made made m) × (deeds_of made ≡ [])
 
 -- at each of these steps the session had this of the directory: the record of its latch, or nothing
 abbrev pub AllHad : Option Keys → List Met → Type 0
@@ -42,7 +52,7 @@ AllHad directory made = Each (λ (e : Met). e.directory ≡ directory) made
 
 -- steps were made between the two that only met something
 abbrev pub Lingers : Mine → Mine → Type 0
-Lingers m m′ = (made : List Met) × (m′ ≡ and_made made m) × AllHad m.0.directory made
+Lingers m m′ = (made : List Met) × (m′ ≡ and_made made m) × AllHad m.0.directory made × (deeds_of made ≡ [])
 
 -- at each step that was made between the two the session had of the directory what it had before
 abbrev pub KeepsDirectory : Mine → Mine → Type 0
@@ -56,20 +66,31 @@ GoesOn m m′ = (made : List Met) × (m′.0.log ≡ m.0.log ++ made)
 abbrev pub IsStepOf : Mine → Mine → Met → Type 0
 IsStepOf m m′ e = (before : List Met) × (after : List Met) × (m′.0.log ≡ (m.0.log ++ before) ++ e ∷ after)
 
+-- the last of those that were made
+abbrev pub IsLastStepOf : Mine → Mine → Met → Type 0
+IsLastStepOf m m′ e = (before : List Met) × (m′.0.log ≡ (m.0.log ++ before) ++ e ∷ [])
+
+-- two steps, the second right after the first, that were made between the two
+abbrev pub AreStepsOf : Mine → Mine → Met → Met → Type 0
+AreStepsOf m m′ first second = (before : List Met) × (after : List Met) × (m′.0.log ≡ (m.0.log ++ before) ++ first ∷ second ∷ after)
+
 -- ---- a visit
 
--- the session came to a place: it took the latch there and made steps, a book of the place is in its hand, and nothing else changed
+-- the session came to a place: it took the latch there and made steps without deeds, a book of the place is in its hand, and nothing else changed
 pub record IsInside (place : ℕ) (m m′ : Mine) : Type 0 where
   pub latches : List Held
   pub made : List Met
   pub book : BookView
   pub now : m′ ≡ (record m.0 { latches = latches; log = m.0.log ++ made }, (place, slot.Place book) ∷ m.1)
   pub others : filter (λ h. not (h.place == place)) latches ≡ m.0.latches
+  pub did : deeds_of made ≡ []
 
--- the session came to a place, did these deeds there and went: it has the latches and the slots that it had, and nothing else changed
+-- the session came to a place, did these deeds there and went: it has the latches and the slots that it had, and nothing else changed. Its
+-- steps tell just these deeds
 pub record Visits (place : ℕ) (ds : List Deed) (m m′ : Mine) : Type 0 where
   pub made : List Met
   pub now : m′ ≡ and_made made (all_done place ds m.0, m.1)
+  pub did : deeds_of made ≡ ds
 
 -- it came in, raised the flag SLOW, and OBTRUSIVE where its wish is obtrusive, and then read this word of the lock
 pub record Enters (place : ℕ) (obtrusive : Bool) (word : ℕ) (m m′ : Mine) : Type 0 where
@@ -77,7 +98,7 @@ pub record Enters (place : ℕ) (obtrusive : Bool) (word : ℕ) (m m′ : Mine) 
   pub fresh : IsFresh place found m
   pub holds : Holds place (noting word (raised true obtrusive found)) found.book m′
   pub inside : IsInside place m m′
-  pub read : (before : List Met) × (m′.0.log ≡ (m.0.log ++ before) ++ record { word = lock_word place; found = word; held = m′.0.latches; directory = m′.0.directory } ∷ [])
+  pub read : (before : List Met) × (m′.0.log ≡ (m.0.log ++ before) ++ record { kind = ReadWord; deeds = []; word = lock_word place; found = word; held = m′.0.latches; directory = m′.0.directory } ∷ [])
 
 -- it may go: the book is as it was, and the flags tell of each ticket in it
 abbrev pub MayLeave : ℕ → Mine → Type 0
@@ -85,16 +106,19 @@ MayLeave place m = (h : Held) × Holds place h h.book m × Flagged h.book h.slow
 
 -- ---- what a step met
 
--- a step on the lock's word under the latch, whose record shows that the session's wish for a mode can't be granted
+-- a step that read the lock's word under the latch, whose record shows that the session's wish for a mode can't be granted
 pub record MeetsBlocked (place who : ℕ) (mode : Mode) (e : Met) : Type 0 where
+  pub kind : e.kind ≡ ReadWord
   pub word : e.word ≡ lock_word place
   pub latch : Held
   pub held : held_at place e.held ≡ Some latch
   pub blocked : can_be_granted (lock_kind latch.book) latch.book.granted latch.book.waiting e.found who mode ≡ false
 
--- a step that gave the latch back, whose record shows that the session's wish for a mode could be granted: it may stand beside all that was
--- granted, and it waited behind no waiting ticket
-pub record MeetsGrantable (place who : ℕ) (mode : Mode) (e : Met) : Type 0 where
+-- a step that did this deed as it gave the latch back, whose record shows that the session's wish for a mode could be granted: it may stand
+-- beside all that was granted, and it waited behind no waiting ticket
+pub record MeetsGrantable (place who : ℕ) (mode : Mode) (deed : Deed) (e : Met) : Type 0 where
+  pub kind : e.kind ≡ PutLatch
+  pub did : e.deeds ≡ deed ∷ []
   pub word : e.word ≡ latch_word place
   pub freed : e.found ≡ who
   pub latch : Held
@@ -130,7 +154,7 @@ abbrev pub BlockedWishesWerentGrantable : Type 0
 BlockedWishesWerentGrantable = (place who : ℕ) (mode : Mode) (e : Met) → MeetsBlocked place who mode e → WasNotGrantable place who mode e
 
 abbrev pub GrantedWishesWereGrantable : Type 0
-GrantedWishesWereGrantable = (place who : ℕ) (mode : Mode) (e : Met) → MeetsGrantable place who mode e → WasGrantable place who mode e
+GrantedWishesWereGrantable = (place who : ℕ) (mode : Mode) (deed : Deed) (e : Met) → MeetsGrantable place who mode deed e → WasGrantable place who mode e
 
 -- ---- what a session knows
 

@@ -3,6 +3,7 @@ use Rattle.std.specs.Prelude.{◌≡◌, ℕ, ◌+◌, ◌*◌, true, List, [], 
 use Rattle.mdl_key.specs.declared.mode.Mode.{Mode}
 use Rattle.mdl_book.specs.declared.ticket.Ticket.{Ticket}
 use Rattle.mdl_book.specs.Books.{enqueueing}
+use Rattle.mdl_steps.specs.declared.step_kind.StepKind.TheVariants.{OpenWait}
 use Rattle.mdl_steps.specs.declared.view.Held.{Held}
 use Rattle.mdl_steps.specs.declared.view.Met.{Met}
 use Rattle.mdl_steps.specs.declared.view.View.{View}
@@ -13,20 +14,22 @@ use Rattle.mdl_steps.specs.Rule.{Flagged, TellsLists}
 use Rattle.mdl_steps.specs.Seats.{Holds}
 use Rattle.mdl_steps.specs.WaitPlays.{asked_ticket, asking}
 use Rattle.mdl_steps.specs.WaitSeats.{MayOpen}
-use Rattle.mdl_visits.specs.Visits.{and_made}
+use Rattle.mdl_visits.specs.Visits.{and_made, deeds_of}
 
 -- a session that waits from then on for a mode at a place, and has yet to search for a deadlock
 abbrev pub awaiting : ℕ → Mode → View → View
 awaiting place mode v = record v { asks = Some (asking place mode v); next = v.next + 1; waits = v.waits + 1; told = None; searches = true }
 
--- the session came to a place, began to wait for a mode there and went: nothing else changed
+-- the session came to a place, began to wait for a mode there and went: nothing else changed. Its steps are without deeds
 pub record Opens (place : ℕ) (mode : Mode) (m m′ : Mine) : Type 0 where
   pub made : List Met
   pub now : m′ ≡ and_made made (awaiting place mode m.0, m.1)
+  pub did : deeds_of made ≡ []
 
 -- the step that opened a wait after so many others of its session: the wait's word was idle, and by the record of the latch the ticket of this number
 -- is the last that waits
 pub record MeetsOpening (slots place session waits number : ℕ) (mode : Mode) (e : Met) : Type 0 where
+  pub kind : e.kind ≡ OpenWait
   pub word : e.word ≡ wait_word slots session
   pub idle : e.found ≡ 8 * waits
   pub latch : Held

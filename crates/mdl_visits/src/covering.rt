@@ -39,7 +39,8 @@ pub fn weaken<R: Wait>(rt: &R, worker: &mut Worker, table: &OwnedTable, held: Ow
     requires covers { covers held.mode mode ≡ true }
     ensures seat { (worker.new.seat.table_id ≡ worker.old.seat.table_id) × (worker.new.number ≡ worker.old.number) }
     ensures weakened { VisitsForWay table.now.shared.table_id held.place (Alter held.number mode ∷ []) worker.old.seat.me worker.new.seat.me }
-    ensures step { (e : Met) × IsStepOf worker.old.seat.me worker.new.seat.me e × MeetsOwn held.place worker.old.number held.number e }
+    ensures step { (e : Met) × IsStepOf worker.old.seat.me worker.new.seat.me e × MeetsOwn held.place worker.old.number held.number e
+        × (e.deeds ≡ Alter held.number mode ∷ []) }
 {
     let latch = await_latch(rt, worker, &table.shared, held.place);
     rewrite(worker, table, latch, held.number, mode);
@@ -56,7 +57,8 @@ fn rewrite(worker: &mut Worker, table: &OwnedTable, latch: Latched, number: u64,
     requires unwaited { NotWaited worker.old.seat.me.0 number }
     ensures seat { (worker.new.seat.table_id ≡ worker.old.seat.table_id) × (worker.new.number ≡ worker.old.number) }
     ensures left { LeavesWay table.now.shared.table_id latch.place (Alter number mode ∷ []) worker.old.seat.me worker.new.seat.me }
-    ensures step { (e : Met) × IsStepOf worker.old.seat.me worker.new.seat.me e × MeetsOwn latch.place worker.old.number number e }
+    ensures step { (e : Met) × IsStepOf worker.old.seat.me worker.new.seat.me e × MeetsOwn latch.place worker.old.number number e
+        × (e.deeds ≡ Alter number mode ∷ []) }
 {
     let _altered = worker.write_mode(&table.shared, &latch, number, mode, NO_FAST);
     settle_for_way(worker, table, latch, &[Deed::Alter(number, mode)]);
@@ -82,7 +84,8 @@ pub fn double<R: Wait>(
     ensures seat { (worker.new.seat.table_id ≡ worker.old.seat.table_id) × (worker.new.number ≡ worker.old.number) }
     ensures doubled { OnOk result (Visits held.place (Gain number mode ∷ []) worker.old.seat.me worker.new.seat.me) }
     ensures unchanged { OnErr result (Visits held.place [] worker.old.seat.me worker.new.seat.me) }
-    ensures step { (e : Met) × IsStepOf worker.old.seat.me worker.new.seat.me e × MeetsOwn held.place worker.old.number held.number e }
+    ensures step { (e : Met) × IsStepOf worker.old.seat.me worker.new.seat.me e × MeetsOwn held.place worker.old.number held.number e
+        × OnOk result (e.deeds ≡ Gain number mode ∷ []) }
     ensures refused { IfErr result (λ cause. (cause ≡ fault.OutOfMemory)
         ⊎ ((cause ≡ fault.Full) × ((e : Met) × IsStepOf worker.old.seat.me worker.new.seat.me e × MeetsFull held.place e))) }
 {
@@ -107,7 +110,7 @@ fn gain(
     ensures gained { OnOk result (Leaves latch.place (Gain number mode ∷ []) worker.old.seat.me worker.new.seat.me) }
     ensures unchanged { OnErr result (Leaves latch.place [] worker.old.seat.me worker.new.seat.me) }
     ensures step { (e : Met) × IsStepOf worker.old.seat.me worker.new.seat.me e × (e.word ≡ lock_word latch.place)
-        × (e.held ≡ worker.old.seat.me.0.latches) }
+        × (e.held ≡ worker.old.seat.me.0.latches) × OnOk result (e.deeds ≡ Gain number mode ∷ []) }
     ensures refused { IfErr result (λ cause. (cause ≡ fault.OutOfMemory)
         ⊎ ((cause ≡ fault.Full) × ((e : Met) × IsStepOf worker.old.seat.me worker.new.seat.me e × MeetsFull latch.place e))) }
 {
@@ -136,7 +139,8 @@ pub fn fold<R: Wait>(rt: &R, worker: &mut Worker, top: &LockTable, kept: Own, go
     ensures seat { (worker.new.seat.table_id ≡ worker.old.seat.table_id) × (worker.new.number ≡ worker.old.number) }
     ensures folded { Visits kept.place (Alter kept.number gone.mode ∷ Lose gone.number ∷ []) worker.old.seat.me worker.new.seat.me }
     ensures step { (e : Met) × IsStepOf worker.old.seat.me worker.new.seat.me e
-        × MeetsOwn kept.place worker.old.number kept.number e × MeetsOwn kept.place worker.old.number gone.number e }
+        × MeetsOwn kept.place worker.old.number kept.number e × MeetsOwn kept.place worker.old.number gone.number e
+        × (e.deeds ≡ Alter kept.number gone.mode ∷ Lose gone.number ∷ []) }
 {
     let latch = await_latch(rt, worker, top, kept.place);
     unite(worker, top, latch, kept.number, gone);
@@ -155,7 +159,8 @@ fn unite(worker: &mut Worker, top: &LockTable, latch: Latched, kept: u64, gone: 
     ensures seat { (worker.new.seat.table_id ≡ worker.old.seat.table_id) × (worker.new.number ≡ worker.old.number) }
     ensures left { Leaves latch.place (Alter kept gone.mode ∷ Lose gone.number ∷ []) worker.old.seat.me worker.new.seat.me }
     ensures step { (e : Met) × IsStepOf worker.old.seat.me worker.new.seat.me e
-        × MeetsOwn latch.place worker.old.number kept e × MeetsOwn latch.place worker.old.number gone.number e }
+        × MeetsOwn latch.place worker.old.number kept e × MeetsOwn latch.place worker.old.number gone.number e
+        × (e.deeds ≡ Alter kept gone.mode ∷ Lose gone.number ∷ []) }
 {
     let _altered = worker.write_mode(top, &latch, kept, gone.mode, NO_FAST);
     let _gone = worker.write_loss(top, &latch, gone.number);

@@ -42,7 +42,7 @@ pub(crate) fn settle_for_way(
     ensures seat { (worker.new.seat.table_id ≡ worker.old.seat.table_id) × (worker.new.number ≡ worker.old.number) }
     ensures left { LeavesWay table.now.shared.table_id latch.place deeds.now worker.old.seat.me worker.new.seat.me }
     ensures step { (e : Met) × IsStepOf worker.old.seat.me worker.new.seat.me e × (e.word ≡ lock_word latch.place)
-        × (e.held ≡ worker.old.seat.me.0.latches) }
+        × (e.held ≡ worker.old.seat.me.0.latches) × (e.deeds ≡ deeds.now) }
 {
     lower(worker, table, &latch, deeds);
     make_way(worker, table, latch);

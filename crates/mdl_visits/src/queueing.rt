@@ -12,7 +12,7 @@ ghost use Rattle.mdl_steps.specs.WaitPlays.{opened};
 ghost use Rattle.mdl_steps.specs.WaitSeats.{IsSession};
 ghost use Rattle.mdl_visits.specs.declared.queueing.Queued.TheVariants.{Granted, Waiting};
 ghost use Rattle.mdl_visits.specs.WaitOpenings.{MayQueue, MeetsOpening, Opens};
-ghost use Rattle.mdl_visits.specs.Visits.{GoesOn, IsInside, IsStepOf, KnowsKind, MeetsBlocked, MeetsFull, MeetsGrantable, Visits};
+ghost use Rattle.mdl_visits.specs.Visits.{AreStepsOf, GoesOn, IsInside, IsStepOf, KnowsKind, MeetsBlocked, MeetsFull, MeetsGrantable, Visits};
 
 use crate::tries::{enter, leave};
 use mdl_book::BookError;
@@ -85,11 +85,10 @@ pub fn grant_or_wait<R: Wait>(
     requires wait { (wait ≡ worker.old.seat.me.0.waits + 1) × (wait < 2 ^ 60) }
     ensures seat { (worker.new.seat.table_id ≡ worker.old.seat.table_id) × (worker.new.number ≡ worker.old.number) }
     ensures granted { result ≡ Ok Granted → Visits place (Gain number mode ∷ []) worker.old.seat.me worker.new.seat.me
-        × ((e : Met) × IsStepOf worker.old.seat.me worker.new.seat.me e × MeetsGrantable place worker.old.number mode e) }
+        × ((e : Met) × IsStepOf worker.old.seat.me worker.new.seat.me e × MeetsGrantable place worker.old.number mode (Gain number mode) e) }
     ensures waiting { result ≡ Ok Waiting → Opens place mode worker.old.seat.me worker.new.seat.me
-        × ((e : Met) × IsStepOf worker.old.seat.me worker.new.seat.me e × MeetsBlocked place worker.old.number mode e)
-        × ((e : Met) × IsStepOf worker.old.seat.me worker.new.seat.me e
-        × MeetsOpening slots place worker.old.number worker.old.seat.me.0.waits number mode e) }
+        × ((e f : Met) × AreStepsOf worker.old.seat.me worker.new.seat.me e f × MeetsBlocked place worker.old.number mode e
+        × MeetsOpening slots place worker.old.number worker.old.seat.me.0.waits number mode f) }
     ensures unchanged { OnErr result (Visits place [] worker.old.seat.me worker.new.seat.me) }
     ensures refused { IfErr result (λ cause. (cause ≡ fault.OutOfMemory)
         ⊎ ((cause ≡ fault.Full) × ((e : Met) × IsStepOf worker.old.seat.me worker.new.seat.me e × MeetsFull place e))) }

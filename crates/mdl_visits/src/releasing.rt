@@ -26,7 +26,8 @@ pub fn release<R: Wait>(rt: &R, worker: &mut Worker, table: &OwnedTable, place: 
     requires held { HasTicket place number worker.old.seat.me.0.slow }
     ensures seat { (worker.new.seat.table_id ≡ worker.old.seat.table_id) × (worker.new.number ≡ worker.old.number) }
     ensures released { VisitsForWay table.now.shared.table_id place (Lose number ∷ []) worker.old.seat.me worker.new.seat.me }
-    ensures step { (e : Met) × IsStepOf worker.old.seat.me worker.new.seat.me e × MeetsOwn place worker.old.number number e }
+    ensures step { (e : Met) × IsStepOf worker.old.seat.me worker.new.seat.me e × MeetsOwn place worker.old.number number e
+        × (e.deeds ≡ Lose number ∷ []) }
 {
     let latch = await_latch(rt, worker, &table.shared, place);
     give_up(worker, table, latch, number);
@@ -43,7 +44,8 @@ fn give_up(worker: &mut Worker, table: &OwnedTable, latch: Latched, number: u64)
     requires unwaited { NotWaited worker.old.seat.me.0 number }
     ensures seat { (worker.new.seat.table_id ≡ worker.old.seat.table_id) × (worker.new.number ≡ worker.old.number) }
     ensures left { LeavesWay table.now.shared.table_id latch.place (Lose number ∷ []) worker.old.seat.me worker.new.seat.me }
-    ensures step { (e : Met) × IsStepOf worker.old.seat.me worker.new.seat.me e × MeetsOwn latch.place worker.old.number number e }
+    ensures step { (e : Met) × IsStepOf worker.old.seat.me worker.new.seat.me e × MeetsOwn latch.place worker.old.number number e
+        × (e.deeds ≡ Lose number ∷ []) }
 {
     let _gone = worker.write_loss(&table.shared, &latch, number);
     settle_for_way(worker, table, latch, &[Deed::Lose(number)]);

@@ -20,7 +20,7 @@ pub(crate) fn settle(worker: &mut Worker, top: &LockTable, latch: Latched, deeds
     ensures seat { (worker.new.seat.table_id ≡ worker.old.seat.table_id) × (worker.new.number ≡ worker.old.number) }
     ensures left { Leaves latch.place deeds.now worker.old.seat.me worker.new.seat.me }
     ensures step { (e : Met) × IsStepOf worker.old.seat.me worker.new.seat.me e × (e.word ≡ lock_word latch.place)
-        × (e.held ≡ worker.old.seat.me.0.latches) }
+        × (e.held ≡ worker.old.seat.me.0.latches) × (e.deeds ≡ deeds.now) }
 {
     let needs = worker.needs(top, &latch);
     worker.lower_flags(top, &latch, needs.slow, needs.obtrusive, deeds);

@@ -33,7 +33,7 @@ pub fn try_strengthen<R: Wait>(
     requires held { HasTicket place number worker.old.seat.me.0.slow }
     ensures seat { (worker.new.seat.table_id ≡ worker.old.seat.table_id) × (worker.new.number ≡ worker.old.number) }
     ensures granted { result ≡ Granted → Visits place (Alter number mode ∷ []) worker.old.seat.me worker.new.seat.me
-        × ((e : Met) × IsStepOf worker.old.seat.me worker.new.seat.me e × MeetsGrantable place worker.old.number mode e) }
+        × ((e : Met) × IsStepOf worker.old.seat.me worker.new.seat.me e × MeetsGrantable place worker.old.number mode (Alter number mode) e) }
     ensures blocked { result ≡ Blocked → Visits place [] worker.old.seat.me worker.new.seat.me
         × ((e : Met) × IsStepOf worker.old.seat.me worker.new.seat.me e × MeetsBlocked place worker.old.number mode e) }
 {

@@ -78,7 +78,7 @@ pub fn try_grant<R: Wait>(
     requires number { number ≡ worker.old.seat.me.0.next }
     ensures seat { (worker.new.seat.table_id ≡ worker.old.seat.table_id) × (worker.new.number ≡ worker.old.number) }
     ensures granted { result ≡ Ok Granted → Visits place (Gain number mode ∷ []) worker.old.seat.me worker.new.seat.me
-        × ((e : Met) × IsStepOf worker.old.seat.me worker.new.seat.me e × MeetsGrantable place worker.old.number mode e) }
+        × ((e : Met) × IsStepOf worker.old.seat.me worker.new.seat.me e × MeetsGrantable place worker.old.number mode (Gain number mode) e) }
     ensures blocked { result ≡ Ok Blocked → Visits place [] worker.old.seat.me worker.new.seat.me
         × ((e : Met) × IsStepOf worker.old.seat.me worker.new.seat.me e × MeetsBlocked place worker.old.number mode e) }
     ensures unchanged { OnErr result (Visits place [] worker.old.seat.me worker.new.seat.me) }

@@ -1,13 +1,15 @@
 -- The book that is met under the latch has the session's ticket, which covers the mode.
-use Rattle.std.proofs.Common.{◌≡◌, inl, inr, ℕ, sym, ap, ◌∙◌, subst, [], ◌∷◌}
+use Rattle.std.proofs.Common.{◌≡◌, inl, inr, ℕ, refl, sym, ap, ◌∙◌, subst, [], ◌∷◌}
 use Rattle.std.proofs.lemmas.Result.{IfErr-weaker, on_err_weaker, on_ok_weaker}
-use Rattle.std.specs.Prelude.{is_some}
+use Rattle.std.specs.Prelude.{is_some, OnOk}
 use Rattle.mdl_steps.specs.declared.deed.Deed.TheVariants.{Gain}
+use Rattle.mdl_steps.specs.declared.view.Met.{Met}
 use Rattle.mdl_steps.specs.Deeds.{KnowsPlace}
+use Rattle.mdl_steps.specs.Layout.{lock_word}
 use Rattle.mdl_steps.specs.Plays.{Mine}
 use Rattle.mdl_steps.specs.Seats.{Holds}
 use Rattle.mdl_visits.specs.Leavings.{Leaves}
-use Rattle.mdl_visits.specs.Visits.{MeetsFull}
+use Rattle.mdl_visits.specs.Visits.{IsStepOf, MeetsFull}
 use Rattle.mdl_visits.proofs.Covered.{covered_by, fits_lock, own_there}
 use Rattle.mdl_visits.proofs.Leaving.{step_later, visits_left}
 use Rattle.mdl_visits.proofs.Meeting.{StepUnder, met_there}
@@ -37,9 +39,15 @@ returns-clause-step g c =
     let came : Mine = c.await_latch-latch.new.worker.seat.me in
     let went : Mine = c.gain.new.worker.seat.me in
     let there = own_there worker.number held.number held h worker.seat.me worker.numbered.0 taken.1 c.requires.unwaited c.requires.held in
-    let step = subst (λ (q : ℕ). StepUnder q came went) c.await_latch-latch.ensures.place c.gain.ensures.step in
-    let met = met_there held.place h came went taken.2.recorded step worker.number held.number (ap is_some there) in
-    (met.0, step_later held.place worker.seat.me came went c.await_latch-latch.ensures.inside met.0 met.1, met.2)
+    let step = subst (λ (q : ℕ). (e : Met) × IsStepOf came went e × (e.word ≡ lock_word q) × (e.held ≡ came.0.latches) × OnOk c.gain.result (e.deeds ≡ Gain c.args.number c.args.mode ∷ []))
+    c.await_latch-latch.ensures.place c.gain.ensures.step in
+    let under : StepUnder held.place step.0.deeds came went = (step.0, step.1, step.2, step.3, refl) in
+    let met = met_there held.place step.0.deeds h came went taken.2.recorded under worker.number held.number (ap is_some there) in (
+      met.0,
+      step_later held.place worker.seat.me came went c.await_latch-latch.ensures.inside met.0 met.1,
+      met.2,
+      on_ok_weaker c.gain.result (λ did. met.3 ∙ did) step.4,
+    )
 
 pub gain-requires-clause-known : goal.gain-requires-clause-known
 gain-requires-clause-known g c =

@@ -1,9 +1,13 @@
 -- The book that is met under the latch has both tickets.
-use Rattle.std.proofs.Common.{ℕ, sym, ap, ◌∙◌, subst}
+use Rattle.std.proofs.Common.{ℕ, List, [], ◌∷◌, sym, ap, ◌∙◌, subst}
 use Rattle.std.specs.Prelude.{is_some}
-use Rattle.mdl_steps.specs.Plays.{IsFresh}
+use Rattle.mdl_steps.specs.declared.deed.Deed.{Deed}
+use Rattle.mdl_steps.specs.declared.deed.Deed.TheVariants.{Alter, Lose}
+use Rattle.mdl_steps.specs.Plays.{IsFresh, Mine}
 use Rattle.mdl_steps.specs.Seats.{Holds}
+use Rattle.mdl_visits.specs.Leavings.{Leaves}
 use Rattle.mdl_visits.proofs.Covered.{covered_by_own, own_there}
+use Rattle.mdl_visits.proofs.Leaving.{visits_left}
 use Rattle.mdl_visits.proofs.covering.fold.Goals as goal
 
 pub unite-requires-clause-covered : goal.unite-requires-clause-covered
@@ -24,3 +28,12 @@ unite-requires-clause-covered g c =
       ap is_some first,
       ap is_some second,
     )
+
+pub returns-clause-folded : goal.returns-clause-folded
+returns-clause-folded g c =
+    let place = c.args.kept.place in
+    let ds : List Deed = Alter c.args.kept.number c.args.gone.mode ∷ Lose c.args.gone.number ∷ [] in
+    let latch = c.await_latch-latch in
+    let came : Mine = latch.new.worker.seat.me in
+    let went : Mine = c.unite.new.worker.seat.me in
+    visits_left place c.args.worker.now.seat.me came went latch.ensures.inside ds (subst (λ (q : ℕ). Leaves q ds came went) latch.ensures.place c.unite.ensures.left)

@@ -31,14 +31,19 @@ returns-in-Ok-clause-step c =
     let worker = c.args.worker.now in
     let has = c.requires.covered in
     let h = has.0 in
-    step_written c.args.latch.place (booked worker.number (Gain c.args.number c.args.mode) h.book) worker.seat.me c.write_gain.new.self.seat.me c.settle.new.worker.seat.me
+    step_written c.args.latch.place (Gain c.args.number c.args.mode ∷ []) (booked worker.number (Gain c.args.number c.args.mode) h.book) worker.seat.me c.write_gain.new.self.seat.me c.settle.new.worker.seat.me
     (c.in-Ok.ensures.written h.book has.1.carried) c.settle.ensures.step
+
+pub returns-in-Err-clause-step : goal.returns-in-Err-clause-step
+returns-in-Err-clause-step c =
+    let step = subst (λ (x : Mine). StepUnder c.args.latch.place [] x c.settle-in-Err.new.worker.seat.me) c.in-Err.ensures.unchanged c.settle-in-Err.ensures.step in
+    (step.0, step.1, step.2, step.3, tt)
 
 pub returns-in-Err-clause-refused : goal.returns-in-Err-clause-refused
 returns-in-Err-clause-refused c =
     let worker = c.args.worker.now in
     let has = c.requires.covered in
     let h = has.0 in
-    let step = subst (λ (x : Mine). StepUnder c.args.latch.place x c.settle-in-Err.new.worker.seat.me) c.in-Err.ensures.unchanged c.settle-in-Err.ensures.step in
-    full_told c.args.latch.place h worker.seat.me c.settle-in-Err.new.worker.seat.me has.1.recorded step c.in-Err.cause
+    let step = subst (λ (x : Mine). StepUnder c.args.latch.place [] x c.settle-in-Err.new.worker.seat.me) c.in-Err.ensures.unchanged c.settle-in-Err.ensures.step in
+    full_told c.args.latch.place [] h worker.seat.me c.settle-in-Err.new.worker.seat.me has.1.recorded step c.in-Err.cause
     (refusal _ (record { session = worker.number; number = c.args.number; mode = c.args.mode }) 0 h.book c.in-Err.cause (stands worker.number c.args.mode h has.2) (c.in-Err.ensures.refused h.book has.1.carried))

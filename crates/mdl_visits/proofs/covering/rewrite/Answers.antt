@@ -33,7 +33,7 @@ returns-clause-step c =
     let h = has.0 in
     let out = altered worker.number c.args.mode h has.2 c.args.number c.write_mode-altered.result has.3 (c.write_mode-altered.ensures.refused h.book has.1.carried)
     (c.write_mode-altered.ensures.written h.book has.1.carried) in
-    met_own c.args.latch.place worker.number c.args.number h (booked worker.number (Alter c.args.number c.args.mode) h.book) worker.seat.me c.write_mode-altered.new.self.seat.me c.settle_for_way.new.worker.seat.me has.1.recorded has.3 out c.settle_for_way.ensures.step
+    met_own c.args.latch.place worker.number c.args.number (Alter c.args.number c.args.mode ∷ []) h (booked worker.number (Alter c.args.number c.args.mode) h.book) worker.seat.me c.write_mode-altered.new.self.seat.me c.settle_for_way.new.worker.seat.me has.1.recorded has.3 out c.settle_for_way.ensures.step
 
 pub settle_for_way-requires-clause-once : goal.settle_for_way-requires-clause-once
 settle_for_way-requires-clause-once c =

@@ -57,6 +57,6 @@ returns-clause-step c =
     let first = altered worker.number gone.mode h has.2 c.args.kept c.write_mode-altered.result has.3 (wrote.refused h.book has.1.carried) (wrote.written h.book has.1.carried) in
     let both = both_written place worker.number c.args.kept gone.number gone.mode h.book worker.seat.me c.write_mode-altered.new.self.seat.me first
     c.write_mode-altered.new.self.number c.write_loss-gone.new.self.seat.me c.write_loss-gone.result c.write_mode-altered.ensures.seat.1 c.requires.two has.4 c.write_loss-gone.ensures.refused c.write_loss-gone.ensures.written in
-    met_both place h worker.seat.me c.settle.new.worker.seat.me has.1.recorded
-    (step_written place (booked worker.number (Lose gone.number) (booked worker.number (Alter c.args.kept gone.mode) h.book)) worker.seat.me c.write_loss-gone.new.self.seat.me c.settle.new.worker.seat.me both c.settle.ensures.step)
+    met_both place (Alter c.args.kept gone.mode ∷ Lose gone.number ∷ []) h worker.seat.me c.settle.new.worker.seat.me has.1.recorded
+    (step_written place (Alter c.args.kept gone.mode ∷ Lose gone.number ∷ []) (booked worker.number (Lose gone.number) (booked worker.number (Alter c.args.kept gone.mode) h.book)) worker.seat.me c.write_loss-gone.new.self.seat.me c.settle.new.worker.seat.me both c.settle.ensures.step)
     worker.number c.args.kept gone.number has.3 has.4

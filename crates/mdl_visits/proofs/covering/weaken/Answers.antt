@@ -50,6 +50,7 @@ returns-clause-step g c =
       step.0,
       step_later c.args.held.place worker.seat.me came went latch.ensures.inside step.0 step.1,
       subst (λ (q : ℕ). MeetsOwn q worker.number c.args.held.number step.0) latch.ensures.place own,
+      step.3,
     )
 
 pub rewrite-requires-clause-unwaited : goal.rewrite-requires-clause-unwaited

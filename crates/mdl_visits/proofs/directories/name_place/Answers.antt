@@ -32,4 +32,4 @@ returns-clause-named g c =
     λ k is.
     let may = may_name_at c.args.place here key k taken.0 taken.3.0 old mid next latch.ensures.place taken.1 is taken.3.1 c.name_book.ensures.written in
     named_at c.args.place here key k taken.0 taken.3.0 old mid next latch.ensures.place taken.1 is taken.3.1 c.name_book.ensures.written
-    c.put_latch_naming.new.self.seat.me c.requires.alone taken.3.2 (c.put_latch_naming.ensures.made (empty_book key) may.holds.carried)
+    c.put_latch_naming.new.self.seat.me c.requires.alone taken.3.2 taken.3.3 (c.put_latch_naming.ensures.made (empty_book key) may.holds.carried)

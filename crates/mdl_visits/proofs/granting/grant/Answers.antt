@@ -7,7 +7,7 @@ use Rattle.mdl_steps.specs.Seats.{Holds}
 use Rattle.mdl_steps.specs.WaitPlays.{TellsOwn}
 use Rattle.mdl_visits.specs.Grantings.{IsGrantedFrom, MakesWay}
 use Rattle.mdl_visits.proofs.Serving.{is_admitted, is_missed, way_admitted}
-use Rattle.mdl_visits.proofs.Way.{way_met}
+use Rattle.mdl_visits.proofs.Way.{way_missed}
 use Rattle.mdl_visits.proofs.granting.grant.Goals as goal
 
 pub returns-then-eq-clause-granted : goal.returns-then-eq-clause-granted
@@ -68,4 +68,4 @@ returns-else-eq-clause-way c =
     λ same. let yes = eq-eqb c.grant_wait-met.result.0 c.args.wait.0 same in let no = sym c.eq.ensures ∙ c.if-eq.false in absurd (cc) in
     let other : c.grant_wait-met.result.0 ≢ 8 * c.number.result + 1 = λ same. differs (omega arith) in
     subst (λ (n : ℕ). MakesWay n place m c.grant_wait-met.new.self.seat.me) c.slot_count-slots.ensures
-    (way_met slots place c.args.session c.grant_wait-met.result.0 c.requires.ready.0.book m c.grant_wait-met.new.self.seat.me c.requires.ready.1.carried c.grant_wait-met.ensures.own (c.grant_wait-met.ensures.missed other))
+    (way_missed slots place c.args.session c.grant_wait-met.result.0 c.requires.ready.0.book m c.grant_wait-met.new.self.seat.me c.requires.ready.1.carried c.grant_wait-met.ensures.own (c.grant_wait-met.ensures.missed other))

@@ -29,3 +29,7 @@ loop-before-preserved c =
 
 pub returns-in_err-reserve-clause-hears : goal.returns-in_err-reserve-clause-hears
 returns-in_err-reserve-clause-hears c = hears_none c.args.worker.now.seat.me
+
+pub returns-in_err-hear-clause-hears : goal.returns-in_err-hear-clause-hears
+returns-in_err-hear-clause-hears c =
+    hears_then c.args.worker.now.seat.me c.loop-before.worker.seat.me c.hear.new.worker.seat.me c.loop-before.invariant.hears c.in_err-hear.ensures.hears

@@ -1,5 +1,5 @@
 -- What was found at last is what comes of it.
-use Rattle.std.proofs.Common.{ℕ, List, Option, refl, subst}
+use Rattle.std.proofs.Common.{ℕ, List, Option, refl, ◌∙◌, subst}
 use Rattle.std.specs.Prelude.{IfSome, MatchOption}
 use Rattle.mdl_calls.specs.declared.answers.Search.{Search}
 use Rattle.mdl_steps.specs.declared.view.Held.{Held}
@@ -9,7 +9,7 @@ use Rattle.mdl_visits.specs.Polls.{SettlesNothing}
 use Rattle.mdl_visits.specs.Searches.{AreQueuesOf, Judges, KnowsFall}
 use Rattle.mdl_visits.proofs.Asking.{goes_nowhere}
 use Rattle.mdl_visits.proofs.Outcomes.{judges_within}
-use Rattle.mdl_visits.proofs.Words.{goes_hearing, hears_none, same_latches}
+use Rattle.mdl_visits.proofs.Words.{goes_hearing, hears_none, hears_then, same_latches}
 use Rattle.mdl_visits.proofs.judging.judge.Goals as goal
 
 pub loop-init : goal.loop-init
@@ -39,3 +39,28 @@ returns-in-Some-2-clause-own g c =
     let here : KnowsFall c.loop.worker.number found m″ =
     subst (λ (o : Option Search). IfSome o (λ f. KnowsFall c.loop.worker.number f m″)) c.in-Some-2.is c.in_ok-found.ensures.own in
     subst (λ (n : ℕ). KnowsFall n found m″) c.loop.invariant.number here
+
+pub returns-in_err-found-clause-hears : goal.returns-in_err-found-clause-hears
+returns-in_err-found-clause-hears g c =
+    hears_then c.args.worker.now.seat.me c.loop.worker.seat.me c.judge_once.new.worker.seat.me c.loop.invariant.hears c.in_err-found.ensures.hears
+
+pub returns-in-Some-2-clause-hears : goal.returns-in-Some-2-clause-hears
+returns-in-Some-2-clause-hears g c =
+    hears_then c.args.worker.now.seat.me c.loop.worker.seat.me c.judge_once.new.worker.seat.me c.loop.invariant.hears c.in_ok-found.ensures.hears
+
+pub loop-preserved : goal.loop-preserved
+loop-preserved g c =
+    let id = c.args.table.now.shared.table_id in
+    let inv = c.loop.invariant in
+    let once = c.in_ok-found.ensures in
+    let m : Mine = c.args.worker.now.seat.me in
+    let m′ : Mine = c.loop.worker.seat.me in
+    let m″ : Mine = c.judge_once.new.worker.seat.me in
+    let nothing : SettlesNothing m′ m″ = subst (λ (o : Option Search). MatchOption o (SettlesNothing m′ m″)
+    (λ f. (some : List Audited) → AreQueuesOf some c.args.lists.now → Judges id c.loop.worker.number m′.0.latches some f m′ m″)) c.in_default.is once.judged in
+    record {
+      seat = once.seat.0 ∙ inv.seat;
+      number = once.seat.1 ∙ inv.number;
+      hears = hears_then m m′ m″ inv.hears once.hears;
+      settles = nothing ∙ inv.settles;
+    }

@@ -42,3 +42,7 @@ returns-in-Some-clause-judged c = λ audited are.
 
 pub returns-in-Some-clause-own : goal.returns-in-Some-clause-own
 returns-in-Some-clause-own c = λ own. c.fell.ensures.own c.if-fell.true (own ∙ sym c.in_ok-hear_all.ensures.seat.1)
+
+pub returns-clause-hears : goal.returns-clause-hears
+returns-clause-hears c =
+    hears_then c.args.worker.now.seat.me c.hear_all.new.worker.seat.me c.fell.new.worker.seat.me c.in_ok-hear_all.ensures.hears c.if-fell.ensures.hears

@@ -4,7 +4,7 @@ use Rattle.mdl_steps.proofs.Deeds.{may_join}
 use Rattle.mdl_visits.proofs.laws.granted_wishes_were_grantable.Goals as goal
 
 pub returns : goal.returns
-returns c = λ place who mode e meets.
+returns c = λ place who mode deed e meets.
     let latch = meets.latch in (
       latch,
       meets.word,

@@ -1,5 +1,6 @@
 -- Nobody waits, or the word was read and waits were granted.
 use Rattle.std.proofs.Common.{[], sym, ap, ◌∙◌, subst}
+use Rattle.mdl_steps.specs.declared.step_kind.StepKind.TheVariants.{ReadWord}
 use Rattle.mdl_steps.specs.declared.worker.Worker.{Worker}
 use Rattle.mdl_steps.specs.Plays.{Mine, noting, stepped, unlatched}
 use Rattle.mdl_steps.specs.Seats.{Holds}
@@ -26,7 +27,7 @@ returns-clause-left c =
     elim c.if-has_waiters.branch [
       | then-has_waiters w ↦
           let word = w.read_word-word.result.0 in
-          let read = w.read_word-word.ensures.made ∙ ap (λ (x : Mine). stepped place word (noting word) x) c.has_waiters.ensures.same in
+          let read = w.read_word-word.ensures.made ∙ ap (λ (x : Mine). stepped ReadWord place word (noting word) x) c.has_waiters.ensures.same in
           let served = w.grant_waiters.ensures.served in
           leaves_served id place word served.0 m w.read_word-word.new.self.seat.me w.grant_waiters.new.worker.seat.me out read w.grant_waiters.ensures.way served.1 served.2 served.3
           (c.put_latch.ensures.made ∙ ap (λ (x : Worker). unlatched place [] x.seat.me) w.worker-is)

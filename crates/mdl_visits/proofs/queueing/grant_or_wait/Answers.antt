@@ -5,17 +5,16 @@ use Rattle.mdl_book.specs.Books.{lock_kind}
 use Rattle.mdl_book.specs.FastTickets.{can_be_granted}
 use Rattle.mdl_steps.specs.declared.deed.Deed.TheVariants.{Gain}
 use Rattle.mdl_steps.specs.declared.view.Held.{Held}
-use Rattle.mdl_steps.specs.declared.view.Met.{Met}
 use Rattle.mdl_steps.specs.Deeds.{booked}
 use Rattle.mdl_steps.specs.Plays.{Mine, noting, raised, unlatched}
 use Rattle.mdl_steps.specs.Seats.{Holds, MayPut, written}
 use Rattle.mdl_steps.specs.WaitPlays.{opened}
 use Rattle.mdl_visits.specs.declared.queueing.Queued.TheVariants.{Granted, Waiting}
 use Rattle.mdl_visits.specs.WaitOpenings.{MayQueue, MeetsOpening}
-use Rattle.mdl_visits.specs.Visits.{GoesOn, IsStepOf, MayLeave}
+use Rattle.mdl_visits.specs.Visits.{GoesOn, MayLeave}
 use Rattle.mdl_visits.proofs.Visiting.{inside_written, visits_put}
 use Rattle.mdl_visits.proofs.Trying.{may_leave, ready, grantable, refused}
-use Rattle.mdl_visits.proofs.WaitOpenings.{blocked, full, goes_on, if_err, if_ok, may_queue, on_err, opening, opens}
+use Rattle.mdl_visits.proofs.WaitOpenings.{blocked_then, full, if_err, if_ok, may_queue, on_err, opens}
 use Rattle.mdl_visits.proofs.queueing.grant_or_wait.Goals as goal
 
 pub enqueue-requires-clause-queue : goal.enqueue-requires-clause-queue
@@ -55,11 +54,10 @@ returns-then-not-can_grant-clause-waiting g c =
     let made = (if_ok _ c.enqueue.result Waiting is c.enqueue.ensures.opened).1 in
     let here = subst (λ (p : ℕ). went ≡ unlatched p [] (opened slots p mode came)) c.enter.ensures.place
     (subst (λ (x : Mine). went ≡ unlatched c.enter.result.0.place [] (opened slots c.enter.result.0.place mode x)) c.can_grant.ensures.same made) in
-    let step = opening slots place mode m came went entered.inside here h entered.holds.recorded in (
+    let steps = blocked_then slots place mode m came went entered.inside here word worker.number asks entered never in
+    let opening = subst (λ (s : ℕ). MeetsOpening slots place s m.0.waits m.0.next mode steps.1) worker.numbered.0 steps.4 in (
       opens slots place mode m came went entered.inside here,
-      blocked place word asks m came went entered (goes_on slots place mode m came went entered.inside here) worker.number mode never,
-      subst (λ (n : ℕ). (e : Met) × IsStepOf m went e × MeetsOpening slots place worker.number m.0.waits n mode e) (sym c.requires.number)
-          (subst (λ (s : ℕ). (e : Met) × IsStepOf m went e × MeetsOpening slots place s m.0.waits m.0.next mode e) worker.numbered.0 step),
+      (steps.0, steps.1, steps.2, steps.3, subst (λ (n : ℕ). MeetsOpening slots place worker.number m.0.waits n mode steps.1) (sym c.requires.number) opening),
     )
 
 pub returns-then-not-can_grant-clause-refused : goal.returns-then-not-can_grant-clause-refused
@@ -156,5 +154,5 @@ returns-clause-granted g c =
     let puts = subst (λ (p : ℕ). went ≡ unlatched p (Gain number mode ∷ []) wrote) at c.put_latch.ensures.made in
     λ _. (
       visits_put place (Gain number mode ∷ []) m wrote went (inside_written place after m came wrote entered.inside writes) puts,
-      grantable place word session number mode c.args.kind asks m came entered c.requires.kind c.requires.mode c.is_obtrusive.ensures wrote went after (Gain number mode ∷ []) c.args.worker.now.numbered.0 can writes puts,
+      grantable place word session number mode c.args.kind asks m came entered c.requires.kind c.requires.mode c.is_obtrusive.ensures wrote went after (Gain number mode) c.args.worker.now.numbered.0 can writes puts,
     )

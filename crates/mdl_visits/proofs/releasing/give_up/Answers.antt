@@ -36,7 +36,7 @@ returns-clause-step c =
     let h = held.0 in
     let out = taken_out (ticket_of worker.number c.args.number h.book.granted) NotHere c.write_loss-gone.result held.3 (c.write_loss-gone.ensures.refused h.book held.1.carried)
     (c.write_loss-gone.ensures.written h.book held.1.carried) in
-    met_own place worker.number c.args.number h (booked worker.number (Lose c.args.number) h.book) worker.seat.me c.write_loss-gone.new.self.seat.me c.settle_for_way.new.worker.seat.me held.1.recorded held.3 out c.settle_for_way.ensures.step
+    met_own place worker.number c.args.number (Lose c.args.number ∷ []) h (booked worker.number (Lose c.args.number) h.book) worker.seat.me c.write_loss-gone.new.self.seat.me c.settle_for_way.new.worker.seat.me held.1.recorded held.3 out c.settle_for_way.ensures.step
 
 pub settle_for_way-requires-clause-once : goal.settle_for_way-requires-clause-once
 settle_for_way-requires-clause-once c =

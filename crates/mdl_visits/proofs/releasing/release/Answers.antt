@@ -49,6 +49,7 @@ returns-clause-step g c =
       step.0,
       step_later c.args.place worker.seat.me came went latch.ensures.inside step.0 step.1,
       subst (λ (q : ℕ). MeetsOwn q worker.number c.args.number step.0) latch.ensures.place own,
+      step.3,
     )
 
 pub give_up-requires-clause-unwaited : goal.give_up-requires-clause-unwaited

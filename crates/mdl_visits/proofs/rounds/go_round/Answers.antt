@@ -39,7 +39,7 @@ returns-clause-steps g c =
     let taken = c.await_directory-directory.ensures.taken in
     let then = ◌∙◌ {A = Mine} c.key_count-last.ensures.same taken.3 in
     makes_all c.args.top.now.table_id.slots taken.1 taken.0 c.args.worker.now.seat.me c.key_count-last.new.self.seat.me c.gather-outcome.new.worker.seat.me
-    then c.gather-outcome.ensures.steps c.put_directory.new.self.seat.me c.put_directory.ensures.made c.requires.idle taken.2
+    then c.gather-outcome.ensures.steps c.put_directory.new.self.seat.me c.put_directory.ensures.made c.requires.idle taken.2 taken.5
 
 pub returns-clause-told : goal.returns-clause-told
 returns-clause-told g c =

@@ -5,7 +5,7 @@ use Rattle.mdl_steps.specs.Plays.{Mine, informed}
 use Rattle.mdl_steps.specs.Schemas.{StandThere, unknown}
 use Rattle.mdl_steps.specs.Seats.{HasDirectory}
 use Rattle.mdl_visits.specs.Visits.{and_made}
-use Rattle.mdl_visits.proofs.Listing.{all_stand, all_within, knows_tables, told_after, took_directory}
+use Rattle.mdl_visits.proofs.Listing.{all_stand, all_within, knows_no_more, knows_tables, told_after, took_directory}
 use Rattle.mdl_visits.proofs.Lookups.{has_taken}
 use Rattle.mdl_visits.proofs.Sorting.{are_tables}
 use Rattle.mdl_visits.proofs.schemas.find_tables.Goals as goal
@@ -39,7 +39,7 @@ returns-in-Ok-clause-found g c =
       took_directory slots taken.1 taken.0 old c.requires.idle taken.2 more new e taken.4,
       (
         are_tables c.args.schema.now taken.1 tables taken.2.distinct (c.in-Ok.ensures.listed taken.1 has),
-        knows_tables slots taken.1 taken.0 old c.requires.idle taken.2 more new e tables refl,
+        knows_tables slots taken.1 taken.0 old c.requires.idle taken.2 more new e taken.5 tables refl,
       ),
     )
 
@@ -61,3 +61,13 @@ returns-in-Ok-clause-within g c =
     let schema : List ℕ = c.args.schema.now in
     let tables : List Known = c.in-Ok.found.0.items in
     all_within c.args.top.now.table_id.slots taken.1 tables taken.2.fit (all_stand schema taken.1 tables (are_tables schema taken.1 tables taken.2.distinct (c.in-Ok.ensures.listed taken.1 has)))
+
+pub returns-in-Err-clause-unchanged : goal.returns-in-Err-clause-unchanged
+returns-in-Err-clause-unchanged g c =
+    let old : Mine = c.args.worker.now.seat.me in
+    let first : Mine = c.await_directory-directory.new.worker.seat.me in
+    let listed : Mine = c.list_tables.new.worker.seat.me in
+    let new : Mine = c.put_directory_telling-in-Err.new.self.seat.me in
+    let taken = c.await_directory-directory.ensures.taken in
+    let e = told_after taken.1 taken.0 [] old first listed new taken.3 c.list_tables.ensures.same.0 c.put_directory_telling-in-Err.ensures.made in
+    knows_no_more c.args.top.now.table_id.slots taken.1 taken.0 old c.requires.idle taken.2 (unknown old.0.known []) new e taken.5 refl

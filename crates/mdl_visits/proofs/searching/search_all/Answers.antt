@@ -7,7 +7,7 @@ use Rattle.mdl_steps.specs.Seats.{HasDirectory}
 use Rattle.mdl_visits.specs.declared.audited.Audited.{Audited}
 use Rattle.mdl_visits.specs.Searches.{AreQueuesOf, KnowsFall, Searches}
 use Rattle.mdl_visits.specs.Visits.{and_made}
-use Rattle.mdl_visits.proofs.Holding.{searched, took_heard}
+use Rattle.mdl_visits.proofs.Holding.{hears_all, searched, took_heard}
 use Rattle.mdl_visits.proofs.Lookups.{has_taken}
 use Rattle.mdl_visits.proofs.Outcomes.{knows_on}
 use Rattle.mdl_visits.proofs.searching.search_all.Goals as goal
@@ -46,3 +46,10 @@ returns-clause-own g c =
     c.search_from-outcome.ensures.own in
     IfOk-weaker c.search_from-outcome.result _ _
     (λ found knows. knows_on c.args.worker.now.number found looked went (ap (λ (m : Mine). m.0.told) c.put_directory.ensures.made) knows) mine
+
+pub returns-clause-hears : goal.returns-clause-hears
+returns-clause-hears g c =
+    let taken = c.await_directory-directory.ensures.taken in
+    let then = ◌∙◌ {A = Mine} c.key_count-last.ensures.same taken.3 in
+    hears_all c.args.table.now.shared.table_id taken.1 taken.0 c.args.worker.now.seat.me c.key_count-last.new.self.seat.me c.search_from-outcome.new.worker.seat.me then
+    c.search_from-outcome.ensures.hears c.put_directory.new.self.seat.me c.put_directory.ensures.made c.requires.idle taken.2 taken.5

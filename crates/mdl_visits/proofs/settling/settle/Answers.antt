@@ -56,5 +56,5 @@ returns-clause-step c =
     let made = c.lower_flags.ensures.made in
     let low = made.1 book (subst (λ (m′ : Mine). m′.1 ≡ (place, slot.Place book) ∷ rest m′.1) (sym same) done.1.holds.carried) in
     let whole = c.put_latch.ensures.made ∙ ap (unlatched place []) (low ∙ ap (λ (x : Mine). settled place ds made.0 book needs.slow needs.obtrusive x) same) in
-    subst (λ (m′ : Mine). (e : Met) × IsStepOf m m′ e × (e.word ≡ lock_word place) × (e.held ≡ m.0.latches)) (sym whole)
+    subst (λ (m′ : Mine). (e : Met) × IsStepOf m m′ e × (e.word ≡ lock_word place) × (e.held ≡ m.0.latches) × (e.deeds ≡ ds)) (sym whole)
     (first_step place ds made.0 book needs.slow needs.obtrusive m)

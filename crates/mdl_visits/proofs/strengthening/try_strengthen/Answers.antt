@@ -88,5 +88,5 @@ returns-clause-granted g c =
     let puts = subst (λ (p : ℕ). went ≡ unlatched p (Alter number mode ∷ []) wrote) at c.put_latch.ensures.made in
     λ _. (
       visits_put place (Alter number mode ∷ []) m wrote went (inside_written place after m came wrote entered.inside writes) puts,
-      grantable place word session number mode kind.0 true m came entered kind.1 kind.2 (sym kind.3) wrote went after (Alter number mode ∷ []) worker.numbered.0 can writes puts,
+      grantable place word session number mode kind.0 true m came entered kind.1 kind.2 (sym kind.3) wrote went after (Alter number mode) worker.numbered.0 can writes puts,
     )

@@ -94,5 +94,5 @@ returns-clause-granted g c =
     let puts = subst (λ (p : ℕ). went ≡ unlatched p (Gain number mode ∷ []) wrote) at c.put_latch.ensures.made in
     λ _. (
       visits_put place (Gain number mode ∷ []) m wrote went (inside_written place after m came wrote entered.inside writes) puts,
-      grantable place word session number mode c.args.kind asks m came entered c.requires.kind c.requires.mode c.is_obtrusive.ensures wrote went after (Gain number mode ∷ []) c.args.worker.now.numbered.0 can writes puts,
+      grantable place word session number mode c.args.kind asks m came entered c.requires.kind c.requires.mode c.is_obtrusive.ensures wrote went after (Gain number mode) c.args.worker.now.numbered.0 can writes puts,
     )
