@@ -98,7 +98,7 @@ joined key c n ok fresh =
     ] refl
 
 numbered_blank : (number : ℕ) (spare : Spare) (log : List Met) → Numbered (record (blank number spare) { log = log })
-numbered_blank number spare log = record { fast = tt; slow = tt; asks = λ a e. absurd (cc); apart = λ a e. absurd (cc); unfast = λ a e. refl }
+numbered_blank number spare log = record { fast = tt; slow = tt; unmixed = tt; asks = λ a e. absurd (cc); apart = λ a e. absurd (cc); unfast = λ a e. refl }
 
 -- its wait word is idle
 pub blank_wait : (slots word number : ℕ) → word ≡ 0 → WaitOk slots word (record { number = number; waits = 0; asks = None; told = None })

@@ -40,6 +40,7 @@ use Rattle.mdl_steps.specs.Plays.{Mine}
 use Rattle.mdl_steps.specs.Rule.{Rule, PlaceOk, BookOk, PartOk, Counted, Lawful, NoteAgrees, NotedCounts, Numbered, key_at}
 use Rattle.mdl_steps.proofs.Deeds.{unobtrusive_beside}
 use Rattle.mdl_steps.proofs.Desks.{each-append}
+use Rattle.mdl_steps.proofs.Unmixed.{unlike_below}
 use Rattle.mdl_steps.proofs.FastLists.{all_fast-all, counted_set, count-append, counts_small, counted_mode, increment_is, increment_small, one_counted, length_mapped}
 use Rattle.mdl_steps.proofs.Lift.{Table, after, on_word, holders_again, parts_again}
 use Rattle.mdl_steps.proofs.Owns.{each-from_at, each-note, own_else-push, owned_else}
@@ -397,7 +398,7 @@ module _ (slots id place : ℕ) (me : Mine) (first : 0 < place) (last : place < 
           number = refl;
           spare = refl;
           waiter = refl;
-          numbered = record { fast = row.fast; slow = row.slow; asks = row.asks; apart = row.apart; unfast = row.unfast };
+          numbered = record { fast = row.fast; slow = row.slow; unmixed = row.unmixed; asks = row.asks; apart = row.apart; unfast = row.unfast };
           slots = refl;
           home_else = λ q else. refl;
           part_else = λ q else. refl;
@@ -447,6 +448,7 @@ module _ (slots id place : ℕ) (me : Mine) (first : 0 < place) (last : place < 
             numbered = record {
               fast = each-append _ me.0.fast (own ∷ []) (below_next me.0.next me.0.fast row.fast) (omega arith, tt);
               slow = below_next me.0.next me.0.slow row.slow;
+              unmixed = each-append _ me.0.fast (own ∷ []) row.unmixed (unlike_below own me.0.slow row.slow, tt);
               asks = λ a e. (let idle = may.idle in absurd (cc));
               apart = row.apart;
               unfast = λ a e. (let idle = may.idle in absurd (cc));
@@ -608,6 +610,7 @@ module _ (slots id place : ℕ) (me : Mine) (first : 0 < place) (last : place < 
           numbered = record {
             fast = each_fewer _ (λ t. not (is_own place number t)) me.0.fast row.fast;
             slow = row.slow;
+            unmixed = each_fewer _ (λ t. not (is_own place number t)) me.0.fast row.unmixed;
             asks = row.asks;
             apart = row.apart;
             unfast = λ a e. ap (but_own place number) (row.unfast a e);

@@ -118,7 +118,7 @@ module _ (slots id place : ℕ) (me : Mine) (some_number : 0 < me.0.number) (fir
           number = refl;
           spare = refl;
           waiter = refl;
-          numbered = record { fast = row.fast; slow = row.slow; asks = row.asks; apart = row.apart; unfast = row.unfast };
+          numbered = record { fast = row.fast; slow = row.slow; unmixed = row.unmixed; asks = row.asks; apart = row.apart; unfast = row.unfast };
           slots = refl;
           home_else = λ q else. refl;
           part_else = λ q else. refl;

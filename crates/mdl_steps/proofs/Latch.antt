@@ -175,7 +175,7 @@ module _ (slots id place : ℕ) (me : Mine) (some_number : 0 < me.0.number) (fir
     }
 
     numbered : (w : View) → w.next ≡ me.0.next → w.fast ≡ me.0.fast → w.slow ≡ me.0.slow → w.asks ≡ me.0.asks → Numbered w
-    numbered w next fast slow asks = let row = (r.views id me.0 seat).0 in record { fast = rw (fast, next) row.fast; slow = rw (slow, next) row.slow; asks = rw (asks, next) row.asks; apart = rw (asks, slow) row.apart; unfast = rw (asks, fast) row.unfast }
+    numbered w next fast slow asks = let row = (r.views id me.0 seat).0 in record { fast = rw (fast, next) row.fast; slow = rw (slow, next) row.slow; unmixed = rw (fast, slow) row.unmixed; asks = rw (asks, next) row.asks; apart = rw (asks, slow) row.apart; unfast = rw (asks, fast) row.unfast }
 
     moved_taken : Moved s place id me.0 (latched place fresh me).0 (set s.homes place none)
     unfolding fresh

@@ -33,6 +33,7 @@ use Rattle.mdl_steps.proofs.FastLists.{all_fast-all, all_fast-own, counted_set}
 use Rattle.mdl_steps.proofs.Holder.{Under, under, holder_cell}
 use Rattle.mdl_steps.proofs.Lift.{Table, after, on_word, alone, alone_parts, seat_there}
 use Rattle.mdl_steps.proofs.Owns.{each-from_at, each-to_at}
+use Rattle.mdl_steps.proofs.Unmixed.{unmixed_joined}
 use Rattle.mdl_steps.proofs.Tickets.{is_passed, of_other}
 use Rattle.mdl_steps.proofs.Views.{by_bool, each_at, held_at-changed, held_at-unchanged, other}
 use Rattle.mdl_steps.proofs.Waiting.{owned_set, waiting_kept}
@@ -356,6 +357,7 @@ module _ (slots id place : ℕ) (me : Mine) (some_number : 0 < me.0.number) (fir
           numbered = record {
             fast = each_fewer _ (λ t. not (t.place == place)) me.0.fast row.fast;
             slow = below;
+            unmixed = unmixed_joined place me.0.fast me.0.slow slow may.joined.elsewhere row.unmixed;
             asks = λ a e. (let idle = may.idle in absurd (cc));
             apart = λ a e. (let idle = may.idle in absurd (cc));
             unfast = λ a e. (let idle = may.idle in absurd (cc));

@@ -162,7 +162,7 @@ module _ (slots id place : ℕ) (me : Mine) (some_number : 0 < me.0.number) (fir
           number = refl;
           spare = refl;
           waiter = refl;
-          numbered = record { fast = row.fast; slow = row.slow; asks = row.asks; apart = row.apart; unfast = row.unfast };
+          numbered = record { fast = row.fast; slow = row.slow; unmixed = row.unmixed; asks = row.asks; apart = row.apart; unfast = row.unfast };
           slots = length-set s.homes place (some (slot.Place (empty_book key)));
           home_else = λ q else. set_else s.homes place q (some (slot.Place (empty_book key))) else;
           part_else = λ q else. refl;

@@ -19,7 +19,7 @@ use Rattle.mdl_steps.specs.Cells.{Part, asking_at, part_at, holder_at, held_at, 
 use Rattle.mdl_steps.specs.Layout.{wait_word}
 use Rattle.mdl_steps.specs.Lists.{Each}
 use Rattle.mdl_steps.specs.Plays.{Mine}
-use Rattle.mdl_steps.specs.Rule.{Rule, PlaceOk, NoteAgrees, WaitOk, key_at}
+use Rattle.mdl_steps.specs.Rule.{AreUnmixed, Rule, PlaceOk, NoteAgrees, WaitOk, key_at}
 use Rattle.mdl_steps.specs.WaitPlays.{wait_in, asking, asked_ticket, opened, taken_over, ended_granted, ended_lost, with_waiting, with_cancelled, opens_wait, ends_granted, ends_lost}
 use Rattle.mdl_steps.specs.WaitSeats.{MayOpen, MayCancel}
 use Rattle.mdl_steps.proofs.Desks.{each-append}
@@ -162,6 +162,7 @@ module _ (s : Table) (r : Rule s) (id : ℕ) (me : Mine) (seat : get_elem? s.vie
           numbered = record {
             fast = below_more me.0.next me.0.fast row.fast;
             slow = below_more me.0.next me.0.slow row.slow;
+            unmixed = row.unmixed;
             asks = λ a e. (let is : asking place mode me.0 ≡ a = cc in let number_is = ap (λ (b : Ask). b.number) is in omega arith);
             apart = λ a e. (let is : asking place mode me.0 ≡ a = cc in subst (λ (n : ℕ). Each (λ (t : Own). t.number ≢ n) me.0.slow) (ap (λ (b : Ask). b.number) is) (below_apart me.0.next me.0.slow row.slow));
             unfast = λ a e. may.unfast;
@@ -233,6 +234,7 @@ module _ (s : Table) (r : Rule s) (id : ℕ) (me : Mine) (seat : get_elem? s.vie
             numbered = record {
               fast = row.fast;
               slow = each-append _ me.0.slow (own ∷ []) row.slow (row.asks a asks, tt);
+              unmixed = subst (λ (ts : List Own). AreUnmixed ts (me.0.slow ++ own ∷ [])) (sym (row.unfast a asks)) tt;
               asks = λ b e. absurd (cc);
               apart = λ b e. absurd (cc);
               unfast = λ b e. absurd (cc);
@@ -291,7 +293,7 @@ module _ (s : Table) (r : Rule s) (id : ℕ) (me : Mine) (seat : get_elem? s.vie
             spare = refl;
             directory = refl;
             known = refl;
-            numbered = record { fast = row.fast; slow = row.slow; asks = λ b e. absurd (cc); apart = λ b e. absurd (cc); unfast = λ b e. absurd (cc) };
+            numbered = record { fast = row.fast; slow = row.slow; unmixed = row.unmixed; asks = λ b e. absurd (cc); apart = λ b e. absurd (cc); unfast = λ b e. absurd (cc) };
             holder_else = λ q else. λ i. record { number = me.0.number; held = held_at-unchanged place (with_cancelled session cancelled_number) (λ x. refl) q me.0.latches else i };
           }) (set (cell s place).parts id without_ask)
           (λ q else. own_parts_else s r session (8 * me.0.waits) id me.0 gone seat refl some_number refl q

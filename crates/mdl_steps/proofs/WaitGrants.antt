@@ -155,7 +155,7 @@ module _ (s : Table) (r : Rule s) (id session : ℕ) (me : Mine) (seat : get_ele
           spare = refl;
           directory = refl;
           known = refl;
-          numbered = (let row = (r.views id me.0 seat).0 in record { fast = row.fast; slow = row.slow; asks = row.asks; apart = row.apart; unfast = row.unfast });
+          numbered = (let row = (r.views id me.0 seat).0 in record { fast = row.fast; slow = row.slow; unmixed = row.unmixed; asks = row.asks; apart = row.apart; unfast = row.unfast });
           holder_else = λ q else. λ i. record { number = me.0.number; held = held_at-unchanged place (with_admitted session ticket) (λ x. refl) q me.0.latches else i };
         }) (set (cell s place).parts t.at then_)
         (λ q else. their_parts_else s r session (wait_in number 2) id me.0 w seat (λ f p. refl) some_session t.at t.view t.there t.number_is q

@@ -132,7 +132,7 @@ module _ (s : Table) (r : Rule s) (id session : ℕ) (me : Mine) (seat : get_ele
             (waits_known slots r.most (waits s) (map waiter_of s.views) id (waiter_of me.0) (waiter_of (met kind)) (at_map waiter_of s.views id me.0 seat) refl meets_ok r.waits_agree);
         views = λ j u at. elim (at_set s.views id j (met kind) u at) [
           | inl e ↦ subst (λ (x : View). Numbered x × KnowsKeys r.keys x) e.1
-              (record { fast = row.fast; slow = row.slow; asks = row.asks; apart = row.apart; unfast = row.unfast }, (r.views id me.0 seat).1)
+              (record { fast = row.fast; slow = row.slow; unmixed = row.unmixed; asks = row.asks; apart = row.apart; unfast = row.unfast }, (r.views id me.0 seat).1)
           | inr e ↦ r.views j u e.1
         ];
         places = λ q first last.
@@ -297,7 +297,7 @@ module _ (s : Table) (r : Rule s) (id session : ℕ) (me : Mine) (seat : get_ele
           spare = refl;
           directory = refl;
           known = refl;
-          numbered = (let row = (r.views id me.0 seat).0 in record { fast = row.fast; slow = row.slow; asks = row.asks; apart = row.apart; unfast = row.unfast });
+          numbered = (let row = (r.views id me.0 seat).0 in record { fast = row.fast; slow = row.slow; unmixed = row.unmixed; asks = row.asks; apart = row.apart; unfast = row.unfast });
           holder_else = λ q else. refl;
         }) (set (cell s place).parts t.at then_)
         (λ q else. their_parts_else s r session (wait_in number state) id me.0 w seat (λ f p. refl) some_number t.at t.view t.there t.number_is q

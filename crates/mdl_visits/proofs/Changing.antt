@@ -10,7 +10,7 @@ use Rattle.mdl_defs.specs.declared.change.Change.TheVariants.{Drop}
 use Rattle.mdl_defs.specs.declared.change_error.ChangeError.{ChangeError}
 use Rattle.mdl_defs.specs.declared.change_error.ChangeError.TheVariants.{OutOfMemory}
 use Rattle.mdl_defs.specs.declared.standing.Standing.{Standing}
-use Rattle.mdl_defs.specs.Standings.{standing_fault, standing_after, MayStand}
+use Rattle.mdl_defs.specs.Standings.{standing_fault, standing_after}
 use Rattle.mdl_book.specs.declared.book_view.BookView.{BookView}
 use Rattle.mdl_book.specs.Books.{redefining}
 use Rattle.mdl_book.specs.Tickets.{is_ticket, ticket_of}
@@ -21,6 +21,7 @@ use Rattle.mdl_steps.specs.declared.view.Held.{Held}
 use Rattle.mdl_steps.specs.declared.view.Met.{Met}
 use Rattle.mdl_steps.specs.declared.view.Own.{Own}
 use Rattle.mdl_steps.specs.Cells.{held_at, own_at, ticket_by}
+use Rattle.mdl_steps.specs.Deeds.{NotWaited}
 use Rattle.mdl_steps.specs.Layout.{latch_word, version_word}
 use Rattle.mdl_steps.specs.Plays.{Mine, IsFresh, latched, redefined, restood, unlatched}
 use Rattle.mdl_steps.specs.Seats.{Holds, HasExclusive, HasRedefined, written}
@@ -32,7 +33,7 @@ use Rattle.mdl_visits.specs.Numbers.{numbered, is_ask_apart}
 use Rattle.mdl_visits.specs.Readings.{Follows}
 use Rattle.mdl_visits.specs.Redefinitions.{HasExclusiveAt, IsNamed, IsRefusedFor, MeetsFault, Redefines, redefined_and_put}
 use Rattle.mdl_visits.specs.Visits.{AreStepsOf, IsInside, IsStepOf, and_made}
-use Rattle.mdl_visits.proofs.Numbers.{not_waited}
+use Rattle.mdl_visits.proofs.Numbers.{has_number, not_waited}
 use Rattle.mdl_visits.proofs.Steps.{none_then}
 
 -- a seat has one record of a latch
@@ -42,12 +43,10 @@ one_record has too = let a = has.recorded in let b = too.recorded in cc
 -- ---- in hand
 
 module _ (place : ℕ) (change : Change) (h : Held) (m m′ : Mine) (is : m′ ≡ written place (redefining change h.book) m) where
-  pub has_redefined : Holds place h h.book m → HasExclusive h m → MayStand h.book.key.namespace (standing_after change h.book.standing)
-      → HasRedefined place h (standing_after change h.book.standing) m′
-  has_redefined has exclusive may = subst (λ (x : Mine). HasRedefined place h (standing_after change h.book.standing) x) (sym is) (record {
+  pub has_redefined : Holds place h h.book m → HasExclusive h m → standing_fault h.book.key.namespace change h.book.standing ≡ None → HasRedefined place h change m′
+  has_redefined has exclusive allowed = subst (λ (x : Mine). HasRedefined place h change x) (sym is) (record {
     holds = holds_written place h h.book (redefining change h.book) m has;
-    newer = refl;
-    may = may;
+    allowed = allowed;
     exclusive = exclusive;
   })
 
@@ -81,8 +80,10 @@ exclusive_there place h m fresh apart held =
     let number = held.0 in
     let t = held.1 in
     let who = m.0.number in
-    let there = fresh.own number (not_waited m.0 number (ap is_some held.2) apart) ∙ own_is who place number t m.0.slow held.2 held.3 in
-    (ticket_by who t, find-contains (is_ticket who number) h.book.granted (ticket_by who t) there, refl, held.4)
+    let unwaited = not_waited m.0 number (ap is_some held.2) apart in
+    let unwaited_so = subst (λ (n : ℕ). NotWaited m.0 n) (sym (has_number number t m.0.slow held.2)) unwaited in
+    let there = fresh.own number unwaited ∙ own_is who place number t m.0.slow held.2 held.3 in
+    (ticket_by who t, find-contains (is_ticket who number) h.book.granted (ticket_by who t) there, refl, held.4, unwaited_so)
 
 -- ---- a visit that changes
 

@@ -32,7 +32,7 @@ use Rattle.mdl_steps.proofs.Tickets.{with_mode-hit, with_mode-miss}
 use Rattle.mdl_steps.proofs.Views.{by_bool}
 use Rattle.mdl_visits.specs.Coverings.{FitsAt, IsCovered}
 use Rattle.mdl_visits.specs.Numbers.{numbered}
-use Rattle.mdl_system.specs.Strength.{covers}
+use Rattle.mdl_system.specs.Strength.{covers, may_downgrade}
 use Rattle.mdl_system.proofs.LawfulLemmas.{implied}
 use Rattle.mdl_system.proofs.StrengthLemmas.{covers-at_least}
 
@@ -78,6 +78,16 @@ own_mode place who number t h m fresh found =
     let test : Ticket → Bool = λ x. is_mode_of (lock_kind h.book) x.mode in
     let there = find-contains (is_ticket who number) h.book.granted (ticket_by who t) found in
     subst (λ (x : Ticket). test x ≡ true) there.2 (AllPass-from_list_all test h.book.granted fresh.modes there.0 (ticket_by who t) there.1)
+
+-- whether a mode that another may be brought down to is covered by it
+abbrev lowers : Mode → Mode → Bool
+lowers held mode = not (may_downgrade held mode) || covers held mode
+
+lowers_all : list_all (λ held. list_all (lowers held) all_modes) all_modes ≡ true
+lowers_all = refl
+
+pub downgrade-covered : (held mode : Mode) → may_downgrade held mode ≡ true → covers held mode ≡ true
+downgrade-covered held mode may = implied _ _ (each_mode (lowers held) (each_mode (λ h. list_all (lowers h) all_modes) lowers_all held) mode) may
 
 -- by it a mode is covered
 pub covered_by : (place who number : ℕ) (t : Own) (mode : Mode) (h : Held) (m : Mine) → IsFresh place h m → ticket_of who number h.book.granted ≡ Some (ticket_by who t)

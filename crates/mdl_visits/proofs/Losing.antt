@@ -78,15 +78,22 @@ pub taken_out : {P : Type 0} {Fault : Type 0} (found : Option Ticket) (fault : F
 taken_out {P = P} (Some t) fault result there is done = subst (λ r. OnOk r P) is done
 taken_out None fault result there is done = absurd (cc)
 
+-- one that is there is one
+pub found_one : (found : Option Ticket) → is_some found ≡ true → (t : Ticket) × (found ≡ Some t)
+found_one (Some t) there = (t, refl)
+found_one None there = absurd (cc)
+
 -- and its session may give the latch back
 pub has_lost : (place who number : ℕ) (h : Held) (m m′ : Mine) → m.0.number ≡ who → Holds place h h.book m → TellsLists h.book h.slow h.obtrusive → KnowsPlace m.0 place → NotWaited m.0 number
-    → m′ ≡ written place (booked who (Lose number) h.book) m
+    → is_some (ticket_of who number h.book.granted) ≡ true → m′ ≡ written place (booked who (Lose number) h.book) m
     → (g : Held) × HasDone place (Lose number ∷ []) g m′ × Flagged (all_booked m′.0.number (Lose number ∷ []) g.book) g.slow g.obtrusive
-has_lost place who number h m m′ number_is has exact known unwaited is =
+has_lost place who number h m m′ number_is has exact known unwaited there is =
+    let held = found_one (ticket_of who number h.book.granted) there in
+    let held_by_me = subst (λ (w : ℕ). ticket_of w number h.book.granted ≡ Some held.0) (sym number_is) held.1 in
     subst (λ (x : Mine). (g : Held) × HasDone place (Lose number ∷ []) g x × Flagged (all_booked x.0.number (Lose number ∷ []) g.book) g.slow g.obtrusive) (sym is)
     (subst (λ (w : ℕ). (g : Held) × HasDone place (Lose number ∷ []) g (written place (booked w (Lose number) h.book) m) × Flagged (removing m.0.number number g.book) g.slow g.obtrusive) number_is (
       h,
-      record { holds = holds_written place h h.book (removing m.0.number number h.book) m has; act = inl known; may = (unwaited, tt) },
+      record { holds = holds_written place h h.book (removing m.0.number number h.book) m has; act = inl known; may = (held.0, (held_by_me, unwaited)) },
       still_flagged m.0.number number h.book h.slow h.obtrusive ((λ e. exact.0 ∙ e), λ e. exact.1 ∙ e),
     ))
 

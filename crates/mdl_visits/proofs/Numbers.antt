@@ -1,7 +1,8 @@
--- No ticket that a session has is the one that it waits for.
-use Rattle.std.proofs.Common.{◌≡◌, ℕ, ◌==◌, true, List, [], ◌∷◌, Option, sym, ◌∙◌, subst}
+-- No ticket that a session has is the one that it waits for, and a session that waits for nothing waits for none.
+use Rattle.std.proofs.Common.{◌≡◌, ℕ, ◌==◌, true, List, [], ◌∷◌, Option, Some, None, sym, ◌∙◌, subst}
 use Rattle.std.specs.Prelude.{is_some, not}
 use Rattle.std.proofs.lemmas.Bool.{and_parts, eqb-true, eq-eqb}
+use Rattle.mdl_book.proofs.TicketLemmas.{find-passes}
 use Rattle.mdl_steps.specs.declared.view.Ask.{Ask}
 use Rattle.mdl_steps.specs.declared.view.Own.{Own}
 use Rattle.mdl_steps.specs.declared.view.View.{View}
@@ -24,3 +25,10 @@ pub not_waited : (v : View) (number : ℕ) → is_some (numbered number v.slow) 
 not_waited v number there apart = λ a asks same.
     let here = subst (λ (o : Option Ask). is_ask_apart v.next v.slow o ≡ true) asks apart in
     other_number a.number number v.slow there (and_parts _ (is_no_number a.number v.slow) here).1 same
+
+pub idle_waits_not : (v : View) (number : ℕ) → v.asks ≡ None → NotWaited v number
+idle_waits_not v number idle = λ a asks same. let never : ◌≡◌ {A = Option Ask} None (Some a) = sym idle ∙ asks in absurd (cc)
+
+-- the ticket of a number has it
+pub has_number : (number : ℕ) (t : Own) (tickets : List Own) → numbered number tickets ≡ Some t → t.number ≡ number
+has_number number t tickets found = eqb-true t.number number (find-passes (λ (x : Own). x.number == number) tickets t found)

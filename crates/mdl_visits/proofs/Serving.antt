@@ -1,6 +1,6 @@
 -- A try to grant a waiting ticket, put together of its steps.
 use Rattle.std.proofs.Common.{◌≡◌, ◌≢◌, ℕ, ◌+◌, ◌-◌, ◌*◌, ◌%◌, ◌/◌, ◌<◌, ◌==◌, ◌&&◌, not, cond, true, false, None, List, [], ◌∷◌, ◌++◌, Some, refl, sym, ap, ◌∙◌, subst, inl, inr, append-nil, arith}
-use Rattle.std.specs.Prelude.{Result, OnOk, is_some, Option, ◌⊎◌}
+use Rattle.std.specs.Prelude.{Result, OnOk, is_some, Contains, find, Option}
 use Rattle.std.specs.Option.{ok_or, option_map}
 use Rattle.std.specs.FinSet as set
 use Rattle.std.specs.Ordering.{nat_cmp}
@@ -10,32 +10,26 @@ use Rattle.atomic_table.specs.Seated.{TableId}
 use Rattle.mdl_book.specs.declared.book_error.BookError.{BookError}
 use Rattle.mdl_book.specs.declared.book_error.BookError.TheVariants.{NotHere}
 use Rattle.mdl_book.specs.declared.ticket.Ticket.{Ticket}
-use Rattle.mdl_book.specs.Books.{admitting, next_grantable}
+use Rattle.mdl_book.specs.Books.{admitting, is_ready, lock_kind, next_grantable}
+use Rattle.mdl_book.specs.FastTickets.{can_be_granted}
 use Rattle.mdl_book.specs.SessionSets.{IsEverySession}
 use Rattle.mdl_book.specs.Tickets.{ticket_id, ticket_of}
 use Rattle.mdl_steps.specs.declared.step_kind.StepKind.{StepKind}
-use Rattle.mdl_steps.specs.declared.step_kind.StepKind.TheVariants.{MissWait, ReadWait}
+use Rattle.mdl_steps.specs.declared.step_kind.StepKind.TheVariants.{ReadWait, ReadWord}
 use Rattle.mdl_steps.specs.declared.view.Held.{Held}
 use Rattle.mdl_steps.specs.declared.view.Met.{Met}
-use Rattle.mdl_steps.specs.Layout.{wait_word}
-use Rattle.mdl_steps.specs.Plays.{Mine}
+use Rattle.mdl_steps.specs.Layout.{lock_word, wait_word}
+use Rattle.mdl_steps.specs.Plays.{Mine, changed, noting, stepped}
 use Rattle.mdl_steps.specs.Seats.{Holds, written}
-use Rattle.mdl_steps.specs.WaitPlays.{met_wait_by, met_wait, missed_wait, settled_granted, wait_in, with_admitted, TellsOwn}
-use Rattle.mdl_steps.specs.WaitSeats.{IsSession}
+use Rattle.mdl_steps.specs.WaitPlays.{met_wait_by, settled_granted, wait_in, with_admitted, TellsOwn}
 use Rattle.mdl_steps.proofs.Hands.{holds_written}
 use Rattle.mdl_steps.proofs.Views.{other}
-use Rattle.mdl_visits.specs.Grantings.{AreTried, ForgetsNobody, IsGrantedFrom, IsReady, IsServed, IsTried, MakesWay, MayServe, WasSettled}
+use Rattle.mdl_visits.specs.Grantings.{AreTried, ForgetsNobody, HasJustMet, IsGrantedFrom, IsLookedThrough, IsReady, IsServed, IsTried, MakesWayInTurn, MayServe, MeetsWaiter, OnlyMeets, ahead_of}
 use Rattle.mdl_visits.specs.Visits.{GoesOn, IsStepOf}
 use Rattle.mdl_visits.proofs.Losing.{taken_out}
-use Rattle.mdl_visits.proofs.Steps.{step_after, step_before}
-use Rattle.mdl_visits.proofs.Waiting.{found_number, none_next, none_of_session, none_still, serves_on, waits_there}
-use Rattle.mdl_visits.proofs.Way.{settled_after, settled_before, steps_of, way_granted, way_then, way_written}
-
--- a step that only met a wait's word, and what was met
-pub step_met : (kind : StepKind) (slots session found : ℕ) (m m′ : Mine) → m′ ≡ met_wait_by kind slots session found m → (e : Met) × IsStepOf m m′ e × (e.word ≡ wait_word slots session) × (e.found ≡ found)
-step_met kind slots session found m m′ is =
-    let e : Met = record { kind = kind; deeds = []; word = wait_word slots session; found = found; held = m.0.latches; directory = m.0.directory } in
-    (e, ([], [], ap (λ (x : Mine). x.0.log) is ∙ ap (λ (log : List Met). log ++ e ∷ []) (sym (append-nil m.0.log))), refl, refl)
+use Rattle.mdl_visits.proofs.Steps.{goes_by, step_after, step_before}
+use Rattle.mdl_visits.proofs.Waiting.{found_number, gone, nobody_next, none_ahead, not_ready, only_one, serves_on, waits_ahead, waits_still}
+use Rattle.mdl_visits.proofs.Way.{looked_before, settled_after, settled_before, way_granted, way_met, way_then, way_written}
 
 -- a seat has one record of a place's latch
 pub one_record : (place : ℕ) (h g : Held) (m : Mine) → Holds place h h.book m → Holds place g g.book m → h ≡ g
@@ -51,42 +45,68 @@ holds_met kind slots place session found h m m′ is has =
 some_is : (o : Option Ticket) (t : Ticket) → o ≡ Some t → is_some o ≡ true
 some_is o t e = ap is_some e
 
+-- a step that only met a wait's word, while its ticket waits there, and what was met
+pub waiter_met : (kind : StepKind) → OnlyMeets kind → (slots place session number found : ℕ) (h : Held) (m m′ : Mine) → m′ ≡ met_wait_by kind slots session found m → Holds place h h.book m → IsReady session number h
+    → (e : Met) × IsStepOf m m′ e × MeetsWaiter slots place session number e × (e.found ≡ found)
+waiter_met kind only slots place session number found h m m′ is has ready =
+    let e : Met = record { kind = kind; deeds = []; word = wait_word slots session; found = found; held = m.0.latches; directory = m.0.directory } in (
+      e,
+      ([], [], ap (λ (x : Mine). x.0.log) is ∙ ap (λ (log : List Met). log ++ e ∷ []) (sym (append-nil m.0.log))),
+      record { kind = only; word = refl; latch = h; held = has.recorded; waits = some_is (ticket_of session number h.book.waiting) ready.wish ready.waits },
+      refl,
+    )
+
 -- ---- the exchange
 
-module _ (slots place session number wait count : ℕ) (h : Held) (m a b : Mine) (has : Holds place h h.book m) (ready : IsReady session number h)
-    (result : Result Ticket BookError) (made : a ≡ settled_granted slots place session number count m) (keeps : Holds place (with_admitted session number h) h.book a) (own : TellsOwn slots session (wait_in count 1) m.0)
-    (refused : result ≡ ok_or (ticket_of session number h.book.waiting) NotHere) (done : OnOk result (b ≡ written place (admitting session number h.book) a)) where
+module _ (id : TableId) (place session number wait count : ℕ) (h : Held) (m a b : Mine) (has : Holds place h h.book m) (ready : IsReady session number h) (just : HasJustMet id.slots place session h m)
+    (result : Result Ticket BookError) (made : a ≡ settled_granted id.slots place session number count m) (keeps : Holds place (with_admitted session number h) h.book a)
+    (own : TellsOwn id.slots session (wait_in count 1) m.0) (refused : result ≡ ok_or (ticket_of session number h.book.waiting) NotHere)
+    (done : OnOk result (b ≡ written place (admitting session number h.book) a)) where
   admitted : b ≡ written place (admitting session number h.book) a
   admitted = taken_out (ticket_of session number h.book.waiting) NotHere result (some_is (ticket_of session number h.book.waiting) ready.wish ready.waits) refused done
 
-  pub is_admitted : (g : Held) → Holds place g g.book m → IsGrantedFrom slots place session number wait g m b
+  pub is_admitted : (g : Held) → Holds place g g.book m → IsGrantedFrom id.slots place session number wait g m b
   is_admitted g mine =
-      subst (λ (x : Held). IsGrantedFrom slots place session number wait x m b) (one_record place h g m has mine)
+      subst (λ (x : Held). IsGrantedFrom id.slots place session number wait x m b) (one_record place h g m has mine)
       (inr (subst (λ (x : Mine). Holds place (with_admitted session number h) (admitting session number h.book) x) (sym admitted)
       (holds_written place (with_admitted session number h) h.book (admitting session number h.book) a keeps)))
 
-  pub way_admitted : MakesWay slots place m b
-  way_admitted =
-      way_then slots place m a b
-      (way_granted slots place session number count h h.book m a has ready made (found_number session number h.book.waiting ready.wish ready.waits) own)
-      (way_written slots place h.book (admitting session number h.book) a b keeps.carried admitted)
+  pub way_admitted : MakesWayInTurn id place session number m b
+  way_admitted start g mine looked =
+      way_then id place start m a b
+      (way_granted id place start session number count h h.book m a has ready just
+      (subst (λ (x : Held). IsLookedThrough id place x (ahead_of session number x.book.waiting) start m) (one_record place g h m mine has) looked)
+      made (found_number session number h.book.waiting ready.wish ready.waits) own)
+      (way_written id place start h.book (admitting session number h.book) a b keeps.carried admitted)
 
-pub is_missed : (slots place session number wait met : ℕ) (m a : Mine) → a ≡ missed_wait slots session met m → met ≢ wait → (g : Held) → Holds place g g.book m → IsGrantedFrom slots place session number wait g m a
-is_missed slots place session number wait met m a is other g has =
-    let step = step_met MissWait slots session met m a is in
-    inl ((step.0, step.1, step.2, λ same. other (sym step.3 ∙ same)), holds_met MissWait slots place session met g m a is has)
+module _ (kind : StepKind) (only : OnlyMeets kind) (id : TableId) (place session number word : ℕ) (h : Held) (m a : Mine) (has : Holds place h h.book m) (ready : IsReady session number h)
+    (is : a ≡ met_wait_by kind id.slots session word m) where
+  -- it met another word
+  pub is_missed : (wait : ℕ) → word ≢ wait → (g : Held) → Holds place g g.book m → IsGrantedFrom id.slots place session number wait g m a
+  is_missed wait other g mine =
+      let step = waiter_met kind only id.slots place session number word h m a is has ready in
+      subst (λ (x : Held). IsGrantedFrom id.slots place session number wait x m a) (one_record place h g m has mine)
+      (inl ((step.0, step.1, step.2, λ same. other (sym step.3 ∙ same)), holds_met kind id.slots place session word h m a is has))
 
--- ---- the read before it
+  -- a step that met the word makes way
+  pub way_missed : TellsOwn id.slots session word m.0 → MakesWayInTurn id place session number m a
+  way_missed own start g mine looked = way_met id place start kind session word g.book m a mine.carried own is
 
-module _ (id : TableId) (place session number word : ℕ) (m a : Mine) (is : a ≡ met_wait id.slots session word m) where
-  read_step : (e : Met) × IsStepOf m a e × (e.word ≡ wait_word id.slots session) × (e.found ≡ word)
-  read_step = step_met ReadWait id.slots session word m a is
+  -- ---- the read before it
+
+  goes : GoesOn m a
+  goes = (record { kind = kind; deeds = []; word = wait_word id.slots session; found = word; held = m.0.latches; directory = m.0.directory } ∷ [], ap (λ (x : Mine). x.0.log) is)
+
+  pub just_met : kind ≡ ReadWait → HasJustMet id.slots place session h a
+  just_met read =
+      (m.0.log, record { kind = kind; deeds = []; word = wait_word id.slots session; found = word; held = m.0.latches; directory = m.0.directory }, ap (λ (x : Mine). x.0.log) is, read, refl, has.recorded)
 
   -- it met the wait settled
   pub is_settled : word % 8 ≢ 1 → (g : Held) → Holds place g g.book m → IsServed id place session number g m a
-  is_settled state g has =
-      let step = read_step in
-      inl (
+  is_settled state g mine =
+      let step = waiter_met kind only id.slots place session number word h m a is has ready in
+      subst (λ (x : Held). IsServed id place session number x m a) (one_record place h g m has mine)
+      (inl (
         inr (record {
           read = step.0;
           read_then = step.1;
@@ -96,24 +116,22 @@ module _ (id : TableId) (place session number word : ℕ) (m a : Mine) (is : a �
           of_same = step.2;
           settled = λ same. let found = step.3 in (let again : step.0.found ≡ 8 * (step.0.found / 8) + 1 = same in state (omega arith));
         }),
-        holds_met ReadWait id.slots place session word g m a is has,
-      )
+        holds_met kind id.slots place session word h m a is has,
+      ))
 
   -- it met the wait unsettled, and the exchange was tried
-  pub is_tried : (b : Mine) → word % 8 ≡ 1 → MakesWay id.slots place a b → ((g : Held) → Holds place g g.book a → IsGrantedFrom id.slots place session number word g a b)
-      → (g : Held) → Holds place g g.book m → IsServed id place session number g m b
-  is_tried b state way tried g has = elim (tried g (holds_met ReadWait id.slots place session word g m a is has)) [
+  pub is_tried : (b : Mine) → word % 8 ≡ 1 → ((g : Held) → Holds place g g.book a → IsGrantedFrom id.slots place session number word g a b) → (g : Held) → Holds place g g.book m → IsServed id place session number g m b
+  is_tried b state tried g mine = elim (tried g (holds_met kind id.slots place session word g m a is mine)) [
     | inl missed ↦
-        let step = read_step in
+        let step = waiter_met kind only id.slots place session number word h m a is has ready in
         let met = missed.0 in
-        let more = steps_of id.slots place a b way in
         inl (
           inr (record {
             read = step.0;
-            read_then = step_before m a b more step.0 step.1;
+            read_then = step_before m a b (goes_by a b met.0 met.1) step.0 step.1;
             of_wait = step.2;
             met = met.0;
-            met_then = step_after m a b (record { kind = ReadWait; deeds = []; word = wait_word id.slots session; found = word; held = m.0.latches; directory = m.0.directory } ∷ [], ap (λ (x : Mine). x.0.log) is) met.0 met.1;
+            met_then = step_after m a b goes met.0 met.1;
             of_same = met.2;
             settled = λ same. (let found = step.3 in let again : met.0.found ≡ 8 * (step.0.found / 8) + 1 = same in met.3 (omega arith));
           }),
@@ -122,11 +140,16 @@ module _ (id : TableId) (place session number word : ℕ) (m a : Mine) (is : a �
     | inr granted ↦ inr granted
   ]
 
+  pub way_tried : (b : Mine) → TellsOwn id.slots session word m.0 → MakesWayInTurn id place session number a b → MakesWayInTurn id place session number m b
+  way_tried b own way start g mine looked =
+      way_then id place start m a b (way_missed own start g mine looked)
+      (way start g (holds_met kind id.slots place session word g m a is mine) (looked_before start m a id place g (ahead_of session number g.book.waiting) goes looked))
+
 -- ---- turn by turn
 
 -- at first nobody was tried
-pub tried_first : (id : TableId) (untried : set.FinSet nat_cmp) (h : Held) (m : Mine) → IsEverySession untried → AreTried id untried h m m
-tried_first id untried h m every session is out = absurd (let there = every session in cc)
+pub tried_first : (id : TableId) (place : ℕ) (untried : set.FinSet nat_cmp) (h : Held) (m a : Mine) → IsEverySession untried → AreTried id place untried h m a
+tried_first id place untried h m a every t among is out = absurd (let there = every t.session in cc)
 
 -- who was taken out of the set is the last one or was before
 out_before : (untried : set.FinSet nat_cmp) (session who : ℕ) → who ≢ session → set.contains (set.remove untried session) who ≡ false → set.contains untried who ≡ false
@@ -141,56 +164,77 @@ fewer_untried untried session there =
     let some : set.len untried ≢ 0 = λ none. (let empty = ap (λ s. set.contains s session) (set.empty_of_len untried none) ∙ set.contains-empty nat_cmp session in absurd (cc)) in
     omega arith
 
-module _ (id : TableId) (place session number word : ℕ) (h : Held) (m a b : Mine) (untried : set.FinSet nat_cmp) (more : GoesOn m a) (has : Holds place h h.book a) (may : MayServe word h)
-    (ready : IsReady session number h) (way : MakesWay id.slots place a b) (served : IsServed id place session number h a b) (tried : AreTried id untried h m a) where
-  goes : GoesOn a b
-  goes = steps_of id.slots place a b way
-
+module _ (id : TableId) (place session number word : ℕ) (h : Held) (m a b : Mine) (untried : set.FinSet nat_cmp) (before : GoesOn m a) (more : GoesOn a b) (has : Holds place h h.book a) (may : MayServe word h)
+    (ready : IsReady session number h) (served : IsServed id place session number h a b) (tried : AreTried id place untried h m a) where
   -- who was tried before was tried
-  still : (who : ℕ) → IsTried id who h m a → IsTried id who h m b
-  still who (inl none) = inl none
-  still who (inr (inl settled)) = inr (inl (settled_before id.slots who m a b goes settled))
-  still who (inr (inr none)) = inr (inr none)
+  still : (who its : ℕ) → IsTried id place who its m a → IsTried id place who its m b
+  still who its (inl none) = inl none
+  still who its (inr settled) = inr (settled_before m a b id.slots place who its more settled)
 
-  still_admitted : (who : ℕ) → IsTried id who h m a → IsTried id who (with_admitted session number h) m b
-  still_admitted who (inl none) = inl none
-  still_admitted who (inr (inl settled)) = inr (inl (settled_before id.slots who m a b goes settled))
-  still_admitted who (inr (inr none)) = inr (inr (none_still session number who h none))
-
-  it : ((IsSession id session → ⊥) ⊎ WasSettled id.slots session a b) → IsTried id session h m b
+  it : IsTried id place session number a b → IsTried id place session number m b
   it (inl none) = inl none
-  it (inr settled) = inr (inl (settled_after id.slots session m a b more settled))
+  it (inr settled) = inr (settled_after m a b id.slots place session number before settled)
 
-  pub turn_done : (h′ : Held) × Holds place h′ h′.book b × MayServe word h′ × AreTried id (set.remove untried session) h′ m b
+  pub turn_done : (h′ : Held) × Holds place h′ h′.book b × MayServe word h′ × AreTried id place (set.remove untried session) h′ m b
   turn_done = elim served [
     | inl left ↦ (
       h,
       left.1,
       may,
-      λ who is out. elim (cases_eq who session) [
-        | inl same ↦ subst (λ (n : ℕ). IsTried id n h m b) (sym same) (it left.0)
-        | inr differs ↦ still who (tried who is (out_before untried session who differs out))
+      λ t among is out. elim (cases_eq t.session session) [
+        | inl same ↦
+            subst (λ (n : ℕ). IsTried id place n t.number m b) (sym same)
+            (subst (λ (n : ℕ). IsTried id place session n m b) (sym (only_one word session number h ready.wish t ready.waits may among same)) (it left.0))
+        | inr differs ↦ still t.session t.number (tried t among is (out_before untried session t.session differs out))
       ],
     )
     | inr granted ↦ (
       with_admitted session number h,
       granted,
       serves_on word session number h ready.wish ready.waits may,
-      λ who is out. elim (cases_eq who session) [
-        | inl same ↦ subst (λ (n : ℕ). IsTried id n (with_admitted session number h) m b) (sym same) (inr (inr (none_of_session word session number h ready.wish ready.waits may)))
-        | inr differs ↦ still_admitted who (tried who is (out_before untried session who differs out))
+      λ t among is out. elim (cases_eq t.session session) [
+        | inl same ↦ absurd (gone word session number h ready.wish t ready.waits may among same)
+        | inr differs ↦ still t.session t.number (tried t (waits_still session number h t among) is (out_before untried session t.session differs out))
       ],
     )
   ]
 
--- where nobody is next, nobody is forgotten
-pub forgets_nobody : (id : TableId) (word : ℕ) (h : Held) (m a : Mine) (untried : set.FinSet nat_cmp) → AreTried id untried h m a → None ≡ option_map ticket_id (next_grantable word untried h.book)
-    → ForgetsNobody id word h m a
-forgets_nobody id word h m a untried tried none t among known is = elim (none_next word untried h none t among) [
-  | inl out ↦ elim (tried t.session is out) [
-    | inl unknown ↦ absurd (unknown known)
-    | inr (inl settled) ↦ inl settled
-    | inr (inr gone) ↦ absurd (waits_there h.book.waiting t among gone)
-  ]
-  | inr cannot ↦ inr cannot
-]
+-- ---- who is passed over
+
+-- a step that read the word of a lock
+abbrev pub WasRead : ℕ → ℕ → Mine → Mine → Type 0
+WasRead place word m m′ = (e : Met) × IsStepOf m m′ e × (e.kind ≡ ReadWord) × (e.word ≡ lock_word place) × (e.found ≡ word)
+
+pub read_first : (place word : ℕ) (m m′ : Mine) → m′ ≡ stepped ReadWord place word (noting word) m → WasRead place word m m′
+read_first place word m m′ is =
+    let e : Met = record { kind = ReadWord; deeds = []; word = lock_word place; found = word; held = (changed place (noting word) m.0).latches; directory = m.0.directory } in
+    (e, ([], [], ap (λ (x : Mine). x.0.log) is ∙ ap (λ (log : List Met). log ++ e ∷ []) (sym (append-nil m.0.log))), refl, refl, refl)
+
+pub read_before : (place word : ℕ) (a b c : Mine) → GoesOn b c → WasRead place word a b → WasRead place word a c
+read_before place word a b c more read = (read.0, step_before a b c more read.0 read.1, read.2, read.3, read.4)
+
+module _ (id : TableId) (place word : ℕ) (untried : set.FinSet nat_cmp) (h : Held) (m a : Mine) (may : MayServe word h) (read : WasRead place word m a) (tried : AreTried id place untried h m a) where
+  -- those of whom none is next
+  looks : (tickets : List Ticket) → ((t : Ticket) → Contains tickets t → Contains h.book.waiting t) → find (is_ready word untried h.book) tickets ≡ None → IsLookedThrough id place h tickets m a
+  looks tickets waits none = record {
+    read = read.0;
+    read_then = read.1;
+    kind = read.2;
+    of_lock = read.3;
+    noted = λ up. may.1 up ∙ ap (λ (w : ℕ). Some w) (sym read.4);
+    passed = λ t among known is. elim (not_ready word untried h tickets none t among) [
+      | inl out ↦ elim (tried t (waits t among) is out) [
+        | inl unknown ↦ absurd (unknown known)
+        | inr settled ↦ inl settled
+      ]
+      | inr cannot ↦ inr (subst (λ (w : ℕ). can_be_granted (lock_kind h.book) h.book.granted h.book.waiting w t.session t.mode ≡ false) (sym read.4) cannot)
+    ];
+  }
+
+  -- those who arrived before the next one
+  pub looks_ahead : (session number : ℕ) → Some (session, number) ≡ option_map ticket_id (next_grantable word untried h.book) → IsLookedThrough id place h (ahead_of session number h.book.waiting) m a
+  looks_ahead session number told = looks (ahead_of session number h.book.waiting) (waits_ahead session number h.book.waiting) (none_ahead word session number untried h told)
+
+  -- all, where nobody is next
+  pub forgets_nobody : None ≡ option_map ticket_id (next_grantable word untried h.book) → ForgetsNobody id place h m a
+  forgets_nobody told = looks h.book.waiting (λ t among. among) (nobody_next word untried h told)

@@ -11,6 +11,10 @@ use Rattle.mdl_steps.specs.Lists.{Each}
 use Rattle.mdl_steps.specs.Plays.{Mine, latched, unlatched}
 use Rattle.mdl_visits.specs.Visits.{AllHad, Does, GoesOn, IsLastStepOf, IsStepOf, KeepsDirectory, and_made, deeds_of}
 
+-- the list grew by a step and those beside it
+pub goes_by : (a b : Mine) (e : Met) → IsStepOf a b e → GoesOn a b
+goes_by a b e step = (step.0 ++ e ∷ step.1, step.2 ∙ append_assoc a.0.log step.0 (e ∷ step.1))
+
 module _ (a b c : Mine) where
   -- more steps follow
   pub step_before : GoesOn b c → (e : Met) → IsStepOf a b e → IsStepOf a c e

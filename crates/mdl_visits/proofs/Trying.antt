@@ -1,5 +1,5 @@
 -- What a try comes to, by the record of the latch as it was entered.
-use Rattle.std.proofs.Common.{◌≡◌, ℕ, ◌+◌, ◌≤◌, Bool, true, false, cond, ◌||◌, List, [], ◌∷◌, ◌++◌, length, Option, Some, Result, Err, refl, sym, ap, ◌∙◌, subst, inl, inr, append_assoc, length-append, arith}
+use Rattle.std.proofs.Common.{◌≡◌, ℕ, ◌+◌, ◌≤◌, Bool, true, false, cond, ◌||◌, List, [], ◌∷◌, ◌++◌, length, Option, Some, None, Result, Err, refl, sym, ap, ◌∙◌, subst, inl, inr, append_assoc, length-append, arith}
 use Rattle.std.specs.Prelude.{◌⊎◌, nat_lt, nat_le, is_some}
 use Rattle.std.proofs.lemmas.Bool.{and_parts, lt-ltb, leb-true, or_right}
 use Rattle.std.proofs.lemmas.List.Folds.{list_any-append}
@@ -13,13 +13,14 @@ use Rattle.mdl_book.specs.declared.book_view.BookView.{BookView}
 use Rattle.mdl_book.specs.declared.ticket.Ticket.{Ticket}
 use Rattle.mdl_book.specs.Books.{lock_kind, granting, grant_fault, any_obtrusive, ticket_count}
 use Rattle.mdl_book.specs.FastTickets.{can_be_granted, may_stand}
+use Rattle.mdl_book.specs.Granting.{goes_first}
 use Rattle.mdl_book.specs.Tickets.{ticket_of}
 use Rattle.mdl_steps.specs.declared.deed.Deed.{Deed}
 use Rattle.mdl_steps.specs.declared.deed.Deed.TheVariants.{Gain, Alter}
 use Rattle.mdl_steps.specs.declared.step_kind.StepKind.TheVariants.{PutLatch, ReadWord}
 use Rattle.mdl_steps.specs.declared.view.Held.{Held}
 use Rattle.mdl_steps.specs.declared.view.Met.{Met}
-use Rattle.mdl_steps.specs.Deeds.{May, MayJoin, NotWaited, booked}
+use Rattle.mdl_steps.specs.Deeds.{MayBeGranted, MayDo, MayJoin, MayUpgrade, booked}
 use Rattle.mdl_steps.specs.Layout.{latch_word, lock_word}
 use Rattle.mdl_steps.specs.Plays.{Mine, noting, raised, unlatched}
 use Rattle.mdl_steps.specs.Rule.{TellsLists}
@@ -28,6 +29,8 @@ use Rattle.mdl_steps.proofs.Hands.{holds_written}
 use Rattle.mdl_steps.proofs.Views.{by_bool}
 use Rattle.mdl_visits.proofs.Altering.{altered_exactly}
 use Rattle.mdl_visits.proofs.Leaving.{own_found}
+use Rattle.mdl_visits.proofs.Losing.{found_one}
+use Rattle.mdl_visits.proofs.Numbers.{idle_waits_not}
 use Rattle.mdl_visits.specs.Leavings.{HasTicket}
 use Rattle.mdl_visits.specs.Visits.{Enters, GoesOn, IsStepOf, KnowsKind, MayLeave, MeetsFull, MeetsGrantable}
 
@@ -104,8 +107,17 @@ module _ (place word session number : ℕ) (mode : Mode) (kind : Kind) (asks : B
     joins_here : can_be_granted (lock_kind book) book.granted book.waiting word session mode ≡ true → MayJoin m′.0.number book latch.noted mode
     joins_here can = subst (λ (s : ℕ). MayJoin s book latch.noted mode) me (joins can)
 
+    -- and it waits for nothing, and behind nobody
+    granted_here : m.0.asks ≡ None → can_be_granted (lock_kind book) book.granted book.waiting word session mode ≡ true → MayBeGranted m′.0 book latch.noted mode
+    granted_here idle can = record {
+      idle = ap (λ (x : Mine). x.0.asks) entered.inside.now ∙ idle;
+      is_mode = is_mode_here;
+      joins = joins_here can;
+      first = subst (λ (s : ℕ). goes_first (lock_kind book) book.waiting s mode ≡ true) me (and_parts _ _ can).1;
+    }
+
     -- it has a deed written that it may do, and may give the latch back
-    may_put : (d : Deed) (m″ : Mine) → May m′.0 book latch.noted d → TellsLists (booked session d book) true (asks || entered.found.obtrusive)
+    may_put : (d : Deed) (m″ : Mine) → MayDo m′.0 book latch.noted (d ∷ []) → TellsLists (booked session d book) true (asks || entered.found.obtrusive)
         → m″ ≡ written place (booked session d book) m′ → MayPut place (d ∷ []) m″
     may_put d m″ may told wrote =
         let known = subst (λ (x : Mine). KnowsKind x.0 place kind) (sym entered.inside.now) knows in
@@ -115,33 +127,42 @@ module _ (place word session number : ℕ) (mode : Mode) (kind : Kind) (asks : B
           record {
             holds = subst (λ (s : ℕ). Holds place latch (booked s d book) (written place (booked session d book) m′)) me has;
             act = inl (known.0, known.1, known.2, known.3);
-            may = (may, tt);
+            may = may;
           },
           subst (λ (s : ℕ). TellsLists (booked s d book) true (asks || entered.found.obtrusive)) me told,
         )
 
     -- the deed is the ticket that it gains
-    pub ready : (m″ : Mine) → number ≡ m.0.next → can_be_granted (lock_kind book) book.granted book.waiting word session mode ≡ true
+    pub ready : (m″ : Mine) → m.0.asks ≡ None → number ≡ m.0.next → can_be_granted (lock_kind book) book.granted book.waiting word session mode ≡ true
         → m″ ≡ written place (booked session (Gain number mode) book) m′ → MayPut place (Gain number mode ∷ []) m″
-    ready m″ next can wrote =
+    ready m″ idle next can wrote =
         may_put (Gain number mode) m″
-        (next ∙ sym (ap (λ (x : Mine). x.0.next) entered.inside.now), is_mode_here, joins_here can)
+        (next ∙ sym (ap (λ (x : Mine). x.0.next) entered.inside.now), inl (granted_here idle can))
         (granted_exactly (record { session = session; number = number; mode = mode }) book entered.found.slow entered.found.obtrusive asks entered.fresh.exact asks_here)
         wrote
 
     -- the ticket that it has there stands in the book
-    pub stands : NotWaited m.0 number → HasTicket place number m.0.slow → is_some (ticket_of session number book.granted) ≡ true
-    stands unwaited has =
-        subst (λ (s : ℕ). is_some (ticket_of s number book.granted) ≡ true) mine (ap is_some (entered.fresh.own number unwaited) ∙ own_found m.0.number place number m.0.slow has)
+    pub stands : m.0.asks ≡ None → HasTicket place number m.0.slow → is_some (ticket_of session number book.granted) ≡ true
+    stands idle has =
+        subst (λ (s : ℕ). is_some (ticket_of s number book.granted) ≡ true) mine (ap is_some (entered.fresh.own number (idle_waits_not m.0 number idle)) ∙ own_found m.0.number place number m.0.slow has)
+
+    -- it may be brought to the mode
+    may_upgrade : m.0.asks ≡ None → HasTicket place number m.0.slow → can_be_granted (lock_kind book) book.granted book.waiting word session mode ≡ true
+        → MayUpgrade m′.0 book latch.noted number mode
+    may_upgrade idle has can =
+        let granted = granted_here idle can in
+        let held = found_one (ticket_of session number book.granted) (stands idle has) in
+        let held_here = subst (λ (s : ℕ). ticket_of s number book.granted ≡ Some held.0) me held.1 in
+        ((held.0, (held_here, idle_waits_not m′.0 number granted.idle)), granted)
 
     -- the deed is the other mode of that ticket, an obtrusive one
-    pub ready_altered : (m″ : Mine) → asks ≡ true → NotWaited m.0 number → HasTicket place number m.0.slow
+    pub ready_altered : (m″ : Mine) → asks ≡ true → m.0.asks ≡ None → HasTicket place number m.0.slow
         → can_be_granted (lock_kind book) book.granted book.waiting word session mode ≡ true
         → m″ ≡ written place (booked session (Alter number mode) book) m′ → MayPut place (Alter number mode ∷ []) m″
-    ready_altered m″ up unwaited has can wrote =
+    ready_altered m″ up idle has can wrote =
         may_put (Alter number mode) m″
-        (subst (λ (x : Mine). NotWaited x.0 number) (sym entered.inside.now) unwaited, is_mode_here, joins_here can)
-        (altered_exactly session number mode book asks entered.found.obtrusive up (sym asks_here ∙ up) (stands unwaited has))
+        (inl (may_upgrade idle has can))
+        (altered_exactly session number mode book asks entered.found.obtrusive up (sym asks_here ∙ up) (stands idle has))
         wrote
 
   -- the step that gave it back, with a deed, shows that the wish could be granted

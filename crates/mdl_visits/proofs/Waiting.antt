@@ -1,11 +1,12 @@
 -- What a record tells of those who wait, before and after one of them is granted.
-use Rattle.std.proofs.Common.{◌≡◌, ℕ, ◌+◌, ◌<◌, Bool, true, false, cond, ◌||◌, List, [], ◌∷◌, ◌++◌, length, Some, None, refl, sym, ap, ◌∙◌, subst, inl, inr, arith, length-append}
+use Rattle.std.proofs.Common.{◌≡◌, ℕ, suc, ◌+◌, ◌<◌, Bool, true, false, cond, ◌||◌, List, [], ◌∷◌, ◌++◌, length, take, Some, None, refl, sym, ap, ◌∙◌, subst, inl, inr, arith, length-append}
 use Rattle.std.specs.Prelude.{Option, ◌⊎◌, find, not}
-use Rattle.std.specs.List.{Contains, list_any}
+use Rattle.std.specs.List.{Contains, after_first, before_first, list_any, position_or_len}
 use Rattle.std.specs.Option.{option_map, option_to_list}
 use Rattle.std.specs.FinSet as set
 use Rattle.std.specs.Ordering.{nat_cmp}
 use Rattle.std.proofs.lemmas.Bool.{and_parts, and_from, lt-ltb, cases_eq}
+use Rattle.std.proofs.lemmas.List.Elements.{Contains-append_cases, Contains-append_left, Contains-append_right}
 use Rattle.std.proofs.lemmas.List.Folds.{list_any-append}
 use Rattle.mdl_key.specs.Words.{is_obtrusive}
 use Rattle.mdl_word.specs.Words.{blocks_by, counts_of}
@@ -16,15 +17,16 @@ use Rattle.mdl_book.specs.FastTickets.{can_be_granted, may_stand}
 use Rattle.mdl_book.specs.Granting.{goes_first, is_compatible}
 use Rattle.mdl_book.specs.Tickets.{is_ticket, ticket_id, ticket_of, without}
 use Rattle.mdl_book.proofs.MemberLemmas.{none-found}
-use Rattle.mdl_book.proofs.TicketLemmas.{find-passes}
+use Rattle.mdl_book.proofs.TicketLemmas.{find-passes, parted}
 use Rattle.mdl_steps.specs.declared.view.Held.{Held}
 use Rattle.mdl_steps.specs.Deeds.{MayJoin}
 use Rattle.mdl_steps.specs.Lists.{Once}
+use Rattle.mdl_steps.specs.Plays.{noting}
 use Rattle.mdl_steps.specs.Rule.{TellsLists}
 use Rattle.mdl_steps.specs.WaitPlays.{with_admitted}
-use Rattle.mdl_steps.proofs.Tickets.{is_itself, is_passed, without-hit, without-miss, of-without_other, of-without_own, none-without, once-without}
+use Rattle.mdl_steps.proofs.Tickets.{is_itself, is_passed, without-hit, without-miss, of-without_other, of-without_own, once-without}
 use Rattle.mdl_steps.proofs.Views.{by_bool}
-use Rattle.mdl_visits.specs.Grantings.{IsReady, MayServe}
+use Rattle.mdl_visits.specs.Grantings.{IsOrderly, IsReady, MayServe, ahead_of}
 
 -- ---- one of the list is taken out
 
@@ -98,8 +100,12 @@ serves_on word session number h t found may = (
   may.1,
 )
 
+-- once the word was read, waits may be granted by it
+pub serves_read : (word : ℕ) (h : Held) → IsOrderly h → MayServe word (noting word h)
+serves_read word h orderly = (orderly, λ up. rw up refl)
+
 -- nobody else of its session waits
-pub none_of_session : (word session number : ℕ) (h : Held) (t : Ticket) → ticket_of session number h.book.waiting ≡ Some t → MayServe word h
+none_of_session : (word session number : ℕ) (h : Held) (t : Ticket) → ticket_of session number h.book.waiting ≡ Some t → MayServe word h
     → (m : ℕ) → ticket_of session m (with_admitted session number h).book.waiting ≡ None
 none_of_session word session number h t found may m =
     elim (ticket_of session m (without session number h.book.waiting)) as (λ o. ticket_of session m (without session number h.book.waiting) ≡ o → o ≡ None) [
@@ -110,9 +116,43 @@ none_of_session word session number h t found may m =
       | None ↦ λ _. refl
     ] refl
 
--- who doesn't wait goes on not to
-pub none_still : (session number who : ℕ) (h : Held) → ((m : ℕ) → ticket_of who m h.book.waiting ≡ None) → (m : ℕ) → ticket_of who m (with_admitted session number h).book.waiting ≡ None
-none_still session number who h none m = none-without session number who m h.book.waiting (none m)
+-- who waits then waited before
+pub waits_still : (session number : ℕ) (h : Held) (t : Ticket) → Contains (with_admitted session number h).book.waiting t → Contains h.book.waiting t
+waits_still session number h t among =
+    let p = is_ticket session number in
+    let ts = h.book.waiting in
+    subst (λ (xs : List Ticket). Contains xs t) (sym (parted p ts)) (elim (Contains-append_cases (before_first p ts) (after_first p ts) t among) [
+      | inl left ↦ Contains-append_left (before_first p ts) (option_to_list (find p ts) ++ after_first p ts) t left
+      | inr right ↦ Contains-append_right (before_first p ts) (option_to_list (find p ts) ++ after_first p ts) t (Contains-append_right (option_to_list (find p ts)) (after_first p ts) t right)
+    ])
+
+-- and who arrived before another waits
+pub waits_ahead : (session number : ℕ) (ts : List Ticket) (t : Ticket) → Contains (ahead_of session number ts) t → Contains ts t
+waits_ahead session number ts t among =
+    let p = is_ticket session number in
+    subst (λ (xs : List Ticket). Contains xs t) (sym (parted p ts)) (Contains-append_left (before_first p ts) (option_to_list (find p ts) ++ after_first p ts) t among)
+
+-- a ticket that waits is found
+found_there : (ts : List Ticket) (t : Ticket) → Contains ts t → (u : Ticket) × (ticket_of t.session t.number ts ≡ Some u)
+found_there ts t among =
+    elim (ticket_of t.session t.number ts) as (λ o. ticket_of t.session t.number ts ≡ o → (u : Ticket) × (ticket_of t.session t.number ts ≡ Some u)) [
+      | Some u ↦ λ is. (u, is)
+      | None ↦ λ none. absurd ((none-found (is_ticket t.session t.number) ts).0 none t among (is_itself t))
+    ] refl
+
+-- of a session that waits by this number there is no other
+pub only_one : (word session number : ℕ) (h : Held) (t u : Ticket) → ticket_of session number h.book.waiting ≡ Some t → MayServe word h → Contains h.book.waiting u → u.session ≡ session → u.number ≡ number
+only_one word session number h t u found may among same =
+    let there = found_there h.book.waiting u among in
+    may.0.0.single session u.number number there.0 t (subst (λ (who : ℕ). ticket_of who u.number h.book.waiting ≡ Some there.0) same there.1) found
+
+-- and none once it is granted
+pub gone : (word session number : ℕ) (h : Held) (t u : Ticket) → ticket_of session number h.book.waiting ≡ Some t → MayServe word h → Contains (with_admitted session number h).book.waiting u → u.session ≡ session → ⊥
+gone word session number h t u found may among same =
+    let there = found_there (with_admitted session number h).book.waiting u among in
+    let none = none_of_session word session number h t found may u.number in
+    let one = subst (λ (who : ℕ). ticket_of who u.number (with_admitted session number h).book.waiting ≡ Some there.0) same there.1 in
+    absurd (cc)
 
 -- ---- the next one
 
@@ -163,26 +203,60 @@ is_next word session number untried h may told =
           (record { wish = t; waits = there; beside = may_join word h t may there can.0; first = can.1 }, parts.0)
     ] refl told
 
--- and where there is none, each that waits was taken out or can't be granted
-pub none_next : (word : ℕ) (untried : set.FinSet nat_cmp) (h : Held) → None ≡ option_map ticket_id (next_grantable word untried h.book)
-    → (t : Ticket) → Contains h.book.waiting t
+-- where none of these is next, each was taken out or can't be granted
+pub not_ready : (word : ℕ) (untried : set.FinSet nat_cmp) (h : Held) (tickets : List Ticket) → find (is_ready word untried h.book) tickets ≡ None
+    → (t : Ticket) → Contains tickets t
     → (set.contains untried t.session ≡ false) ⊎ (can_be_granted (lock_kind h.book) h.book.granted h.book.waiting word t.session t.mode ≡ false)
-none_next word untried h told t among =
-    let none = nothing (next_grantable word untried h.book) told in
-    let fails = (none-found (is_ready word untried h.book) h.book.waiting).0 none t among in
+not_ready word untried h tickets none t among =
+    let fails = (none-found (is_ready word untried h.book) tickets).0 none t among in
     by_bool (set.contains untried t.session)
     (λ left. by_bool (can_be_granted (lock_kind h.book) h.book.granted h.book.waiting word t.session t.mode)
     (λ can. absurd (fails (and_from _ _ left can)))
     (λ cannot. inr cannot))
     (λ tried. inl tried)
+
+-- none is
+pub nobody_next : (word : ℕ) (untried : set.FinSet nat_cmp) (h : Held) → None ≡ option_map ticket_id (next_grantable word untried h.book) → find (is_ready word untried h.book) h.book.waiting ≡ None
+nobody_next word untried h told = nothing (next_grantable word untried h.book) told
   where
     nothing : (o : Option Ticket) → None ≡ option_map ticket_id o → o ≡ None
     nothing None e = refl
     nothing (Some x) e = absurd (cc)
 
--- a ticket that waits is found
-pub waits_there : (ts : List Ticket) (t : Ticket) → Contains ts t → ((m : ℕ) → ticket_of t.session m ts ≡ None) → ⊥
-waits_there ts t among none = (none-found (is_ticket t.session t.number) ts).0 (none t.number) t among (is_itself t)
+-- before the first that passes a test there is none
+none_before : (p q : Ticket → Bool) (ts : List Ticket) (t : Ticket) → find p ts ≡ Some t → q t ≡ true → find p (before_first q ts) ≡ None
+none_before p q [] t found here = absurd (cc)
+none_before p q (x ∷ xs) t found here =
+    by_bool (q x)
+    (λ hit. ap (find p) (first-hit q x xs hit))
+    (λ miss.
+    ap (find p) (first-miss q x xs miss)
+    ∙ by_bool (p x)
+    (λ passes. let is : x ≡ t = (let first : cond (p x) (Some x) (find p xs) ≡ Some x = ap (λ b. cond b (Some x) (find p xs)) passes in cc) in
+    let no : q t ≡ false = subst (λ (y : Ticket). q y ≡ false) is miss in
+    absurd (cc))
+    (λ fails. ap (λ b. cond b (Some x) (find p (before_first q xs))) fails ∙ none_before p q xs t (sym (ap (λ b. cond b (Some x) (find p xs)) fails) ∙ found) here))
+  where
+    first-hit : (q : Ticket → Bool) (x : Ticket) (xs : List Ticket) → q x ≡ true → before_first q (x ∷ xs) ≡ []
+    first-hit q x xs e = rw e refl
+
+    on : (k : ℕ) → 1 + k ≡ suc k
+    on k = omega arith
+
+    first-miss : (q : Ticket → Bool) (x : Ticket) (xs : List Ticket) → q x ≡ false → before_first q (x ∷ xs) ≡ x ∷ before_first q xs
+    first-miss q x xs e = rw e (λ i. take (on (position_or_len q xs) i) (x ∷ xs))
+
+-- nor before the next one
+pub none_ahead : (word session number : ℕ) (untried : set.FinSet nat_cmp) (h : Held) → Some (session, number) ≡ option_map ticket_id (next_grantable word untried h.book)
+    → find (is_ready word untried h.book) (ahead_of session number h.book.waiting) ≡ None
+none_ahead word session number untried h told =
+    elim (next_grantable word untried h.book) as (λ o. next_grantable word untried h.book ≡ o → Some (session, number) ≡ option_map ticket_id o → find (is_ready word untried h.book) (ahead_of session number h.book.waiting) ≡ None) [
+      | None ↦ λ _ none. absurd (cc)
+      | Some t ↦ λ found same.
+          let id : (t.session, t.number) ≡ (session, number) = cc in
+          none_before (is_ready word untried h.book) (is_ticket session number) h.book.waiting t found
+          (subst (λ (who : ℕ × ℕ). is_ticket who.0 who.1 t ≡ true) id (is_itself t))
+    ] refl told
 
 -- a ticket that is found has the number that it was looked up by
 pub found_number : (session number : ℕ) (ts : List Ticket) (t : Ticket) → ticket_of session number ts ≡ Some t → t.number ≡ number

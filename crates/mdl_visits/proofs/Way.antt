@@ -1,24 +1,26 @@
 -- Way is made step by step.
-use Rattle.std.proofs.Common.{◌≡◌, ℕ, ◌+◌, ◌*◌, ◌%◌, ◌<◌, ◌==◌, ◌&&◌, nat_lt, List, [], ◌∷◌, ◌++◌, Some, None, refl, sym, ap, ◌∙◌, subst, append_assoc, append-nil, arith}
+use Rattle.std.proofs.Common.{◌≡◌, ℕ, ◌+◌, ◌*◌, ◌%◌, ◌<◌, ◌==◌, ◌&&◌, nat_lt, List, [], ◌∷◌, ◌++◌, Some, None, refl, sym, ap, ◌∙◌, subst, append_assoc, append-nil, inl, inr, arith}
 use Rattle.std.proofs.lemmas.Bool.{and_parts, eqb-true, ltb-true}
+use Rattle.atomic_table.specs.Seated.{TableId}
 use Rattle.mdl_book.specs.declared.book_view.BookView.{BookView}
+use Rattle.mdl_book.specs.declared.ticket.Ticket.{Ticket}
 use Rattle.mdl_steps.specs.declared.slot.Slot.TheVariants as slot
 use Rattle.mdl_steps.specs.declared.step_kind.StepKind.{StepKind}
-use Rattle.mdl_steps.specs.declared.step_kind.StepKind.TheVariants.{GrantWait, MissWait, ReadWait}
+use Rattle.mdl_steps.specs.declared.step_kind.StepKind.TheVariants.{GrantWait, ReadWord}
 use Rattle.mdl_steps.specs.declared.view.Held.{Held}
 use Rattle.mdl_steps.specs.declared.view.Met.{Met}
 use Rattle.mdl_steps.specs.declared.view.Settlement.{Settlement}
 use Rattle.mdl_steps.specs.declared.view.View.{View}
 use Rattle.mdl_steps.specs.Cells.{held_at}
-use Rattle.mdl_steps.specs.Layout.{wait_word}
-use Rattle.mdl_steps.specs.Plays.{Mine, changed}
+use Rattle.mdl_steps.specs.Layout.{lock_word, wait_word}
+use Rattle.mdl_steps.specs.Plays.{Mine, changed, noting, stepped}
 use Rattle.mdl_steps.specs.Seats.{Holds, elsewhere, rest, written}
-use Rattle.mdl_steps.specs.WaitPlays.{wait_in, met_wait_by, met_wait, missed_wait, meeting, settled_granted, with_admitted, TellsOwn}
+use Rattle.mdl_steps.specs.WaitPlays.{wait_in, met_wait_by, meeting, settled_granted, with_admitted, TellsOwn}
 use Rattle.mdl_steps.proofs.Hands.{elsewhere-stepped}
 use Rattle.mdl_steps.proofs.Views.{by_bool, held_at-changed}
-use Rattle.mdl_visits.specs.Grantings.{IsReady, MakesWay, MeetsGranted, StaysTold, WasSettled}
-use Rattle.mdl_visits.specs.Visits.{GoesOn, IsStepOf}
-use Rattle.mdl_visits.proofs.Steps.{each_append, each_map, none_then, step_after, step_before}
+use Rattle.mdl_visits.specs.Grantings.{AreGranted, ArePassedOver, HasJustMet, IsLookedThrough, IsReady, MakesWay, MeetsGranted, StaysTold, WasSettled, ahead_of}
+use Rattle.mdl_visits.specs.Visits.{GoesOn, IsStepAfter}
+use Rattle.mdl_visits.proofs.Steps.{each_append, each_map, goes_on, none_then, step_after, step_before}
 
 -- ---- what is told of one's own wait
 
@@ -63,10 +65,113 @@ unasked_granted slots session number v own none =
     absurd (omega arith))
     (λ other. rw other refl)
 
-module _ (slots place : ℕ) where
+-- ---- what was met between two was met between any two that are farther apart
+
+module _ (a b c : Mine) where
+  pub settled_before : (slots place session number : ℕ) → GoesOn b c → WasSettled slots place session number a b → WasSettled slots place session number a c
+  settled_before slots place session number more was = record {
+    read = was.read;
+    read_then = step_before a b c more was.read was.read_then;
+    of_wait = was.of_wait;
+    met = was.met;
+    met_then = step_before a b c more was.met was.met_then;
+    of_same = was.of_same;
+    settled = was.settled;
+  }
+
+  pub settled_after : (slots place session number : ℕ) → GoesOn a b → WasSettled slots place session number b c → WasSettled slots place session number a c
+  settled_after slots place session number more was = record {
+    read = was.read;
+    read_then = step_after a b c more was.read was.read_then;
+    of_wait = was.of_wait;
+    met = was.met;
+    met_then = step_after a b c more was.met was.met_then;
+    of_same = was.of_same;
+    settled = was.settled;
+  }
+
+  module _ (id : TableId) (place : ℕ) (h : Held) (tickets : List Ticket) where
+    passed_before : (word : ℕ) → GoesOn b c → ArePassedOver id place word h tickets a b → ArePassedOver id place word h tickets a c
+    passed_before word more passed t among known is = elim (passed t among known is) [
+      | inl settled ↦ inl (settled_before id.slots place t.session t.number more settled)
+      | inr cannot ↦ inr cannot
+    ]
+
+    passed_after : (word : ℕ) → GoesOn a b → ArePassedOver id place word h tickets b c → ArePassedOver id place word h tickets a c
+    passed_after word more passed t among known is = elim (passed t among known is) [
+      | inl settled ↦ inl (settled_after id.slots place t.session t.number more settled)
+      | inr cannot ↦ inr cannot
+    ]
+
+    pub looked_before : GoesOn b c → IsLookedThrough id place h tickets a b → IsLookedThrough id place h tickets a c
+    looked_before more looked = record {
+      read = looked.read;
+      read_then = step_before a b c more looked.read looked.read_then;
+      kind = looked.kind;
+      of_lock = looked.of_lock;
+      noted = looked.noted;
+      passed = passed_before looked.read.found more looked.passed;
+    }
+
+    pub looked_after : GoesOn a b → IsLookedThrough id place h tickets b c → IsLookedThrough id place h tickets a c
+    looked_after more looked = record {
+      read = looked.read;
+      read_then = step_after a b c more looked.read looked.read_then;
+      kind = looked.kind;
+      of_lock = looked.of_lock;
+      noted = looked.noted;
+      passed = passed_after looked.read.found more looked.passed;
+    }
+
+-- ---- and what was granted
+
+module _ (id : TableId) (place : ℕ) (grants : List Settlement) (start a b c : Mine) where
+  -- more steps follow
+  pub granted_before : GoesOn b c → AreGranted id place grants start a b → AreGranted id place grants start a c
+  granted_before more =
+      each_map (λ (g : Settlement). (e : Met) × (x : Mine) × IsStepAfter a x b e × MeetsGranted id place start x g e) (λ (g : Settlement). (e : Met) × (x : Mine) × IsStepAfter a x c e × MeetsGranted id place start x g e)
+      (λ g met. (
+        met.0,
+        met.1,
+        (met.2.0, met.2.1 ++ more.0, more.1 ∙ ap (λ (log : List Met). log ++ more.0) met.2.2 ∙ append_assoc met.1.0.log (met.0 ∷ met.2.1) more.0),
+        met.3,
+      ))
+      grants
+
+  -- or went before
+  pub granted_after : GoesOn a b → AreGranted id place grants start b c → AreGranted id place grants start a c
+  granted_after more =
+      each_map (λ (g : Settlement). (e : Met) × (x : Mine) × IsStepAfter b x c e × MeetsGranted id place start x g e) (λ (g : Settlement). (e : Met) × (x : Mine) × IsStepAfter a x c e × MeetsGranted id place start x g e)
+      (λ g met. (met.0, met.1, (goes_on a b met.1 more met.2.0, met.2.1, met.2.2), met.3)) grants
+
+-- it is told from an earlier start on
+meets_since : (id : TableId) (place : ℕ) (first start x : Mine) (g : Settlement) (e : Met) → GoesOn first start → MeetsGranted id place start x g e → MeetsGranted id place first x g e
+meets_since id place first start x g e more met = record {
+  state = met.state;
+  kind = met.kind;
+  word = met.word;
+  unsettled = met.unsettled;
+  before = met.before;
+  just = met.just;
+  wish = met.wish;
+  held = met.held;
+  waits = met.waits;
+  beside = met.beside;
+  first = met.first;
+  earliest = looked_after first start x id place met.before (ahead_of g.session met.wish.number met.before.book.waiting) more met.earliest;
+}
+
+pub granted_since : (id : TableId) (place : ℕ) (grants : List Settlement) (first start a b : Mine) → GoesOn first start → AreGranted id place grants start a b → AreGranted id place grants first a b
+granted_since id place grants first start a b more =
+    each_map (λ (g : Settlement). (e : Met) × (x : Mine) × IsStepAfter a x b e × MeetsGranted id place start x g e) (λ (g : Settlement). (e : Met) × (x : Mine) × IsStepAfter a x b e × MeetsGranted id place first x g e)
+    (λ g met. (met.0, met.1, met.2, meets_since id place first start met.1 g met.0 more met.3)) grants
+
+-- ---- way is made
+
+module _ (id : TableId) (place : ℕ) (start : Mine) where
   -- ---- nothing yet
 
-  pub way_none : (book : BookView) (m : Mine) → m.1 ≡ (place, slot.Place book) ∷ rest m.1 → MakesWay slots place m m
+  pub way_none : (book : BookView) (m : Mine) → m.1 ≡ (place, slot.Place book) ∷ rest m.1 → MakesWay id place start m m
   way_none book m carried = record {
     latches = m.0.latches;
     told = m.0.told;
@@ -83,55 +188,65 @@ module _ (slots place : ℕ) where
 
   -- ---- one step
 
-  way_word : (kind : StepKind) (session found : ℕ) (book : BookView) (m m′ : Mine) → m.1 ≡ (place, slot.Place book) ∷ rest m.1 → TellsOwn slots session found m.0
-      → m′ ≡ met_wait_by kind slots session found m → MakesWay slots place m m′
-  way_word kind session found book m m′ carried own is = record {
+  pub way_met : (kind : StepKind) (session found : ℕ) (book : BookView) (m m′ : Mine) → m.1 ≡ (place, slot.Place book) ∷ rest m.1 → TellsOwn id.slots session found m.0
+      → m′ ≡ met_wait_by kind id.slots session found m → MakesWay id place start m m′
+  way_met kind session found book m m′ carried own is = record {
     latches = m.0.latches;
     told = (meeting session found m.0).told;
     grants = [];
-    made = record { kind = kind; deeds = []; word = wait_word slots session; found = found; held = m.0.latches; directory = m.0.directory } ∷ [];
+    made = record { kind = kind; deeds = []; word = wait_word id.slots session; found = found; held = m.0.latches; directory = m.0.directory } ∷ [];
     book = book;
-    now = is ∙ (λ i. (record (met_wait_by kind slots session found m).0 { settles = sym (append-nil m.0.settles) i }, carried i));
+    now = is ∙ (λ i. (record (met_wait_by kind id.slots session found m).0 { settles = sym (append-nil m.0.settles) i }, carried i));
     others = refl;
-    stays = stays_met slots session found m.0 own;
-    unasked = unasked_met slots session found m.0 own;
+    stays = stays_met id.slots session found m.0 own;
+    unasked = unasked_met id.slots session found m.0 own;
     granted = tt;
     did = refl;
   }
 
-  -- a word was read
-  pub way_met : (session found : ℕ) (book : BookView) (m m′ : Mine) → m.1 ≡ (place, slot.Place book) ∷ rest m.1 → TellsOwn slots session found m.0 → m′ ≡ met_wait slots session found m
-      → MakesWay slots place m m′
-  way_met = way_word ReadWait
+  -- the lock's word was read
+  pub way_read : (word : ℕ) (book : BookView) (m m′ : Mine) → m.1 ≡ (place, slot.Place book) ∷ rest m.1 → m′ ≡ stepped ReadWord place word (noting word) m → MakesWay id place start m m′
+  way_read word book m m′ carried is = record {
+    latches = (changed place (noting word) m.0).latches;
+    told = m.0.told;
+    grants = [];
+    made = record { kind = ReadWord; deeds = []; word = lock_word place; found = word; held = (changed place (noting word) m.0).latches; directory = m.0.directory } ∷ [];
+    book = book;
+    now = is ∙ (λ i. (record (stepped ReadWord place word (noting word) m).0 { settles = sym (append-nil m.0.settles) i }, carried i));
+    others = elsewhere-stepped ReadWord place word (noting word) m (λ x. refl);
+    stays = λ state e. e;
+    unasked = λ none. refl;
+    granted = tt;
+    did = refl;
+  }
 
-  -- or another one was met than the step expected
-  pub way_missed : (session found : ℕ) (book : BookView) (m m′ : Mine) → m.1 ≡ (place, slot.Place book) ∷ rest m.1 → TellsOwn slots session found m.0 → m′ ≡ missed_wait slots session found m
-      → MakesWay slots place m m′
-  way_missed = way_word MissWait
-
-  module _ (session ticket number : ℕ) (h : Held) (book : BookView) (m m′ : Mine) (has : Holds place h book m) (ready : IsReady session ticket h) (is : m′ ≡ settled_granted slots place session ticket number m) where
+  module _ (session ticket number : ℕ) (h : Held) (book : BookView) (m m′ : Mine) (has : Holds place h book m) (ready : IsReady session ticket h) (just : HasJustMet id.slots place session h m)
+      (looked : IsLookedThrough id place h (ahead_of session ticket h.book.waiting) start m) (is : m′ ≡ settled_granted id.slots place session ticket number m) where
     latches_then : List Held
     latches_then = (changed place (with_admitted session ticket) m.0).latches
 
     grants_it : Met
-    grants_it = record { kind = GrantWait; deeds = []; word = wait_word slots session; found = wait_in number 1; held = latches_then; directory = m.0.directory }
+    grants_it = record { kind = GrantWait; deeds = []; word = wait_word id.slots session; found = wait_in number 1; held = latches_then; directory = m.0.directory }
 
-    meets : (wish_number : ready.wish.number ≡ ticket) → MeetsGranted slots place (record { session = session; wait = number; state = 2 }) grants_it
+    meets : (wish_number : ready.wish.number ≡ ticket) → MeetsGranted id place start m (record { session = session; wait = number; state = 2 }) grants_it
     unfolding grants_it latches_then
     meets wish_number = record {
       state = refl;
+      kind = refl;
       word = refl;
       unsettled = refl;
       before = h;
+      just = just;
       wish = ready.wish;
       held = subst (λ (n : ℕ). held_at place latches_then ≡ Some (with_admitted session n h)) (sym wish_number)
           (held_at-changed place (with_admitted session ticket) (λ x. refl) m.0.latches h has.recorded);
       waits = subst (λ (n : ℕ). Rattle.mdl_book.specs.Tickets.ticket_of session n h.book.waiting ≡ Some ready.wish) (sym wish_number) ready.waits;
       beside = ready.beside;
       first = ready.first;
+      earliest = subst (λ (n : ℕ). IsLookedThrough id place h (ahead_of session n h.book.waiting) start m) (sym wish_number) looked;
     }
 
-    pub way_granted : ready.wish.number ≡ ticket → TellsOwn slots session (wait_in number 1) m.0 → MakesWay slots place m m′
+    pub way_granted : ready.wish.number ≡ ticket → TellsOwn id.slots session (wait_in number 1) m.0 → MakesWay id place start m m′
     unfolding grants_it latches_then
     way_granted wish_number own = record {
       latches = latches_then;
@@ -139,19 +254,19 @@ module _ (slots place : ℕ) where
       grants = record { session = session; wait = number; state = 2 } ∷ [];
       made = grants_it ∷ [];
       book = book;
-      now = is ∙ (λ i. ((settled_granted slots place session ticket number m).0, has.carried i));
+      now = is ∙ (λ i. ((settled_granted id.slots place session ticket number m).0, has.carried i));
       others = elsewhere-stepped GrantWait place 0 (with_admitted session ticket) m (λ x. refl);
-      stays = stays_granted slots session number m.0 own;
-      unasked = unasked_granted slots session number m.0 own;
+      stays = stays_granted id.slots session number m.0 own;
+      unasked = unasked_granted id.slots session number m.0 own;
       granted = (
-        (grants_it, ([], [], ap (λ (x : Mine). x.0.log) is ∙ ap (λ (log : List Met). log ++ grants_it ∷ []) (sym (append-nil m.0.log))), meets wish_number),
+        (grants_it, m, (([], sym (append-nil m.0.log)), [], ap (λ (x : Mine). x.0.log) is), meets wish_number),
         tt,
       );
       did = refl;
     }
 
   -- the book in hand was written
-  pub way_written : (book next : BookView) (m m′ : Mine) → m.1 ≡ (place, slot.Place book) ∷ rest m.1 → m′ ≡ written place next m → MakesWay slots place m m′
+  pub way_written : (book next : BookView) (m m′ : Mine) → m.1 ≡ (place, slot.Place book) ∷ rest m.1 → m′ ≡ written place next m → MakesWay id place start m m′
   way_written book next m m′ carried is = record {
     latches = m.0.latches;
     told = m.0.told;
@@ -168,10 +283,10 @@ module _ (slots place : ℕ) where
 
   -- ---- one after another
 
-  pub steps_of : (m m′ : Mine) → MakesWay slots place m m′ → GoesOn m m′
+  pub steps_of : (m m′ : Mine) → MakesWay id place start m m′ → GoesOn m m′
   steps_of m m′ way = (way.made, ap (λ (x : Mine). x.0.log) way.now)
 
-  pub way_then : (a b c : Mine) → MakesWay slots place a b → MakesWay slots place b c → MakesWay slots place a c
+  pub way_then : (a b c : Mine) → MakesWay id place start a b → MakesWay id place start b c → MakesWay id place start a c
   way_then a b c x y = record {
     latches = y.latches;
     told = y.told;
@@ -184,34 +299,7 @@ module _ (slots place : ℕ) where
     others = y.others ∙ ap (elsewhere place) x.now ∙ x.others;
     stays = λ state e. y.stays state (ap (λ (w : Mine). w.0.told) x.now ∙ x.stays state e);
     unasked = λ none. y.unasked (ap (λ (w : Mine). w.0.asks) x.now ∙ none) ∙ ap (λ (w : Mine). w.0.told) x.now ∙ x.unasked none;
-    granted = each_append (λ (g : Settlement). (e : Met) × IsStepOf a c e × MeetsGranted slots place g e) x.grants y.grants
-        (each_map (λ (g : Settlement). (e : Met) × IsStepOf a b e × MeetsGranted slots place g e) (λ (g : Settlement). (e : Met) × IsStepOf a c e × MeetsGranted slots place g e)
-        (λ g met. (met.0, step_before a b c (steps_of b c y) met.0 met.1, met.2)) x.grants x.granted)
-        (each_map (λ (g : Settlement). (e : Met) × IsStepOf b c e × MeetsGranted slots place g e) (λ (g : Settlement). (e : Met) × IsStepOf a c e × MeetsGranted slots place g e)
-        (λ g met. (met.0, step_after a b c (steps_of a b x) met.0 met.1, met.2)) y.grants y.granted);
+    granted = each_append (λ (g : Settlement). (e : Met) × (s : Mine) × IsStepAfter a s c e × MeetsGranted id place start s g e) x.grants y.grants
+        (granted_before id place x.grants start a b c (steps_of b c y) x.granted) (granted_after id place y.grants start a b c (steps_of a b x) y.granted);
     did = none_then x.made y.made [] x.did y.did;
   }
-
--- ---- what was settled
-
-pub settled_before : (slots session : ℕ) (a b c : Mine) → GoesOn b c → WasSettled slots session a b → WasSettled slots session a c
-settled_before slots session a b c more was = record {
-  read = was.read;
-  read_then = step_before a b c more was.read was.read_then;
-  of_wait = was.of_wait;
-  met = was.met;
-  met_then = step_before a b c more was.met was.met_then;
-  of_same = was.of_same;
-  settled = was.settled;
-}
-
-pub settled_after : (slots session : ℕ) (a b c : Mine) → GoesOn a b → WasSettled slots session b c → WasSettled slots session a c
-settled_after slots session a b c more was = record {
-  read = was.read;
-  read_then = step_after a b c more was.read was.read_then;
-  of_wait = was.of_wait;
-  met = was.met;
-  met_then = step_after a b c more was.met was.met_then;
-  of_same = was.of_same;
-  settled = was.settled;
-}

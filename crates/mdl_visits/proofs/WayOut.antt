@@ -1,5 +1,5 @@
 -- Way is made, and the latch given back.
-use Rattle.std.proofs.Common.{◌≡◌, ℕ, ◌==◌, nat_lt, not, filter, length, arith, true, false, List, [], ◌∷◌, ◌++◌, Some, refl, sym, ap, ◌∙◌, subst, inl, inr, append_assoc, append-nil}
+use Rattle.std.proofs.Common.{◌≡◌, ℕ, nat_lt, length, arith, true, false, List, [], ◌∷◌, ◌++◌, Some, refl, sym, ap, ◌∙◌, subst, inl, inr, append_assoc, append-nil}
 use Rattle.std.specs.Prelude.{◌⊎◌}
 use Rattle.std.proofs.lemmas.Bool.{lt-ltb}
 use Rattle.atomic_table.specs.Seated.{TableId}
@@ -7,55 +7,27 @@ use Rattle.mdl_book.specs.declared.book_view.BookView.{BookView}
 use Rattle.mdl_book.specs.declared.ticket.Ticket.{Ticket}
 use Rattle.mdl_steps.specs.declared.deed.Deed.{Deed}
 use Rattle.mdl_steps.specs.declared.deed.Deed.TheVariants.{Gain, Alter, Lose}
-use Rattle.mdl_steps.specs.declared.slot.Slot.TheVariants as slot
-use Rattle.mdl_steps.specs.declared.step_kind.StepKind.TheVariants.{LowerFlags, PutLatch, ReadWord}
+use Rattle.mdl_steps.specs.declared.step_kind.StepKind.TheVariants.{LowerFlags, PutLatch}
 use Rattle.mdl_steps.specs.declared.view.Held.{Held}
 use Rattle.mdl_steps.specs.declared.view.Met.{Met}
 use Rattle.mdl_steps.specs.declared.view.Settlement.{Settlement}
 use Rattle.mdl_steps.specs.Deeds.{all_booked, all_done}
 use Rattle.mdl_steps.specs.Cells.{held_at}
 use Rattle.mdl_steps.specs.Layout.{latch_word, lock_word}
-use Rattle.mdl_steps.specs.Plays.{Mine, changed, noting, settled, stepped, unlatched}
-use Rattle.mdl_steps.specs.Rule.{TellsLists}
+use Rattle.mdl_steps.specs.Plays.{Mine, unlatched}
 use Rattle.mdl_steps.specs.Seats.{Holds, elsewhere, rest, written}
-use Rattle.mdl_steps.proofs.Hands.{elsewhere-settled, elsewhere-stepped}
-use Rattle.mdl_visits.specs.Grantings.{AreGranted, ForgetsNobody, IsLookedThrough, IsLowered, LeavesWay, MadeWay, MakesWay, MayServe, MeetsGranted, StandsOnce, VisitsForWay, WaitsOnce}
+use Rattle.mdl_steps.proofs.Hands.{elsewhere-settled}
+use Rattle.mdl_visits.specs.Grantings.{ForgetsNobody, IsLowered, LeavesWay, MadeWay, MakesWay, StandsOnce, VisitsForWay, WaitsOnce}
 use Rattle.mdl_visits.specs.Visits.{GoesOn, IsInside, IsStepOf}
-use Rattle.mdl_visits.proofs.Steps.{each_map, goes_on, last_after, none_then, step_after, step_before}
-use Rattle.mdl_visits.proofs.Way.{settled_after, settled_before, steps_of}
+use Rattle.mdl_visits.proofs.Steps.{last_after, none_then, step_before}
+use Rattle.mdl_visits.proofs.Way.{granted_after, granted_before, granted_since, looked_after, looked_before, steps_of}
 
--- ---- of what went before and after
-
-module _ (id : TableId) (word : ℕ) (h : Held) (a b c : Mine) where
-  forgets_before : GoesOn b c → ForgetsNobody id word h a b → ForgetsNobody id word h a c
-  forgets_before more none t among known is = elim (none t among known is) [
-    | inl settled ↦ inl (settled_before id.slots t.session a b c more settled)
-    | inr cannot ↦ inr cannot
-  ]
-
-  forgets_after : GoesOn a b → ForgetsNobody id word h b c → ForgetsNobody id word h a c
-  forgets_after more none t among known is = elim (none t among known is) [
-    | inl settled ↦ inl (settled_after id.slots t.session a b c more settled)
-    | inr cannot ↦ inr cannot
-  ]
+-- ---- of what went before
 
 module _ (id : TableId) (place : ℕ) (a b c : Mine) (more : GoesOn a b) where
-  granted_after : (grants : List Settlement) → AreGranted id.slots place grants b c → AreGranted id.slots place grants a c
-  granted_after = each_map (λ (g : Settlement). (e : Met) × IsStepOf b c e × MeetsGranted id.slots place g e) (λ (g : Settlement). (e : Met) × IsStepOf a c e × MeetsGranted id.slots place g e)
-      (λ g met. (met.0, step_after a b c more met.0 met.1, met.2))
-
-  looked_after : (latch : Held) → IsLookedThrough id place latch b c → IsLookedThrough id place latch a c
-  looked_after latch looked = record {
-    read = looked.read;
-    read_then = step_after a b c more looked.read looked.read_then;
-    of_lock = looked.of_lock;
-    noted = looked.noted;
-    none = forgets_after id looked.read.found latch a b c more looked.none;
-  }
-
-  served_after : (latch : Held) → (latch.book.waiting ≡ []) ⊎ IsLookedThrough id place latch b c → (latch.book.waiting ≡ []) ⊎ IsLookedThrough id place latch a c
+  served_after : (latch : Held) → (latch.book.waiting ≡ []) ⊎ ForgetsNobody id place latch b c → (latch.book.waiting ≡ []) ⊎ ForgetsNobody id place latch a c
   served_after latch (inl none) = inl none
-  served_after latch (inr looked) = inr (looked_after latch looked)
+  served_after latch (inr looked) = inr (looked_after a b c id place latch latch.book.waiting more looked)
 
   -- where nothing of waits changed before, way was made from there on
   pub way_after : b.0.settles ≡ a.0.settles → b.0.told ≡ a.0.told → b.0.number ≡ a.0.number → b.0.asks ≡ a.0.asks → MadeWay id place b c → MadeWay id place a c
@@ -65,7 +37,7 @@ module _ (id : TableId) (place : ℕ) (a b c : Mine) (more : GoesOn a b) where
       record {
         grants = way.grants;
         settles = way.settles ∙ ap (λ (xs : List Settlement). xs ++ way.grants) settles;
-        granted = granted_after way.grants way.granted;
+        granted = granted_since id place way.grants a b a c more (granted_after id place way.grants b a b c more way.granted);
         served = (s.0, last_after a b c more s.0 s.1, record { kind = m.kind; did = m.did; word = m.word; freed = m.freed ∙ number; latch = m.latch; held = m.held; served = served_after m.latch m.served });
         stays = λ state e. way.stays state (told ∙ e);
         unasked = λ none. way.unasked (asks ∙ none) ∙ told;
@@ -98,54 +70,34 @@ module _ (id : TableId) (place : ℕ) (h : Held) (m c : Mine) (has : Holds place
     };
   }
 
--- ---- somebody does: the word was read, waits were granted, and the latch was given back
+-- ---- somebody does: waits were granted, and the latch was given back
 
-module _ (id : TableId) (place word : ℕ) (g : Held) (m a b c : Mine) (read : a ≡ stepped ReadWord place word (noting word) m) (way : MakesWay id.slots place a b) (has : Holds place g g.book b)
-    (may : MayServe word g) (none : ForgetsNobody id word g a b) (put : c ≡ unlatched place [] b) where
-  abbrev reads : Met
-  reads = record { kind = ReadWord; deeds = []; word = lock_word place; found = word; held = (changed place (noting word) m.0).latches; directory = m.0.directory }
-
+module _ (id : TableId) (place : ℕ) (g : Held) (m b c : Mine) (way : MakesWay id place m m b) (has : Holds place g g.book b) (none : ForgetsNobody id place g m b)
+    (put : c ≡ unlatched place [] b) where
   abbrev frees : Met
   frees = record { kind = PutLatch; deeds = []; word = latch_word place; found = b.0.number; held = b.0.latches; directory = b.0.directory }
-
-  m_a : GoesOn m a
-  m_a = (reads ∷ [], ap (λ (x : Mine). x.0.log) read)
 
   b_c : GoesOn b c
   b_c = (frees ∷ [], ap (λ (x : Mine). x.0.log) put)
 
-  a_c : GoesOn a c
-  a_c = goes_on a b c (steps_of id.slots place a b way) b_c
-
   m_b : GoesOn m b
-  m_b = goes_on m a b m_a (steps_of id.slots place a b way)
-
-  -- as it is after the loop, by what was before
-  abbrev after_loop : Mine → Mine
-  after_loop x = (record x.0 { latches = way.latches; told = way.told; settles = x.0.settles ++ way.grants; log = x.0.log ++ way.made }, (place, slot.Place way.book) ∷ rest x.1)
+  m_b = steps_of id place m m b way
 
   abbrev last : Met
   last = record { kind = PutLatch; deeds = []; word = latch_word place; found = m.0.number; held = way.latches; directory = m.0.directory }
-
-  others : filter (λ (x : Held). not (x.place == place)) way.latches ≡ elsewhere place m
-  others = way.others ∙ ap (elsewhere place) read ∙ elsewhere-stepped ReadWord place word (noting word) m (λ x. refl)
-
-  log_is : ((m.0.log ++ reads ∷ []) ++ way.made) ++ last ∷ [] ≡ m.0.log ++ reads ∷ (way.made ++ last ∷ [])
-  log_is = append_assoc (m.0.log ++ reads ∷ []) way.made (last ∷ []) ∙ append_assoc m.0.log (reads ∷ []) (way.made ++ last ∷ [])
 
   pub leaves_served : LeavesWay id place [] m c
   leaves_served = record {
     told = way.told;
     settles = m.0.settles ++ way.grants;
-    made = reads ∷ (way.made ++ last ∷ []);
-    now = put ∙ ap (unlatched place []) way.now ∙ ap (λ (x : Mine). unlatched place [] (after_loop x)) read
-        ∙ (λ i. (record m.0 { latches = others i; told = way.told; settles = m.0.settles ++ way.grants; log = log_is i }, rest m.1));
+    made = way.made ++ last ∷ [];
     did = none_then way.made (last ∷ []) [] way.did refl;
+    now = put ∙ ap (unlatched place []) way.now
+        ∙ (λ i. (record m.0 { latches = way.others i; told = way.told; settles = m.0.settles ++ way.grants; log = append_assoc m.0.log way.made (last ∷ []) i }, rest m.1));
     way = record {
       grants = way.grants;
-      settles = ap (λ (x : Mine). x.0.settles) put ∙ ap (λ (x : Mine). x.0.settles) way.now ∙ ap (λ (x : Mine). x.0.settles ++ way.grants) read;
-      granted = each_map (λ (s : Settlement). (e : Met) × IsStepOf a b e × MeetsGranted id.slots place s e) (λ (s : Settlement). (e : Met) × IsStepOf m c e × MeetsGranted id.slots place s e)
-          (λ s met. (met.0, step_after m a c m_a met.0 (step_before a b c b_c met.0 met.1), met.2)) way.grants way.granted;
+      settles = ap (λ (x : Mine). x.0.settles) put ∙ ap (λ (x : Mine). x.0.settles) way.now;
+      granted = granted_before id place way.grants m m b c b_c way.granted;
       served = (
         frees,
         last_after m b c m_b frees ([], ap (λ (x : Mine). x.0.log) put ∙ ap (λ (log : List Met). log ++ frees ∷ []) (sym (append-nil b.0.log))),
@@ -153,26 +105,16 @@ module _ (id : TableId) (place word : ℕ) (g : Held) (m a b c : Mine) (read : a
           kind = refl;
           did = refl;
           word = refl;
-          freed = ap (λ (x : Mine). x.0.number) way.now ∙ ap (λ (x : Mine). x.0.number) read;
+          freed = ap (λ (x : Mine). x.0.number) way.now;
           latch = g;
           held = has.recorded;
-          served = inr (record {
-            read = reads;
-            read_then = step_before m a c a_c reads ([], [], ap (λ (x : Mine). x.0.log) read ∙ ap (λ (log : List Met). log ++ reads ∷ []) (sym (append-nil m.0.log)));
-            of_lock = refl;
-            noted = may.1;
-            none = forgets_after id word g m a c m_a (forgets_before id word g a b c b_c none);
-          });
+          served = inr (looked_before m b c id place g g.book.waiting b_c none);
         },
       );
-      stays = λ state e. ap (λ (x : Mine). x.0.told) put ∙ ap (λ (x : Mine). x.0.told) way.now ∙ way.stays state (ap (λ (x : Mine). x.0.told) read ∙ e);
-      unasked = λ none. ap (λ (x : Mine). x.0.told) put ∙ ap (λ (x : Mine). x.0.told) way.now ∙ way.unasked (ap (λ (x : Mine). x.0.asks) read ∙ none) ∙ ap (λ (x : Mine). x.0.told) read;
+      stays = λ state e. ap (λ (x : Mine). x.0.told) put ∙ ap (λ (x : Mine). x.0.told) way.now ∙ way.stays state e;
+      unasked = λ none. ap (λ (x : Mine). x.0.told) put ∙ ap (λ (x : Mine). x.0.told) way.now ∙ way.unasked none;
     };
   }
-
--- the record after the word was read
-pub serves_read : (word : ℕ) (h : Held) → StandsOnce h.book.waiting × TellsLists h.book h.slow h.obtrusive → MayServe word (noting word h)
-serves_read word h orderly = (orderly, λ up. rw up refl)
 
 -- ---- flags were lowered before
 

@@ -1,5 +1,6 @@
 -- How a session makes way at a place whose latch it holds: it grants the waits there that can be granted, the first in order of arrival first.
-use Rattle.std.specs.Prelude.{◌≡◌, ◌≢◌, ℕ, ◌/◌, ◌==◌, not, Bool, true, false, List, [], ◌∷◌, ◌++◌, Contains, filter, Option, Some, None, ◌⊎◌}
+use Rattle.std.specs.Prelude.{◌≡◌, ◌≢◌, ℕ, ◌/◌, ◌==◌, not, Bool, true, false, List, [], ◌∷◌, ◌++◌, Contains, filter, is_some, Option, Some, None, ◌⊎◌}
+use Rattle.std.specs.List.{before_first}
 use Rattle.std.specs.FinSet as set
 use Rattle.std.specs.Ordering.{nat_cmp}
 use Rattle.atomic_table.specs.Seated.{TableId}
@@ -9,10 +10,11 @@ use Rattle.mdl_book.specs.Books.{lock_kind}
 use Rattle.mdl_book.specs.FastTickets.{AreOfOthers, CountsFastTickets, can_be_granted}
 use Rattle.mdl_book.specs.Granting.{goes_first, is_grantable}
 use Rattle.mdl_book.specs.SessionSets.{is_session}
-use Rattle.mdl_book.specs.Tickets.{ticket_of}
+use Rattle.mdl_book.specs.Tickets.{is_ticket, ticket_of}
 use Rattle.mdl_steps.specs.declared.deed.Deed.{Deed}
 use Rattle.mdl_steps.specs.declared.slot.Slot.TheVariants as slot
-use Rattle.mdl_steps.specs.declared.step_kind.StepKind.TheVariants.{PutLatch}
+use Rattle.mdl_steps.specs.declared.step_kind.StepKind.{StepKind}
+use Rattle.mdl_steps.specs.declared.step_kind.StepKind.TheVariants.{GrantWait, MissWait, PutLatch, ReadWait, ReadWord}
 use Rattle.mdl_steps.specs.declared.view.Held.{Held}
 use Rattle.mdl_steps.specs.declared.view.Met.{Met}
 use Rattle.mdl_steps.specs.declared.view.Settlement.{Settlement}
@@ -25,33 +27,80 @@ use Rattle.mdl_steps.specs.Rule.{Lawful, NotedCounts, TellsLists}
 use Rattle.mdl_steps.specs.Seats.{Holds, elsewhere, rest}
 use Rattle.mdl_steps.specs.WaitPlays.{wait_in, with_admitted}
 use Rattle.mdl_steps.specs.WaitSeats.{IsSession}
-use Rattle.mdl_visits.specs.Visits.{IsLastStepOf, IsStepOf, deeds_of}
+use Rattle.mdl_visits.specs.Visits.{IsLastStepOf, IsStepAfter, IsStepOf, deeds_of}
 
 -- ---- what a step met
 
--- a step that granted a wait of a session, which was unsettled: by the record of the latch just before it, the session's ticket waited there,
--- might stand beside all that was granted, and waited behind no other; just after it the ticket is granted
-pub record MeetsGranted (slots place : ℕ) (g : Settlement) (e : Met) : Type 0 where
+-- a step that only met a wait's word, as it read it or by an exchange that failed
+abbrev pub OnlyMeets : StepKind → Type 0
+OnlyMeets kind = (kind ≡ ReadWait) ⊎ (kind ≡ MissWait)
+
+-- a step that only met the word of a session's wait, while the session's ticket of this number waited by the record of the place's latch. That
+-- wait can't end as long as the ticket waits, so all words that are met so are of the same wait
+pub record MeetsWaiter (slots place session number : ℕ) (e : Met) : Type 0 where
+  pub kind : OnlyMeets e.kind
+  pub word : e.word ≡ wait_word slots session
+  pub latch : Held
+  pub held : held_at place e.held ≡ Some latch
+  pub waits : is_some (ticket_of session number latch.book.waiting) ≡ true
+
+-- two steps that met the word of a session's wait for a ticket, or one: the first tells the number of the wait, and at the second the wait
+-- isn't unsettled
+pub record WasSettled (slots place session number : ℕ) (m m′ : Mine) : Type 0 where
+  pub read : Met
+  pub read_then : IsStepOf m m′ read
+  pub of_wait : MeetsWaiter slots place session number read
+  pub met : Met
+  pub met_then : IsStepOf m m′ met
+  pub of_same : MeetsWaiter slots place session number met
+  pub settled : met.found ≢ wait_in (read.found / 8) 1
+
+-- these tickets, which wait by the record of a latch, are passed over: each one of a session of the table can't be granted with this word of the
+-- lock, or a step met its wait settled
+abbrev pub ArePassedOver : TableId → ℕ → ℕ → Held → List Ticket → Mine → Mine → Type 0
+ArePassedOver id place word h tickets m m′ =
+    (t : Ticket) → Contains tickets t → IsSession id t.session → is_session t.session ≡ true →
+    WasSettled id.slots place t.session t.number m m′
+    ⊎ (can_be_granted (lock_kind h.book) h.book.granted h.book.waiting word t.session t.mode ≡ false)
+
+-- a step read the lock's word, which was noted while the flag OBTRUSIVE was up, and with it these tickets are passed over
+pub record IsLookedThrough (id : TableId) (place : ℕ) (latch : Held) (tickets : List Ticket) (m m′ : Mine) : Type 0 where
+  pub read : Met
+  pub read_then : IsStepOf m m′ read
+  pub kind : read.kind ≡ ReadWord
+  pub of_lock : read.word ≡ lock_word place
+  pub noted : latch.obtrusive ≡ true → latch.noted ≡ Some read.found
+  pub passed : ArePassedOver id place read.found latch tickets m m′
+
+-- nobody is forgotten by the record of a latch: all that wait by it are passed over
+abbrev pub ForgetsNobody : TableId → ℕ → Held → Mine → Mine → Type 0
+ForgetsNobody id place latch m m′ = IsLookedThrough id place latch latch.book.waiting m m′
+
+-- the tickets that arrived before one, in a list in order of arrival
+abbrev pub ahead_of : ℕ → ℕ → List Ticket → List Ticket
+ahead_of session number tickets = before_first (is_ticket session number) tickets
+
+-- the last of a session's steps read the word of a wait, with this record of the latch of a place
+abbrev pub HasJustMet : ℕ → ℕ → ℕ → Held → Mine → Type 0
+HasJustMet slots place session h m =
+    (log : List Met) × (e : Met) × (m.0.log ≡ log ++ e ∷ []) × (e.kind ≡ ReadWait) × (e.word ≡ wait_word slots session) × (held_at place e.held ≡ Some h)
+
+-- a step that granted a wait of a session, which was unsettled. By the record of the latch just before it, the session's ticket waited there,
+-- might stand beside all that was granted, and waited behind no other; those that arrived before it were passed over, as the steps between the
+-- two tell, the last of which read the wait's word; just after it the ticket is granted
+pub record MeetsGranted (id : TableId) (place : ℕ) (m m′ : Mine) (g : Settlement) (e : Met) : Type 0 where
   pub state : g.state ≡ 2
-  pub word : e.word ≡ wait_word slots g.session
+  pub kind : e.kind ≡ GrantWait
+  pub word : e.word ≡ wait_word id.slots g.session
   pub unsettled : e.found ≡ wait_in g.wait 1
   pub before : Held
+  pub just : HasJustMet id.slots place g.session before m′
   pub wish : Ticket
   pub held : held_at place e.held ≡ Some (with_admitted g.session wish.number before)
   pub waits : ticket_of g.session wish.number before.book.waiting ≡ Some wish
   pub beside : MayJoin g.session before.book before.noted wish.mode
   pub first : goes_first (lock_kind before.book) before.book.waiting g.session wish.mode ≡ true
-
--- two steps on the word of a session's wait, or one: the first tells the number of the session's last wait, and at the second that wait isn't
--- unsettled
-pub record WasSettled (slots session : ℕ) (m m′ : Mine) : Type 0 where
-  pub read : Met
-  pub read_then : IsStepOf m m′ read
-  pub of_wait : read.word ≡ wait_word slots session
-  pub met : Met
-  pub met_then : IsStepOf m m′ met
-  pub of_same : met.word ≡ wait_word slots session
-  pub settled : met.found ≢ wait_in (read.found / 8) 1
+  pub earliest : IsLookedThrough id place before (ahead_of g.session wish.number before.book.waiting) m m′
 
 -- ---- the record of the latch
 
@@ -79,32 +128,26 @@ pub record IsReady (session number : ℕ) (h : Held) : Type 0 where
   pub beside : MayJoin session h.book h.noted wish.mode
   pub first : goes_first (lock_kind h.book) h.book.waiting session wish.mode ≡ true
 
--- nobody is forgotten: a ticket of a session of the table that waits by the record can't be granted, with this word of the lock, or a step
--- met its session's wait settled
-abbrev pub ForgetsNobody : TableId → ℕ → Held → Mine → Mine → Type 0
-ForgetsNobody id word h m m′ =
-    (t : Ticket) → Contains h.book.waiting t → IsSession id t.session → is_session t.session ≡ true →
-    WasSettled id.slots t.session m m′ ⊎ (can_be_granted (lock_kind h.book) h.book.granted h.book.waiting word t.session t.mode ≡ false)
+-- a ticket was tried: the table has no such session, or a step met its wait settled
+abbrev pub IsTried : TableId → ℕ → ℕ → ℕ → Mine → Mine → Type 0
+IsTried id place session number m m′ = (IsSession id session → ⊥) ⊎ WasSettled id.slots place session number m m′
 
--- a session was tried: the table has no such session, its wait was settled, or it waits no more
-abbrev pub IsTried : TableId → ℕ → Held → Mine → Mine → Type 0
-IsTried id session h m m′ =
-    (IsSession id session → ⊥) ⊎ (WasSettled id.slots session m m′ ⊎ ((number : ℕ) → ticket_of session number h.book.waiting ≡ None))
+-- each ticket that waits by the record was tried, if its session is left out of the set
+abbrev pub AreTried : TableId → ℕ → set.FinSet nat_cmp → Held → Mine → Mine → Type 0
+AreTried id place untried h m m′ =
+    (t : Ticket) → Contains h.book.waiting t → is_session t.session ≡ true → set.contains untried t.session ≡ false →
+    IsTried id place t.session t.number m m′
 
--- each session that is left out of the set was tried
-abbrev pub AreTried : TableId → set.FinSet nat_cmp → Held → Mine → Mine → Type 0
-AreTried id untried h m m′ = (session : ℕ) → is_session session ≡ true → set.contains untried session ≡ false → IsTried id session h m m′
-
--- what came of a try to grant a ticket: the session was tried and all stands as it was, or the ticket is granted
+-- what came of a try to grant a ticket: it was tried and all stands as it was, or it is granted
 abbrev pub IsServed : TableId → ℕ → ℕ → ℕ → Held → Mine → Mine → Type 0
 IsServed id place session number h m m′ =
-    (((IsSession id session → ⊥) ⊎ WasSettled id.slots session m m′) × Holds place h h.book m′)
+    (IsTried id place session number m m′ × Holds place h h.book m′)
     ⊎ Holds place (with_admitted session number h) (with_admitted session number h).book m′
 
 -- what came of the exchange that grants a wait: it met another word than this and all stands as it was, or the ticket is granted
 abbrev pub IsGrantedFrom : ℕ → ℕ → ℕ → ℕ → ℕ → Held → Mine → Mine → Type 0
 IsGrantedFrom slots place session number word h m m′ =
-    (((e : Met) × IsStepOf m m′ e × (e.word ≡ wait_word slots session) × (e.found ≢ word)) × Holds place h h.book m′)
+    (((e : Met) × IsStepOf m m′ e × MeetsWaiter slots place session number e × (e.found ≢ word)) × Holds place h h.book m′)
     ⊎ Holds place (with_admitted session number h) (with_admitted session number h).book m′
 
 -- ---- way is made
@@ -113,13 +156,14 @@ IsGrantedFrom slots place session number word h m m′ =
 abbrev pub StaysTold : Option ℕ → Option ℕ → Type 0
 StaysTold told told′ = (state : ℕ) → told ≡ Some state → told′ ≡ Some state
 
--- each of these waits was granted by a step between the two
-abbrev pub AreGranted : ℕ → ℕ → List Settlement → Mine → Mine → Type 0
-AreGranted slots place grants m m′ = Each (λ g. (e : Met) × IsStepOf m m′ e × MeetsGranted slots place g e) grants
+-- each of these waits was granted by a step between the two, as the steps from a start to just before it tell
+abbrev pub AreGranted : TableId → ℕ → List Settlement → Mine → Mine → Mine → Type 0
+AreGranted id place grants start m m′ =
+    Each (λ g. (e : Met) × (a : Mine) × IsStepAfter m a m′ e × MeetsGranted id place start a g e) grants
 
 -- waits were granted under the latch of a place, which the session holds: nothing else changed but the record of the latch, the book in hand,
--- what was told of its own wait and its steps, which are without deeds
-pub record MakesWay (slots place : ℕ) (m m′ : Mine) : Type 0 where
+-- what was told of its own wait and its steps, which are without deeds. Those that were passed over were met so from a start on
+pub record MakesWay (id : TableId) (place : ℕ) (start m m′ : Mine) : Type 0 where
   pub latches : List Held
   pub told : Option ℕ
   pub grants : List Settlement
@@ -129,18 +173,16 @@ pub record MakesWay (slots place : ℕ) (m m′ : Mine) : Type 0 where
   pub others : filter (λ h. not (h.place == place)) latches ≡ elsewhere place m
   pub stays : StaysTold m.0.told told
   pub unasked : m.0.asks ≡ None → told ≡ m.0.told
-  pub granted : AreGranted slots place grants m m′
+  pub granted : AreGranted id place grants start m m′
   pub did : deeds_of made ≡ []
 
--- ---- and the latch is given back
+-- way is made for a ticket in its turn: from each start, if those that arrived before it were passed over since
+abbrev pub MakesWayInTurn : TableId → ℕ → ℕ → ℕ → Mine → Mine → Type 0
+MakesWayInTurn id place session number m m′ =
+    (start : Mine) (h : Held) → Holds place h h.book m → IsLookedThrough id place h (ahead_of session number h.book.waiting) start m →
+    MakesWay id place start m m′
 
--- a step read the lock's word, which was noted while the flag OBTRUSIVE was up, and with it nobody is forgotten by the record of the latch
-pub record IsLookedThrough (id : TableId) (place : ℕ) (latch : Held) (m m′ : Mine) : Type 0 where
-  pub read : Met
-  pub read_then : IsStepOf m m′ read
-  pub of_lock : read.word ≡ lock_word place
-  pub noted : latch.obtrusive ≡ true → latch.noted ≡ Some read.found
-  pub none : ForgetsNobody id read.found latch m m′
+-- ---- and the latch is given back
 
 -- a step without deeds that gave the latch of a place back, by whose record nobody waits there, or nobody is forgotten
 pub record MeetsServed (id : TableId) (place who : ℕ) (m m′ : Mine) (e : Met) : Type 0 where
@@ -150,14 +192,14 @@ pub record MeetsServed (id : TableId) (place who : ℕ) (m m′ : Mine) (e : Met
   pub freed : e.found ≡ who
   pub latch : Held
   pub held : held_at place e.held ≡ Some latch
-  pub served : (latch.book.waiting ≡ []) ⊎ IsLookedThrough id place latch m m′
+  pub served : (latch.book.waiting ≡ []) ⊎ ForgetsNobody id place latch m m′
 
 -- way was made at a place between the two: waits were granted by steps between them, nobody was forgotten at the last of them, as the latch was
 -- given back, and what was told of the session's own wait stays so. A session without a wait is told of none
 pub record MadeWay (id : TableId) (place : ℕ) (m m′ : Mine) : Type 0 where
   pub grants : List Settlement
   pub settles : m′.0.settles ≡ m.0.settles ++ grants
-  pub granted : AreGranted id.slots place grants m m′
+  pub granted : AreGranted id place grants m m m′
   pub served : (e : Met) × IsLastStepOf m m′ e × MeetsServed id place m.0.number m m′ e
   pub stays : StaysTold m.0.told m′.0.told
   pub unasked : m.0.asks ≡ None → m′.0.told ≡ m.0.told
@@ -192,18 +234,18 @@ IsLowered place ds m m′ = (found : ℕ) × (book : BookView) × (slow : Bool) 
 -- clashed with it, and it waited behind no waiting one
 abbrev pub GrantedWaitsWereGrantable : Type 0
 GrantedWaitsWereGrantable =
-    (slots place : ℕ) (g : Settlement) (e : Met) → MeetsGranted slots place g e →
+    (id : TableId) (place : ℕ) (m m′ : Mine) (g : Settlement) (e : Met) → MeetsGranted id place m m′ g e →
     (before : Held) × (wish : Ticket) × (held_at place e.held ≡ Some (with_admitted g.session wish.number before))
     × (ticket_of g.session wish.number before.book.waiting ≡ Some wish)
     × ((fast : List Ticket) → Lawful (lock_kind before.book) fast before.book.granted → NotedCounts (lock_kind before.book) fast before.obtrusive before.noted
     → is_grantable (lock_kind before.book) (fast ++ before.book.granted) before.book.waiting g.session wish.mode ≡ true)
 
--- a wait that was left unsettled couldn't: whichever fast tickets of other sessions the word counted, it clashed with a granted ticket or had
--- to wait behind a waiting one
+-- a wait that was passed over, before another was granted or as the latch was given back, was met settled or couldn't: whichever fast tickets of
+-- other sessions the word counted, it clashed with a granted ticket or had to wait behind a waiting one
 abbrev pub WaitsLeftWerentGrantable : Type 0
 WaitsLeftWerentGrantable =
-    (id : TableId) (word : ℕ) (h : Held) (m m′ : Mine) → ForgetsNobody id word h m m′ →
-    (t : Ticket) → Contains h.book.waiting t → IsSession id t.session → is_session t.session ≡ true →
-    WasSettled id.slots t.session m m′
+    (id : TableId) (place word : ℕ) (h : Held) (tickets : List Ticket) (m m′ : Mine) → ArePassedOver id place word h tickets m m′ →
+    (t : Ticket) → Contains tickets t → IsSession id t.session → is_session t.session ≡ true →
+    WasSettled id.slots place t.session t.number m m′
     ⊎ ((fast : List Ticket) → CountsFastTickets (lock_kind h.book) word fast → AreOfOthers t.session fast
     → is_grantable (lock_kind h.book) (fast ++ h.book.granted) h.book.waiting t.session t.mode ≡ false)

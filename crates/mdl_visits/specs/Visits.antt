@@ -66,6 +66,10 @@ GoesOn m m′ = (made : List Met) × (m′.0.log ≡ m.0.log ++ made)
 abbrev pub IsStepOf : Mine → Mine → Met → Type 0
 IsStepOf m m′ e = (before : List Met) × (after : List Met) × (m′.0.log ≡ (m.0.log ++ before) ++ e ∷ after)
 
+-- likewise, with the list of steps that there was just before it
+abbrev pub IsStepAfter : Mine → Mine → Mine → Met → Type 0
+IsStepAfter m a m′ e = GoesOn m a × (after : List Met) × (m′.0.log ≡ a.0.log ++ e ∷ after)
+
 -- the last of those that were made
 abbrev pub IsLastStepOf : Mine → Mine → Met → Type 0
 IsLastStepOf m m′ e = (before : List Met) × (m′.0.log ≡ (m.0.log ++ before) ++ e ∷ [])

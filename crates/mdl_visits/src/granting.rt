@@ -4,23 +4,23 @@ ghost use Rattle.mdl_steps.specs.declared.view.Held.{Held};
 ghost use Rattle.mdl_steps.specs.Layout.{wait_word};
 ghost use Rattle.mdl_steps.specs.Seats.{IsSized, IsPlace, Holds};
 ghost use Rattle.mdl_steps.specs.WaitSeats.{IsSession};
-ghost use Rattle.mdl_visits.specs.Grantings.{ForgetsNobody, IsGrantedFrom, IsReady, IsServed, MakesWay, MayServe};
+ghost use Rattle.mdl_visits.specs.Grantings.{ForgetsNobody, HasJustMet, IsGrantedFrom, IsOrderly, IsReady, IsServed, MakesWay, MakesWayInTurn};
 
 use mdl_book::Sessions;
 use mdl_steps::{Latched, OwnedTable, WaitWord, Worker};
-use mdl_word::Word;
 
-/// Grants the waits of tickets at the latched place, the first in order of arrival first, as long as there is one that can be granted,
-/// the lock's word being `word`. A wait that was settled before isn't granted. It takes no memory.
-pub(crate) fn grant_waiters(worker: &mut Worker, table: &OwnedTable, latch: &Latched, word: Word)
+/// Reads the lock's word, and grants the waits of tickets at the latched place, the first in order of arrival first, as long as there is one
+/// that can be granted. A wait that was settled before isn't granted. It takes no memory.
+pub(crate) fn grant_waiters(worker: &mut Worker, table: &OwnedTable, latch: &Latched)
     requires table { (worker.old.seat.table_id ≡ table.now.shared.table_id) × IsSized table.now.shared.table_id }
     requires place { IsPlace table.now.shared.table_id latch.now.place }
-    requires held { (h : Held) × Holds latch.now.place h h.book worker.old.seat.me × MayServe word.0 h }
+    requires held { (h : Held) × Holds latch.now.place h h.book worker.old.seat.me × IsOrderly h }
     ensures seat { (worker.new.seat.table_id ≡ worker.old.seat.table_id) × (worker.new.number ≡ worker.old.number) }
-    ensures served { (h : Held) × Holds latch.now.place h h.book worker.new.seat.me × MayServe word.0 h
-        × ForgetsNobody table.now.shared.table_id word.0 h worker.old.seat.me worker.new.seat.me }
-    ensures way { MakesWay table.now.shared.table_id.slots latch.now.place worker.old.seat.me worker.new.seat.me }
+    ensures served { (h : Held) × Holds latch.now.place h h.book worker.new.seat.me × IsOrderly h
+        × ForgetsNobody table.now.shared.table_id latch.now.place h worker.old.seat.me worker.new.seat.me }
+    ensures way { MakesWay table.now.shared.table_id latch.now.place worker.old.seat.me worker.old.seat.me worker.new.seat.me }
 {
+    let word = worker.read_word(&table.shared, latch);
     let mut untried = Sessions::all();
     while let Some((session, number)) = worker.next_grantable(
         &table.shared,
@@ -41,7 +41,7 @@ fn serve(worker: &mut Worker, table: &OwnedTable, latch: &Latched, session: u16,
     ensures seat { (worker.new.seat.table_id ≡ worker.old.seat.table_id) × (worker.new.number ≡ worker.old.number) }
     ensures served { (h : Held) → Holds latch.now.place h h.book worker.old.seat.me
         → IsServed table.now.shared.table_id latch.now.place session number h worker.old.seat.me worker.new.seat.me }
-    ensures way { MakesWay table.now.shared.table_id.slots latch.now.place worker.old.seat.me worker.new.seat.me }
+    ensures way { MakesWayInTurn table.now.shared.table_id latch.now.place session number worker.old.seat.me worker.new.seat.me }
 {
     if has_session(table, session) {
         serve_session(worker, table, latch, session, number);
@@ -71,7 +71,7 @@ fn serve_session(
     ensures seat { (worker.new.seat.table_id ≡ worker.old.seat.table_id) × (worker.new.number ≡ worker.old.number) }
     ensures served { (h : Held) → Holds latch.now.place h h.book worker.old.seat.me
         → IsServed table.now.shared.table_id latch.now.place session number h worker.old.seat.me worker.new.seat.me }
-    ensures way { MakesWay table.now.shared.table_id.slots latch.now.place worker.old.seat.me worker.new.seat.me }
+    ensures way { MakesWayInTurn table.now.shared.table_id latch.now.place session number worker.old.seat.me worker.new.seat.me }
 {
     let wait = worker.read_wait(&table.shared, table.slot_count(), session);
     if wait.state() == WaitWord::UNSETTLED {
@@ -79,7 +79,7 @@ fn serve_session(
     }
 }
 
-// Grants a wait that was met unsettled, if it is so still.
+// Grants a wait that was met unsettled just before, if it is so still.
 fn grant(
     worker: &mut Worker,
     table: &OwnedTable,
@@ -91,12 +91,13 @@ fn grant(
     requires table { (worker.old.seat.table_id ≡ table.now.shared.table_id) × IsSized table.now.shared.table_id }
     requires place { IsPlace table.now.shared.table_id latch.now.place }
     requires session { IsSession table.now.shared.table_id session }
-    requires ready { (h : Held) × Holds latch.now.place h h.book worker.old.seat.me × IsReady session number h }
+    requires ready { (h : Held) × Holds latch.now.place h h.book worker.old.seat.me × IsReady session number h
+        × HasJustMet table.now.shared.table_id.slots latch.now.place session h worker.old.seat.me }
     requires unsettled { wait.0 % 8 ≡ 1 }
     ensures seat { (worker.new.seat.table_id ≡ worker.old.seat.table_id) × (worker.new.number ≡ worker.old.number) }
     ensures granted { (h : Held) → Holds latch.now.place h h.book worker.old.seat.me
         → IsGrantedFrom table.now.shared.table_id.slots latch.now.place session number wait.0 h worker.old.seat.me worker.new.seat.me }
-    ensures way { MakesWay table.now.shared.table_id.slots latch.now.place worker.old.seat.me worker.new.seat.me }
+    ensures way { MakesWayInTurn table.now.shared.table_id latch.now.place session number worker.old.seat.me worker.new.seat.me }
 {
     let slots = table.slot_count();
     let met = worker.grant_wait(&table.shared, slots, latch, session, number, wait.number());

@@ -72,8 +72,7 @@ fn make_way(worker: &mut Worker, table: &OwnedTable, latch: Latched)
     ensures left { LeavesWay table.now.shared.table_id latch.place [] worker.old.seat.me worker.new.seat.me }
 {
     if worker.has_waiters(&table.shared, &latch) {
-        let word = worker.read_word(&table.shared, &latch);
-        grant_waiters(worker, table, &latch, word);
+        grant_waiters(worker, table, &latch);
     }
     worker.put_latch(&table.shared, latch, &[]);
 }

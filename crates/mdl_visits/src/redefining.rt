@@ -2,7 +2,7 @@
 ghost use Rattle.std.specs.Prelude.{◌≡◌, ◌+◌, [], true, IfOk, IfErr, OnErr};
 ghost use Rattle.mdl_key.specs.Refusals.{Refuses, RefusesJust};
 ghost use Rattle.mdl_defs.specs.declared.standing.Standing.{Standing};
-ghost use Rattle.mdl_defs.specs.Standings.{MayStand, standing_fault, standing_after};
+ghost use Rattle.mdl_defs.specs.Standings.{standing_fault, standing_after};
 ghost use Rattle.mdl_steps.specs.declared.view.Held.{Held};
 ghost use Rattle.mdl_steps.specs.Plays.{unlatched};
 ghost use Rattle.mdl_steps.specs.Rule.{TellsLists};
@@ -50,8 +50,7 @@ fn redefine(
 ) -> Result<u64, ChangeError>
     requires table { (worker.old.seat.table_id ≡ top.now.table_id) × IsSized top.now.table_id }
     requires place { IsPlace top.now.table_id latch.place }
-    requires held { (h : Held) × Holds latch.place h h.book worker.old.seat.me × TellsLists h.book h.slow h.obtrusive × HasExclusive h worker.old.seat.me
-        × MayStand h.book.key.namespace h.book.standing }
+    requires held { (h : Held) × Holds latch.place h h.book worker.old.seat.me × TellsLists h.book h.slow h.obtrusive × HasExclusive h worker.old.seat.me }
     ensures seat { (worker.new.seat.table_id ≡ worker.old.seat.table_id) × (worker.new.number ≡ worker.old.number) }
     ensures changed { (h : Held) → Holds latch.place h h.book worker.old.seat.me → IfOk result (λ version. (version ≡ h.book.standing.version + 1)
         × (worker.new.seat.me ≡ redefined_and_put latch.place (standing_after change.now h.book.standing) worker.old.seat.me)) }
@@ -73,14 +72,14 @@ fn redefine(
     }
 }
 
-// Writes the version of what was changed in hand, and gives the latch back.
+// Writes the version of the change that was made in hand, and gives the latch back.
 fn publish(worker: &mut Worker, top: &LockTable, latch: Latched)
     requires table { (worker.old.seat.table_id ≡ top.now.table_id) × IsSized top.now.table_id }
     requires place { IsPlace top.now.table_id latch.place }
-    requires changed { (h : Held) × (standing : Standing) × HasRedefined latch.place h standing worker.old.seat.me × TellsLists h.book h.slow h.obtrusive }
+    requires changed { (h : Held) × (change : Change) × HasRedefined latch.place h change worker.old.seat.me × TellsLists h.book h.slow h.obtrusive }
     ensures seat { (worker.new.seat.table_id ≡ worker.old.seat.table_id) × (worker.new.number ≡ worker.old.number) }
-    ensures published { (h : Held) (standing : Standing) → HasRedefined latch.place h standing worker.old.seat.me
-        → worker.new.seat.me ≡ redefined_and_put latch.place standing worker.old.seat.me }
+    ensures published { (h : Held) (change : Change) → HasRedefined latch.place h change worker.old.seat.me
+        → worker.new.seat.me ≡ redefined_and_put latch.place (standing_after change h.book.standing) worker.old.seat.me }
 {
     worker.write_version(top, &latch);
     worker.put_latch(top, latch, &[]);

@@ -1,10 +1,9 @@
 //! A ticket gets a stronger mode at once, or stays as it is.
-ghost use Rattle.std.specs.Prelude.{◌≡◌, [], ◌∷◌, true};
+ghost use Rattle.std.specs.Prelude.{◌≡◌, [], ◌∷◌, None, true};
 ghost use Rattle.mdl_key.specs.declared.namespace.Kind.{Kind};
 ghost use Rattle.mdl_key.specs.Words.{is_mode_of, is_obtrusive};
 ghost use Rattle.mdl_steps.specs.declared.deed.Deed.TheVariants.{Alter};
 ghost use Rattle.mdl_steps.specs.declared.view.Met.{Met};
-ghost use Rattle.mdl_steps.specs.Deeds.{NotWaited};
 ghost use Rattle.mdl_steps.specs.Seats.{IsSized, IsPlace, IsRising};
 ghost use Rattle.mdl_visits.specs.declared.tries.Tried.TheVariants.{Granted, Blocked};
 ghost use Rattle.mdl_visits.specs.Leavings.{HasTicket};
@@ -15,8 +14,8 @@ use mdl_key::Mode;
 use mdl_steps::{Deed, LockTable, Worker};
 use std::sync::Wait;
 
-/// Lets the session's ticket of this number at a place have an obtrusive mode, where that can be granted now, beside all that others
-/// hold and before none that waits. Otherwise all stays as it was. It takes no memory.
+/// Lets the ticket of this number at a place have an obtrusive mode, where that can be granted now, beside all that others hold and
+/// before none that waits. Otherwise all stays as it was. The session waits for nothing. It takes no memory.
 pub fn try_strengthen<R: Wait>(
     rt: &R,
     worker: &mut Worker,
@@ -29,7 +28,7 @@ pub fn try_strengthen<R: Wait>(
     requires place { IsPlace top.now.table_id place }
     requires rising { IsRising place worker.old.seat.me }
     requires mode { (kind : Kind) × KnowsKind worker.old.seat.me.0 place kind × (is_mode_of kind mode ≡ true) × (is_obtrusive kind mode ≡ true) }
-    requires unwaited { NotWaited worker.old.seat.me.0 number }
+    requires idle { worker.old.seat.me.0.asks ≡ None }
     requires held { HasTicket place number worker.old.seat.me.0.slow }
     ensures seat { (worker.new.seat.table_id ≡ worker.old.seat.table_id) × (worker.new.number ≡ worker.old.number) }
     ensures granted { result ≡ Granted → Visits place (Alter number mode ∷ []) worker.old.seat.me worker.new.seat.me

@@ -1,5 +1,5 @@
 //! A wish for a lock is granted at once, or not at all.
-ghost use Rattle.std.specs.Prelude.{◌≡◌, ◌⊎◌, [], ◌∷◌, Ok, OnErr, IfErr, true};
+ghost use Rattle.std.specs.Prelude.{◌≡◌, ◌⊎◌, [], ◌∷◌, Ok, OnErr, IfErr, None, true};
 ghost use Rattle.mdl_key.specs.Words.{is_mode_of, is_obtrusive};
 ghost use Rattle.mdl_book.specs.declared.book_error.BookError.TheVariants as fault;
 ghost use Rattle.mdl_steps.specs.declared.deed.Deed.TheVariants.{Gain};
@@ -59,8 +59,8 @@ pub(crate) fn leave(worker: &mut Worker, top: &LockTable, latch: Latched)
     settle(worker, top, latch, &[]);
 }
 
-/// Grants the session a ticket of this number in this mode, where that can be done now, beside all that others hold and before
-/// none that waits. Otherwise all stays as it was.
+/// Grants the session, which waits for nothing, a ticket of this number in this mode, where that can be done now, beside all that
+/// others hold and before none that waits. Otherwise all stays as it was.
 pub fn try_grant<R: Wait>(
     rt: &R,
     worker: &mut Worker,
@@ -73,6 +73,7 @@ pub fn try_grant<R: Wait>(
     requires table { (worker.old.seat.table_id ≡ top.now.table_id) × IsSized top.now.table_id }
     requires place { IsPlace top.now.table_id place }
     requires rising { IsRising place worker.old.seat.me }
+    requires idle { worker.old.seat.me.0.asks ≡ None }
     requires kind { KnowsKind worker.old.seat.me.0 place kind }
     requires mode { is_mode_of kind mode ≡ true }
     requires number { number ≡ worker.old.seat.me.0.next }

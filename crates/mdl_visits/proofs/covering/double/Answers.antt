@@ -1,5 +1,5 @@
 -- The book that is met under the latch has the session's ticket, which covers the mode.
-use Rattle.std.proofs.Common.{◌≡◌, inl, inr, ℕ, refl, sym, ap, ◌∙◌, subst, [], ◌∷◌}
+use Rattle.std.proofs.Common.{◌≡◌, inl, inr, ℕ, None, refl, sym, ap, ◌∙◌, subst, [], ◌∷◌}
 use Rattle.std.proofs.lemmas.Result.{IfErr-weaker, on_err_weaker, on_ok_weaker}
 use Rattle.std.specs.Prelude.{is_some, OnOk}
 use Rattle.mdl_steps.specs.declared.deed.Deed.TheVariants.{Gain}
@@ -13,6 +13,7 @@ use Rattle.mdl_visits.specs.Visits.{IsStepOf, MeetsFull}
 use Rattle.mdl_visits.proofs.Covered.{covered_by, fits_lock, own_there}
 use Rattle.mdl_visits.proofs.Leaving.{step_later, visits_left}
 use Rattle.mdl_visits.proofs.Meeting.{StepUnder, met_there}
+use Rattle.mdl_visits.proofs.Numbers.{idle_waits_not}
 use Rattle.mdl_visits.proofs.covering.double.Goals as goal
 
 pub gain-requires-clause-covered : goal.gain-requires-clause-covered
@@ -24,7 +25,7 @@ gain-requires-clause-covered g c =
     let h = taken.0 in
     let who = c.await_latch-latch.new.worker.number in
     let mine = worker.numbered.0 ∙ sym c.await_latch-latch.ensures.seat.1 in
-    let there = own_there who held.number held h worker.seat.me mine taken.1 c.requires.unwaited c.requires.held in (
+    let there = own_there who held.number held h worker.seat.me mine taken.1 (idle_waits_not worker.seat.me.0 held.number c.requires.idle) c.requires.held in (
       h,
       subst (λ (q : ℕ). Holds q h h.book c.await_latch-latch.new.worker.seat.me) (sym c.await_latch-latch.ensures.place) taken.2,
       covered_by held.place who held.number held mode h worker.seat.me taken.1 there c.requires.covers (fits_lock held.place mode h worker.seat.me taken.1 c.requires.fits),
@@ -38,7 +39,7 @@ returns-clause-step g c =
     let h = taken.0 in
     let came : Mine = c.await_latch-latch.new.worker.seat.me in
     let went : Mine = c.gain.new.worker.seat.me in
-    let there = own_there worker.number held.number held h worker.seat.me worker.numbered.0 taken.1 c.requires.unwaited c.requires.held in
+    let there = own_there worker.number held.number held h worker.seat.me worker.numbered.0 taken.1 (idle_waits_not worker.seat.me.0 held.number c.requires.idle) c.requires.held in
     let step = subst (λ (q : ℕ). (e : Met) × IsStepOf came went e × (e.word ≡ lock_word q) × (e.held ≡ came.0.latches) × OnOk c.gain.result (e.deeds ≡ Gain c.args.number c.args.mode ∷ []))
     c.await_latch-latch.ensures.place c.gain.ensures.step in
     let under : StepUnder held.place step.0.deeds came went = (step.0, step.1, step.2, step.3, refl) in
@@ -68,6 +69,9 @@ returns-clause-unchanged g c =
     let came : Mine = latch.new.worker.seat.me in
     let went : Mine = c.gain.new.worker.seat.me in
     on_err_weaker c.gain.result (λ left. visits_left c.args.held.place c.args.worker.now.seat.me came went latch.ensures.inside [] (subst (λ (q : ℕ). Leaves q [] came went) latch.ensures.place left)) c.gain.ensures.unchanged
+
+pub gain-requires-clause-idle : goal.gain-requires-clause-idle
+gain-requires-clause-idle g c = subst (λ (x : Mine). x.0.asks ≡ None) (sym c.await_latch-latch.ensures.inside.now) c.requires.idle
 
 pub gain-requires-clause-number : goal.gain-requires-clause-number
 gain-requires-clause-number g c = subst (λ (x : Mine). c.args.number ≡ x.0.next) (sym c.await_latch-latch.ensures.inside.now) c.requires.number

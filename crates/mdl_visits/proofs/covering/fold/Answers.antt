@@ -1,13 +1,16 @@
 -- The book that is met under the latch has both tickets.
-use Rattle.std.proofs.Common.{ℕ, List, [], ◌∷◌, sym, ap, ◌∙◌, subst}
-use Rattle.std.specs.Prelude.{is_some}
+use Rattle.std.proofs.Common.{◌≡◌, ℕ, List, [], ◌∷◌, None, refl, sym, ◌∙◌, subst}
+use Rattle.mdl_book.specs.Books.{lock_kind}
 use Rattle.mdl_steps.specs.declared.deed.Deed.{Deed}
 use Rattle.mdl_steps.specs.declared.deed.Deed.TheVariants.{Alter, Lose}
+use Rattle.mdl_steps.specs.Cells.{ticket_by}
 use Rattle.mdl_steps.specs.Plays.{IsFresh, Mine}
 use Rattle.mdl_steps.specs.Seats.{Holds}
 use Rattle.mdl_visits.specs.Leavings.{Leaves}
-use Rattle.mdl_visits.proofs.Covered.{covered_by_own, own_there}
+use Rattle.mdl_system.proofs.StrengthLemmas.{covers-at_least}
+use Rattle.mdl_visits.proofs.Covered.{covered_by_own, own_mode, own_there}
 use Rattle.mdl_visits.proofs.Leaving.{visits_left}
+use Rattle.mdl_visits.proofs.Numbers.{idle_waits_not}
 use Rattle.mdl_visits.proofs.covering.fold.Goals as goal
 
 pub unite-requires-clause-covered : goal.unite-requires-clause-covered
@@ -20,13 +23,18 @@ unite-requires-clause-covered g c =
     let who = c.await_latch-latch.new.worker.number in
     let mine = worker.numbered.0 ∙ sym c.await_latch-latch.ensures.seat.1 in
     let fresh_there = subst (λ (q : ℕ). IsFresh q h worker.seat.me) c.requires.here taken.1 in
-    let first = own_there who kept.number kept h worker.seat.me mine taken.1 c.requires.unwaited.0 c.requires.held.0 in
-    let second = own_there who gone.number gone h worker.seat.me mine fresh_there c.requires.unwaited.1 c.requires.held.1 in (
+    let first = own_there who kept.number kept h worker.seat.me mine taken.1 (idle_waits_not worker.seat.me.0 kept.number c.requires.idle) c.requires.held.0 in
+    let second = own_there who gone.number gone h worker.seat.me mine fresh_there (idle_waits_not worker.seat.me.0 gone.number c.requires.idle) c.requires.held.1 in (
       h,
       subst (λ (q : ℕ). Holds q h h.book c.await_latch-latch.new.worker.seat.me) (sym c.await_latch-latch.ensures.place) taken.2,
       covered_by_own kept.place who gone.number gone h worker.seat.me taken.1 second,
-      ap is_some first,
-      ap is_some second,
+      (
+        ticket_by who kept,
+        first,
+        covers-at_least (lock_kind h.book) gone.mode kept.mode (own_mode kept.place who gone.number gone h worker.seat.me taken.1 second)
+            (own_mode kept.place who kept.number kept h worker.seat.me taken.1 first) c.requires.covers,
+      ),
+      (ticket_by who gone, second, refl),
     )
 
 pub returns-clause-folded : goal.returns-clause-folded
@@ -37,3 +45,6 @@ returns-clause-folded g c =
     let came : Mine = latch.new.worker.seat.me in
     let went : Mine = c.unite.new.worker.seat.me in
     visits_left place c.args.worker.now.seat.me came went latch.ensures.inside ds (subst (λ (q : ℕ). Leaves q ds came went) latch.ensures.place c.unite.ensures.left)
+
+pub unite-requires-clause-idle : goal.unite-requires-clause-idle
+unite-requires-clause-idle g c = subst (λ (x : Mine). x.0.asks ≡ None) (sym c.await_latch-latch.ensures.inside.now) c.requires.idle

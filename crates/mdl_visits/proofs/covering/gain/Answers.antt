@@ -15,7 +15,7 @@ settle-requires-clause-done c =
     let worker = c.args.worker.now in
     let has = c.requires.covered in
     let h = has.0 in
-    has_gained c.args.latch.place worker.number c.args.mode h worker.seat.me c.write_gain.new.self.seat.me worker.numbered.0 has.1 has.2 c.requires.known c.args.number c.requires.number
+    has_gained c.args.latch.place worker.number c.args.mode h worker.seat.me c.write_gain.new.self.seat.me worker.numbered.0 has.1 has.2 c.requires.known c.args.number c.requires.idle c.requires.number
     (c.in-Ok.ensures.written h.book has.1.carried)
 
 pub returns-in-Ok-clause-gained : goal.returns-in-Ok-clause-gained

@@ -1,13 +1,13 @@
 -- The book that is met under the latch has the session's ticket, which covers the mode.
-use Rattle.std.proofs.Common.{ℕ, sym, ap, ◌∙◌, subst, [], ◌∷◌}
-use Rattle.std.specs.Prelude.{is_some}
+use Rattle.std.proofs.Common.{ℕ, sym, ◌∙◌, subst, [], ◌∷◌}
 use Rattle.mdl_steps.specs.declared.deed.Deed.TheVariants.{Alter}
+use Rattle.mdl_steps.specs.Cells.{ticket_by}
 use Rattle.mdl_steps.specs.Deeds.{KnowsPlace, NotWaited}
 use Rattle.mdl_steps.specs.Plays.{Mine}
 use Rattle.mdl_steps.specs.Seats.{Holds, IsPlace}
 use Rattle.mdl_visits.specs.Grantings.{LeavesWay, WaitsOnce}
 use Rattle.mdl_visits.specs.Leavings.{MeetsOwn}
-use Rattle.mdl_visits.proofs.Covered.{covered_by, fits_lock, own_there}
+use Rattle.mdl_visits.proofs.Covered.{covered_by, downgrade-covered, fits_lock, own_there}
 use Rattle.mdl_visits.proofs.Leaving.{step_later}
 use Rattle.mdl_visits.proofs.WayOut.{visits_for_way, waits_once}
 use Rattle.mdl_visits.proofs.covering.weaken.Goals as goal
@@ -24,8 +24,8 @@ rewrite-requires-clause-covered g c =
     let there = own_there who held.number held h worker.seat.me mine taken.1 c.requires.unwaited c.requires.held in (
       h,
       subst (λ (q : ℕ). Holds q h h.book c.await_latch-latch.new.worker.seat.me) (sym c.await_latch-latch.ensures.place) taken.2,
-      covered_by held.place who held.number held mode h worker.seat.me taken.1 there c.requires.covers (fits_lock held.place mode h worker.seat.me taken.1 c.requires.fits),
-      ap is_some there,
+      covered_by held.place who held.number held mode h worker.seat.me taken.1 there (downgrade-covered held.mode mode c.requires.weaker) (fits_lock held.place mode h worker.seat.me taken.1 c.requires.fits),
+      (ticket_by who held, there, c.requires.weaker),
     )
 
 pub rewrite-requires-clause-place : goal.rewrite-requires-clause-place

@@ -1,10 +1,21 @@
 -- The wait was read unsettled and its grant tried, or it was read settled.
-use Rattle.std.proofs.Common.{◌≡◌, ℕ, sym, ap, ◌∙◌, subst}
+use Rattle.std.proofs.Common.{◌≡◌, ℕ, inl, refl, sym, ap, ◌∙◌, subst}
+use Rattle.mdl_steps.specs.declared.step_kind.StepKind.TheVariants.{ReadWait}
 use Rattle.mdl_steps.specs.Plays.{Mine}
 use Rattle.mdl_steps.specs.WaitPlays.{met_wait, TellsOwn}
-use Rattle.mdl_visits.proofs.Serving.{is_settled, is_tried}
-use Rattle.mdl_visits.proofs.Way.{way_met, way_then}
+use Rattle.mdl_visits.proofs.Serving.{holds_met, is_settled, is_tried, just_met, way_missed, way_tried}
 use Rattle.mdl_visits.proofs.granting.serve_session.Goals as goal
+
+pub grant-requires-clause-ready : goal.grant-requires-clause-ready
+grant-requires-clause-ready c =
+    let id = c.args.table.now.shared.table_id in
+    let place = c.args.latch.now.place in
+    let m : Mine = c.args.worker.now.seat.me in
+    let a : Mine = c.read_wait-wait.new.self.seat.me in
+    let word = c.read_wait-wait.result.0 in
+    let read : a ≡ met_wait id.slots c.args.session word m = c.read_wait-wait.ensures.made ∙ ap (λ (n : ℕ). met_wait n c.args.session word m) c.slot_count.ensures in
+    let ready = c.requires.ready in
+    (ready.0, holds_met ReadWait id.slots place c.args.session word ready.0 m a read ready.1, ready.2, just_met ReadWait (inl refl) id place c.args.session c.args.number word ready.0 m a ready.1 ready.2 read refl)
 
 pub returns-then-state-eq-UNSETTLED-clause-served : goal.returns-then-state-eq-UNSETTLED-clause-served
 returns-then-state-eq-UNSETTLED-clause-served c =
@@ -13,7 +24,8 @@ returns-then-state-eq-UNSETTLED-clause-served c =
     let a : Mine = c.read_wait-wait.new.self.seat.me in
     let word = c.read_wait-wait.result.0 in
     let read : a ≡ met_wait id.slots c.args.session word m = c.read_wait-wait.ensures.made ∙ ap (λ (n : ℕ). met_wait n c.args.session word m) c.slot_count.ensures in
-    is_tried id c.args.latch.now.place c.args.session c.args.number word m a read c.grant.new.worker.seat.me (sym c.state.ensures ∙ c.if-state-eq-UNSETTLED.true) c.grant.ensures.way c.grant.ensures.granted
+    let ready = c.requires.ready in
+    is_tried ReadWait (inl refl) id c.args.latch.now.place c.args.session c.args.number word ready.0 m a ready.1 ready.2 read c.grant.new.worker.seat.me (sym c.state.ensures ∙ c.if-state-eq-UNSETTLED.true) c.grant.ensures.granted
 
 pub returns-then-state-eq-UNSETTLED-clause-way : goal.returns-then-state-eq-UNSETTLED-clause-way
 returns-then-state-eq-UNSETTLED-clause-way c =
@@ -23,8 +35,8 @@ returns-then-state-eq-UNSETTLED-clause-way c =
     let word = c.read_wait-wait.result.0 in
     let read : a ≡ met_wait id.slots c.args.session word m = c.read_wait-wait.ensures.made ∙ ap (λ (n : ℕ). met_wait n c.args.session word m) c.slot_count.ensures in
     let own = subst (λ (n : ℕ). TellsOwn n c.args.session word m.0) c.slot_count.ensures c.read_wait-wait.ensures.own in
-    way_then id.slots c.args.latch.now.place m a c.grant.new.worker.seat.me
-    (way_met id.slots c.args.latch.now.place c.args.session word c.requires.ready.0.book m a c.requires.ready.1.carried own read) c.grant.ensures.way
+    let ready = c.requires.ready in
+    way_tried ReadWait (inl refl) id c.args.latch.now.place c.args.session c.args.number word ready.0 m a ready.1 ready.2 read c.grant.new.worker.seat.me own c.grant.ensures.way
 
 pub returns-else-state-eq-UNSETTLED-clause-served : goal.returns-else-state-eq-UNSETTLED-clause-served
 returns-else-state-eq-UNSETTLED-clause-served c =
@@ -33,7 +45,8 @@ returns-else-state-eq-UNSETTLED-clause-served c =
     let a : Mine = c.read_wait-wait.new.self.seat.me in
     let word = c.read_wait-wait.result.0 in
     let read : a ≡ met_wait id.slots c.args.session word m = c.read_wait-wait.ensures.made ∙ ap (λ (n : ℕ). met_wait n c.args.session word m) c.slot_count.ensures in
-    is_settled id c.args.latch.now.place c.args.session c.args.number word m a read (λ open_. c.if-state-eq-UNSETTLED.false (c.state.ensures ∙ open_))
+    let ready = c.requires.ready in
+    is_settled ReadWait (inl refl) id c.args.latch.now.place c.args.session c.args.number word ready.0 m a ready.1 ready.2 read (λ open_. c.if-state-eq-UNSETTLED.false (c.state.ensures ∙ open_))
 
 pub returns-else-state-eq-UNSETTLED-clause-way : goal.returns-else-state-eq-UNSETTLED-clause-way
 returns-else-state-eq-UNSETTLED-clause-way c =
@@ -43,4 +56,5 @@ returns-else-state-eq-UNSETTLED-clause-way c =
     let word = c.read_wait-wait.result.0 in
     let read : a ≡ met_wait id.slots c.args.session word m = c.read_wait-wait.ensures.made ∙ ap (λ (n : ℕ). met_wait n c.args.session word m) c.slot_count.ensures in
     let own = subst (λ (n : ℕ). TellsOwn n c.args.session word m.0) c.slot_count.ensures c.read_wait-wait.ensures.own in
-    way_met id.slots c.args.latch.now.place c.args.session word c.requires.ready.0.book m a c.requires.ready.1.carried own read
+    let ready = c.requires.ready in
+    way_missed ReadWait (inl refl) id c.args.latch.now.place c.args.session c.args.number word ready.0 m a ready.1 ready.2 read own

@@ -4,7 +4,7 @@ use Rattle.mdl_steps.proofs.Deeds.{may_join}
 use Rattle.mdl_visits.proofs.laws.granted_waits_were_grantable.Goals as goal
 
 pub returns : goal.returns
-returns c = λ slots place g e meets.
+returns c = λ id place m m′ g e meets.
     let before = meets.before in (
       before,
       meets.wish,

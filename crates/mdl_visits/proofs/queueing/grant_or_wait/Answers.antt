@@ -126,7 +126,7 @@ put_latch-requires-clause-put g c =
     (◌∙◌ {A = Mine} writes (ap (written c.enter.result.0.place (booked session (Gain number mode) book)) c.can_grant.ensures.same)) in
     subst (λ (p : ℕ). MayPut p (Gain number mode ∷ []) wrote) (sym at)
     (ready place word session number mode c.args.kind asks c.args.worker.now.seat.me came entered c.requires.kind c.requires.mode c.is_obtrusive.ensures c.args.worker.now.numbered.0
-    wrote c.requires.number can writes_here)
+    wrote c.requires.unwaited c.requires.number can writes_here)
 
 pub returns-clause-granted : goal.returns-clause-granted
 returns-clause-granted g c =

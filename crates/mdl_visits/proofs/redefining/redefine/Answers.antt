@@ -1,7 +1,6 @@
 -- What was changed in hand is one version newer, and the session has an exclusive ticket.
 use Rattle.std.proofs.Common.{◌≡◌, ap, ◌∙◌, subst}
-use Rattle.mdl_defs.specs.Standings.{standing_after, standing_fault, MayStand}
-use Rattle.mdl_defs.proofs.StandingLemmas.{changes-keep_standing}
+use Rattle.mdl_defs.specs.Standings.{standing_after, standing_fault}
 use Rattle.mdl_steps.specs.declared.view.Held.{Held}
 use Rattle.mdl_steps.specs.Plays.{Mine}
 use Rattle.mdl_steps.specs.Seats.{HasExclusive}
@@ -17,9 +16,8 @@ publish-requires-clause-changed c =
     let held = c.requires.held in
     let h = held.0 in
     let done = c.in-Ok.ensures.written h.book held.1.carried in
-    let fault = no_fault (standing_fault h.book.key.namespace change h.book.standing) c.in-Ok.version (c.in-Ok.ensures.refused h.book held.1.carried) in
-    let may = changes-keep_standing h.book.key.namespace h.book.standing change held.4 fault in
-    (h, standing_after change h.book.standing, has_redefined place change h m c.write_change.new.self.seat.me done.0 held.1 held.3 may, held.2)
+    let allowed = no_fault (standing_fault h.book.key.namespace change h.book.standing) c.in-Ok.version (c.in-Ok.ensures.refused h.book held.1.carried) in
+    (h, change, has_redefined place change h m c.write_change.new.self.seat.me done.0 held.1 held.3 allowed, held.2)
 
 pub returns-in-Ok-clause-changed : goal.returns-in-Ok-clause-changed
 returns-in-Ok-clause-changed c = λ h has.
@@ -31,9 +29,8 @@ returns-in-Ok-clause-changed c = λ h has.
     let done = c.in-Ok.ensures.written h.book has.carried in
     let same : held.0 ≡ h = one_record held.1 has in
     let exclusive = subst (λ (g : Held). HasExclusive g m) same held.3 in
-    let may = subst (λ (g : Held). MayStand g.book.key.namespace g.book.standing) same held.4 in
-    let fault = no_fault (standing_fault h.book.key.namespace change h.book.standing) c.in-Ok.version (c.in-Ok.ensures.refused h.book has.carried) in
+    let allowed = no_fault (standing_fault h.book.key.namespace change h.book.standing) c.in-Ok.version (c.in-Ok.ensures.refused h.book has.carried) in
     let standing = standing_after change h.book.standing in (
       done.1,
-      ◌∙◌ {A = Mine} (c.publish.ensures.published h standing (has_redefined place change h m wrote done.0 has exclusive (changes-keep_standing h.book.key.namespace h.book.standing change may fault))) (ap (redefined_and_put place standing) done.0),
+      ◌∙◌ {A = Mine} (c.publish.ensures.published h change (has_redefined place change h m wrote done.0 has exclusive allowed)) (ap (redefined_and_put place standing) done.0),
     )

@@ -21,7 +21,6 @@ redefine-requires-clause-held g c =
       subst (λ (q : ℕ). Holds q h h.book came) (sym latch.ensures.place) taken.2,
       taken.1.exact,
       subst (λ (x : Mine). HasExclusive h x) (sym taken.3.1) exclusive,
-      taken.1.stands,
     )
 
 pub returns-clause-changed : goal.returns-clause-changed

@@ -16,7 +16,7 @@ settle_for_way-requires-clause-done c =
     let h = held.0 in
     let out = taken_out (ticket_of worker.number c.args.number h.book.granted) NotHere c.write_loss-gone.result held.3 (c.write_loss-gone.ensures.refused h.book held.1.carried)
     (c.write_loss-gone.ensures.written h.book held.1.carried) in
-    has_lost place worker.number c.args.number h worker.seat.me c.write_loss-gone.new.self.seat.me worker.numbered.0 held.1 held.2 c.requires.known c.requires.unwaited out
+    has_lost place worker.number c.args.number h worker.seat.me c.write_loss-gone.new.self.seat.me worker.numbered.0 held.1 held.2 c.requires.known c.requires.unwaited held.3 out
 
 pub returns-clause-left : goal.returns-clause-left
 returns-clause-left c =

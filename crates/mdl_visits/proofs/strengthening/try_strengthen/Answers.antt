@@ -45,7 +45,7 @@ put_latch-requires-clause-put g c =
     let told = c.can_grant.ensures.told book has.carried in
     let can = subst (λ (n : ℕ). can_be_granted (lock_kind book) book.granted book.waiting word n mode ≡ true) c.enter.ensures.seat.1 (sym told ∙ c.if-not-can_grant.false) in
     let who = c.can_grant.ensures.seat.1 ∙ c.enter.ensures.seat.1 in
-    let there = stands place word session number mode kind.0 true m came entered kind.1 kind.2 (sym kind.3) worker.numbered.0 c.requires.unwaited c.requires.held in
+    let there = stands place word session number mode kind.0 true m came entered kind.1 kind.2 (sym kind.3) worker.numbered.0 c.requires.idle c.requires.held in
     let refuses = subst (λ (n : ℕ). RefusesJust (change_fault n number mode word book) c.write_mode-altered.result) who (c.write_mode-altered.ensures.refused book has_still.carried) in
     let done = just_done (change_fault session number mode word book) c.write_mode-altered.result (none_clashes session number mode word book there (and_parts _ _ can).0) refuses
     (c.write_mode-altered.ensures.written book has_still.carried) in
@@ -53,7 +53,7 @@ put_latch-requires-clause-put g c =
     let writes_here = subst (λ (p : ℕ). wrote ≡ written p (booked session (Alter number mode) book) came) at
     (◌∙◌ {A = Mine} writes (ap (written here (booked session (Alter number mode) book)) c.can_grant.ensures.same)) in
     subst (λ (p : ℕ). MayPut p (Alter number mode ∷ []) wrote) (sym at)
-    (ready_altered place word session number mode kind.0 true m came entered kind.1 kind.2 (sym kind.3) worker.numbered.0 wrote refl c.requires.unwaited c.requires.held can writes_here)
+    (ready_altered place word session number mode kind.0 true m came entered kind.1 kind.2 (sym kind.3) worker.numbered.0 wrote refl c.requires.idle c.requires.held can writes_here)
 
 pub returns-clause-granted : goal.returns-clause-granted
 returns-clause-granted g c =
@@ -79,7 +79,7 @@ returns-clause-granted g c =
     let told = c.can_grant.ensures.told book has.carried in
     let can = subst (λ (n : ℕ). can_be_granted (lock_kind book) book.granted book.waiting word n mode ≡ true) c.enter.ensures.seat.1 (sym told ∙ c.if-not-can_grant.false) in
     let who = c.can_grant.ensures.seat.1 ∙ c.enter.ensures.seat.1 in
-    let there = stands place word session number mode kind.0 true m came entered kind.1 kind.2 (sym kind.3) worker.numbered.0 c.requires.unwaited c.requires.held in
+    let there = stands place word session number mode kind.0 true m came entered kind.1 kind.2 (sym kind.3) worker.numbered.0 c.requires.idle c.requires.held in
     let refuses = subst (λ (n : ℕ). RefusesJust (change_fault n number mode word book) c.write_mode-altered.result) who (c.write_mode-altered.ensures.refused book has_still.carried) in
     let done = just_done (change_fault session number mode word book) c.write_mode-altered.result (none_clashes session number mode word book there (and_parts _ _ can).0) refuses
     (c.write_mode-altered.ensures.written book has_still.carried) in
