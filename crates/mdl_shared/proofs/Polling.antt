@@ -5,6 +5,8 @@ use Rattle.std.proofs.lemmas.Bool.{eq-eqb, eqb-false, eqb-true, false≢true}
 use Rattle.std.proofs.lemmas.Bool.Decides.{nat_tests}
 use Rattle.mdl_calls.specs.declared.answers.Settled.{Settled}
 use Rattle.mdl_calls.specs.declared.answers.Settled.TheVariants.{Granted, Victim, Timeout, Killed}
+use Rattle.mdl_steps.specs.declared.step_kind.StepKind.{StepKind}
+use Rattle.mdl_steps.specs.declared.step_kind.StepKind.TheVariants.{MissWait, SettleWait}
 use Rattle.mdl_steps.specs.declared.view.Ask.{Ask}
 use Rattle.mdl_steps.specs.declared.view.Met.{Met}
 use Rattle.mdl_steps.specs.declared.view.View.{View}
@@ -12,15 +14,15 @@ use Rattle.mdl_steps.specs.Cells.{waiter_of}
 use Rattle.mdl_steps.specs.Layout.{wait_word}
 use Rattle.mdl_steps.specs.Rule.{WaitOk}
 use Rattle.mdl_steps.specs.Plays.{Mine}
-use Rattle.mdl_steps.specs.WaitPlays.{met_wait, settled_lost, wait_in}
+use Rattle.mdl_steps.specs.WaitPlays.{met_wait_by, missed_wait, settled_lost, wait_in}
 use Rattle.mdl_steps.proofs.Views.{by_bool}
 use Rattle.mdl_visits.specs.Polls.{MeetsWord, state_of}
 use Rattle.mdl_visits.specs.Visits.{IsStepOf}
 use Rattle.mdl_shared.specs.Waitings.{own_number}
 
-pub met_word : (slots session found : ℕ) (m m′ : Mine) → m′ ≡ met_wait slots session found m → (e : Met) × IsStepOf m m′ e × MeetsWord slots session found e
-met_word slots session found m m′ is =
-    let e : Met = record { word = wait_word slots session; found = found; held = m.0.latches; directory = m.0.directory } in (
+pub met_word : (kind : StepKind) (slots session found : ℕ) (m m′ : Mine) → m′ ≡ met_wait_by kind slots session found m → (e : Met) × IsStepOf m m′ e × MeetsWord slots session found e
+met_word kind slots session found m m′ is =
+    let e : Met = record { kind = kind; deeds = []; word = wait_word slots session; found = found; held = m.0.latches; directory = m.0.directory } in (
       e,
       ([], [], ap (λ (x : Mine). x.0.log) is ∙ ap (λ (log : List Met). log ++ e ∷ []) (sym (append-nil m.0.log))),
       record { word_is = refl; found = refl },
@@ -29,7 +31,7 @@ met_word slots session found m m′ is =
 -- ---- a wait is settled as lost, or its word only met
 
 module _ (slots session wait state found : ℕ) (m m′ : Mine)
-    (settled : found ≡ wait_in wait 1 → m′ ≡ settled_lost slots session wait state m) (missed : found ≢ wait_in wait 1 → m′ ≡ met_wait slots session found m) where
+    (settled : found ≡ wait_in wait 1 → m′ ≡ settled_lost slots session wait state m) (missed : found ≢ wait_in wait 1 → m′ ≡ missed_wait slots session found m) where
   -- which of both
   whether : {P : Type 0} → (found ≡ wait_in wait 1 → P) → (found ≢ wait_in wait 1 → P) → P
   whether hit miss =
@@ -40,12 +42,12 @@ module _ (slots session wait state found : ℕ) (m m′ : Mine)
   pub settled_word : (e : Met) × IsStepOf m m′ e × MeetsWord slots session found e
   settled_word = whether
       (λ hit.
-      let e : Met = record { word = wait_word slots session; found = wait_in wait 1; held = m.0.latches; directory = m.0.directory } in (
+      let e : Met = record { kind = SettleWait; deeds = []; word = wait_word slots session; found = wait_in wait 1; held = m.0.latches; directory = m.0.directory } in (
         e,
         ([], [], ap (λ (x : Mine). x.0.log) (settled hit) ∙ ap (λ (log : List Met). log ++ e ∷ []) (sym (append-nil m.0.log))),
         record { word_is = refl; found = sym hit },
       ))
-      (λ miss. met_word slots session found m m′ (missed miss))
+      (λ miss. met_word MissWait slots session found m m′ (missed miss))
 
 -- ---- the session's own wait, by its word
 

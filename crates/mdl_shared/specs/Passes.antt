@@ -2,6 +2,7 @@
 use Rattle.std.specs.Prelude.{◌≡◌, ℕ, ◌+◌, ◌<◌, List, [], length, slice_index_or}
 use Rattle.std.specs.Arc.{arc_value}
 use Rattle.atomic_table.specs.Seated.{TableId}
+use Rattle.mdl_steps.specs.declared.step_kind.StepKind.TheVariants.{Enrol}
 use Rattle.mdl_steps.specs.Cells.{blank, no_numbers}
 use Rattle.mdl_steps.specs.Layout.{enrol_word}
 use Rattle.mdl_steps.specs.Plays.{logged}
@@ -25,7 +26,7 @@ pub record IsPass (table : TableId) (number : ℕ) (pass : Pass) : Type 0 where
   pub theirs : pass_table pass ≡ table
   pub numbered : pass_number pass ≡ number
   pub nothing_known : pass.member.known.items ≡ []
-  pub fresh : pass.member.worker.seat.me ≡ (logged (enrol_word table.slots) number [] (blank number no_numbers), [])
+  pub fresh : pass.member.worker.seat.me ≡ (logged Enrol [] (enrol_word table.slots) number [] (blank number no_numbers), [])
 
 -- the passes of the sessions from 1 on, in order
 abbrev pub ArePasses : TableId → List Pass → Type 0

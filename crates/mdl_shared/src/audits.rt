@@ -6,6 +6,7 @@ ghost use Rattle.mdl_steps.specs.declared.view.Keys.{Keys};
 ghost use Rattle.mdl_visits.specs.Audits.{Audits};
 ghost use Rattle.mdl_shared.specs.Keepings.{KeepsWait};
 ghost use Rattle.mdl_visits.specs.Lookups.{TookDirectory};
+ghost use Rattle.mdl_visits.specs.Polls.{SettlesNothing};
 ghost use Rattle.mdl_visits.specs.Readings.{ReadsNothing};
 
 use crate::Session;
@@ -22,6 +23,7 @@ impl Member {
             × (self.new.known.items ≡ self.old.known.items) × (self.new.tickets.items ≡ self.old.tickets.items) }
         ensures wait { KeepsWait self.old self.new }
         ensures reads { ReadsNothing self.old.worker.seat.me self.new.worker.seat.me }
+        ensures settles { SettlesNothing self.old.worker.seat.me self.new.worker.seat.me }
         ensures told { (k : Keys) × TookDirectory (arc_value self.old.table).shared.table_id.slots k k self.old.worker.seat.me self.new.worker.seat.me
             × IfOk result (λ audited. Audits k audited.items self.old.worker.seat.me self.new.worker.seat.me) }
     {
@@ -41,6 +43,7 @@ impl<R: Wait> Session<R> {
             × (self.new.member.tickets.items ≡ self.old.member.tickets.items) }
         ensures wait { KeepsWait self.old.member self.new.member }
         ensures reads { ReadsNothing self.old.member.worker.seat.me self.new.member.worker.seat.me }
+        ensures settles { SettlesNothing self.old.member.worker.seat.me self.new.member.worker.seat.me }
         ensures told { (k : Keys) × TookDirectory (arc_value self.old.member.table).shared.table_id.slots k k self.old.member.worker.seat.me self.new.member.worker.seat.me
             × IfOk result (λ audited. Audits k audited.items self.old.member.worker.seat.me self.new.member.worker.seat.me) }
         ensures refused { IfErr result (λ why. why ≡ cause.OutOfMemory) }

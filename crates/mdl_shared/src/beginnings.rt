@@ -5,6 +5,7 @@ ghost use Rattle.mdl_key.specs.Words.{is_mode_of};
 ghost use Rattle.mdl_calls.specs.declared.answers.Begun.TheVariants.{Granted, Waiting};
 ghost use Rattle.mdl_calls.specs.declared.space_error.SpaceError.TheVariants as cause;
 ghost use Rattle.mdl_steps.specs.Cells.{note_at};
+ghost use Rattle.mdl_steps.specs.declared.deed.Deed.TheVariants.{Gain};
 ghost use Rattle.mdl_steps.specs.declared.view.Met.{Met};
 ghost use Rattle.mdl_shared.specs.Beginnings.{Begins};
 ghost use Rattle.mdl_visits.specs.WaitOpenings.{MeetsOpening};
@@ -12,7 +13,7 @@ ghost use Rattle.mdl_shared.specs.Keepings.{KeepsWait};
 ghost use Rattle.mdl_shared.specs.Members.{kind_known, most_numbers, wish_fault};
 ghost use Rattle.mdl_visits.specs.Polls.{SettlesNothing};
 ghost use Rattle.mdl_visits.specs.Readings.{ReadsNothing};
-ghost use Rattle.mdl_visits.specs.Visits.{IsStepOf, MeetsBlocked, MeetsFull, MeetsGrantable};
+ghost use Rattle.mdl_visits.specs.Visits.{AreStepsOf, IsStepOf, MeetsBlocked, MeetsFull, MeetsGrantable};
 
 use crate::Session;
 use crate::member::Member;
@@ -44,12 +45,11 @@ impl Member {
         ensures settles { SettlesNothing self.old.worker.seat.me self.new.worker.seat.me }
         ensures granted { (id : ℕ) → result ≡ Ok (Granted id) → KeepsWait self.old self.new × (id ≡ self.old.next)
             × (self.new.tickets.items ≡ self.old.tickets.items ++ record { number = id; place = place; mode = mode; noted = note_at place self.old.tickets.items } ∷ [])
-            × ((e : Met) × IsStepOf self.old.worker.seat.me self.new.worker.seat.me e × MeetsGrantable place self.old.worker.number mode e) }
+            × ((e : Met) × IsStepOf self.old.worker.seat.me self.new.worker.seat.me e × MeetsGrantable place self.old.worker.number mode (Gain id mode) e) }
         ensures next { (id : ℕ) → result ≡ Ok (Granted id) → self.new.next ≡ id + 1 }
         ensures waiting { (number : ℕ) → result ≡ Ok (Waiting number) → (number ≡ self.old.waits + 1) × Begins place mode self.old self.new
-            × ((e : Met) × IsStepOf self.old.worker.seat.me self.new.worker.seat.me e × MeetsBlocked place self.old.worker.number mode e)
-            × ((e : Met) × IsStepOf self.old.worker.seat.me self.new.worker.seat.me e
-            × MeetsOpening (arc_value self.old.table).shared.table_id.slots place self.old.worker.number self.old.waits self.old.next mode e) }
+            × ((e f : Met) × AreStepsOf self.old.worker.seat.me self.new.worker.seat.me e f × MeetsBlocked place self.old.worker.number mode e
+            × MeetsOpening (arc_value self.old.table).shared.table_id.slots place self.old.worker.number self.old.waits self.old.next mode f) }
         ensures unchanged { OnErr result (KeepsWait self.old self.new × (self.new.tickets.items ≡ self.old.tickets.items) × (self.new.next ≡ self.old.next)) }
         ensures refused { IfErr result (λ why. (why ≡ cause.OutOfMemory)
             ⊎ ((why ≡ cause.Full) × ((e : Met) × IsStepOf self.old.worker.seat.me self.new.worker.seat.me e × MeetsFull place e))) }
@@ -108,12 +108,11 @@ impl<R: Wait> Session<R> {
         ensures settles { SettlesNothing self.old.member.worker.seat.me self.new.member.worker.seat.me }
         ensures granted { (id : ℕ) → result ≡ Ok (Granted id) → KeepsWait self.old.member self.new.member × (id ≡ self.old.member.next)
             × (self.new.member.tickets.items ≡ self.old.member.tickets.items ++ record { number = id; place = place; mode = mode; noted = note_at place self.old.member.tickets.items } ∷ [])
-            × ((e : Met) × IsStepOf self.old.member.worker.seat.me self.new.member.worker.seat.me e × MeetsGrantable place self.old.member.worker.number mode e) }
+            × ((e : Met) × IsStepOf self.old.member.worker.seat.me self.new.member.worker.seat.me e × MeetsGrantable place self.old.member.worker.number mode (Gain id mode) e) }
         ensures next { (id : ℕ) → result ≡ Ok (Granted id) → self.new.member.next ≡ id + 1 }
         ensures waiting { (number : ℕ) → result ≡ Ok (Waiting number) → (number ≡ self.old.member.waits + 1) × Begins place mode self.old.member self.new.member
-            × ((e : Met) × IsStepOf self.old.member.worker.seat.me self.new.member.worker.seat.me e × MeetsBlocked place self.old.member.worker.number mode e)
-            × ((e : Met) × IsStepOf self.old.member.worker.seat.me self.new.member.worker.seat.me e
-            × MeetsOpening (arc_value self.old.member.table).shared.table_id.slots place self.old.member.worker.number self.old.member.waits self.old.member.next mode e) }
+            × ((e f : Met) × AreStepsOf self.old.member.worker.seat.me self.new.member.worker.seat.me e f × MeetsBlocked place self.old.member.worker.number mode e
+            × MeetsOpening (arc_value self.old.member.table).shared.table_id.slots place self.old.member.worker.number self.old.member.waits self.old.member.next mode f) }
         ensures unchanged { OnErr result (KeepsWait self.old.member self.new.member × (self.new.member.tickets.items ≡ self.old.member.tickets.items)
             × (self.new.member.next ≡ self.old.member.next)) }
         ensures unfit { IfSome (wish_fault (kind_known place self.old.member.known.items) self.old.member.asks mode self.old.member.next) (λ why. result ≡ Err why) }

@@ -6,6 +6,7 @@ ghost use Rattle.mdl_steps.specs.declared.view.Own.{Own};
 ghost use Rattle.mdl_steps.specs.Plays.{noting_version};
 ghost use Rattle.mdl_shared.specs.Keepings.{KeepsWait};
 ghost use Rattle.mdl_visits.specs.Numbers.{numbered};
+ghost use Rattle.mdl_visits.specs.Polls.{SettlesNothing};
 ghost use Rattle.mdl_visits.specs.Readings.{ReadsNothing};
 ghost use Rattle.mdl_visits.specs.Redefinitions.{HasExclusiveAt, IsRefusedAs, IsRefusedFor, Redefines, exclusive_fault};
 
@@ -34,6 +35,7 @@ impl Member {
         requires held { HasExclusiveAt place self.old.tickets.items }
         ensures same { (self.new.table ≡ self.old.table) × (self.new.worker.number ≡ self.old.worker.number) × (self.new.next ≡ self.old.next) × (self.new.known.items ≡ self.old.known.items) }
         ensures wait { KeepsWait self.old self.new }
+        ensures settles { SettlesNothing self.old.worker.seat.me self.new.worker.seat.me }
         ensures changed { IfOk result (λ version. (self.new.tickets.items ≡ noting_version place version self.old.tickets.items)
             × Redefines place change.now version self.old.worker.seat.me self.new.worker.seat.me) }
         ensures unchanged { OnErr result ((self.new.tickets.items ≡ self.old.tickets.items) × ReadsNothing self.old.worker.seat.me self.new.worker.seat.me) }
@@ -52,6 +54,7 @@ impl<R: Wait> Session<R> {
         ensures session { (self.new.member.table ≡ self.old.member.table) × (self.new.member.worker.number ≡ self.old.member.worker.number)
             × (self.new.member.next ≡ self.old.member.next) × (self.new.member.known.items ≡ self.old.member.known.items) }
         ensures wait { KeepsWait self.old.member self.new.member }
+        ensures settles { SettlesNothing self.old.member.worker.seat.me self.new.member.worker.seat.me }
         ensures changed { IfOk result (λ version. (t : Own) × (numbered id self.old.member.tickets.items ≡ Some t) × (t.mode ≡ X)
             × (self.new.member.tickets.items ≡ noting_version t.place version self.old.member.tickets.items)
             × Redefines t.place change.now version self.old.member.worker.seat.me self.new.member.worker.seat.me) }

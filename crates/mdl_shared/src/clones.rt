@@ -2,6 +2,7 @@
 ghost use Rattle.std.specs.Prelude.{◌≡◌, ◌⊎◌, ◌+◌, ◌<◌, ◌++◌, ◌∷◌, [], Some, None, Err, IfOk, IfErr, IfSome, OnErr, true};
 ghost use Rattle.mdl_calls.specs.declared.space_error.SpaceError.TheVariants as cause;
 ghost use Rattle.mdl_steps.specs.Cells.{note_at};
+ghost use Rattle.mdl_steps.specs.declared.deed.Deed.TheVariants.{Gain};
 ghost use Rattle.mdl_steps.specs.declared.view.Met.{Met};
 ghost use Rattle.mdl_steps.specs.declared.view.Own.{Own};
 ghost use Rattle.mdl_shared.specs.Keepings.{KeepsWait};
@@ -9,6 +10,7 @@ ghost use Rattle.mdl_visits.specs.Leavings.{MeetsOwn};
 ghost use Rattle.mdl_shared.specs.Members.{most_numbers};
 ghost use Rattle.mdl_visits.specs.Numbers.{numbered};
 ghost use Rattle.mdl_shared.specs.Modes.{clone_fault, is_fit};
+ghost use Rattle.mdl_visits.specs.Polls.{SettlesNothing};
 ghost use Rattle.mdl_visits.specs.Readings.{ReadsNothing};
 ghost use Rattle.mdl_visits.specs.Visits.{IsStepOf, MeetsFull};
 ghost use Rattle.mdl_system.specs.Strength.{covers};
@@ -35,9 +37,11 @@ impl Member {
         ensures same { (self.new.table ≡ self.old.table) × (self.new.worker.number ≡ self.old.worker.number) × (self.new.known.items ≡ self.old.known.items) }
         ensures wait { KeepsWait self.old self.new }
         ensures reads { ReadsNothing self.old.worker.seat.me self.new.worker.seat.me }
+        ensures settles { SettlesNothing self.old.worker.seat.me self.new.worker.seat.me }
         ensures doubled { IfOk result (λ id. (id ≡ self.old.next) × (self.new.next ≡ id + 1)
             × (self.new.tickets.items ≡ self.old.tickets.items ++ record { number = id; place = held.place; mode = mode; noted = note_at held.place self.old.tickets.items } ∷ [])
-            × ((e : Met) × IsStepOf self.old.worker.seat.me self.new.worker.seat.me e × MeetsOwn held.place self.old.worker.number held.number e)) }
+            × ((e : Met) × IsStepOf self.old.worker.seat.me self.new.worker.seat.me e × MeetsOwn held.place self.old.worker.number held.number e
+            × (e.deeds ≡ Gain id mode ∷ []))) }
         ensures unchanged { OnErr result ((self.new.tickets.items ≡ self.old.tickets.items) × (self.new.next ≡ self.old.next)) }
         ensures refused { IfErr result (λ why. (why ≡ cause.OutOfMemory)
             ⊎ ((why ≡ cause.Full) × ((e : Met) × IsStepOf self.old.worker.seat.me self.new.worker.seat.me e × MeetsFull held.place e))) }
@@ -71,10 +75,12 @@ impl<R: Wait> Session<R> {
             × (self.new.member.known.items ≡ self.old.member.known.items) }
         ensures wait { KeepsWait self.old.member self.new.member }
         ensures reads { ReadsNothing self.old.member.worker.seat.me self.new.member.worker.seat.me }
+        ensures settles { SettlesNothing self.old.member.worker.seat.me self.new.member.worker.seat.me }
         ensures cloned { IfOk result (λ new. (new ≡ self.old.member.next) × (self.new.member.next ≡ new + 1)
             × ((t : Own) × (numbered id self.old.member.tickets.items ≡ Some t)
             × (self.new.member.tickets.items ≡ self.old.member.tickets.items ++ record { number = new; place = t.place; mode = mode; noted = note_at t.place self.old.member.tickets.items } ∷ [])
-            × ((e : Met) × IsStepOf self.old.member.worker.seat.me self.new.member.worker.seat.me e × MeetsOwn t.place self.old.member.worker.number id e))) }
+            × ((e : Met) × IsStepOf self.old.member.worker.seat.me self.new.member.worker.seat.me e × MeetsOwn t.place self.old.member.worker.number id e
+            × (e.deeds ≡ Gain new mode ∷ [])))) }
         ensures unchanged { OnErr result ((self.new.member.tickets.items ≡ self.old.member.tickets.items) × (self.new.member.next ≡ self.old.member.next)) }
         ensures unfit { IfSome (clone_fault (numbered id self.old.member.tickets.items) self.old.member.asks mode self.old.member.known.items self.old.member.next) (λ why. result ≡ Err why) }
         ensures refused { IfErr result (λ why. (clone_fault (numbered id self.old.member.tickets.items) self.old.member.asks mode self.old.member.known.items self.old.member.next ≡ Some why)

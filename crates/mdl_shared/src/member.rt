@@ -2,6 +2,7 @@
 ghost use Rattle.std.specs.Prelude.{◌≡◌, ◌<◌, ◌≤◌, ℕ, true, [], length, is_some, None};
 ghost use Rattle.std.specs.Arc.{arc_value};
 ghost use Rattle.std.specs.Vec.{vec_capacity, vec_len};
+ghost use Rattle.mdl_steps.specs.declared.step_kind.StepKind.TheVariants.{Enrol};
 ghost use Rattle.mdl_steps.specs.Cells.{blank, no_numbers};
 ghost use Rattle.mdl_steps.specs.Layout.{word_count};
 ghost use Rattle.mdl_steps.specs.Plays.{logged};
@@ -73,7 +74,7 @@ impl Member {
         requires narrow { (0 < (arc_value table).shared.table_id.slots) × ((arc_value table).shared.table_id.slots ≤ 65536) }
         requires enrolled { worker.number ≤ sessions }
         requires words { (arc_value table).shared.table_id.words ≡ word_count (arc_value table).shared.table_id.slots sessions }
-        requires fresh { (word : ℕ) × (worker.seat.me ≡ (logged word worker.number [] (blank worker.number no_numbers), [])) }
+        requires fresh { (word : ℕ) × (worker.seat.me ≡ (logged Enrol [] word worker.number [] (blank worker.number no_numbers), [])) }
         ensures made { (result.table ≡ table) × (result.worker ≡ worker) × (result.sessions ≡ sessions) }
         ensures nothing { (result.tickets.items ≡ []) × (result.known.items ≡ []) × (result.next ≡ 1)
             × (result.asks ≡ None) × (result.waits ≡ 0) }

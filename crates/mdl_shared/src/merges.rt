@@ -1,6 +1,7 @@
 //! Two tickets become one.
-ghost use Rattle.std.specs.Prelude.{◌≡◌, ◌≢◌, Some, OnOk, OnErr};
+ghost use Rattle.std.specs.Prelude.{◌≡◌, ◌≢◌, ◌∷◌, [], Some, None, OnOk, OnErr, true};
 ghost use Rattle.mdl_key.specs.Refusals.{RefusesJust};
+ghost use Rattle.mdl_steps.specs.declared.deed.Deed.TheVariants.{Alter, Lose};
 ghost use Rattle.mdl_steps.specs.declared.view.Met.{Met};
 ghost use Rattle.mdl_steps.specs.declared.view.Own.{Own};
 ghost use Rattle.mdl_shared.specs.Keepings.{KeepsWait};
@@ -8,8 +9,10 @@ ghost use Rattle.mdl_visits.specs.Leavings.{MeetsOwn};
 ghost use Rattle.mdl_visits.specs.Numbers.{numbered};
 ghost use Rattle.mdl_shared.specs.Members.{without_at};
 ghost use Rattle.mdl_shared.specs.Modes.{in_mode_at, may_merge, merge_fault};
+ghost use Rattle.mdl_visits.specs.Polls.{SettlesNothing};
 ghost use Rattle.mdl_visits.specs.Readings.{ReadsNothing};
 ghost use Rattle.mdl_visits.specs.Visits.{IsStepOf};
+ghost use Rattle.mdl_system.specs.Strength.{covers};
 
 use crate::Session;
 use crate::holdings::set_mode;
@@ -22,18 +25,22 @@ use mdl_visits::fold;
 use std::sync::Wait;
 
 impl Member {
-    // Lets a ticket have the mode of another one of its place, which goes.
+    // Lets a ticket have the mode of another one of its place, which is at least as strong and goes.
     fn fold<R: Wait>(&mut self, rt: &R, kept: Own, gone: Own)
         requires kept { numbered kept.number self.old.tickets.items ≡ Some kept }
         requires gone { numbered gone.number self.old.tickets.items ≡ Some gone }
         requires two { kept.number ≢ gone.number }
         requires here { kept.place ≡ gone.place }
+        requires covers { covers gone.mode kept.mode ≡ true }
+        requires unwaited { self.old.asks ≡ None }
         ensures same { (self.new.table ≡ self.old.table) × (self.new.worker.number ≡ self.old.worker.number) × (self.new.next ≡ self.old.next) × (self.new.known.items ≡ self.old.known.items) }
         ensures wait { KeepsWait self.old self.new }
         ensures reads { ReadsNothing self.old.worker.seat.me self.new.worker.seat.me }
+        ensures settles { SettlesNothing self.old.worker.seat.me self.new.worker.seat.me }
         ensures folded { self.new.tickets.items ≡ without_at kept.place gone.number (in_mode_at kept.place kept.number gone.mode self.old.tickets.items) }
         ensures step { (e : Met) × IsStepOf self.old.worker.seat.me self.new.worker.seat.me e
-            × MeetsOwn kept.place self.old.worker.number kept.number e × MeetsOwn kept.place self.old.worker.number gone.number e }
+            × MeetsOwn kept.place self.old.worker.number kept.number e × MeetsOwn kept.place self.old.worker.number gone.number e
+            × (e.deeds ≡ Alter kept.number gone.mode ∷ Lose gone.number ∷ []) }
     {
         fold(rt, &mut self.worker, &self.table.shared, kept, gone);
         set_mode(&mut self.tickets, kept.place, kept.number, gone.mode);
@@ -56,10 +63,12 @@ impl<R: Wait> Session<R> {
             × (self.new.member.next ≡ self.old.member.next) × (self.new.member.known.items ≡ self.old.member.known.items) }
         ensures wait { KeepsWait self.old.member self.new.member }
         ensures reads { ReadsNothing self.old.member.worker.seat.me self.new.member.worker.seat.me }
+        ensures settles { SettlesNothing self.old.member.worker.seat.me self.new.member.worker.seat.me }
         ensures merged { OnOk result ((kept : Own) × (gone : Own) × (numbered old self.old.member.tickets.items ≡ Some kept) × (numbered new self.old.member.tickets.items ≡ Some gone)
             × (self.new.member.tickets.items ≡ without_at kept.place new (in_mode_at kept.place old gone.mode self.old.member.tickets.items))
             × ((e : Met) × IsStepOf self.old.member.worker.seat.me self.new.member.worker.seat.me e
-            × MeetsOwn kept.place self.old.member.worker.number old e × MeetsOwn kept.place self.old.member.worker.number new e)) }
+            × MeetsOwn kept.place self.old.member.worker.number old e × MeetsOwn kept.place self.old.member.worker.number new e
+            × (e.deeds ≡ Alter old gone.mode ∷ Lose new ∷ []))) }
         ensures unchanged { OnErr result (self.new.member.tickets.items ≡ self.old.member.tickets.items) }
         ensures refused { RefusesJust (merge_fault (numbered old self.old.member.tickets.items) (numbered new self.old.member.tickets.items) self.old.member.asks) result }
     {

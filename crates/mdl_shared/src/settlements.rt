@@ -1,5 +1,5 @@
 //! Waits are settled as lost. No latch is needed for that, and no memory: the ticket waits on until its session ends the wait.
-ghost use Rattle.std.specs.Prelude.{◌≡◌, ◌≢◌, ℕ, ◌%◌, ◌^◌, ◌<◌, ◌≤◌, ◌∷◌, [], ◌++◌, Ok, Some, true, false, is_some, IfOk};
+ghost use Rattle.std.specs.Prelude.{◌≡◌, ◌≢◌, ℕ, ◌%◌, ◌^◌, ◌<◌, ◌≤◌, ◌∷◌, [], ◌++◌, Ok, Some, true, false, is_some, IfOk, OnErr};
 ghost use Rattle.std.specs.Arc.{arc_value};
 ghost use Rattle.mdl_key.specs.Refusals.{RefusesJust};
 ghost use Rattle.mdl_calls.specs.declared.answers.Settled.{Settled};
@@ -109,6 +109,7 @@ impl<R> Session<R> {
             × (self.new.member.tickets.items ≡ self.old.member.tickets.items) }
         ensures wait { SeesWait self.old.member self.new.member }
         ensures reads { ReadsNothing self.old.member.worker.seat.me self.new.member.worker.seat.me }
+        ensures settles { OnErr result (SettlesNothing self.old.member.worker.seat.me self.new.member.worker.seat.me) }
         ensures by_this_call { result ≡ Ok ByThisCall → Settles self.old.member.worker.number self.old.member.waits 4 self.old.member.worker.seat.me self.new.member.worker.seat.me
             × (self.new.member.worker.seat.me.0.told ≡ Some 4)
             × ((e : Met) × IsStepOf self.old.member.worker.seat.me self.new.member.worker.seat.me e

@@ -10,6 +10,7 @@ ghost use Rattle.mdl_steps.specs.Schemas.{is_known, unknown};
 ghost use Rattle.mdl_shared.specs.Keepings.{KeepsWait};
 ghost use Rattle.mdl_shared.specs.Members.{AreLearnt};
 ghost use Rattle.mdl_visits.specs.Lookups.{TookDirectory};
+ghost use Rattle.mdl_visits.specs.Polls.{SettlesNothing};
 ghost use Rattle.mdl_visits.specs.Readings.{ReadsNothing};
 ghost use Rattle.mdl_visits.specs.Tables.{AreTables, HasAsked};
 
@@ -28,6 +29,7 @@ impl Member {
         ensures same { (self.new.table ≡ self.old.table) × (self.new.worker.number ≡ self.old.worker.number) × (self.new.next ≡ self.old.next) × (self.new.tickets.items ≡ self.old.tickets.items) }
         ensures wait { KeepsWait self.old self.new }
         ensures reads { ReadsNothing self.old.worker.seat.me self.new.worker.seat.me }
+        ensures settles { SettlesNothing self.old.worker.seat.me self.new.worker.seat.me }
         ensures told { (k : Keys) × TookDirectory (arc_value self.old.table).shared.table_id.slots k k self.old.worker.seat.me self.new.worker.seat.me
             × IfOk result (λ places. (tables : List Known)
             × AreTables schema.now k tables
@@ -89,6 +91,7 @@ impl<R: Wait> Session<R> {
             × (self.new.member.next ≡ self.old.member.next) × (self.new.member.tickets.items ≡ self.old.member.tickets.items) }
         ensures wait { KeepsWait self.old.member self.new.member }
         ensures reads { ReadsNothing self.old.member.worker.seat.me self.new.member.worker.seat.me }
+        ensures settles { SettlesNothing self.old.member.worker.seat.me self.new.member.worker.seat.me }
         ensures told { (k : Keys) × TookDirectory (arc_value self.old.member.table).shared.table_id.slots k k self.old.member.worker.seat.me self.new.member.worker.seat.me
             × IfOk result (λ places. (tables : List Known)
             × AreTables schema.now k tables

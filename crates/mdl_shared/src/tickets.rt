@@ -1,9 +1,10 @@
 //! What a session does with its tickets.
-ghost use Rattle.std.specs.Prelude.{◌≡◌, ◌≤◌, ℕ, Some, find, ◌==◌, OnOk, OnErr};
+ghost use Rattle.std.specs.Prelude.{◌≡◌, ◌≤◌, ◌∷◌, [], ℕ, Some, find, ◌==◌, OnOk, OnErr};
 ghost use Rattle.std.specs.Arc.{arc_value};
 ghost use Rattle.std.specs.Option.{option_map};
 ghost use Rattle.std.specs.Vec.{vec_capacity, vec_len};
 ghost use Rattle.mdl_key.specs.Refusals.{RefusesJust};
+ghost use Rattle.mdl_steps.specs.declared.deed.Deed.TheVariants.{Lose};
 ghost use Rattle.mdl_steps.specs.declared.view.Met.{Met};
 ghost use Rattle.mdl_steps.specs.declared.view.Own.{Own};
 ghost use Rattle.mdl_steps.specs.Deeds.{is_own};
@@ -12,6 +13,7 @@ ghost use Rattle.mdl_shared.specs.Keepings.{SeesWait};
 ghost use Rattle.mdl_visits.specs.Leavings.{MeetsOwn};
 ghost use Rattle.mdl_visits.specs.Numbers.{numbered};
 ghost use Rattle.mdl_shared.specs.Members.{without_at, holding_fault};
+ghost use Rattle.mdl_visits.specs.Polls.{SettlesNothing};
 ghost use Rattle.mdl_visits.specs.Readings.{ReadsNothing};
 ghost use Rattle.mdl_visits.specs.Visits.{IsStepOf};
 
@@ -40,7 +42,8 @@ impl Member {
         ensures wait { SeesWait self.old self.new }
         ensures reads { ReadsNothing self.old.worker.seat.me self.new.worker.seat.me }
         ensures released { self.new.tickets.items ≡ without_at place id self.old.tickets.items }
-        ensures step { (e : Met) × IsStepOf self.old.worker.seat.me self.new.worker.seat.me e × MeetsOwn place self.old.worker.number id e }
+        ensures step { (e : Met) × IsStepOf self.old.worker.seat.me self.new.worker.seat.me e × MeetsOwn place self.old.worker.number id e
+            × (e.deeds ≡ Lose id ∷ []) }
         ensures way { MadeWay (arc_value self.old.table).shared.table_id place self.old.worker.seat.me self.new.worker.seat.me }
     {
         release(rt, &mut self.worker, &self.table, place, id);
@@ -70,9 +73,11 @@ impl<R: Wait> Session<R> {
             × (self.new.member.next ≡ self.old.member.next) × (self.new.member.known.items ≡ self.old.member.known.items) }
         ensures wait { SeesWait self.old.member self.new.member }
         ensures reads { ReadsNothing self.old.member.worker.seat.me self.new.member.worker.seat.me }
+        ensures settles { OnErr result (SettlesNothing self.old.member.worker.seat.me self.new.member.worker.seat.me) }
         ensures released { OnOk result ((t : Own) × (numbered id self.old.member.tickets.items ≡ Some t)
             × (self.new.member.tickets.items ≡ without_at t.place id self.old.member.tickets.items)
-            × ((e : Met) × IsStepOf self.old.member.worker.seat.me self.new.member.worker.seat.me e × MeetsOwn t.place self.old.member.worker.number id e)) }
+            × ((e : Met) × IsStepOf self.old.member.worker.seat.me self.new.member.worker.seat.me e × MeetsOwn t.place self.old.member.worker.number id e
+            × (e.deeds ≡ Lose id ∷ []))) }
         ensures way { OnOk result ((t : Own) × (numbered id self.old.member.tickets.items ≡ Some t)
             × MadeWay (arc_value self.old.member.table).shared.table_id t.place self.old.member.worker.seat.me self.new.member.worker.seat.me) }
         ensures unchanged { OnErr result (self.new.member.tickets.items ≡ self.old.member.tickets.items) }

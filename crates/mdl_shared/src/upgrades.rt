@@ -1,16 +1,18 @@
 //! What a session asks for beyond a ticket that it has.
-ghost use Rattle.std.specs.Prelude.{◌≡◌, Ok, Some, true, false, OnErr};
+ghost use Rattle.std.specs.Prelude.{◌≡◌, Ok, Some, None, true, false, OnErr};
 ghost use Rattle.std.specs.Option.{option_map};
 ghost use Rattle.mdl_key.specs.Refusals.{RefusesJust};
 ghost use Rattle.mdl_key.specs.Words.{is_mode_of, is_obtrusive};
 ghost use Rattle.mdl_system.specs.Strength.{covers};
 ghost use Rattle.mdl_calls.specs.declared.answers.Upgrade.TheVariants.{Upgraded, WouldWait};
+ghost use Rattle.mdl_steps.specs.declared.deed.Deed.TheVariants.{Alter};
 ghost use Rattle.mdl_steps.specs.declared.view.Met.{Met};
 ghost use Rattle.mdl_steps.specs.declared.view.Own.{Own};
 ghost use Rattle.mdl_shared.specs.Keepings.{KeepsWait};
 ghost use Rattle.mdl_shared.specs.Members.{kind_known};
 ghost use Rattle.mdl_visits.specs.Numbers.{numbered};
 ghost use Rattle.mdl_shared.specs.Modes.{in_mode_at};
+ghost use Rattle.mdl_visits.specs.Polls.{SettlesNothing};
 ghost use Rattle.mdl_visits.specs.Readings.{ReadsNothing};
 ghost use Rattle.mdl_shared.specs.Upgrades.{upgrade_fault};
 ghost use Rattle.mdl_visits.specs.Visits.{IsStepOf, MeetsBlocked, MeetsGrantable};
@@ -37,11 +39,13 @@ impl Member {
         requires held { option_map (λ (t : Own). t.place) (numbered id self.old.tickets.items) ≡ Some place }
         requires known { kind_known place self.old.known.items ≡ Some _kind }
         requires mode { (is_mode_of _kind mode ≡ true) × (is_obtrusive _kind mode ≡ true) }
+        requires unwaited { self.old.asks ≡ None }
         ensures same { (self.new.table ≡ self.old.table) × (self.new.worker.number ≡ self.old.worker.number) × (self.new.next ≡ self.old.next) × (self.new.known.items ≡ self.old.known.items) }
         ensures wait { KeepsWait self.old self.new }
         ensures reads { ReadsNothing self.old.worker.seat.me self.new.worker.seat.me }
+        ensures settles { SettlesNothing self.old.worker.seat.me self.new.worker.seat.me }
         ensures upgraded { result ≡ Upgraded → (self.new.tickets.items ≡ in_mode_at place id mode self.old.tickets.items)
-            × ((e : Met) × IsStepOf self.old.worker.seat.me self.new.worker.seat.me e × MeetsGrantable place self.old.worker.number mode e) }
+            × ((e : Met) × IsStepOf self.old.worker.seat.me self.new.worker.seat.me e × MeetsGrantable place self.old.worker.number mode (Alter id mode) e) }
         ensures would_wait { result ≡ WouldWait → (self.new.tickets.items ≡ self.old.tickets.items)
             × ((e : Met) × IsStepOf self.old.worker.seat.me self.new.worker.seat.me e × MeetsBlocked place self.old.worker.number mode e) }
     {
@@ -63,11 +67,12 @@ impl<R: Wait> Session<R> {
             × (self.new.member.next ≡ self.old.member.next) × (self.new.member.known.items ≡ self.old.member.known.items) }
         ensures wait { KeepsWait self.old.member self.new.member }
         ensures reads { ReadsNothing self.old.member.worker.seat.me self.new.member.worker.seat.me }
+        ensures settles { SettlesNothing self.old.member.worker.seat.me self.new.member.worker.seat.me }
         ensures covered { (t : Own) → numbered id self.old.member.tickets.items ≡ Some t → covers t.mode mode ≡ true
             → self.new.member.tickets.items ≡ self.old.member.tickets.items }
         ensures upgraded { (t : Own) → numbered id self.old.member.tickets.items ≡ Some t → covers t.mode mode ≡ false → result ≡ Ok Upgraded
             → (self.new.member.tickets.items ≡ in_mode_at t.place id mode self.old.member.tickets.items)
-            × ((e : Met) × IsStepOf self.old.member.worker.seat.me self.new.member.worker.seat.me e × MeetsGrantable t.place self.old.member.worker.number mode e) }
+            × ((e : Met) × IsStepOf self.old.member.worker.seat.me self.new.member.worker.seat.me e × MeetsGrantable t.place self.old.member.worker.number mode (Alter id mode) e) }
         ensures would_wait { result ≡ Ok WouldWait → (self.new.member.tickets.items ≡ self.old.member.tickets.items)
             × ((t : Own) × (numbered id self.old.member.tickets.items ≡ Some t) × (covers t.mode mode ≡ false)
             × ((e : Met) × IsStepOf self.old.member.worker.seat.me self.new.member.worker.seat.me e × MeetsBlocked t.place self.old.member.worker.number mode e)) }

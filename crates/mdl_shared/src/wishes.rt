@@ -5,10 +5,12 @@ ghost use Rattle.mdl_key.specs.Words.{is_mode_of};
 ghost use Rattle.mdl_calls.specs.declared.answers.Attempt.TheVariants.{Granted, WouldWait};
 ghost use Rattle.mdl_calls.specs.declared.space_error.SpaceError.TheVariants as cause;
 ghost use Rattle.mdl_steps.specs.Cells.{note_at};
+ghost use Rattle.mdl_steps.specs.declared.deed.Deed.TheVariants.{Gain};
 ghost use Rattle.mdl_steps.specs.declared.view.Met.{Met};
 ghost use Rattle.mdl_steps.specs.declared.view.Own.{Own};
 ghost use Rattle.mdl_shared.specs.Keepings.{KeepsWait};
 ghost use Rattle.mdl_shared.specs.Members.{kind_known, most_numbers, wish_fault};
+ghost use Rattle.mdl_visits.specs.Polls.{SettlesNothing};
 ghost use Rattle.mdl_visits.specs.Readings.{ReadsNothing};
 ghost use Rattle.mdl_visits.specs.Visits.{IsStepOf, MeetsBlocked, MeetsFull, MeetsGrantable};
 
@@ -50,9 +52,10 @@ impl Member {
         ensures same { (self.new.table ≡ self.old.table) × (self.new.worker.number ≡ self.old.worker.number) × (self.new.known.items ≡ self.old.known.items) }
         ensures wait { KeepsWait self.old self.new }
         ensures reads { ReadsNothing self.old.worker.seat.me self.new.worker.seat.me }
+        ensures settles { SettlesNothing self.old.worker.seat.me self.new.worker.seat.me }
         ensures granted { (id : ℕ) → result ≡ Ok (Granted id) → (id ≡ self.old.next)
             × (self.new.tickets.items ≡ self.old.tickets.items ++ record { number = id; place = place; mode = mode; noted = note_at place self.old.tickets.items } ∷ [])
-            × ((e : Met) × IsStepOf self.old.worker.seat.me self.new.worker.seat.me e × MeetsGrantable place self.old.worker.number mode e) }
+            × ((e : Met) × IsStepOf self.old.worker.seat.me self.new.worker.seat.me e × MeetsGrantable place self.old.worker.number mode (Gain id mode) e) }
         ensures next { (id : ℕ) → result ≡ Ok (Granted id) → self.new.next ≡ id + 1 }
         ensures would_wait { result ≡ Ok WouldWait → (self.new.tickets.items ≡ self.old.tickets.items) × (self.new.next ≡ self.old.next)
             × ((e : Met) × IsStepOf self.old.worker.seat.me self.new.worker.seat.me e × MeetsBlocked place self.old.worker.number mode e) }
@@ -98,9 +101,10 @@ impl<R: Wait> Session<R> {
             × (self.new.member.known.items ≡ self.old.member.known.items) }
         ensures wait { KeepsWait self.old.member self.new.member }
         ensures reads { ReadsNothing self.old.member.worker.seat.me self.new.member.worker.seat.me }
+        ensures settles { SettlesNothing self.old.member.worker.seat.me self.new.member.worker.seat.me }
         ensures granted { (id : ℕ) → result ≡ Ok (Granted id) → (id ≡ self.old.member.next)
             × (self.new.member.tickets.items ≡ self.old.member.tickets.items ++ record { number = id; place = place; mode = mode; noted = note_at place self.old.member.tickets.items } ∷ [])
-            × ((e : Met) × IsStepOf self.old.member.worker.seat.me self.new.member.worker.seat.me e × MeetsGrantable place self.old.member.worker.number mode e) }
+            × ((e : Met) × IsStepOf self.old.member.worker.seat.me self.new.member.worker.seat.me e × MeetsGrantable place self.old.member.worker.number mode (Gain id mode) e) }
         ensures next { (id : ℕ) → result ≡ Ok (Granted id) → self.new.member.next ≡ id + 1 }
         ensures would_wait { result ≡ Ok WouldWait → (self.new.member.tickets.items ≡ self.old.member.tickets.items) × (self.new.member.next ≡ self.old.member.next)
             × ((e : Met) × IsStepOf self.old.member.worker.seat.me self.new.member.worker.seat.me e × MeetsBlocked place self.old.member.worker.number mode e) }

@@ -9,7 +9,7 @@ use Rattle.mdl_visits.specs.Idle.{IsIdle, HasSlowAlone}
 use Rattle.mdl_shared.specs.Members.{are_placed}
 use Rattle.mdl_shared.specs.Modes.{is_fit}
 use Rattle.mdl_shared.specs.Waitings.{are_below, are_rising, is_ask_told}
-use Rattle.mdl_shared.proofs.Awaiting.{below_gained, apart_none, waits_apart}
+use Rattle.mdl_shared.proofs.Awaiting.{below_gained, apart_none}
 use Rattle.mdl_shared.proofs.Fitting.{fit_place, fit_there}
 use Rattle.mdl_shared.proofs.Membership.{known_within, one_placed}
 use Rattle.mdl_shared.proofs.Rising.{last_none, rising_gained}
@@ -63,8 +63,3 @@ invariant_of-self-in-Ok g c =
       enrolled = subst (λ (n : ℕ). n ≤ self.sessions) (sym c.double.ensures.seat.1) self.enrolled;
       words = self.words;
     }
-
-pub double-requires-clause-unwaited : goal.double-requires-clause-unwaited
-double-requires-clause-unwaited g c =
-    let self = c.args.self.now in
-    waits_apart self.worker.seat.me.0 self.next c.args.held.number self.tickets.items self.asks self.next_is self.listed self.asks_is self.apart (ap is_some c.requires.held)

@@ -1,5 +1,5 @@
 -- The tickets are of a place whose key the session knows.
-use Rattle.std.specs.Prelude.{is_some, nat_lt}
+use Rattle.std.specs.Prelude.{nat_lt}
 use Rattle.std.proofs.Common.{◌<◌, List, sym, ap, ◌∙◌, subst, ℕ, ◌≤◌, arith}
 use Rattle.std.specs.Option.{option_map}
 use Rattle.mdl_steps.specs.declared.view.Own.{Own}
@@ -9,7 +9,7 @@ use Rattle.mdl_shared.specs.Members.{are_placed, is_known_place, without_at}
 use Rattle.mdl_shared.specs.Modes.{in_mode_at}
 use Rattle.mdl_shared.specs.Waitings.{are_below, are_rising, is_ask_told}
 use Rattle.mdl_visits.specs.Numbers.{is_ask_apart}
-use Rattle.mdl_shared.proofs.Awaiting.{altered, lost, apart_altered, apart_lost, waits_apart}
+use Rattle.mdl_shared.proofs.Awaiting.{altered, lost, apart_altered, apart_lost}
 use Rattle.mdl_shared.proofs.Fitting.{altered_placed}
 use Rattle.mdl_shared.proofs.Membership.{has_numbered, some_key, known_within, placed_at, still_placed}
 use Rattle.mdl_shared.proofs.Rising.{rising_altered, rising_lost}
@@ -77,10 +77,3 @@ invariant_of-self g c =
 
 pub returns-clause-reads : goal.returns-clause-reads
 returns-clause-reads g c = ap (λ (m : Mine). m.0.reads) c.fold.ensures.folded.now
-
-pub fold-requires-clause-unwaited : goal.fold-requires-clause-unwaited
-fold-requires-clause-unwaited g c =
-    let self = c.args.self.now in (
-      waits_apart self.worker.seat.me.0 self.next c.args.kept.number self.tickets.items self.asks self.next_is self.listed self.asks_is self.apart (ap is_some c.requires.kept),
-      waits_apart self.worker.seat.me.0 self.next c.args.gone.number self.tickets.items self.asks self.next_is self.listed self.asks_is self.apart (ap is_some c.requires.gone),
-    )

@@ -9,7 +9,7 @@ use Rattle.mdl_shared.specs.Members.{are_placed, kind_known}
 use Rattle.mdl_visits.specs.Numbers.{numbered, is_ask_apart}
 use Rattle.mdl_shared.specs.Modes.{in_mode_at}
 use Rattle.mdl_shared.specs.Waitings.{are_below, are_rising, is_ask_told}
-use Rattle.mdl_shared.proofs.Awaiting.{altered, apart_altered, some_there, waits_apart}
+use Rattle.mdl_shared.proofs.Awaiting.{altered, apart_altered}
 use Rattle.mdl_shared.proofs.Fitting.{altered_placed}
 use Rattle.mdl_shared.proofs.Membership.{has_numbered, kind_place, kind_there, known_within}
 use Rattle.mdl_shared.proofs.Rising.{rising_altered}
@@ -65,8 +65,3 @@ invariant_of-self g c =
       enrolled = subst (λ (n : ℕ). n ≤ self.sessions) (sym c.try_strengthen.ensures.seat.1) self.enrolled;
       words = self.words;
     }
-
-pub try_strengthen-requires-clause-unwaited : goal.try_strengthen-requires-clause-unwaited
-try_strengthen-requires-clause-unwaited g c =
-    let self = c.args.self.now in
-    waits_apart self.worker.seat.me.0 self.next c.args.id self.tickets.items self.asks self.next_is self.listed self.asks_is self.apart (some_there (λ (t : Own). t.place) (numbered c.args.id self.tickets.items) c.args.place c.requires.held)
