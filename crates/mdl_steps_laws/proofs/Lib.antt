@@ -20,3 +20,7 @@ pub mod WaitSteps
 pub mod WaitsTold
 pub mod FastEvents
 pub mod FastRests
+pub mod Keeping
+pub mod StepsKeep
+pub mod Staying
+pub mod NotesKept

@@ -31,11 +31,11 @@ use Rattle.mdl_steps_laws.proofs.TicketMembers.{found-passes, none-passes}
 
 -- ---- lists
 
-each_in : {A : Type 0} → (P : A → Type 0) (xs : List A) → Each P xs → (x : A) → Contains xs x → P x
+pub each_in : {A : Type 0} → (P : A → Type 0) (xs : List A) → Each P xs → (x : A) → Contains xs x → P x
 each_in P [] all x among = absurd (Contains-none x among)
 each_in P (y ∷ ys) all x among = elim (Contains-cons_cases y ys x among) [ inl later ↦ each_in P ys all.1 x later | inr here ↦ subst P (sym here) all.0 ]
 
-own_among : (place : ℕ) (ts : List Own) (o : Own) → Contains (own_at place ts) o → Contains ts o
+pub own_among : (place : ℕ) (ts : List Own) (o : Own) → Contains (own_at place ts) o → Contains ts o
 own_among place [] o among = among
 own_among place (t ∷ ts) o among =
     let picked : Bool → List Own = λ b. cond {A = List Own} b (t ∷ own_at place ts) (own_at place ts) in

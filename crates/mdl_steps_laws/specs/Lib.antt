@@ -1,6 +1,8 @@
 pub mod DeedLaws
 pub mod FastLaws
+pub mod Headline
 pub mod Locks
+pub mod SessionSteps
 pub mod StepLaws
 pub mod TableLaws
 pub mod ToldDeeds

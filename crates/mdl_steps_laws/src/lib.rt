@@ -7,6 +7,7 @@
 
 mod deeds;
 mod fast_path;
+mod headline;
 mod steps;
 mod tables;
 mod waits;
@@ -19,6 +20,7 @@ pub use fast_path::{
     granting_fast_grants, materialising_rests, reading_unlatched_rests, releasing_fast_releases,
     waiters_have_no_fast_tickets,
 };
+pub use headline::definitions_stay;
 pub use steps::{
     lowering_does, lowering_is_done, putting_does, putting_is_done, writing_is_done,
     writing_redefines,
