@@ -194,61 +194,61 @@ module _ (s : State Slot View) (r : Rule s) (place : ℕ) (has : HasPlace s plac
 
   pub made_keeps : (st : Step Slot) (found : ℕ) (m′ : Mine) (made : Makes st m found m′) → ¬ (GivesUp place number made ⊎ Changes place made) → Keeps place number version m.0 m′.0
   made_keeps st found m′ (Makes.DrawsNumber play) spares =
-      same m′ (logged st.word found m.0.latches (record m.0 { spare = record m.0.spare { drawn = found } }), m.1) play.1 refl refl refl
+      same m′ _ play.1 refl refl refl
   made_keeps st found m′ (Makes.TakesDirectory at play) spares = elim (nat_told found 0) [
-    | inl free ↦ (let took = (play.1 at).0 free in same m′ (consulted took.0 m) took.2 refl refl refl)
-    | inr taken ↦ same m′ (logged (latch_word 0) found m.0.latches m.0, m.1) ((play.1 at).1 taken) refl refl refl
+    | inl free ↦ (let took = (play.1 at).0 free in same m′ _ took.2 refl refl refl)
+    | inr taken ↦ same m′ _ ((play.1 at).1 taken) refl refl refl
   ]
-  made_keeps st found m′ (Makes.PutsDirectory more at play) spares = same m′ (informed more m) (play.1 at) refl refl refl
+  made_keeps st found m′ (Makes.PutsDirectory more at play) spares = same m′ _ (play.1 at) refl refl refl
   made_keeps st found m′ (Makes.TakesLatch q at play) spares = elim (nat_told found 0) [
-    | inl free ↦ (let took = (play.1 q at).0 free in same m′ (latched q took.0 m) took.2 refl refl refl)
-    | inr taken ↦ same m′ (logged (latch_word q) found m.0.latches m.0, m.1) ((play.1 q at).1 taken) refl refl refl
+    | inl free ↦ (let took = (play.1 q at).0 free in same m′ _ took.2 refl refl refl)
+    | inr taken ↦ same m′ _ ((play.1 q at).1 taken) refl refl refl
   ]
   made_keeps st found m′ (Makes.PutsLatch q deeds may at play) spares =
-      by_deeds m′ (unlatched q deeds m) (play.1 q at) q deeds may.0 may.1.may (λ gives. spares (inl gives)) refl refl refl
+      by_deeds m′ _ (play.1 q at) q deeds may.0 may.1.may (λ gives. spares (inl gives)) refl refl refl
   made_keeps st found m′ (Makes.PutsReading q may at play) spares =
       let h = may.0 in
-      via m′ (read_and_put q h.book.standing m) (play.1 q h.book at may.1.holds.carried) (record {
+      via m′ _ (play.1 q h.book at may.1.holds.carried) (record {
         tickets = notes q h.book.standing.version (λ here. recorded_version h (subst (λ (p : ℕ). held_at p m.0.latches ≡ Some h) here may.1.holds.recorded));
         reads = λ x among. Contains-append_left m.0.reads (record { place = q; standing = h.book.standing } ∷ []) x among;
       })
-  made_keeps st found m′ (Makes.PutsKey q key k h may at play) spares = same m′ (named q key m) (play.1 q (empty_book key) at may.holds.carried) refl refl refl
-  made_keeps st found m′ (Makes.RaisesFlags q slow obtrusive at mask play) spares = same m′ (stepped q found (raised slow obtrusive) m) (play.1 q slow obtrusive at mask) refl refl refl
+  made_keeps st found m′ (Makes.PutsKey q key k h may at play) spares = same m′ _ (play.1 q (empty_book key) at may.holds.carried) refl refl refl
+  made_keeps st found m′ (Makes.RaisesFlags q slow obtrusive at mask play) spares = same m′ _ (play.1 q slow obtrusive at mask) refl refl refl
   made_keeps st found m′ (Makes.LowersFlags q deeds slow obtrusive may at mask play) spares =
       let h = may.0 in
       let book : BookView = all_booked m.0.number deeds h.book in
-      by_deeds m′ (settled q deeds found book slow obtrusive m) (play.1 q slow obtrusive book at mask may.1.holds.carried) q deeds h may.1.may (λ gives. spares (inl gives)) refl refl refl
-  made_keeps st found m′ (Makes.ReadsWord q at play) spares = same m′ (stepped q found (noting found) m) (play.1 q at) refl refl refl
+      by_deeds m′ _ (play.1 q slow obtrusive book at mask may.1.holds.carried) q deeds h may.1.may (λ gives. spares (inl gives)) refl refl refl
+  made_keeps st found m′ (Makes.ReadsWord q at play) spares = same m′ _ (play.1 q at) refl refl refl
   made_keeps st found m′ (Makes.WritesVersion q may at play) spares =
       let standing = may.1 in
-      via m′ (redefined q standing m) (play.1 q (record may.0.book { standing = standing }) at may.2.holds.carried) (record {
+      via m′ _ (play.1 q (record may.0.book { standing = standing }) at may.2.holds.carried) (record {
         tickets = notes q standing.version (λ here. absurd (spares (inr here)));
         reads = λ x among. Contains-append_left m.0.reads (record { place = q; standing = standing } ∷ []) x among;
       })
-  made_keeps st found m′ (Makes.OpensWait q mode at wait play) spares = same m′ (opened st.slots q mode m) (play.1 at wait) refl refl refl
-  made_keeps st found m′ (Makes.ReadsWait session at play) spares = same m′ (met_wait st.slots session found m) (play.1 session at).1 refl refl refl
+  made_keeps st found m′ (Makes.OpensWait q mode at wait play) spares = same m′ _ (play.1 at wait) refl refl refl
+  made_keeps st found m′ (Makes.ReadsWait session at play) spares = same m′ _ (play.1 session at).1 refl refl refl
   made_keeps st found m′ (Makes.SettlesLost session wait state at old new play) spares = elim (nat_told found (wait_in wait 1)) [
-    | inl won ↦ same m′ (settled_lost st.slots session wait state m) ((play.1 session wait state at old new).1 won) refl refl refl
-    | inr missed ↦ same m′ (met_wait st.slots session found m) ((play.1 session wait state at old new).2 missed) refl refl refl
+    | inl won ↦ same m′ _ ((play.1 session wait state at old new).1 won) refl refl refl
+    | inr missed ↦ same m′ _ ((play.1 session wait state at old new).2 missed) refl refl refl
   ]
   made_keeps st found m′ (Makes.SettlesGranted q ticket session wait at old play) spares = elim (nat_told found (wait_in wait 1)) [
-    | inl won ↦ same m′ (settled_granted st.slots q session ticket wait m) ((play.1 session wait at old).1 won) refl refl refl
-    | inr missed ↦ same m′ (met_wait st.slots session found m) ((play.1 session wait at old).2 missed) refl refl refl
+    | inl won ↦ same m′ _ ((play.1 session wait at old).1 won) refl refl refl
+    | inr missed ↦ same m′ _ ((play.1 session wait at old).2 missed) refl refl refl
   ]
-  made_keeps st found m′ (Makes.EndsGranted at play) spares = via m′ (ended_granted st.slots m) (play.1 at) (record {
+  made_keeps st found m′ (Makes.EndsGranted at play) spares = via m′ _ (play.1 at) (record {
     tickets = slow_alone (m.0.slow ++ taken_over m.0.asks m.0.slow) (taken m.0.asks refl);
     reads = λ x among. among;
   })
-  made_keeps st found m′ (Makes.EndsLost a state asks told at play) spares = same m′ (ended_lost st.slots a.place a.number state m) (play.1 a state at asks told) refl refl refl
-  made_keeps st found m′ (Makes.ReadsWordUnlatched q at play) spares = same m′ (met_word q found m) (play.1 q at) refl refl refl
+  made_keeps st found m′ (Makes.EndsLost a state asks told at play) spares = same m′ _ (play.1 a state at asks told) refl refl refl
+  made_keeps st found m′ (Makes.ReadsWordUnlatched q at play) spares = same m′ _ (play.1 q at) refl refl refl
   made_keeps st found m′ (Makes.GrantsFast q mode under at play) spares = elim (nat_told found st.first) [
-    | inl won ↦ via m′ (granted_fast q mode under found m) ((play.1 q at).0 won) (record {
+    | inl won ↦ via m′ _ ((play.1 q at).0 won) (record {
       tickets = fast_alone (m.0.fast ++ fast_own m.0.next q mode under ∷ []) (kept_push place number version m.0.fast (fast_own m.0.next q mode under) (let less = below in λ e. omega arith));
       reads = λ x among. among;
     })
-    | inr missed ↦ same m′ (met_word q found m) ((play.1 q at).1 missed) refl refl refl
+    | inr missed ↦ same m′ _ ((play.1 q at).1 missed) refl refl refl
   ]
-  made_keeps st found m′ (Makes.ReleasesFast q n at play) spares = via m′ (released_fast q n found m) (play.1 q at) (record {
+  made_keeps st found m′ (Makes.ReleasesFast q n at play) spares = via m′ _ (play.1 q at) (record {
     tickets = fast_alone (but_own q n m.0.fast) (kept_filter place number version (λ t. not (is_own q n t)) (λ t mine. by_bool (is_own q n t)
         (λ hit.
         let a = own_parts place number t mine in
@@ -257,7 +257,7 @@ module _ (s : State Slot View) (r : Rule s) (place : ℕ) (has : HasPlace s plac
         (λ miss. rw miss refl)) m.0.fast);
     reads = λ x among. among;
   })
-  made_keeps st found m′ (Makes.Materialises q slow weight h may at play) spares = via m′ (materialised q slow found m) (play.1 q at) (record {
+  made_keeps st found m′ (Makes.Materialises q slow weight h may at play) spares = via m′ _ (play.1 q at) (record {
     tickets = kept_joined place number version q m.0 slow may.joined;
     reads = λ x among. among;
   })
