@@ -23,4 +23,6 @@ pub mod FastRests
 pub mod Keeping
 pub mod StepsKeep
 pub mod Staying
+pub mod RestSteps
+pub mod RestKinds
 pub mod NotesKept

@@ -156,7 +156,7 @@ lowering_does s r old new are i key at id me seat h holds ds found left slow obt
     (ap (λ (l : Lock). l.fast) done.0) done.1
 
 -- what is noted under tickets changes none of them
-noted_alike : (place version number q : ℕ) (ts : List Own) → map (ticket_by number) (own_at q (noting_version place version ts)) ≡ map (ticket_by number) (own_at q ts)
+pub noted_alike : (place version number q : ℕ) (ts : List Own) → map (ticket_by number) (own_at q (noting_version place version ts)) ≡ map (ticket_by number) (own_at q ts)
 noted_alike place version number q [] = refl
 noted_alike place version number q (t ∷ ts) = by_bool (t.place == place)
     (λ here. by_bool (t.place == q)

@@ -2,6 +2,7 @@ pub mod DeedLaws
 pub mod FastLaws
 pub mod Headline
 pub mod Locks
+pub mod RestLaws
 pub mod SessionSteps
 pub mod StepLaws
 pub mod TableLaws

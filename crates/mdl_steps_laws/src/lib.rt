@@ -8,6 +8,7 @@
 mod deeds;
 mod fast_path;
 mod headline;
+mod rests;
 mod steps;
 mod tables;
 mod waits;
@@ -21,6 +22,11 @@ pub use fast_path::{
     waiters_have_no_fast_tickets,
 };
 pub use headline::definitions_stay;
+pub use rests::{
+    consulting_rests, drawing_rests, informing_rests, lowering_rests, missing_directory_rests,
+    missing_rests, naming_rests, putting_reading_rests, putting_rests, raising_rests,
+    reading_rests, taking_rests,
+};
 pub use steps::{
     lowering_does, lowering_is_done, putting_does, putting_is_done, writing_is_done,
     writing_redefines,
