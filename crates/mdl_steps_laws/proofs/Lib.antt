@@ -25,4 +25,5 @@ pub mod StepsKeep
 pub mod Staying
 pub mod RestSteps
 pub mod RestKinds
+pub mod RestKeys
 pub mod NotesKept

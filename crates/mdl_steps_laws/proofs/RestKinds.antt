@@ -1,5 +1,5 @@
 -- The kinds of step by which nothing is done in the system.
-use Rattle.std.proofs.Common.{◌≡◌, ◌≢◌, ℕ, suc, ◌+◌, ◌*◌, ◌<◌, ◌≤◌, ◌==◌, Bool, cond, inl, inr, List, [], ◌∷◌, ◌++◌, length, map, set, get_or, Some, None, refl, sym, ap, ◌∙◌, subst, arith, length-set, get_or-set_other, get_or-set_same}
+use Rattle.std.proofs.Common.{◌≡◌, ◌≢◌, ℕ, ◌+◌, ◌*◌, ◌<◌, ◌≤◌, ◌==◌, cond, inl, inr, List, [], map, set, get_or, Some, None, refl, sym, ap, ◌∙◌, subst, arith, length-set, get_or-set_other, get_or-set_same}
 use mathlib.Core.Option.{Option as Maybe, some, none}
 use lib.ListN.{get_elem?}
 use Rattle.atomic_table.specs.Table.{State}
@@ -9,20 +9,18 @@ use Rattle.mdl_book.specs.declared.book_view.BookView.{BookView}
 use Rattle.mdl_steps.specs.declared.slot.Slot.{Slot}
 use Rattle.mdl_steps.specs.declared.slot.Slot.TheVariants as slot
 use Rattle.mdl_steps.specs.declared.view.Held.{Held}
-use Rattle.mdl_steps.specs.declared.view.Keys.{Keys}
 use Rattle.mdl_steps.specs.declared.view.View.{View}
 use Rattle.mdl_steps.specs.Cells.{held_at, own_at, ticket_by}
-use Rattle.mdl_steps.specs.Layout.{enrol_word, latch_word, lock_word}
-use Rattle.mdl_steps.specs.Plays.{Mine, consulted, informed, latched, lowered, named, noting, noting_version, raised, read_and_put, settled, unlatched}
+use Rattle.mdl_steps.specs.Layout.{latch_word, lock_word}
+use Rattle.mdl_steps.specs.Plays.{Mine, latched, lowered, noting, raised, read_and_put, settled, unlatched}
 use Rattle.mdl_steps.specs.Rule.{Rule}
 use Rattle.mdl_steps.proofs.Views.{held_at-changed, held_at-dropped, held_at-first, held_at-past, held_at-unchanged, held_at-undropped}
 use Rattle.mdl_steps.proofs.WaitSteps.{set_found}
 use Rattle.mdl_steps_laws.specs.Headline.{HasPlace, IsFree}
 use Rattle.mdl_steps_laws.specs.Locks.{AreKeysOf, IsBookAt}
-use Rattle.mdl_steps_laws.specs.RestLaws.{ConsultingRests, DrawingRests, InformingRests, LoweringRests, MissingDirectoryRests, MissingRests, NamingRests, PuttingReadingRests, PuttingRests, IsRest, RaisingRests, ReadingRests, TakingRests, after_giving, after_step, after_taking}
+use Rattle.mdl_steps_laws.specs.RestLaws.{LoweringRests, MissingDirectoryRests, MissingRests, PuttingReadingRests, PuttingRests, IsRest, RaisingRests, ReadingRests, TakingRests, after_step}
 use Rattle.mdl_steps_laws.proofs.RestSteps.{elsewhere_rests, one_book, place_rests}
 use Rattle.mdl_steps_laws.proofs.SeatSteps.{Leaves, noted_alike}
-use Rattle.mdl_steps_laws.proofs.TableLocks.{one_directory}
 
 one_record : (g h : Held) → Some g ≡ Some h → g ≡ h
 one_record g h e = cc
@@ -74,7 +72,7 @@ module _ (s : State Slot View) (place : ℕ) (has : HasPlace s place) (id : ℕ)
 
 -- ---- the latch of a place
 
-unmoved : (s : State Slot View) (place : ℕ) (q : ℕ) → q ≢ place → get_elem? s.homes q ≡ get_elem? s.homes q
+pub unmoved : (s : State Slot View) (place : ℕ) (q : ℕ) → q ≢ place → get_elem? s.homes q ≡ get_elem? s.homes q
 unmoved s place q else = refl
 
 pub taking_rests : TakingRests
@@ -154,7 +152,7 @@ lowering_rests s r place has id me seat h holds found left slow obtrusive =
 
 module _ (s : State Slot View) (r : Rule s) (id : ℕ) (me me′ : Mine) (seat : get_elem? s.views id ≡ some me.0) (number : me′.0.number ≡ me.0.number) (fast : me′.0.fast ≡ me.0.fast)
     (asks : me′.0.asks ≡ me.0.asks) (directory : me′.0.directory ≡ me.0.directory) (latches : me′.0.latches ≡ me.0.latches) where
-  leaves_all : (place : ℕ) → Leaves place me.0 me′.0
+  pub leaves_all : (place : ℕ) → Leaves place me.0 me′.0
   leaves_all place = record {
     number = number;
     fast = λ n q. ap (λ ts. map (ticket_by n) (own_at q ts)) fast;

@@ -1,18 +1,16 @@
 -- Steps of a seat by which nothing is done in the system that the table tells: they change no book, no fast ticket, no wait and no definition.
-use Rattle.std.proofs.Common.{◌≡◌, ◌≢◌, ℕ, suc, ◌+◌, ◌*◌, ◌<◌, ◌≤◌, ◌==◌, Bool, inl, inr, List, [], ◌∷◌, ◌++◌, length, map, set, get_or, Some, None, refl, sym, ap, ◌∙◌, subst, arith, length-set, get_or-set_other, get_or-set_same}
-use mathlib.Core.Option.{Option as Maybe, some, none}
+use Rattle.std.proofs.Common.{◌≡◌, ◌≢◌, ℕ, suc, ◌+◌, ◌*◌, ◌<◌, ◌≤◌, inl, inr, List, length, set, get_or, sym, ap, ◌∙◌, subst, arith, get_or-set_other}
+use mathlib.Core.Option.{Option as Maybe, some}
 use lib.ListN.{get_elem?}
 use Rattle.atomic_table.specs.Table.{State}
-use Rattle.atomic_table.proofs.Lists.{at_set, set_else, set_here}
 use Rattle.mdl_key.specs.Words.{KeyName}
 use Rattle.mdl_defs.specs.declared.definition.Definition.{Definition}
 use Rattle.mdl_book.specs.declared.book_view.BookView.{BookView}
 use Rattle.mdl_steps.specs.declared.slot.Slot.{Slot}
 use Rattle.mdl_steps.specs.declared.slot.Slot.TheVariants as slot
-use Rattle.mdl_steps.specs.declared.view.Held.{Held}
 use Rattle.mdl_steps.specs.declared.view.View.{View}
-use Rattle.mdl_steps.specs.Cells.{held_at, waits}
-use Rattle.mdl_steps.specs.Layout.{latch_word, wait_word}
+use Rattle.mdl_steps.specs.Cells.{waits}
+use Rattle.mdl_steps.specs.Layout.{wait_word}
 use Rattle.mdl_steps.specs.Rule.{Rule}
 use Rattle.mdl_steps.specs.RuleLaws.{fast_at}
 use Rattle.mdl_system.specs.Events.{SameSystem}
@@ -21,7 +19,7 @@ use Rattle.mdl_system.proofs.Deciding.{nat_told}
 use Rattle.mdl_steps_laws.specs.Headline.{HasPlace}
 use Rattle.mdl_steps_laws.specs.Locks.{Lock, AreKeysOf, AreLocksOf, IsBookAt, granted_of}
 use Rattle.mdl_steps_laws.specs.WaitLaws.{IsTold}
-use Rattle.mdl_steps_laws.proofs.SeatSteps.{Leaves, book_else, fast_same, keys_same, latch_else}
+use Rattle.mdl_steps_laws.proofs.SeatSteps.{Leaves, book_else, fast_same, keys_same}
 use Rattle.mdl_steps_laws.proofs.TableLocks.{into_rule, last_place}
 use Rattle.mdl_steps_laws.proofs.ToldDeeds.{locks_once}
 use Rattle.mdl_steps_laws.proofs.WaitEvents.{same_definitions, same_members}
@@ -67,7 +65,7 @@ module _ (s : State Slot View) (r : Rule s) (place id : ℕ) (v w : View) (seat 
   abbrev new : State Slot View
   new = record { words = set s.words n m; homes = homes; views = set s.views id w }
 
-  waits_same : place ≤ length s.homes → (k : ℕ) → waits new k ≡ waits s k
+  pub waits_same : place ≤ length s.homes → (k : ℕ) → waits new k ≡ waits s k
   waits_same inside k =
       ap (λ (l : ℕ). get_or (set s.words n m) (wait_word l k) 0) size
       ∙ get_or-set_other s.words n (wait_word (length s.homes) k) m 0 (λ e. omega arith)

@@ -22,11 +22,10 @@ use Rattle.mdl_steps.specs.declared.view.Read.{Read}
 use Rattle.mdl_steps.specs.declared.view.View.{View}
 use Rattle.mdl_steps.specs.Cells.{held_at, holder_at, note_at, own_at, ticket_by}
 use Rattle.mdl_steps.specs.Deeds.{MayAll, all_booked, all_owned, is_own}
-use Rattle.mdl_steps.specs.FastPlays.{AreJoined, IsAs, but_at, but_own, fast_own, granted_fast, materialised, met_word, moved, released_fast}
-use Rattle.mdl_steps.specs.Layout.{latch_word}
-use Rattle.mdl_steps.specs.Plays.{Mine, consulted, informed, latched, logged, named, noting, noting_version, raised, read_and_put, redefined, settled, stepped, unlatched}
+use Rattle.mdl_steps.specs.FastPlays.{AreJoined, IsAs, but_at, but_own, fast_own, moved}
+use Rattle.mdl_steps.specs.Plays.{Mine, noting_version}
 use Rattle.mdl_steps.specs.Rule.{Rule}
-use Rattle.mdl_steps.specs.WaitPlays.{ended_granted, ended_lost, met_wait, opened, settled_granted, settled_lost, taken_over, wait_in}
+use Rattle.mdl_steps.specs.WaitPlays.{taken_over, wait_in}
 use Rattle.mdl_steps.proofs.Tickets.{is_itself, is_passed}
 use Rattle.mdl_steps.proofs.Views.{at_inside, by_bool}
 use Rattle.mdl_system.proofs.Deciding.{nat_told}
