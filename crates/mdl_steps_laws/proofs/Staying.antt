@@ -19,7 +19,8 @@ use Rattle.mdl_steps.specs.Rule.{Rule}
 use Rattle.mdl_steps.proofs.Views.{at_inside, by_bool}
 use Rattle.mdl_system.proofs.Deciding.{nat_told}
 use Rattle.mdl_system.proofs.MemberLemmas.{Contains-map, Contains-map_from}
-use Rattle.mdl_steps_laws.specs.Headline.{DefinitionsStay, Follow, HasNoted, HasPlace, HasRead, NotesStay, ReadingsNote, Stands, Turn}
+use Rattle.mdl_steps_laws.specs.Headline.{DefinitionsStay, Follow, HasNoted, HasPlace, HasRead, NotesStay, ReadingsNote, Stands}
+use Rattle.mdl_steps_laws.specs.SessionSteps.{Turn}
 use Rattle.mdl_steps_laws.proofs.Keeping.{Kept, own_is, own_parts}
 use Rattle.mdl_steps_laws.proofs.NotesKept.{noted_stands, read_stands}
 use Rattle.mdl_steps_laws.proofs.StepsKeep.{made_keeps}

@@ -30,8 +30,8 @@ use Rattle.mdl_steps.proofs.Tickets.{is_itself, is_passed}
 use Rattle.mdl_steps.proofs.Views.{at_inside, by_bool}
 use Rattle.mdl_system.proofs.Deciding.{nat_told}
 use Rattle.mdl_system.proofs.MemberLemmas.{Contains-map, Contains-map_from, Contains-none}
-use Rattle.mdl_steps_laws.specs.Headline.{Changes, GivesUp, HasNoted, HasPlace}
-use Rattle.mdl_steps_laws.specs.SessionSteps.{Makes}
+use Rattle.mdl_steps_laws.specs.Headline.{HasNoted, HasPlace}
+use Rattle.mdl_steps_laws.specs.SessionSteps.{Changes, GivesUp, Makes}
 use Rattle.mdl_steps_laws.proofs.Keeping.{Kept, among_filter, filter_among, filter_passes, kept_both, kept_deeds, kept_filter, kept_noting, kept_push, kept_same, own_is, own_parts}
 use Rattle.mdl_steps_laws.proofs.NotesKept.{noted_stands}
 use Rattle.mdl_steps_laws.proofs.OwnTickets.{each_in, own_among}

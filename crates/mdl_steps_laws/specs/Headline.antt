@@ -2,14 +2,15 @@
 -- whether its lists hold an obtrusive ticket or any ticket, and granted tickets of different sessions are compatible by the matrix; every atomic
 -- step in every interleaving keeps this, so the definition a session reads under a ticket stays the same until it gives the ticket up or changes
 -- the definition itself.
-use Rattle.std.specs.Prelude.{◌≡◌, ◌⊎◌, ℕ, ◌<◌, true, List, [], ◌∷◌, ◌++◌, length, slice_index, slice_set, Some, Contains}
+--
+-- The rule holds of the table between any two steps of all sessions, in every interleaving: it is asked of each step (`Order`).
+use Rattle.std.specs.Prelude.{◌≡◌, ℕ, ◌<◌, true, List, [], ◌∷◌, ◌++◌, length, slice_index, Some, Contains}
 use mathlib.Core.Option.{some}
 use lib.ListN.{get_elem?}
-use Rattle.atomic_table.specs.Table.{Act, State, Step, stepped}
+use Rattle.atomic_table.specs.Table.{State, Step}
 use Rattle.mdl_defs.specs.declared.standing.Standing.{Standing}
 use Rattle.mdl_book.specs.declared.book_view.BookView.{BookView}
 use Rattle.mdl_book.specs.Books.{has_obtrusive, has_tickets, lock_kind}
-use Rattle.mdl_steps.specs.declared.deed.Deed.TheVariants.{Lose}
 use Rattle.mdl_steps.specs.declared.slot.Slot.{Slot}
 use Rattle.mdl_steps.specs.declared.slot.Slot.TheVariants as slot
 use Rattle.mdl_steps.specs.declared.view.Held.{Held}
@@ -22,7 +23,7 @@ use Rattle.mdl_steps.specs.Plays.{Mine, puts_reading}
 use Rattle.mdl_steps.specs.Rule.{Counted, Rule}
 use Rattle.mdl_steps.specs.RuleLaws.{StandsTogether, fast_at}
 use Rattle.mdl_steps.specs.Seats.{MayPut}
-use Rattle.mdl_steps_laws.specs.SessionSteps.{Makes}
+use Rattle.mdl_steps_laws.specs.SessionSteps.{Spares, Turn}
 
 -- ---- locks
 
@@ -78,31 +79,7 @@ ReadsStand =
     (slice_index s.words (version_word place) ≡ version) × (slice_index t.words (version_word place) ≡ version)
     × ((standing : Standing) → standing.version ≡ version → HasRead place standing v → HasRead place standing w → Stands s place standing × Stands t place standing)
 
--- ---- steps
-
--- what happens to the table: a seat makes a step, or the first seat gives a number that it drew to one more seat
-pub data Turn (s t : State Slot View) : Type 0 where
-  Steps : (id : ℕ) (m m′ : Mine) (st : Step Slot) (left : ℕ) (act : Act Slot) → get_elem? s.views id ≡ some m.0 → Makes st m (slice_index s.words st.word) m′
-      → t ≡ stepped s st.word left id m.1 m′.0 act → Turn s t
-  Splits : (v first more : View) → get_elem? s.views 0 ≡ some v → first.fast ≡ v.fast → first.slow ≡ v.slow → first.reads ≡ v.reads
-      → t ≡ record { words = s.words; homes = s.homes; views = slice_set s.views 0 first ++ more ∷ [] } → Turn s t
-
--- by this step the session gives up its ticket of this number
-abbrev pub GivesUp : ℕ → ℕ → {st : Step Slot} {m : Mine} {found : ℕ} {m′ : Mine} → Makes st m found m′ → Type 0
-GivesUp place number (Makes.PutsLatch q deeds _ _ _) = (q ≡ place) × Contains deeds (Lose number)
-GivesUp place number (Makes.LowersFlags q deeds _ _ _ _ _ _) = (q ≡ place) × Contains deeds (Lose number)
-GivesUp place number (Makes.ReleasesFast q n _ _) = (q ≡ place) × (n ≡ number)
-GivesUp place number _ = ⊥
-
--- by this step it changes the definition
-abbrev pub Changes : ℕ → {st : Step Slot} {m : Mine} {found : ℕ} {m′ : Mine} → Makes st m found m′ → Type 0
-Changes place (Makes.WritesVersion q _ _ _) = q ≡ place
-Changes place _ = ⊥
-
--- what happens is no such step of this seat
-abbrev pub Spares : ℕ → ℕ → ℕ → {s t : State Slot View} → Turn s t → Type 0
-Spares seat place number (Turn.Steps id _ _ _ _ _ _ made _) = id ≡ seat → ¬ (GivesUp place number made ⊎ Changes place made)
-Spares seat place number (Turn.Splits _ _ _ _ _ _ _ _) = Unit {0}
+-- ---- from step to step
 
 -- each step, of whichever session, leaves the ticket and what is noted under it, and all that was read
 abbrev pub NotesStay : Type 0
