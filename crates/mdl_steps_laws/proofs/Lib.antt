@@ -26,4 +26,5 @@ pub mod Staying
 pub mod RestSteps
 pub mod RestKinds
 pub mod RestKeys
+pub mod RestSplits
 pub mod NotesKept

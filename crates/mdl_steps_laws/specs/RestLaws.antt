@@ -1,6 +1,6 @@
 -- The steps by which nothing is done in the system that the table tells, a law for each kind: whichever systems the table tells before and after
 -- are one. (For three kinds more see `WaitLaws` and `FastLaws`.) The rule holds after each step, as it does between any two.
-use Rattle.std.specs.Prelude.{◌≡◌, ◌≢◌, ℕ, ◌<◌, Bool, List, [], length, slice_index, slice_set, Some}
+use Rattle.std.specs.Prelude.{◌≡◌, ◌≢◌, ℕ, ◌<◌, Bool, List, [], ◌∷◌, ◌++◌, length, slice_index, slice_set, Some}
 use mathlib.Core.Option.{some, none}
 use lib.ListN.{get_elem?}
 use Rattle.atomic_table.specs.Table.{State, Step}
@@ -13,7 +13,7 @@ use Rattle.mdl_steps.specs.declared.view.Held.{Held}
 use Rattle.mdl_steps.specs.declared.view.Keys.{Keys}
 use Rattle.mdl_steps.specs.declared.view.Known.{Known}
 use Rattle.mdl_steps.specs.declared.view.View.{View}
-use Rattle.mdl_steps.specs.Cells.{held_at}
+use Rattle.mdl_steps.specs.Cells.{blank, held_at, no_numbers}
 use Rattle.mdl_steps.specs.Layout.{enrol_word, latch_word, lock_word}
 use Rattle.mdl_steps.specs.Plays.{IsFresh, Mine, consulted, enrols, informed, latched, named, raises_flags, read_and_put, reads_word, settled, takes_directory, takes_latch, unlatched}
 use Rattle.mdl_steps.specs.Rule.{Rule}
@@ -54,6 +54,19 @@ abbrev pub DrawingRests : Type 0
 DrawingRests =
     (s : State Slot View) → Rule s → (id : ℕ) (me me′ : Mine) → get_elem? s.views id ≡ some me.0 →
     (st : Step Slot) (found left : ℕ) → enrols st me found me′ → IsRest s (after_step s (enrol_word (length s.homes)) left id me′)
+
+-- a seat is split off from the first one: what that keeps, what the new one gets (the number, and the step that drew it), and the table then
+abbrev pub first_after : View → View
+first_after v = record v { spare = record v.spare { given = v.spare.drawn }; log = [] }
+
+abbrev pub split_off : View → View
+split_off v = record (blank v.spare.drawn no_numbers) { log = v.log }
+
+abbrev pub after_split : State Slot View → View → State Slot View
+after_split s v = record { words = s.words; homes = s.homes; views = slice_set s.views 0 (first_after v) ++ split_off v ∷ [] }
+
+abbrev pub SplittingRests : Type 0
+SplittingRests = (s : State Slot View) → Rule s → (v : View) → get_elem? s.views 0 ≡ some v → IsRest s (after_split s v)
 
 -- ---- the directory
 

@@ -25,7 +25,7 @@ pub use headline::definitions_stay;
 pub use rests::{
     consulting_rests, drawing_rests, informing_rests, lowering_rests, missing_directory_rests,
     missing_rests, naming_rests, putting_reading_rests, putting_rests, raising_rests,
-    reading_rests, taking_rests,
+    reading_rests, splitting_rests, taking_rests,
 };
 pub use steps::{
     lowering_does, lowering_is_done, putting_does, putting_is_done, writing_is_done,

@@ -1,13 +1,18 @@
 //! The steps by which nothing is done in the system that the table tells. Each law is proved as the contract of a function that does
 //! nothing.
-ghost use Rattle.mdl_steps_laws.specs.RestLaws.{DrawingRests, ConsultingRests, MissingDirectoryRests, InformingRests, TakingRests, MissingRests, PuttingRests, PuttingReadingRests, NamingRests, RaisingRests, ReadingRests, LoweringRests};
+ghost use Rattle.mdl_steps_laws.specs.RestLaws.{DrawingRests, SplittingRests, ConsultingRests, MissingDirectoryRests, InformingRests, TakingRests, MissingRests, PuttingRests, PuttingReadingRests, NamingRests, RaisingRests, ReadingRests, LoweringRests};
 
 /// As a number is drawn for one more session, nothing happens in the system.
 pub fn drawing_rests()
     ensures { DrawingRests }
 {}
 
-/// Nor does it as the directory's latch is taken.
+/// Nor does it as the session's seat is split off with it.
+pub fn splitting_rests()
+    ensures { SplittingRests }
+{}
+
+/// Nor as the directory's latch is taken.
 pub fn consulting_rests()
     ensures { ConsultingRests }
 {}
