@@ -17,11 +17,13 @@ use Rattle.mdl_steps.specs.declared.view.Ask.{Ask}
 use Rattle.mdl_steps.specs.declared.view.Own.{Own}
 use Rattle.mdl_steps.specs.declared.view.View.{View}
 use Rattle.mdl_steps.specs.Cells.{Part, part_at, own_at, due, pending, all_fast}
-use Rattle.mdl_steps.specs.Deeds.{May, MayAll, NotWaited, booked, all_booked, done, all_done, owned, next_after}
+use Rattle.mdl_steps.specs.Deeds.{NotWaited, booked, all_booked, done, all_done, owned, next_after}
 use Rattle.mdl_steps.specs.Lists.{Each}
 use Rattle.mdl_steps.specs.Rule.{BookOk, PartOk, NotedCounts, Numbered, NoteAgrees}
 use Rattle.mdl_steps.proofs.Deeds.{Deeded, gains, loses, alters, all_fast-set, set_twice, may_join}
 use Rattle.mdl_steps.proofs.Latch.{due_asked}
+use Rattle.mdl_steps.proofs.OneEvent.{May, MayAll}
+use Rattle.mdl_steps.proofs.Unmixed.{unmixed_deed}
 use Rattle.mdl_steps.proofs.Owns.{each-note, each-owned, each-from_at, each-to_at}
 use Rattle.mdl_steps.proofs.Views.{at_inside}
 use Rattle.mdl_steps.proofs.Waiting.{waiting_kept}
@@ -40,11 +42,17 @@ pub numbered_done : (place : ℕ) (v : View) (book : BookView) (noted : Option �
 numbered_done place v book noted d numbered may = record {
   fast = each_below v.next (next_after d v.next) v.fast (below_next d v.next) numbered.fast;
   slow = each-owned (λ (t : Own). t.number < next_after d v.next) place d v.slow (λ t mode below. below) (gained d may) (each_below v.next (next_after d v.next) v.slow (below_next d v.next) numbered.slow);
+  unmixed = unmixed_deed place v.next d v.fast v.slow (next_gained d may) numbered.fast numbered.unmixed;
   asks = λ a e. (let below = numbered.asks a e in let less = below_next d v.next in omega arith);
   apart = λ a e. each-owned (λ (t : Own). t.number ≢ a.number) place d v.slow (λ t mode differs. differs) (apart_gained d may a e) (numbered.apart a e);
   unfast = numbered.unfast;
 }
   where
+    next_gained : (e : Deed) → May v book noted e → (number : ℕ) (mode : Mode) → e ≡ Gain number mode → number ≡ v.next
+    next_gained (Gain m x) may number mode is = let same : m ≡ number = cc in sym same ∙ may.0
+    next_gained (Alter m x) may number mode is = absurd (cc)
+    next_gained (Lose m) may number mode is = absurd (cc)
+
     gained : (e : Deed) → May v book noted e → (number : ℕ) (mode : Mode) → e ≡ Gain number mode → number < next_after e v.next
     gained (Gain m x) may number mode is = let next = may.0 in let same : m ≡ number = cc in omega arith
     gained (Alter m x) may number mode is = absurd (cc)

@@ -18,7 +18,7 @@ use Rattle.mdl_steps.specs.declared.view.View.{View}
 use Rattle.mdl_steps.specs.Cells.{Desk, Waiter, part_at, holder_at, desk_of, waiter_of, waits, cell}
 use Rattle.mdl_steps.specs.Layout.{latch_word, lock_word, version_word, enrol_word}
 use Rattle.mdl_steps.specs.Lists.{Each}
-use Rattle.mdl_steps.specs.Plays.{Mine, consulted, informed, logged, takes_directory, puts_directory}
+use Rattle.mdl_steps.specs.Plays.{Mine, consulted, informed, missed_latch, takes_directory, puts_directory}
 use Rattle.mdl_steps.specs.Rule.{Rule, PlaceOk, DirectoryOk, Numbered, KnowsKeys, WaitsAgree, key_at}
 use Rattle.mdl_steps.specs.Seats.{HasDirectory, learnt}
 use Rattle.mdl_steps.proofs.Lift.{Table, Homes, after}
@@ -116,7 +116,7 @@ alone_desk s r id v seat some_number j d there same =
 module _ (slots id : ℕ) (me : Mine) (some_number : 0 < me.0.number) where
   module _ (s : Table) (r : Rule s) (size : length s.homes ≡ slots) (seat : get_elem? s.views id ≡ some me.0) where
     numbered : (w : View) → w.next ≡ me.0.next → w.fast ≡ me.0.fast → w.slow ≡ me.0.slow → w.asks ≡ me.0.asks → Numbered w
-    numbered w next fast slow asks = let row = (r.views id me.0 seat).0 in record { fast = rw (fast, next) row.fast; slow = rw (slow, next) row.slow; asks = rw (asks, next) row.asks; apart = rw (asks, slow) row.apart; unfast = rw (asks, fast) row.unfast }
+    numbered w next fast slow asks = let row = (r.views id me.0 seat).0 in record { fast = rw (fast, next) row.fast; slow = rw (slow, next) row.slow; unmixed = rw (fast, slow) row.unmixed; asks = rw (asks, next) row.asks; apart = rw (asks, slow) row.apart; unfast = rw (asks, fast) row.unfast }
 
     desk_there : get_elem? (map desk_of s.views) id ≡ some (desk_of me.0)
     desk_there = at_map desk_of s.views id me.0 seat
@@ -154,7 +154,7 @@ module _ (slots id : ℕ) (me : Mine) (some_number : 0 < me.0.number) where
         })
 
     missed : View
-    missed = logged (latch_word 0) (get_or s.words 0 0) me.0.latches me.0
+    missed = (missed_latch 0 (get_or s.words 0 0) me).0
 
     missed_rule : Rule (after s (latch_word 0) (get_or s.words 0 0) id missed s.homes)
     unfolding missed

@@ -9,6 +9,7 @@ use Rattle.atomic_table.proofs.Lists.{at_map, at_set, at_snoc, at_longer, set_he
 use Rattle.mdl_key.specs.Words.{KeyName}
 use Rattle.mdl_book.specs.declared.ticket.Ticket.{Ticket}
 use Rattle.mdl_book.specs.Tickets.{ticket_of}
+use Rattle.mdl_steps.specs.declared.step_kind.StepKind.TheVariants as step_kind
 use Rattle.mdl_steps.specs.declared.view.Met.{Met}
 use Rattle.mdl_steps.specs.declared.view.Spare.{Spare}
 use Rattle.mdl_steps.specs.declared.view.View.{View}
@@ -97,7 +98,7 @@ joined key c n ok fresh =
     ] refl
 
 numbered_blank : (number : ℕ) (spare : Spare) (log : List Met) → Numbered (record (blank number spare) { log = log })
-numbered_blank number spare log = record { fast = tt; slow = tt; asks = λ a e. absurd (cc); apart = λ a e. absurd (cc); unfast = λ a e. refl }
+numbered_blank number spare log = record { fast = tt; slow = tt; unmixed = tt; asks = λ a e. absurd (cc); apart = λ a e. absurd (cc); unfast = λ a e. refl }
 
 -- its wait word is idle
 pub blank_wait : (slots word number : ℕ) → word ≡ 0 → WaitOk slots word (record { number = number; waits = 0; asks = None; told = None })
@@ -239,7 +240,7 @@ module _ (slots most given : ℕ) (some_left : given < most) where
   before = blank 0 (numbers_for most given given)
 
   abbrev drawn_view : View
-  drawn_view = logged (enrol_word slots) (given + 1) [] (blank 0 (numbers_for most (given + 1) given))
+  drawn_view = logged step_kind.Enrol [] (enrol_word slots) (given + 1) [] (blank 0 (numbers_for most (given + 1) given))
 
   module _ (s : Table) (r : Rule s) (size : length s.homes ≡ slots) (seat : get_elem? s.views 0 ≡ some before) where
     first_has : r.enrolled.first ≡ numbers_for most given given
@@ -326,6 +327,6 @@ module _ (slots most given : ℕ) (some_left : given < most) where
     subst (λ (n : ℕ). Rule (record { words = set s.words (enrol_word slots) n; homes = s.homes; views = set s.views 0 drawn_view })) (sym (one_more s r size seat)) (drawn_rule s r size seat),
     (
       found_is s r size seat,
-      ap (λ (n : ℕ). let m : Mine = (logged (enrol_word slots) n [] (blank 0 (numbers_for most n given)), []) in m) (sym (found_is s r size seat)),
+      ap (λ (n : ℕ). let m : Mine = (logged step_kind.Enrol [] (enrol_word slots) n [] (blank 0 (numbers_for most n given)), []) in m) (sym (found_is s r size seat)),
     ),
   )

@@ -1,7 +1,7 @@
 -- Reading a word, a fast grant and a fast release keep the rule. None of them needs a latch.
-use Rattle.std.proofs.Common.{◌≡◌, ◌≢◌, ℕ, ◌+◌, ◌-◌, ◌*◌, ◌%◌, ◌^◌, ◌<◌, ◌≤◌, ◌==◌, ◌||◌, Bool, true, false, not, cond, List, [], ◌∷◌, ◌++◌, map, set, length, get_or, Some, None, refl, sym, ap, ◌∙◌, subst, inl, inr, arith, rules, ◌⊎◌}
+use Rattle.std.proofs.Common.{◌≡◌, ℕ, ◌+◌, ◌-◌, ◌%◌, ◌^◌, ◌<◌, ◌≤◌, ◌==◌, ◌||◌, Bool, true, false, not, cond, List, [], ◌∷◌, ◌++◌, map, set, length, get_or, Some, refl, sym, ap, ◌∙◌, subst, inl, inr, arith, rules}
 use Rattle.std.specs.Prelude.{Option, count_by}
-use Rattle.std.specs.List.{list_all, filter, list_any}
+use Rattle.std.specs.List.{list_all, filter}
 use Rattle.std.proofs.lemmas.Bool.{and_parts, and_from}
 use Rattle.std.proofs.lemmas.List.{length-append, length-set, map-append}
 use Rattle.std.proofs.lemmas.List.Folds.{list_all-append}
@@ -15,31 +15,32 @@ use Rattle.mdl_key.specs.declared.namespace.Kind.{Kind}
 use Rattle.mdl_key.specs.declared.mode.Mode.{Mode}
 use Rattle.mdl_key.specs.Matrices.{waits_behind}
 use Rattle.mdl_key.specs.Words.{KeyName, kind_of, is_mode_of, is_obtrusive}
-use Rattle.mdl_word.specs.Words.{bit, Encodes, encode, increment_of, obtrusive_flag, one_in}
+use Rattle.mdl_word.specs.Words.{bit, Encodes, increment_of, obtrusive_flag, one_in}
 use Rattle.mdl_word.proofs.WordLemmas.{obtrusive_of}
 use Rattle.mdl_book.specs.declared.book_view.BookView.{BookView}
 use Rattle.mdl_book.specs.declared.ticket.Ticket.{Ticket}
 use Rattle.mdl_book.specs.Books.{lock_kind, has_obtrusive}
 use Rattle.mdl_book.specs.FastTickets.{CoversFastTickets, is_of_class}
-use Rattle.mdl_book.specs.Granting.{goes_first, is_compatible, is_grantable, is_lawful, overtakes}
+use Rattle.mdl_book.specs.Granting.{goes_first, is_compatible, is_grantable, overtakes}
 use Rattle.mdl_book.proofs.CountLemmas.{not_all-any}
 use Rattle.mdl_book.proofs.GrantingLemmas.{lawful_push, lawful_part}
 use Rattle.mdl_steps.specs.declared.deed.Deed.TheVariants.{Lose}
 use Rattle.mdl_steps.specs.declared.slot.Slot.{Slot}
-use Rattle.mdl_steps.specs.declared.view.Ask.{Ask}
-use Rattle.mdl_steps.specs.declared.view.Held.{Held}
+use Rattle.mdl_steps.specs.declared.step_kind.StepKind.{StepKind}
+use Rattle.mdl_steps.specs.declared.step_kind.StepKind.TheVariants as step_kind
 use Rattle.mdl_steps.specs.declared.view.Known.{Known}
 use Rattle.mdl_steps.specs.declared.view.Own.{Own}
 use Rattle.mdl_steps.specs.declared.view.View.{View}
-use Rattle.mdl_steps.specs.Cells.{Part, Holder, Cell, all_fast, cell, counted, holder_at, own_at, part_at, pending, ticket_by, waits}
+use Rattle.mdl_steps.specs.Cells.{Part, Cell, all_fast, cell, counted, own_at, part_at, ticket_by, waits}
 use Rattle.mdl_steps.specs.Deeds.{is_own}
-use Rattle.mdl_steps.specs.FastPlays.{met_word, fast_own, granted_fast, released_fast, but_own, IsCounted, MayGrantFast, MayReleaseFast, reads_word_unlatched, grants_fast, releases_fast}
+use Rattle.mdl_steps.specs.FastPlays.{met_word_by, met_word, missed_fast, fast_own, granted_fast, released_fast, but_own, MayGrantFast, MayReleaseFast, reads_word_unlatched, grants_fast, releases_fast}
 use Rattle.mdl_steps.specs.Layout.{lock_word}
 use Rattle.mdl_steps.specs.Lists.{Each}
 use Rattle.mdl_steps.specs.Plays.{Mine}
-use Rattle.mdl_steps.specs.Rule.{Rule, PlaceOk, BookOk, PartOk, Counted, Lawful, NoteAgrees, NotedCounts, Numbered, KnowsKeys, key_at}
+use Rattle.mdl_steps.specs.Rule.{Rule, PlaceOk, BookOk, PartOk, Counted, Lawful, NoteAgrees, NotedCounts, Numbered, key_at}
 use Rattle.mdl_steps.proofs.Deeds.{unobtrusive_beside}
 use Rattle.mdl_steps.proofs.Desks.{each-append}
+use Rattle.mdl_steps.proofs.Unmixed.{unlike_below}
 use Rattle.mdl_steps.proofs.FastLists.{all_fast-all, counted_set, count-append, counts_small, counted_mode, increment_is, increment_small, one_counted, length_mapped}
 use Rattle.mdl_steps.proofs.Lift.{Table, after, on_word, holders_again, parts_again}
 use Rattle.mdl_steps.proofs.Owns.{each-from_at, each-note, own_else-push, owned_else}
@@ -387,17 +388,17 @@ module _ (slots id place : ℕ) (me : Mine) (first : 0 < place) (last : place < 
 
     -- ---- the word is met
 
-    pub met_rule : Rule (after s (lock_word place) found id (met_word place found me).0 s.homes)
+    pub met_rule : (kind : StepKind) → Rule (after s (lock_word place) found id (met_word_by kind place found me).0 s.homes)
     unfolding row
-    met_rule =
-        let w : View = (met_word place found me).0 in
+    met_rule kind =
+        let w : View = (met_word_by kind place found me).0 in
         on_word s r place id me.0 w s.homes (record {
           inside = (first, within);
           seat = seat;
           number = refl;
           spare = refl;
           waiter = refl;
-          numbered = record { fast = row.fast; slow = row.slow; asks = row.asks; apart = row.apart; unfast = row.unfast };
+          numbered = record { fast = row.fast; slow = row.slow; unmixed = row.unmixed; asks = row.asks; apart = row.apart; unfast = row.unfast };
           slots = refl;
           home_else = λ q else. refl;
           part_else = λ q else. refl;
@@ -447,6 +448,7 @@ module _ (slots id place : ℕ) (me : Mine) (first : 0 < place) (last : place < 
             numbered = record {
               fast = each-append _ me.0.fast (own ∷ []) (below_next me.0.next me.0.fast row.fast) (omega arith, tt);
               slow = below_next me.0.next me.0.slow row.slow;
+              unmixed = each-append _ me.0.fast (own ∷ []) row.unmixed (unlike_below own me.0.slow row.slow, tt);
               asks = λ a e. (let idle = may.idle in absurd (cc));
               apart = row.apart;
               unfast = λ a e. (let idle = may.idle in absurd (cc));
@@ -467,7 +469,7 @@ module _ (slots id place : ℕ) (me : Mine) (first : 0 < place) (last : place < 
 
   pub reads_unlatched_allowed : Allows Rule slots id me (lock_word place) (λ n. n) (reads_word_unlatched (step slots (lock_word place) 0 0 none) me)
   reads_unlatched_allowed s r size seat fits =
-      ((met_word place (found s r size seat) me).0, keeps, tt, met_rule s r size seat, (refl, λ q here. (let same : place ≡ q = omega arith in λ i. met_word (same i) (found s r size seat) me)))
+      ((met_word place (found s r size seat) me).0, keeps, tt, met_rule s r size seat step_kind.ReadWord, (refl, λ q here. (let same : place ≡ q = omega arith in λ i. met_word (same i) (found s r size seat) me)))
 
   pub grants_fast_allowed : (mode : Mode) (noted : Option ℕ) (one : ℕ) → MayGrantFast place mode noted one me → (word new : ℕ) → obtrusive_flag word ≡ false → (word < 2 ^ 62 → one < 2 ^ 62 → new ≡ word + one)
       → Allows Rule slots id me (lock_word place) (λ n. either (n == word) new n) (grants_fast mode noted (step slots (lock_word place) word new none) me)
@@ -489,11 +491,11 @@ module _ (slots id place : ℕ) (me : Mine) (first : 0 < place) (last : place < 
         ),
       ))
       (λ miss. (
-        (met_word place n me).0,
+        (missed_fast place n me).0,
         keeps,
         tt,
-        met_rule s r size seat,
-        (refl, λ q here. (let same : place ≡ q = omega arith in ((λ hit. absurd (miss hit)), λ _. λ i. met_word (same i) n me))),
+        met_rule s r size seat step_kind.MissFast,
+        (refl, λ q here. (let same : place ≡ q = omega arith in ((λ hit. absurd (miss hit)), λ _. λ i. missed_fast (same i) n me))),
       ))
 
 -- ---- a ticket is given up
@@ -608,6 +610,7 @@ module _ (slots id place : ℕ) (me : Mine) (first : 0 < place) (last : place < 
           numbered = record {
             fast = each_fewer _ (λ t. not (is_own place number t)) me.0.fast row.fast;
             slow = row.slow;
+            unmixed = each_fewer _ (λ t. not (is_own place number t)) me.0.fast row.unmixed;
             asks = row.asks;
             apart = row.apart;
             unfast = λ a e. ap (but_own place number) (row.unfast a e);

@@ -14,6 +14,8 @@ use Rattle.mdl_word.proofs.WordLemmas.{raises}
 use Rattle.mdl_book.specs.declared.ticket.Ticket.{Ticket}
 use Rattle.mdl_book.specs.Books.{lock_kind}
 use Rattle.mdl_book.specs.FastTickets.{CoversFastTickets, is_of_class}
+use Rattle.mdl_steps.specs.declared.step_kind.StepKind.{StepKind}
+use Rattle.mdl_steps.specs.declared.step_kind.StepKind.TheVariants as step_kind
 use Rattle.mdl_steps.specs.declared.view.Held.{Held}
 use Rattle.mdl_steps.specs.declared.view.View.{View}
 use Rattle.mdl_steps.specs.Cells.{Part, holder_at, held_at, cell, all_fast}
@@ -92,19 +94,19 @@ noted_under key word version parts h u = record {
 -- ---- the steps
 
 module _ (slots id place : ℕ) (me : Mine) (some_number : 0 < me.0.number) (first : 0 < place) (last : place < slots) (h : Held) (holds : held_at place me.0.latches ≡ Some h)
-    (f : ℕ → ℕ) (g : ℕ → Held → Held) (stays : (n : ℕ) (x : Held) → (g n x).place ≡ x.place)
+    (kind : StepKind) (f : ℕ → ℕ) (g : ℕ → Held → Held) (stays : (n : ℕ) (x : Held) → (g n x).place ≡ x.place)
     (owes : (key : Option KeyName) (word version : ℕ) (parts : List Part) → Under key word version parts h → Under key (f word) version parts (g word h)) where
   module _ (s : Table) (r : Rule s) (size : length s.homes ≡ slots) (seat : get_elem? s.views id ≡ some me.0) where
     found : ℕ
     found = get_or s.words (lock_word place) 0
 
     view : View
-    view = (stepped place found (g found) me).0
+    view = (stepped kind place found (g found) me).0
 
     stepped_rule : Rule (after s (lock_word place) (f found) id view s.homes)
     unfolding found view
     stepped_rule =
-        let w : View = (stepped place (get_or s.words (lock_word place) 0) (g (get_or s.words (lock_word place) 0)) me).0 in
+        let w : View = (stepped kind place (get_or s.words (lock_word place) 0) (g (get_or s.words (lock_word place) 0)) me).0 in
         let within : place < length s.homes = rw size last in
         let row = (r.views id me.0 seat).0 in
         let ok = r.places place first within in
@@ -116,7 +118,7 @@ module _ (slots id place : ℕ) (me : Mine) (some_number : 0 < me.0.number) (fir
           number = refl;
           spare = refl;
           waiter = refl;
-          numbered = record { fast = row.fast; slow = row.slow; asks = row.asks; apart = row.apart; unfast = row.unfast };
+          numbered = record { fast = row.fast; slow = row.slow; unmixed = row.unmixed; asks = row.asks; apart = row.apart; unfast = row.unfast };
           slots = refl;
           home_else = λ q else. refl;
           part_else = λ q else. refl;
@@ -130,7 +132,7 @@ module _ (slots id place : ℕ) (me : Mine) (some_number : 0 < me.0.number) (fir
         (owes (key_at r.keys place) (get_or s.words (lock_word place) 0) (cell s place).version (cell s place).parts (under (key_at r.keys place) (cell s place) ok id (holder_at place me.0) there h holds))))
 
   -- a step on the word whose holder's record goes along with it
-  pub steps_under : (then : ℕ → Mine → Type 0) → ((n : ℕ) → then n (stepped place n (g n) me)) → Allows Rule slots id me (lock_word place) f then
+  pub steps_under : (then : ℕ → Mine → Type 0) → ((n : ℕ) → then n (stepped kind place n (g n) me)) → Allows Rule slots id me (lock_word place) f then
   unfolding found view
   steps_under then tells s r size seat fits = (view s r size seat, keeps, tt, stepped_rule s r size seat, tells (get_or s.words (lock_word place) 0))
 
@@ -139,7 +141,7 @@ module _ (slots id place : ℕ) (me : Mine) (some_number : 0 < me.0.number) (fir
   pub raises_allowed : (slow obtrusive : Bool) (mask : ℕ) → mask ≡ flags_alone slow obtrusive
       → Allows Rule slots id me (lock_word place) (λ n. bit_or n mask) (raises_flags (step slots (lock_word place) mask 0 none) me)
   raises_allowed slow obtrusive mask is =
-      steps_under slots id place me some_number first last h holds (λ n. bit_or n mask) (λ _. raised slow obtrusive) (λ n x. refl)
+      steps_under slots id place me some_number first last h holds (step_kind.RaiseFlags slow obtrusive) (λ n. bit_or n mask) (λ _. raised slow obtrusive) (λ n x. refl)
       (λ key word version parts u. rw is (raised_under key word version parts h slow obtrusive u))
       (raises_flags (step slots (lock_word place) mask 0 none) me)
       (λ n. (
@@ -147,13 +149,13 @@ module _ (slots id place : ℕ) (me : Mine) (some_number : 0 < me.0.number) (fir
         λ q a b here number.
             let same : place ≡ q = omega arith in
             let flags = flags_same slow obtrusive a b (sym is ∙ number) in
-            λ i. stepped (same i) n (raised (flags.0 i) (flags.1 i)) me,
+            λ i. stepped (step_kind.RaiseFlags (flags.0 i) (flags.1 i)) (same i) n (raised (flags.0 i) (flags.1 i)) me,
       ))
 
   -- the word is read
   pub reads_allowed : Allows Rule slots id me (lock_word place) (λ n. n) (reads_word (step slots (lock_word place) 0 0 none) me)
   reads_allowed =
-      steps_under slots id place me some_number first last h holds (λ n. n) noting (λ n x. refl)
+      steps_under slots id place me some_number first last h holds step_kind.ReadWord (λ n. n) noting (λ n x. refl)
       (λ key word version parts u. noted_under key word version parts h u)
       (reads_word (step slots (lock_word place) 0 0 none) me)
-      (λ n. (refl, λ q here. let same : place ≡ q = omega arith in λ i. stepped (same i) n (noting n) me))
+      (λ n. (refl, λ q here. let same : place ≡ q = omega arith in λ i. stepped step_kind.ReadWord (same i) n (noting n) me))

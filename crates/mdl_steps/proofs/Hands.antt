@@ -5,6 +5,7 @@ use Rattle.std.proofs.lemmas.Bool.{eq-eqb}
 use Rattle.mdl_defs.specs.declared.standing.Standing.{Standing}
 use Rattle.mdl_book.specs.declared.book_view.BookView.{BookView}
 use Rattle.mdl_steps.specs.declared.deed.Deed.{Deed}
+use Rattle.mdl_steps.specs.declared.step_kind.StepKind.{StepKind}
 use Rattle.mdl_steps.specs.declared.view.Held.{Held}
 use Rattle.mdl_steps.specs.Lists.{Each}
 use Rattle.mdl_steps.specs.Plays.{Mine, latched, stepped, settled, lowered, redefined, restood}
@@ -16,9 +17,9 @@ pub holds_taken : (place : ℕ) (h : Held) (m : Mine) → h.place ≡ place → 
 holds_taken place h m here = record { recorded = held_at-first place h m.0.latches here; carried = refl }
 
 -- after a step on the place's word that changed the record
-pub holds_stepped : (place found : ℕ) (f : Held → Held) (h : Held) (book : BookView) (m : Mine) → ((x : Held) → (f x).place ≡ x.place)
-    → Holds place h book m → Holds place (f h) book (stepped place found f m)
-holds_stepped place found f h book m stays has = record {
+pub holds_stepped : (kind : StepKind) (place found : ℕ) (f : Held → Held) (h : Held) (book : BookView) (m : Mine) → ((x : Held) → (f x).place ≡ x.place)
+    → Holds place h book m → Holds place (f h) book (stepped kind place found f m)
+holds_stepped kind place found f h book m stays has = record {
   recorded = held_at-changed place f stays m.0.latches h has.recorded;
   carried = has.carried;
 }
@@ -54,9 +55,9 @@ unmapped place f stays (h ∷ hs) = by_bool (h.place == place)
     (λ e. rw (e, ap (λ p. p == place) (stays h) ∙ e) (unmapped place f stays hs))
     (λ e. rw (e, e) (ap (λ ls. h ∷ ls) (unmapped place f stays hs)))
 
-pub elsewhere-stepped : (place found : ℕ) (f : Held → Held) (m : Mine) → ((x : Held) → (f x).place ≡ x.place)
-    → elsewhere place (stepped place found f m) ≡ elsewhere place m
-elsewhere-stepped place found f m stays = unmapped place f stays m.0.latches
+pub elsewhere-stepped : (kind : StepKind) (place found : ℕ) (f : Held → Held) (m : Mine) → ((x : Held) → (f x).place ≡ x.place)
+    → elsewhere place (stepped kind place found f m) ≡ elsewhere place m
+elsewhere-stepped kind place found f m stays = unmapped place f stays m.0.latches
 
 pub elsewhere-settled : (place : ℕ) (ds : List Deed) (found : ℕ) (slow obtrusive : Bool) (book : BookView) (m : Mine)
     → elsewhere place (settled place ds found book slow obtrusive m) ≡ elsewhere place m

@@ -27,7 +27,7 @@ use Rattle.mdl_steps.specs.declared.view.Own.{Own}
 use Rattle.mdl_steps.specs.declared.view.View.{View}
 use Rattle.mdl_steps.specs.Cells.{Part, part_at, holder_at, desk_of, waiter_of, cell, waits, ticket_by, own_at, asking_at, due, pending, all_fast}
 use Rattle.mdl_steps.specs.Layout.{latch_word}
-use Rattle.mdl_steps.specs.Plays.{Mine, IsFresh, latched, logged, takes_latch}
+use Rattle.mdl_steps.specs.Plays.{Mine, IsFresh, latched, missed_latch, takes_latch}
 use Rattle.mdl_steps.specs.Lists.{Each}
 use Rattle.mdl_steps.specs.Rule.{Rule, PlaceOk, Numbered, key_at}
 use Rattle.mdl_steps.proofs.FastLists.{all_fast-own}
@@ -175,7 +175,7 @@ module _ (slots id place : ℕ) (me : Mine) (some_number : 0 < me.0.number) (fir
     }
 
     numbered : (w : View) → w.next ≡ me.0.next → w.fast ≡ me.0.fast → w.slow ≡ me.0.slow → w.asks ≡ me.0.asks → Numbered w
-    numbered w next fast slow asks = let row = (r.views id me.0 seat).0 in record { fast = rw (fast, next) row.fast; slow = rw (slow, next) row.slow; asks = rw (asks, next) row.asks; apart = rw (asks, slow) row.apart; unfast = rw (asks, fast) row.unfast }
+    numbered w next fast slow asks = let row = (r.views id me.0 seat).0 in record { fast = rw (fast, next) row.fast; slow = rw (slow, next) row.slow; unmixed = rw (fast, slow) row.unmixed; asks = rw (asks, next) row.asks; apart = rw (asks, slow) row.apart; unfast = rw (asks, fast) row.unfast }
 
     moved_taken : Moved s place id me.0 (latched place fresh me).0 (set s.homes place none)
     unfolding fresh
@@ -202,7 +202,7 @@ module _ (slots id place : ℕ) (me : Mine) (some_number : 0 < me.0.number) (fir
         fresh refl refl refl refl (held_at-first place fresh me.0.latches refl) (get_elem? (set s.homes place none) place)))
 
     missed : View
-    missed = logged (latch_word place) (get_or s.words (latch_word place) 0) me.0.latches me.0
+    missed = (missed_latch place (get_or s.words (latch_word place) 0) me).0
 
     missed_rule : Rule (after s (latch_word place) (get_or s.words (latch_word place) 0) id missed s.homes)
     unfolding missed
@@ -233,7 +233,7 @@ module _ (slots id place : ℕ) (me : Mine) (some_number : 0 < me.0.number) (fir
           refl,
           λ q here.
               let same : place ≡ q = omega arith in
-              subst (λ (x : ℕ). (found ≡ 0 → (h : Held) × IsFresh x h me × (◌≡◌ {A = Mine} (latched place (fresh s r size seat) me) (latched x h me))) × (found ≢ 0 → ◌≡◌ {A = Mine} (latched place (fresh s r size seat) me) (logged (latch_word x) found me.0.latches me.0, me.1))) same
+              subst (λ (x : ℕ). (found ≡ 0 → (h : Held) × IsFresh x h me × (◌≡◌ {A = Mine} (latched place (fresh s r size seat) me) (latched x h me))) × (found ≢ 0 → ◌≡◌ {A = Mine} (latched place (fresh s r size seat) me) (missed_latch x found me))) same
               ((λ _. (fresh s r size seat, is_fresh s r size seat free, refl)), λ taken. absurd (taken free)),
         ),
       ))
@@ -246,7 +246,7 @@ module _ (slots id place : ℕ) (me : Mine) (some_number : 0 < me.0.number) (fir
           refl,
           λ q here.
               let same : place ≡ q = omega arith in
-              subst (λ (x : ℕ). (found ≡ 0 → (h : Held) × IsFresh x h me × (◌≡◌ {A = Mine} (missed s r size seat, me.1) (latched x h me))) × (found ≢ 0 → ◌≡◌ {A = Mine} (missed s r size seat, me.1) (logged (latch_word x) found me.0.latches me.0, me.1))) same
+              subst (λ (x : ℕ). (found ≡ 0 → (h : Held) × IsFresh x h me × (◌≡◌ {A = Mine} (missed s r size seat, me.1) (latched x h me))) × (found ≢ 0 → ◌≡◌ {A = Mine} (missed s r size seat, me.1) (missed_latch x found me))) same
               ((λ free. absurd (taken free)), λ _. refl),
         ),
       ))

@@ -8,6 +8,8 @@ pub mod Flags
 pub mod Tickets
 pub mod Owns
 pub mod Deeds
+pub mod OneEvent
+pub mod Unmixed
 pub mod Books
 pub mod WaitWords
 pub mod WaitBooks

@@ -1,43 +1,40 @@
 -- Materialising at a place keeps the rule.
-use Rattle.std.proofs.Common.{◌≡◌, ◌≢◌, ℕ, zero, suc, ◌+◌, ◌-◌, ◌*◌, ◌%◌, ◌^◌, ◌<◌, ◌≤◌, ◌==◌, ◌||◌, Bool, true, false, not, cond, List, [], ◌∷◌, ◌++◌, map, set, length, get_or, Some, None, refl, sym, ap, ◌∙◌, subst, inl, inr, arith, ◌⊎◌, append_assoc}
-use Rattle.std.specs.Prelude.{Option, count_by}
-use Rattle.std.specs.List.{list_all, filter, list_any}
+use Rattle.std.proofs.Common.{◌≡◌, ◌≢◌, ℕ, ◌+◌, ◌-◌, ◌%◌, ◌^◌, ◌<◌, ◌≤◌, ◌==◌, ◌||◌, Bool, true, false, not, cond, List, [], ◌∷◌, ◌++◌, map, set, length, get_or, Some, None, refl, sym, ap, ◌∙◌, subst, inl, inr, arith}
+use Rattle.std.specs.Prelude.{Option}
+use Rattle.std.specs.List.{list_all}
 use Rattle.std.specs.Option.{option_to_list}
 use Rattle.std.proofs.lemmas.Bool.{and_parts, and_from, eq-eqb, eqb-true}
-use Rattle.std.proofs.lemmas.List.{length-append}
 use Rattle.std.proofs.lemmas.List.Folds.{list_all-append}
-use Rattle.std.proofs.lemmas.List.Sums.{count_by-le-length}
 use mathlib.Core.Option.{some, none}
 use lib.ListN.{get_elem?}
 use Rattle.atomic_table.specs.Table.{Allows, step, keeps}
 use Rattle.atomic_table.proofs.Lists.{at_map, at_set}
 use Rattle.mdl_key.specs.declared.namespace.Kind.{Kind}
 use Rattle.mdl_key.specs.Words.{KeyName, is_mode_of, is_obtrusive}
-use Rattle.mdl_word.specs.Words.{encode}
 use Rattle.mdl_book.specs.declared.book_view.BookView.{BookView}
 use Rattle.mdl_book.specs.declared.ticket.Ticket.{Ticket}
-use Rattle.mdl_book.specs.Books.{any_obtrusive, lock_kind, has_obtrusive, has_tickets}
+use Rattle.mdl_book.specs.Books.{any_obtrusive, lock_kind}
 use Rattle.mdl_book.specs.FastTickets.{is_of_class}
 use Rattle.mdl_book.specs.Tickets.{is_ticket, ticket_of}
 use Rattle.mdl_book.proofs.GrantingLemmas.{lawful_part}
-use Rattle.mdl_steps.specs.declared.view.Ask.{Ask}
 use Rattle.mdl_steps.specs.declared.view.Held.{Held}
 use Rattle.mdl_steps.specs.declared.view.Known.{Known}
 use Rattle.mdl_steps.specs.declared.view.Own.{Own}
 use Rattle.mdl_steps.specs.declared.view.View.{View}
-use Rattle.mdl_steps.specs.Cells.{Asking, Part, Holder, Cell, all_fast, asking_at, cell, counted, due, held_at, holder_at, own_at, part_at, pending, ticket_by, waits}
-use Rattle.mdl_steps.specs.FastPlays.{but_at, granting_all, moved, materialised, materialises, weight_of, with_granted, IsAs, AreJoined, MayMaterialise}
+use Rattle.mdl_steps.specs.Cells.{Asking, Part, Cell, all_fast, asking_at, cell, counted, due, holder_at, own_at, part_at, ticket_by, waits}
+use Rattle.mdl_steps.specs.FastPlays.{but_at, granting_all, moved, materialised, materialises, with_granted, IsAs, AreJoined, MayMaterialise}
 use Rattle.mdl_steps.specs.Layout.{lock_word}
 use Rattle.mdl_steps.specs.Lists.{Each, Once}
 use Rattle.mdl_steps.specs.Plays.{Mine}
-use Rattle.mdl_steps.specs.Rule.{Rule, PlaceOk, BookOk, PartOk, Counted, Lawful, NoteAgrees, NotedCounts, Numbered, key_at}
+use Rattle.mdl_steps.specs.Rule.{Rule, PlaceOk, BookOk, PartOk, Counted, NoteAgrees, key_at}
 use Rattle.mdl_steps.proofs.Desks.{each-append}
 use Rattle.mdl_steps.proofs.FastSteps.{covers_fewer, each_fewer, encoded_small}
 use Rattle.mdl_steps.proofs.FastLists.{all_fast-all, all_fast-own, counted_set}
 use Rattle.mdl_steps.proofs.Holder.{Under, under, holder_cell}
 use Rattle.mdl_steps.proofs.Lift.{Table, after, on_word, alone, alone_parts, seat_there}
 use Rattle.mdl_steps.proofs.Owns.{each-from_at, each-to_at}
-use Rattle.mdl_steps.proofs.Tickets.{is_itself, is_passed, of_other}
+use Rattle.mdl_steps.proofs.Unmixed.{unmixed_joined}
+use Rattle.mdl_steps.proofs.Tickets.{is_passed, of_other}
 use Rattle.mdl_steps.proofs.Views.{by_bool, each_at, held_at-changed, held_at-unchanged, other}
 use Rattle.mdl_steps.proofs.Waiting.{owned_set, waiting_kept}
 
@@ -360,6 +357,7 @@ module _ (slots id place : ℕ) (me : Mine) (some_number : 0 < me.0.number) (fir
           numbered = record {
             fast = each_fewer _ (λ t. not (t.place == place)) me.0.fast row.fast;
             slow = below;
+            unmixed = unmixed_joined place me.0.fast me.0.slow slow may.joined.elsewhere row.unmixed;
             asks = λ a e. (let idle = may.idle in absurd (cc));
             apart = λ a e. (let idle = may.idle in absurd (cc));
             unfast = λ a e. (let idle = may.idle in absurd (cc));

@@ -1,9 +1,9 @@
 -- The place after all that have a key gets one: its latch is given back with the empty book of a new key.
-use Rattle.std.proofs.Common.{◌≡◌, ◌≢◌, ℕ, zero, suc, ◌+◌, ◌-◌, ◌<◌, List, [], ◌∷◌, ◌++◌, map, set, length, get_or, Some, None, refl, sym, ap, ◌∙◌, subst, inl, inr, arith, length-set, length-append, get_or-set_other, get_or-set_same}
-use Rattle.std.specs.Prelude.{Option, slice_get}
+use Rattle.std.proofs.Common.{◌≡◌, ◌≢◌, ℕ, zero, suc, ◌+◌, ◌-◌, ◌<◌, List, [], ◌∷◌, ◌++◌, map, set, length, Some, None, refl, sym, ap, ◌∙◌, subst, inl, inr, arith, length-set, length-append, get_or-set_other, get_or-set_same}
+use Rattle.std.specs.Prelude.{slice_get}
 use mathlib.Core.Option.{some, none}
 use lib.ListN.{get_elem?}
-use Rattle.atomic_table.specs.Table.{Allows, step, gives, rest, put_back}
+use Rattle.atomic_table.specs.Table.{Allows, step, gives, put_back}
 use Rattle.atomic_table.proofs.Lists.{at_map, at_set, set_else, set_here}
 use Rattle.mdl_key.specs.Words.{KeyName}
 use Rattle.mdl_defs.specs.declared.standing.Standing.{Standing}
@@ -17,11 +17,11 @@ use Rattle.mdl_steps.specs.declared.view.Held.{Held}
 use Rattle.mdl_steps.specs.declared.view.Keys.{Keys}
 use Rattle.mdl_steps.specs.declared.view.Known.{Known}
 use Rattle.mdl_steps.specs.declared.view.View.{View}
-use Rattle.mdl_steps.specs.Cells.{Part, Desk, part_at, holder_at, desk_of, cell, waits, all_fast}
+use Rattle.mdl_steps.specs.Cells.{Part, Desk, holder_at, desk_of, cell, all_fast}
 use Rattle.mdl_steps.specs.Layout.{latch_word, lock_word, version_word}
 use Rattle.mdl_steps.specs.Lists.{Each, Distinct}
-use Rattle.mdl_steps.specs.Plays.{Mine, named, listing, dropped, puts_key}
-use Rattle.mdl_steps.specs.Rule.{Rule, BookOk, PartOk, SlowHeld, ReadsAgree, IsUnused, DirectoryOk, KnowsKeys, TellsLists, key_at}
+use Rattle.mdl_steps.specs.Plays.{Mine, named, listing, puts_key}
+use Rattle.mdl_steps.specs.Rule.{Rule, BookOk, PartOk, SlowHeld, ReadsAgree, IsUnused, key_at}
 use Rattle.mdl_steps.specs.Seats.{MayName}
 use Rattle.mdl_steps.proofs.Views.{at_inside, held_at-dropped, held_at-undropped}
 use Rattle.mdl_steps.proofs.Lift.{Table, Homes, Keyed, after, lifted, alone, parts_again, seat_there}
@@ -162,7 +162,7 @@ module _ (slots id place : ℕ) (me : Mine) (some_number : 0 < me.0.number) (fir
           number = refl;
           spare = refl;
           waiter = refl;
-          numbered = record { fast = row.fast; slow = row.slow; asks = row.asks; apart = row.apart; unfast = row.unfast };
+          numbered = record { fast = row.fast; slow = row.slow; unmixed = row.unmixed; asks = row.asks; apart = row.apart; unfast = row.unfast };
           slots = length-set s.homes place (some (slot.Place (empty_book key)));
           home_else = λ q else. set_else s.homes place q (some (slot.Place (empty_book key))) else;
           part_else = λ q else. refl;

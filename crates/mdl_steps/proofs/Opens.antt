@@ -94,7 +94,7 @@ module _ (sessions : ℕ) (words : List ℕ) (slots : List Slot) (open_ : IsOpen
           subst (λ (y : Waiter). WaitOk (length (map some slots)) (waits (opening words slots start) y.number) y) it.1 (blank_wait (length (map some slots)) (waits (opening words slots start) 0) 0 (unwaited 0)));
       unused = λ n fits none. unwaited n;
     };
-    views = λ j v at. (let it = only start v j at in subst (λ (x : View). Rattle.mdl_steps.specs.Rule.Numbered x × Rattle.mdl_steps.specs.Rule.KnowsKeys [] x) it.1 (record { fast = tt; slow = tt; asks = λ a none. absurd (cc); apart = λ a none. absurd (cc); unfast = λ a none. absurd (cc) }, tt));
+    views = λ j v at. (let it = only start v j at in subst (λ (x : View). Rattle.mdl_steps.specs.Rule.Numbered x × Rattle.mdl_steps.specs.Rule.KnowsKeys [] x) it.1 (record { fast = tt; slow = tt; unmixed = tt; asks = λ a none. absurd (cc); apart = λ a none. absurd (cc); unfast = λ a none. absurd (cc) }, tt));
     places = λ p first last. (let within : p < length slots = rw homes_count at last in let there = open_.places p first within in no_key p (empty_place there.0 p first within there.1));
   }
     where

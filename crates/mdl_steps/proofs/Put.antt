@@ -17,13 +17,14 @@ use Rattle.mdl_steps.specs.declared.view.Known.{Known}
 use Rattle.mdl_steps.specs.declared.view.Own.{Own}
 use Rattle.mdl_steps.specs.declared.view.View.{View}
 use Rattle.mdl_steps.specs.Cells.{Part, Holder, part_at, holder_at, held_at, own_at, cell, waits, all_fast}
-use Rattle.mdl_steps.specs.Deeds.{MayAll, MayAct, all_booked, all_done, all_owned, owned}
+use Rattle.mdl_steps.specs.Deeds.{MayDo, MayAct, all_booked, all_done, all_owned, owned}
 use Rattle.mdl_steps.specs.Layout.{latch_word, lock_word}
 use Rattle.mdl_steps.specs.Plays.{Mine, unlatched, settled, lowered, puts_latch, lowers_flags}
 use Rattle.mdl_steps.specs.Rule.{Rule, PlaceOk, BookOk, Counted, Numbered, TellsLists, Flagged, NotedCounts, key_at}
 use Rattle.mdl_steps.proofs.Views.{by_bool, each_at, held_at-changed, held_at-unchanged, held_at-dropped, held_at-undropped}
 use Rattle.mdl_steps.proofs.Lift.{Table, Homes, after, on_latch, on_word, alone, alone_parts, seat_there}
 use Rattle.mdl_steps.proofs.Holder.{Under, under, put_cell, holder_cell}
+use Rattle.mdl_steps.proofs.OneEvent.{may_all}
 use Rattle.mdl_steps.proofs.Owns.{owned_else}
 use Rattle.mdl_steps.proofs.Books.{deeds_ok, all_booked_kind}
 
@@ -67,7 +68,7 @@ tells_flags : (book : BookView) (slow obtrusive : Bool) → TellsLists book slow
 tells_flags book slow obtrusive exact = ((λ e. exact.0 ∙ e), λ e. exact.1 ∙ e)
 
 module _ (slots id place : ℕ) (me : Mine) (some_number : 0 < me.0.number) (first : 0 < place) (last : place < slots) (h : Held) (holds : held_at place me.0.latches ≡ Some h)
-    (ds : List Deed) (act : MayAct me.0 place ds) (may : MayAll place me.0 h.book h.noted ds) (hand : me.1 ≡ (place, slot.Place (all_booked me.0.number ds h.book)) ∷ rest me.1) where
+    (ds : List Deed) (act : MayAct me.0 place ds) (may : MayDo me.0 h.book h.noted ds) (hand : me.1 ≡ (place, slot.Place (all_booked me.0.number ds h.book)) ∷ rest me.1) where
   abbrev book : BookView
   book = all_booked me.0.number ds h.book
 
@@ -102,7 +103,7 @@ module _ (slots id place : ℕ) (me : Mine) (some_number : 0 < me.0.number) (fir
 
     did : BookOk (key_at r.keys place) (cell s place).version parts book × Numbered (all_done place ds me.0) × (all_fast parts ≡ all_fast (cell s place).parts)
     did = deeds_ok (key_at r.keys place) (cell s place).version (cell s place).parts h.book (waits s) place id me.0 h.obtrusive h.noted ds
-        (at_map (part_at (waits s) place) s.views id me.0 seat) (alone_parts s r place id me.0 seat some_number) known (r.views id me.0 seat).0 u.noted may u.book_ok
+        (at_map (part_at (waits s) place) s.views id me.0 seat) (alone_parts s r place id me.0 seat some_number) known (r.views id me.0 seat).0 u.noted (may_all me.0 h.book h.noted place ds may) u.book_ok
 
     -- what is owed with some record of the latch that has the book as it is now
     owed : (word : ℕ) (h′ : Held) → h′.book ≡ book → Counted (lock_kind h.book) word (all_fast (cell s place).parts) h′.slow h′.obtrusive
@@ -138,7 +139,7 @@ module _ (slots id place : ℕ) (me : Mine) (some_number : 0 < me.0.number) (fir
           number = refl;
           spare = refl;
           waiter = refl;
-          numbered = record { fast = numbered.fast; slow = numbered.slow; asks = numbered.asks; apart = numbered.apart; unfast = numbered.unfast };
+          numbered = record { fast = numbered.fast; slow = numbered.slow; unmixed = numbered.unmixed; asks = numbered.asks; apart = numbered.apart; unfast = numbered.unfast };
           slots = length-set s.homes place (some (slot.Place book));
           home_else = λ q else. set_else s.homes place q (some (slot.Place book)) else;
           part_else = λ q else. λ i. record (part_at (waits s) q me.0) { slow = all_owned_else place q ds me.0.slow else i };
@@ -165,7 +166,7 @@ module _ (slots id place : ℕ) (me : Mine) (some_number : 0 < me.0.number) (fir
           number = refl;
           spare = refl;
           waiter = refl;
-          numbered = record { fast = numbered.fast; slow = numbered.slow; asks = numbered.asks; apart = numbered.apart; unfast = numbered.unfast };
+          numbered = record { fast = numbered.fast; slow = numbered.slow; unmixed = numbered.unmixed; asks = numbered.asks; apart = numbered.apart; unfast = numbered.unfast };
           slots = refl;
           home_else = λ q else. refl;
           part_else = λ q else. λ i. record (part_at (waits s) q me.0) { slow = all_owned_else place q ds me.0.slow else i };

@@ -17,6 +17,7 @@ use Rattle.mdl_steps.proofs.Lift.{Table, Homes, after, on_latch, alone, seat_the
 use Rattle.mdl_steps.proofs.Holder.{under, put_cell}
 use Rattle.mdl_steps.proofs.Put.{one_hand}
 use Rattle.mdl_steps.proofs.Notes.{numbered_notes, apart_notes}
+use Rattle.mdl_steps.proofs.Unmixed.{unmixed_notes}
 use Rattle.mdl_steps.proofs.Noting.{noted_part, noted_here, noted_away, noted_ok, fast_same}
 
 module _ (slots id place : ℕ) (me : Mine) (some_number : 0 < me.0.number) (first : 0 < place) (last : place < slots)
@@ -48,6 +49,7 @@ module _ (slots id place : ℕ) (me : Mine) (some_number : 0 < me.0.number) (fir
           numbered = record {
             fast = numbered_notes place h.book.standing.version me.0.next me.0.fast row.fast;
             slow = numbered_notes place h.book.standing.version me.0.next me.0.slow row.slow;
+            unmixed = unmixed_notes place h.book.standing.version me.0.fast me.0.slow row.unmixed;
             asks = row.asks;
             apart = λ a e. apart_notes place h.book.standing.version a.number me.0.slow (row.apart a e);
             unfast = λ a e. ap (noting_version place h.book.standing.version) (row.unfast a e);

@@ -7,10 +7,13 @@ use Rattle.atomic_table.specs.Table.{Allows, step, keeps}
 use Rattle.atomic_table.proofs.Lists.{at_map}
 use Rattle.mdl_key.specs.Words.{KeyName}
 use Rattle.mdl_key.specs.declared.mode.Mode.TheVariants.{X}
+use Rattle.mdl_defs.specs.declared.change.Change.{Change}
 use Rattle.mdl_defs.specs.declared.standing.Standing.{Standing}
+use Rattle.mdl_defs.specs.Standings.{standing_after}
+use Rattle.mdl_defs.proofs.StandingLemmas.{changes-keep_standing}
 use Rattle.mdl_book.specs.declared.book_view.BookView.{BookView}
 use Rattle.mdl_book.specs.declared.ticket.Ticket.{Ticket}
-use Rattle.mdl_book.specs.Books.{lock_kind}
+use Rattle.mdl_book.specs.Books.{lock_kind, redefining}
 use Rattle.mdl_steps.specs.declared.view.Held.{Held}
 use Rattle.mdl_steps.specs.declared.view.View.{View}
 use Rattle.mdl_steps.specs.Cells.{Part, part_at, holder_at, cell, waits}
@@ -23,6 +26,7 @@ use Rattle.mdl_steps.proofs.Lift.{Table, after, on_version, alone, alone_parts, 
 use Rattle.mdl_steps.proofs.Holder.{under, holder_cell}
 use Rattle.mdl_steps.proofs.Put.{one_hand}
 use Rattle.mdl_steps.proofs.Notes.{numbered_notes, apart_notes, reads_older}
+use Rattle.mdl_steps.proofs.Unmixed.{unmixed_notes}
 use Rattle.mdl_steps.proofs.Noting.{noted_part, noted_here, noted_away, noted_ok, fast_same}
 use Rattle.mdl_steps.proofs.Exclusive.{others_fast, others_slow}
 
@@ -49,7 +53,10 @@ other_part key version parts book id number standing alone_there ok newer t ther
 -- ---- the step
 
 module _ (slots id place : ℕ) (me : Mine) (some_number : 0 < me.0.number) (first : 0 < place) (last : place < slots)
-    (h : Held) (standing : Standing) (has : HasRedefined place h standing me) where
+    (h : Held) (change : Change) (has : HasRedefined place h change me) where
+  abbrev standing : Standing
+  standing = standing_after change h.book.standing
+
   abbrev written : View
   written = (redefined place standing me).0
 
@@ -67,7 +74,6 @@ module _ (slots id place : ℕ) (me : Mine) (some_number : 0 < me.0.number) (fir
         let u = under key (cell s place) ok id (holder_at place me.0) there h has.holds.recorded in
         let part = at_map (part_at (waits s) place) s.views id me.0 seat in
         let by_itself = alone_parts s r place id me.0 seat some_number in
-        let more = has.newer in
         let newer : h.book.standing.version < standing.version = omega arith in
         let ticket = has.exclusive in
         let fast = fast_same key (cell s place).version parts h.book place id own part u.book_ok standing in
@@ -80,6 +86,7 @@ module _ (slots id place : ℕ) (me : Mine) (some_number : 0 < me.0.number) (fir
           numbered = record {
             fast = numbered_notes place standing.version me.0.next me.0.fast row.fast;
             slow = numbered_notes place standing.version me.0.next me.0.slow row.slow;
+            unmixed = unmixed_notes place standing.version me.0.fast me.0.slow row.unmixed;
             asks = row.asks;
             apart = λ a e. apart_notes place standing.version a.number me.0.slow (row.apart a e);
             unfast = λ a e. ap (noting_version place standing.version) (row.unfast a e);
@@ -100,7 +107,7 @@ module _ (slots id place : ℕ) (me : Mine) (some_number : 0 < me.0.number) (fir
           noted = rw fast u.noted;
           book_ok = noted_ok key (cell s place).version parts h.book place id own part u.book_ok standing
               (λ none. let empty = ap length (u.book_ok.named.vacant none).0.0 in let some = ticket.1.1 in absurd (omega arith))
-              has.may
+              (changes-keep_standing h.book.key.namespace h.book.standing change u.book_ok.stands has.allowed)
               (reads_older h.book standing newer own.reads (u.book_ok.each id own part).versions_agree.reads)
               (other_part key (cell s place).version parts h.book id me.0.number standing by_itself u.book_ok newer ticket.0 ticket.1 ticket.2 ticket.3);
         })))
@@ -115,7 +122,7 @@ module _ (slots id place : ℕ) (me : Mine) (some_number : 0 < me.0.number) (fir
       refl,
       λ q book here carried.
           let same : place ≡ q = omega arith in
-          let book_is : record h.book { standing = standing } ≡ book = one_hand (sym has.holds.carried ∙ carried) in
+          let book_is : redefining change h.book ≡ book = one_hand (sym has.holds.carried ∙ carried) in
           λ i. redefined (same i) (book_is i).standing me,
     ),
   )

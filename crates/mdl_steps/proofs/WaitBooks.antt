@@ -3,7 +3,7 @@ use Rattle.std.proofs.Common.{◌≡◌, ◌≢◌, ℕ, ◌<◌, ◌==◌, ◌&
 use Rattle.std.specs.Prelude.{Option}
 use Rattle.std.specs.List.{list_all}
 use Rattle.std.specs.Option.{option_to_list}
-use Rattle.std.proofs.lemmas.Bool.{and_parts, and_from, cases_eq, eq-eqb}
+use Rattle.std.proofs.lemmas.Bool.{and_parts, and_from, cases_eq}
 use Rattle.std.proofs.lemmas.List.Folds.{list_all-append}
 use mathlib.Core.Option.{some}
 use lib.ListN.{get_elem?}
@@ -17,7 +17,7 @@ use Rattle.mdl_book.specs.Granting.{is_compatible, is_lawful}
 use Rattle.mdl_book.specs.Tickets.{is_ticket, ticket_of, without}
 use Rattle.mdl_book.proofs.GrantingLemmas.{lawful_push}
 use Rattle.mdl_steps.specs.declared.view.Own.{Own}
-use Rattle.mdl_steps.specs.Cells.{Part, Asking, ticket_by, due, pending, slow_tickets, all_fast}
+use Rattle.mdl_steps.specs.Cells.{Part, ticket_by, due, pending, all_fast}
 use Rattle.mdl_steps.specs.Lists.{Each, Once}
 use Rattle.mdl_steps.specs.Rule.{Lawful, SlowHeld, WaitingOk, NoteAgrees, ReadsAgree, PartOk, BookOk, IsUnused, Named}
 use Rattle.mdl_steps.proofs.Deeds.{all_fast-set}

@@ -1,5 +1,5 @@
 -- A session opens a wait, and ends it: steps on its own wait's word.
-use Rattle.std.proofs.Common.{◌≡◌, ◌≢◌, ℕ, ◌+◌, ◌*◌, ◌/◌, ◌%◌, ◌<◌, ◌≤◌, ◌==◌, Bool, true, false, cond, List, [], ◌∷◌, ◌++◌, map, set, length, get_or, Some, None, refl, sym, ap, ◌∙◌, subst, arith}
+use Rattle.std.proofs.Common.{◌≡◌, ◌≢◌, ℕ, ◌+◌, ◌*◌, ◌/◌, ◌%◌, ◌<◌, ◌≤◌, ◌==◌, cond, List, [], ◌∷◌, ◌++◌, map, set, length, get_or, Some, None, refl, sym, ap, ◌∙◌, subst, arith}
 use Rattle.std.specs.Prelude.{Option}
 use mathlib.Core.Option.{some, none}
 use lib.ListN.{get_elem?}
@@ -8,7 +8,6 @@ use Rattle.atomic_table.proofs.Lists.{at_map}
 use Rattle.mdl_key.specs.Words.{KeyName}
 use Rattle.mdl_key.specs.declared.mode.Mode.{Mode}
 use Rattle.mdl_book.specs.declared.ticket.Ticket.{Ticket}
-use Rattle.mdl_book.specs.Books.{lock_kind, enqueueing, cancelling}
 use Rattle.mdl_steps.specs.declared.deed.Deed.TheVariants.{Gain}
 use Rattle.mdl_steps.specs.declared.slot.Slot.{Slot}
 use Rattle.mdl_steps.specs.declared.view.Ask.{Ask}
@@ -16,11 +15,11 @@ use Rattle.mdl_steps.specs.declared.view.Held.{Held}
 use Rattle.mdl_steps.specs.declared.view.Known.{Known}
 use Rattle.mdl_steps.specs.declared.view.Own.{Own}
 use Rattle.mdl_steps.specs.declared.view.View.{View}
-use Rattle.mdl_steps.specs.Cells.{Part, asking_at, part_at, holder_at, held_at, note_at, own_at, ticket_by, waiter_of, waits, cell, all_fast}
+use Rattle.mdl_steps.specs.Cells.{Part, asking_at, part_at, holder_at, held_at, note_at, own_at, waiter_of, waits, cell, all_fast}
 use Rattle.mdl_steps.specs.Layout.{wait_word}
 use Rattle.mdl_steps.specs.Lists.{Each}
 use Rattle.mdl_steps.specs.Plays.{Mine}
-use Rattle.mdl_steps.specs.Rule.{Rule, PlaceOk, BookOk, NoteAgrees, Numbered, WaitOk, key_at}
+use Rattle.mdl_steps.specs.Rule.{AreUnmixed, Rule, PlaceOk, NoteAgrees, WaitOk, key_at}
 use Rattle.mdl_steps.specs.WaitPlays.{wait_in, asking, asked_ticket, opened, taken_over, ended_granted, ended_lost, with_waiting, with_cancelled, opens_wait, ends_granted, ends_lost}
 use Rattle.mdl_steps.specs.WaitSeats.{MayOpen, MayCancel}
 use Rattle.mdl_steps.proofs.Desks.{each-append}
@@ -163,6 +162,7 @@ module _ (s : Table) (r : Rule s) (id : ℕ) (me : Mine) (seat : get_elem? s.vie
           numbered = record {
             fast = below_more me.0.next me.0.fast row.fast;
             slow = below_more me.0.next me.0.slow row.slow;
+            unmixed = row.unmixed;
             asks = λ a e. (let is : asking place mode me.0 ≡ a = cc in let number_is = ap (λ (b : Ask). b.number) is in omega arith);
             apart = λ a e. (let is : asking place mode me.0 ≡ a = cc in subst (λ (n : ℕ). Each (λ (t : Own). t.number ≢ n) me.0.slow) (ap (λ (b : Ask). b.number) is) (below_apart me.0.next me.0.slow row.slow));
             unfast = λ a e. may.unfast;
@@ -234,6 +234,7 @@ module _ (s : Table) (r : Rule s) (id : ℕ) (me : Mine) (seat : get_elem? s.vie
             numbered = record {
               fast = row.fast;
               slow = each-append _ me.0.slow (own ∷ []) row.slow (row.asks a asks, tt);
+              unmixed = subst (λ (ts : List Own). AreUnmixed ts (me.0.slow ++ own ∷ [])) (sym (row.unfast a asks)) tt;
               asks = λ b e. absurd (cc);
               apart = λ b e. absurd (cc);
               unfast = λ b e. absurd (cc);
@@ -292,7 +293,7 @@ module _ (s : Table) (r : Rule s) (id : ℕ) (me : Mine) (seat : get_elem? s.vie
             spare = refl;
             directory = refl;
             known = refl;
-            numbered = record { fast = row.fast; slow = row.slow; asks = λ b e. absurd (cc); apart = λ b e. absurd (cc); unfast = λ b e. absurd (cc) };
+            numbered = record { fast = row.fast; slow = row.slow; unmixed = row.unmixed; asks = λ b e. absurd (cc); apart = λ b e. absurd (cc); unfast = λ b e. absurd (cc) };
             holder_else = λ q else. λ i. record { number = me.0.number; held = held_at-unchanged place (with_cancelled session cancelled_number) (λ x. refl) q me.0.latches else i };
           }) (set (cell s place).parts id without_ask)
           (λ q else. own_parts_else s r session (8 * me.0.waits) id me.0 gone seat refl some_number refl q

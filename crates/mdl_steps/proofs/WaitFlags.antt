@@ -1,14 +1,13 @@
 -- What a waiting ticket adds to a book's lists: the flags that told of it go on to tell of all that is left.
-use Rattle.std.proofs.Common.{◌≡◌, ℕ, ◌+◌, ◌<◌, ◌≤◌, ◌||◌, Bool, true, false, List, [], ◌∷◌, ◌++◌, length, cond, Some, None, refl, sym, ap, ◌∙◌, subst, inl, inr, ◌⊎◌, arith, length-append}
-use Rattle.std.specs.Prelude.{Option, nat_lt}
-use Rattle.std.specs.List.{list_any}
+use Rattle.std.proofs.Common.{◌≡◌, ℕ, ◌+◌, ◌<◌, ◌≤◌, ◌||◌, Bool, true, false, List, [], ◌∷◌, ◌++◌, length, cond, Some, refl, sym, ap, ◌∙◌, subst, inl, inr, ◌⊎◌, arith}
+use Rattle.std.specs.Prelude.{Option}
 use Rattle.std.specs.Option.{option_to_list}
 use Rattle.std.proofs.lemmas.Bool.{ltb-true, lt-ltb}
 use Rattle.mdl_key.specs.declared.namespace.Kind.{Kind}
 use Rattle.mdl_key.specs.Words.{is_obtrusive}
 use Rattle.mdl_book.specs.declared.book_view.BookView.{BookView}
 use Rattle.mdl_book.specs.declared.ticket.Ticket.{Ticket}
-use Rattle.mdl_book.specs.Books.{lock_kind, any_obtrusive, has_obtrusive, has_tickets, admitting, cancelling}
+use Rattle.mdl_book.specs.Books.{lock_kind, any_obtrusive, admitting, cancelling}
 use Rattle.mdl_book.specs.Tickets.{is_ticket, ticket_of, without}
 use Rattle.mdl_steps.specs.Rule.{Flagged}
 use Rattle.mdl_steps.proofs.Tickets.{without-hit, without-miss}

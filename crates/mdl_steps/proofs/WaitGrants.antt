@@ -1,34 +1,33 @@
 -- A wait of a session is granted, under the latch of the place where its ticket waits.
-use Rattle.std.proofs.Common.{◌≡◌, ◌≢◌, ℕ, ◌+◌, ◌*◌, ◌%◌, ◌<◌, ◌≤◌, ◌==◌, Bool, true, false, cond, List, [], ◌∷◌, ◌++◌, map, set, length, get_or, Some, None, refl, sym, ap, ◌∙◌, subst, arith}
-use Rattle.std.specs.Prelude.{Option}
+use Rattle.std.proofs.Common.{◌≡◌, ◌≢◌, ℕ, ◌%◌, ◌<◌, ◌≤◌, ◌==◌, true, false, List, [], ◌∷◌, ◌++◌, map, set, length, Some, None, refl, sym, ap, ◌∙◌, subst, arith}
 use Rattle.std.specs.Option.{option_to_list}
 use mathlib.Core.Option.{some, none}
 use lib.ListN.{get_elem?}
 use prog.Atomic.{either}
 use Rattle.atomic_table.specs.Table.{Allows, step, Act, keeps, stepped as moved_by}
 use Rattle.atomic_table.proofs.Lists.{at_map, exchanged}
-use Rattle.mdl_key.specs.Words.{KeyName}
 use Rattle.mdl_book.specs.declared.ticket.Ticket.{Ticket}
 use Rattle.mdl_book.specs.Books.{lock_kind, admitting}
 use Rattle.mdl_book.specs.Granting.{is_compatible}
 use Rattle.mdl_book.specs.Tickets.{is_ticket, ticket_of}
 use Rattle.mdl_steps.specs.declared.slot.Slot.{Slot}
+use Rattle.mdl_steps.specs.declared.step_kind.StepKind.TheVariants as step_kind
 use Rattle.mdl_steps.specs.declared.view.Ask.{Ask}
 use Rattle.mdl_steps.specs.declared.view.Held.{Held}
 use Rattle.mdl_steps.specs.declared.view.Own.{Own}
 use Rattle.mdl_steps.specs.declared.view.View.{View}
-use Rattle.mdl_steps.specs.Cells.{Part, Holder, pending, asking_at, part_at, holder_at, held_at, own_at, ticket_by, waits, cell, all_fast}
+use Rattle.mdl_steps.specs.Cells.{Part, pending, asking_at, part_at, holder_at, own_at, ticket_by, waits, cell, all_fast}
 use Rattle.mdl_steps.specs.Layout.{wait_word}
 use Rattle.mdl_steps.specs.Lists.{Each}
 use Rattle.mdl_steps.specs.Plays.{Mine}
 use Rattle.mdl_steps.specs.Rule.{Rule, PlaceOk, BookOk, WaitOk, key_at}
-use Rattle.mdl_steps.specs.WaitPlays.{wait_in, met_wait, settled_granted, with_admitted, TellsOwn, settles_granted}
+use Rattle.mdl_steps.specs.WaitPlays.{wait_in, missed_wait, settled_granted, with_admitted, TellsOwn, settles_granted}
 use Rattle.mdl_steps.specs.WaitSeats.{MayGrant}
 use Rattle.mdl_steps.proofs.Deeds.{may_join}
 use Rattle.mdl_steps.proofs.Holder.{Under, under, holder_cell}
 use Rattle.mdl_steps.proofs.Lift.{Table, after, alone, alone_parts, seat_there}
 use Rattle.mdl_steps.proofs.Tickets.{is_passed, of_other_number}
-use Rattle.mdl_steps.proofs.Views.{by_bool, held_at-changed, held_at-unchanged, other}
+use Rattle.mdl_steps.proofs.Views.{by_bool, held_at-changed, held_at-unchanged}
 use Rattle.mdl_steps.proofs.WaitBooks.{granted_ok, fast_kept}
 use Rattle.mdl_steps.proofs.WaitFlags.{flagged_admitted}
 use Rattle.mdl_steps.proofs.WaitFrame.{on_wait, waits_here, their_parts, their_parts_else, part_away}
@@ -156,7 +155,7 @@ module _ (s : Table) (r : Rule s) (id session : ℕ) (me : Mine) (seat : get_ele
           spare = refl;
           directory = refl;
           known = refl;
-          numbered = (let row = (r.views id me.0 seat).0 in record { fast = row.fast; slow = row.slow; asks = row.asks; apart = row.apart; unfast = row.unfast });
+          numbered = (let row = (r.views id me.0 seat).0 in record { fast = row.fast; slow = row.slow; unmixed = row.unmixed; asks = row.asks; apart = row.apart; unfast = row.unfast });
           holder_else = λ q else. λ i. record { number = me.0.number; held = held_at-unchanged place (with_admitted session ticket) (λ x. refl) q me.0.latches else i };
         }) (set (cell s place).parts t.at then_)
         (λ q else. their_parts_else s r session (wait_in number 2) id me.0 w seat (λ f p. refl) some_session t.at t.view t.there t.number_is q
@@ -194,17 +193,17 @@ settles_granted_allowed slots id session place ticket number me some_number some
       ),
     ))
     (λ missed. (
-      (met_wait (length s.homes) session (waits s session) me).0,
+      (missed_wait (length s.homes) session (waits s session) me).0,
       keeps,
       tt,
-      met_rule s r id session me seat,
+      met_rule s r id session me seat step_kind.MissWait,
       (
         refl,
         λ q m here is_first.
             let same : session ≡ q = omega arith in (
               subst (λ (k : ℕ). TellsOwn (length s.homes) k (waits s session) me.0) same (tells_own s r id session me seat),
               (λ found. absurd (missed (found ∙ sym is_first))),
-              λ _. λ i. met_wait (length s.homes) (same i) (waits s session) me,
+              λ _. λ i. missed_wait (length s.homes) (same i) (waits s session) me,
             ),
       ),
     )))

@@ -1,10 +1,11 @@
 -- What a seat has in hand after a step on a wait's word.
-use Rattle.std.proofs.Common.{◌≡◌, ℕ, ◌==◌, List, ◌∷◌, map, cond, not, Some, refl, sym, ap, ◌∙◌, subst}
+use Rattle.std.proofs.Common.{◌≡◌, ℕ, ◌==◌, List, ◌∷◌, map, cond, not, sym, ap, ◌∙◌, subst}
 use Rattle.std.specs.Prelude.{filter}
 use Rattle.mdl_book.specs.declared.book_view.BookView.{BookView}
+use Rattle.mdl_steps.specs.declared.step_kind.StepKind.TheVariants as step_kind
 use Rattle.mdl_steps.specs.declared.view.Held.{Held}
 use Rattle.mdl_steps.specs.Cells.{held_at}
-use Rattle.mdl_steps.specs.Plays.{Mine, stepped}
+use Rattle.mdl_steps.specs.Plays.{Mine}
 use Rattle.mdl_steps.specs.Seats.{Holds, elsewhere}
 use Rattle.mdl_steps.proofs.Hands.{holds_stepped, elsewhere-stepped}
 
@@ -12,9 +13,9 @@ module _ (place : ℕ) (f : Held → Held) (stays : (x : Held) → (f x).place �
   -- the record of the place is changed
   pub holds_changed : (h : Held) (book : BookView) → Holds place h book m → Holds place (f h) book m′
   holds_changed h book has =
-      let now = holds_stepped place 0 f h book m stays has in
+      let now = holds_stepped step_kind.ReadWord place 0 f h book m stays has in
       record { recorded = ap (held_at place) latches ∙ now.recorded; carried = subst (λ xs. ◌≡◌ {A = List (ℕ × Rattle.mdl_steps.specs.declared.slot.Slot.Slot)} xs ((place, Rattle.mdl_steps.specs.declared.slot.Slot.TheVariants.Place book) ∷ Rattle.mdl_steps.specs.Seats.rest xs)) (sym hand) has.carried }
 
   -- and no other
   pub elsewhere_changed : elsewhere place m′ ≡ elsewhere place m
-  elsewhere_changed = ap (λ (hs : List Held). filter (λ h. not (h.place == place)) hs) latches ∙ elsewhere-stepped place 0 f m stays
+  elsewhere_changed = ap (λ (hs : List Held). filter (λ h. not (h.place == place)) hs) latches ∙ elsewhere-stepped step_kind.ReadWord place 0 f m stays

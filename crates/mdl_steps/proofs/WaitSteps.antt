@@ -1,5 +1,5 @@
 -- A wait's word is read, or a wait is settled as lost: no step of these needs a latch.
-use Rattle.std.proofs.Common.{◌≡◌, ◌≢◌, ℕ, zero, suc, ◌+◌, ◌*◌, ◌%◌, ◌<◌, ◌≤◌, ◌==◌, ◌⊎◌, true, List, [], ◌∷◌, map, set, length, get_or, Some, None, refl, sym, ap, ◌∙◌, subst, inl, inr, arith, eq-eqb}
+use Rattle.std.proofs.Common.{◌≡◌, ◌≢◌, ℕ, zero, suc, ◌%◌, ◌<◌, ◌≤◌, ◌==◌, ◌⊎◌, List, [], ◌∷◌, map, set, length, get_or, Some, None, refl, sym, ap, ◌∙◌, subst, inl, inr, arith, eq-eqb}
 use Rattle.std.specs.Prelude.{Option}
 use Rattle.std.proofs.lemmas.Bool.{cases_eq}
 use Rattle.std.proofs.lemmas.List.{map-set}
@@ -7,21 +7,23 @@ use mathlib.Core.Option.{some, none, some-injective, some-ne-none}
 use lib.ListN.{get_elem?}
 use prog.Atomic.{either}
 use Rattle.atomic_table.specs.Table.{Allows, step, Act, keeps, stepped as moved_by}
-use Rattle.atomic_table.proofs.Lists.{at_map, at_set, set_here, set_else, set_again, exchanged}
+use Rattle.atomic_table.proofs.Lists.{at_map, at_set, set_here, set_else, exchanged}
 use Rattle.mdl_key.specs.Words.{KeyName}
 use Rattle.mdl_book.specs.declared.ticket.Ticket.{Ticket}
 use Rattle.mdl_steps.specs.declared.slot.Slot.{Slot}
+use Rattle.mdl_steps.specs.declared.step_kind.StepKind.{StepKind}
+use Rattle.mdl_steps.specs.declared.step_kind.StepKind.TheVariants as step_kind
 use Rattle.mdl_steps.specs.declared.view.Ask.{Ask}
 use Rattle.mdl_steps.specs.declared.view.View.{View}
-use Rattle.mdl_steps.specs.Cells.{Part, Holder, Cell, Waiter, Asking, asking_at, part_at, holder_at, desk_of, waiter_of, waits, cell, all_fast}
+use Rattle.mdl_steps.specs.Cells.{Part, Cell, Waiter, asking_at, part_at, holder_at, desk_of, waiter_of, waits, cell, all_fast}
 use Rattle.mdl_steps.specs.Layout.{wait_word}
 use Rattle.mdl_steps.specs.Plays.{Mine}
-use Rattle.mdl_steps.specs.Rule.{Rule, PlaceOk, BookOk, HeldOk, Numbered, WaitOk, WaitsAgree, KnowsKeys, key_at}
-use Rattle.mdl_steps.specs.WaitPlays.{wait_in, meeting, met_wait, settled_lost, TellsOwn, reads_wait, settles_lost}
+use Rattle.mdl_steps.specs.Rule.{Rule, PlaceOk, BookOk, Numbered, WaitOk, WaitsAgree, KnowsKeys, key_at}
+use Rattle.mdl_steps.specs.WaitPlays.{wait_in, meeting, met_wait_by, met_wait, missed_wait, settled_lost, TellsOwn, reads_wait, settles_lost}
 use Rattle.mdl_steps.proofs.Lift.{Table, after, alone_parts, holders_again}
 use Rattle.mdl_steps.proofs.Views.{map_kept, at_inside, at_unmap}
 use Rattle.mdl_steps.proofs.WaitBooks.{lost_ok, fast_kept}
-use Rattle.mdl_steps.proofs.WaitFrame.{Waited, on_wait, waits_else, waits_here, their_parts, their_parts_else, part_away}
+use Rattle.mdl_steps.proofs.WaitFrame.{on_wait, waits_else, waits_here, their_parts, their_parts_else, part_away}
 use Rattle.mdl_steps.proofs.WaitWords.{met_ok, met_else, settled_ok}
 
 -- ---- lists
@@ -98,8 +100,8 @@ module _ (s : Table) (r : Rule s) (id session : ℕ) (me : Mine) (seat : get_ele
   abbrev slots : ℕ
   slots = length s.homes
 
-  abbrev met : View
-  met = (met_wait slots session (waits s session) me).0
+  abbrev met : StepKind → View
+  met kind = (met_wait_by kind slots session (waits s session) me).0
 
   own_ok : WaitOk slots (waits s me.0.number) (waiter_of me.0)
   own_ok = r.waits_agree.each id (waiter_of me.0) (at_map waiter_of s.views id me.0 seat)
@@ -113,34 +115,34 @@ module _ (s : Table) (r : Rule s) (id session : ℕ) (me : Mine) (seat : get_ele
     | inr e ↦ subst (λ (v : View). WaitOk slots (waits s me.0.number) (waiter_of v)) (sym (met_else session (waits s session) me.0 e)) own_ok
   ]
 
-  pub met_rule : Rule (after s (wait_word slots session) (waits s session) id met s.homes)
-  met_rule = subst (λ (ws : List ℕ). Rule (record { words = ws; homes = s.homes; views = set s.views id met })) (sym (set_found s.words (wait_word slots session)))
+  pub met_rule : (kind : StepKind) → Rule (after s (wait_word slots session) (waits s session) id (met kind) s.homes)
+  met_rule kind = subst (λ (ws : List ℕ). Rule (record { words = ws; homes = s.homes; views = set s.views id (met kind) })) (sym (set_found s.words (wait_word slots session)))
       (let row = (r.views id me.0 seat).0 in record {
         most = r.most;
         wide = r.wide;
         enrolled = rw (
-          map_kept (λ (x : View). x.number) s.views id me.0 met seat refl,
-          map_kept (λ (x : View). x.spare) s.views id me.0 met seat refl,
+          map_kept (λ (x : View). x.number) s.views id me.0 (met kind) seat refl,
+          map_kept (λ (x : View). x.spare) s.views id me.0 (met kind) seat refl,
         ) r.enrolled;
         keys = r.keys;
         fit = r.fit;
         distinct = r.distinct;
-        directory_agrees = rw (map_kept desk_of s.views id me.0 met seat refl) r.directory_agrees;
-        waits_agree = subst (λ (xs : List Waiter). WaitsAgree slots r.most (waits s) xs) (sym (map-set waiter_of s.views id met))
-            (waits_known slots r.most (waits s) (map waiter_of s.views) id (waiter_of me.0) (waiter_of met) (at_map waiter_of s.views id me.0 seat) refl meets_ok r.waits_agree);
-        views = λ j u at. elim (at_set s.views id j met u at) [
+        directory_agrees = rw (map_kept desk_of s.views id me.0 (met kind) seat refl) r.directory_agrees;
+        waits_agree = subst (λ (xs : List Waiter). WaitsAgree slots r.most (waits s) xs) (sym (map-set waiter_of s.views id (met kind)))
+            (waits_known slots r.most (waits s) (map waiter_of s.views) id (waiter_of me.0) (waiter_of (met kind)) (at_map waiter_of s.views id me.0 seat) refl meets_ok r.waits_agree);
+        views = λ j u at. elim (at_set s.views id j (met kind) u at) [
           | inl e ↦ subst (λ (x : View). Numbered x × KnowsKeys r.keys x) e.1
-              (record { fast = row.fast; slow = row.slow; asks = row.asks; apart = row.apart; unfast = row.unfast }, (r.views id me.0 seat).1)
+              (record { fast = row.fast; slow = row.slow; unmixed = row.unmixed; asks = row.asks; apart = row.apart; unfast = row.unfast }, (r.views id me.0 seat).1)
           | inr e ↦ r.views j u e.1
         ];
         places = λ q first last.
-            let same : cell (record { words = s.words; homes = s.homes; views = set s.views id met }) q ≡ cell s q = λ i. record {
+            let same : cell (record { words = s.words; homes = s.homes; views = set s.views id (met kind) }) q ≡ cell s q = λ i. record {
               latch = (cell s q).latch;
               word = (cell s q).word;
               version = (cell s q).version;
               home = (cell s q).home;
-              holders = map_kept (holder_at q) s.views id me.0 met seat refl i;
-              parts = map_kept (part_at (waits s) q) s.views id me.0 met seat refl i;
+              holders = map_kept (holder_at q) s.views id me.0 (met kind) seat refl i;
+              parts = map_kept (part_at (waits s) q) s.views id me.0 (met kind) seat refl i;
             } in
             subst (PlaceOk (key_at r.keys q)) (sym same) (r.places q first last);
       })
@@ -295,7 +297,7 @@ module _ (s : Table) (r : Rule s) (id session : ℕ) (me : Mine) (seat : get_ele
           spare = refl;
           directory = refl;
           known = refl;
-          numbered = (let row = (r.views id me.0 seat).0 in record { fast = row.fast; slow = row.slow; asks = row.asks; apart = row.apart; unfast = row.unfast });
+          numbered = (let row = (r.views id me.0 seat).0 in record { fast = row.fast; slow = row.slow; unmixed = row.unmixed; asks = row.asks; apart = row.apart; unfast = row.unfast });
           holder_else = λ q else. refl;
         }) (set (cell s place).parts t.at then_)
         (λ q else. their_parts_else s r session (wait_in number state) id me.0 w seat (λ f p. refl) some_number t.at t.view t.there t.number_is q
@@ -324,7 +326,7 @@ module _ (id session : ℕ) (me : Mine) where
         (met_wait (length s.homes) session (waits s session) me).0,
         keeps,
         tt,
-        met_rule s r id session me seat,
+        met_rule s r id session me seat step_kind.ReadWait,
         (
           refl,
           λ q here.
@@ -361,17 +363,17 @@ module _ (id session : ℕ) (me : Mine) where
         ),
       ))
       (λ missed. (
-        (met_wait (length s.homes) session (waits s session) me).0,
+        (missed_wait (length s.homes) session (waits s session) me).0,
         keeps,
         tt,
-        met_rule s r id session me seat,
+        met_rule s r id session me seat step_kind.MissWait,
         (
           refl,
           λ q m st here first second.
               let same : session ≡ q = omega arith in (
                 subst (λ (k : ℕ). TellsOwn (length s.homes) k (waits s session) me.0) same (tells_own s r id session me seat),
                 (λ found. absurd (missed (found ∙ sym first))),
-                λ _. λ i. met_wait (length s.homes) (same i) (waits s session) me,
+                λ _. λ i. missed_wait (length s.homes) (same i) (waits s session) me,
               ),
         ),
       )))

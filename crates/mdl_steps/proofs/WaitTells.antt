@@ -14,7 +14,7 @@ use Rattle.mdl_steps.specs.declared.slot.Slot.{Slot}
 use Rattle.mdl_steps.specs.declared.slot.Slot.TheVariants as slot
 use Rattle.mdl_steps.specs.declared.view.Ask.{Ask}
 use Rattle.mdl_steps.specs.declared.view.View.{View}
-use Rattle.mdl_steps.specs.Cells.{Part, Asking, asking_at, part_at, own_at, ticket_by, due, pending, waiter_of, waits, cell}
+use Rattle.mdl_steps.specs.Cells.{Part, asking_at, part_at, own_at, ticket_by, due, pending, waiter_of, waits}
 use Rattle.mdl_steps.specs.Rule.{Rule}
 use Rattle.mdl_steps.specs.RuleLaws.{WaitersAreAsTheirWordsTell, NobodyElseWaits}
 use Rattle.mdl_steps.proofs.Views.{at_unmap}

@@ -1,6 +1,6 @@
 -- What a session does to its own tickets under a latch, and when it may: `MDL_context::try_acquire_lock`, `clone_ticket`,
 -- `upgrade_shared_lock` and `release_lock` of MySQL 5.7, sql/mdl.cc, without their ways of finding out.
-use Rattle.std.specs.Prelude.{◌≡◌, ℕ, ◌+◌, ◌==◌, ◌&&◌, Bool, true, false, not, List, [], ◌∷◌, ◌++◌, map, filter, Contains, Some, if◌then◌else◌, ◌⊎◌}
+use Rattle.std.specs.Prelude.{◌≡◌, ◌≢◌, ℕ, ◌+◌, ◌==◌, ◌&&◌, Bool, true, false, not, List, [], ◌∷◌, ◌++◌, map, filter, Contains, Option, Some, None, if◌then◌else◌, ◌⊎◌}
 use lib.ListN.{get_elem?}
 use mathlib.Core.Option.{some}
 use Rattle.mdl_key.specs.declared.mode.Mode.{Mode}
@@ -9,14 +9,15 @@ use Rattle.mdl_book.specs.declared.book_view.BookView.{BookView}
 use Rattle.mdl_book.specs.declared.ticket.Ticket.{Ticket}
 use Rattle.mdl_book.specs.Books.{lock_kind, granting, changing, removing}
 use Rattle.mdl_book.specs.FastTickets.{may_stand}
-use Rattle.mdl_book.specs.Granting.{is_compatible}
-use Rattle.std.specs.Prelude.{Option}
+use Rattle.mdl_book.specs.Granting.{is_compatible, goes_first}
+use Rattle.mdl_book.specs.Tickets.{ticket_of}
 use Rattle.mdl_steps.specs.declared.deed.Deed.{Deed}
 use Rattle.mdl_steps.specs.declared.deed.Deed.TheVariants.{Gain, Alter, Lose}
 use Rattle.mdl_steps.specs.declared.view.Ask.{Ask}
 use Rattle.mdl_steps.specs.declared.view.Known.{Known}
 use Rattle.mdl_steps.specs.declared.view.Own.{Own}
 use Rattle.mdl_steps.specs.declared.view.View.{View}
+use Rattle.mdl_system.specs.Strength.{downgrades}
 use Rattle.mdl_steps.specs.Cells.{note_at}
 
 -- ---- what is done
@@ -62,7 +63,12 @@ all_next (d ∷ ds) next = all_next ds (next_after d next)
 abbrev pub all_done : ℕ → List Deed → View → View
 all_done place ds v = record v { slow = all_owned place ds v.slow; next = all_next ds v.next }
 
--- ---- when it may be done
+-- ---- when it may be done: a step does what is one event of the system of locks, or nothing
+
+-- a granted ticket of the session is at least as strong as a mode
+abbrev pub HasAtLeast : ℕ → BookView → Mode → Type 0
+HasAtLeast session book mode =
+    (t : Ticket) × Contains book.granted t × (t.session ≡ session) × IsAtLeast (lock_kind book) t.mode mode
 
 -- why a session's wish for a mode may stand beside all that is granted: it is unobtrusive, so that no fast ticket clashes with
 -- it, and no granted one does; or neither does, by a noted word; or the session has a ticket there that is at least as strong
@@ -70,24 +76,63 @@ abbrev pub MayJoin : ℕ → BookView → Option ℕ → Mode → Type 0
 MayJoin session book noted mode =
     ((is_obtrusive (lock_kind book) mode ≡ false) × (is_compatible (lock_kind book) book.granted session mode ≡ true))
     ⊎ (((word : ℕ) × (noted ≡ Some word) × (may_stand (lock_kind book) book.granted word session mode ≡ true))
-    ⊎ ((t : Ticket) × Contains book.granted t × (t.session ≡ session) × IsAtLeast (lock_kind book) t.mode mode))
+    ⊎ HasAtLeast session book mode)
 
 -- the session doesn't wait for a ticket of this number
 abbrev pub NotWaited : View → ℕ → Type 0
 NotWaited v number = (a : Ask) → v.asks ≡ Some a → a.number ≡ number → ⊥
 
--- the session may do this, under the latch in whose record this book and this noted word stand
-abbrev pub May : View → BookView → Option ℕ → Deed → Type 0
-May v book noted (Gain number mode) =
-    (number ≡ v.next) × (is_mode_of (lock_kind book) mode ≡ true) × MayJoin v.number book noted mode
-May v book noted (Alter number mode) =
-    NotWaited v number × (is_mode_of (lock_kind book) mode ≡ true) × MayJoin v.number book noted mode
-May v book noted (Lose number) = NotWaited v number
+-- the session holds this ticket, of this number: it is granted, and no wait for it is still to be ended
+abbrev pub HoldsTicket : View → BookView → ℕ → Ticket → Type 0
+HoldsTicket v book number t = (ticket_of v.number number book.granted ≡ Some t) × NotWaited v number
 
--- it may do all of this, one after the other
-abbrev pub MayAll : ℕ → View → BookView → Option ℕ → List Deed → Type 0
-MayAll place v book noted [] = Unit {0}
-MayAll place v book noted (d ∷ ds) = May v book noted d × MayAll place (done place d v) (booked v.number d book) noted ds
+-- a wish of the session can be granted: the session waits for nothing, the mode may stand beside all that is granted, and it waits behind no
+-- waiting ticket
+pub record MayBeGranted (v : View) (book : BookView) (noted : Option ℕ) (mode : Mode) : Type 0 where
+  pub idle : v.asks ≡ None
+  pub is_mode : is_mode_of (lock_kind book) mode ≡ true
+  pub joins : MayJoin v.number book noted mode
+  pub first : goes_first (lock_kind book) book.waiting v.number mode ≡ true
+
+-- a ticket of the session may be cloned in a mode, whoever waits: the session waits for nothing, and that ticket is at least as strong
+pub record MayClone (v : View) (book : BookView) (mode : Mode) : Type 0 where
+  pub idle : v.asks ≡ None
+  pub is_mode : is_mode_of (lock_kind book) mode ≡ true
+  pub cloned : HasAtLeast v.number book mode
+
+-- a ticket may be brought to a mode, the wish for which can be granted
+abbrev pub MayUpgrade : View → BookView → Option ℕ → ℕ → Mode → Type 0
+MayUpgrade v book noted number mode = ((t : Ticket) × HoldsTicket v book number t) × MayBeGranted v book noted mode
+
+-- a ticket may be brought down to a mode, also while the session waits
+pub record MayDowngrade (v : View) (book : BookView) (number : ℕ) (mode : Mode) : Type 0 where
+  pub ticket : Ticket
+  pub held : HoldsTicket v book number ticket
+  pub is_mode : is_mode_of (lock_kind book) mode ≡ true
+  pub weaker : Contains (downgrades ticket.mode) mode
+
+-- one ticket may be made of two: the session waits for nothing, and the one that is kept takes the mode of the other, which is at least as
+-- strong and goes
+pub record MayMerge (v : View) (book : BookView) (kept : ℕ) (mode : Mode) (lost : ℕ) : Type 0 where
+  pub idle : v.asks ≡ None
+  pub two : kept ≢ lost
+  pub old : Ticket
+  pub old_held : HoldsTicket v book kept old
+  pub new : Ticket
+  pub new_held : HoldsTicket v book lost new
+  pub mode_is : new.mode ≡ mode
+  pub is_mode : is_mode_of (lock_kind book) mode ≡ true
+  pub at_least : IsAtLeast (lock_kind book) mode old.mode
+
+-- what a step may do, under the latch in whose record this book and this noted word stand: nothing, a grant of a new ticket or a clone, an
+-- upgrade or a downgrade, a release, or a merge
+abbrev pub MayDo : View → BookView → Option ℕ → List Deed → Type 0
+MayDo v book noted [] = Unit {0}
+MayDo v book noted (Gain number mode ∷ []) = (number ≡ v.next) × (MayBeGranted v book noted mode ⊎ MayClone v book mode)
+MayDo v book noted (Alter number mode ∷ []) = MayUpgrade v book noted number mode ⊎ MayDowngrade v book number mode
+MayDo v book noted (Lose number ∷ []) = (t : Ticket) × HoldsTicket v book number t
+MayDo v book noted (Alter kept mode ∷ Lose lost ∷ []) = MayMerge v book kept mode lost
+MayDo v book noted _ = ⊥
 
 -- the session has looked up a key whose place this is
 abbrev pub KnowsPlace : View → ℕ → Type 0

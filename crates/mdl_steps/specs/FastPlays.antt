@@ -1,21 +1,23 @@
 -- The steps of a lock word's fast path: what each changes in the view of its session, and when it may be made. A fast ticket is in no list:
 -- the lock's word counts it. After MySQL 5.7, sql/mdl.cc: the fast paths of `MDL_context::try_acquire_lock_impl` and
 -- `MDL_context::release_lock`, and `MDL_context::materialize_fast_path_locks`.
-use Rattle.std.specs.Prelude.{◌≡◌, ◌≢◌, ℕ, ◌+◌, ◌<◌, ◌≤◌, ◌==◌, not, true, false, Bool, List, [], ◌∷◌, ◌++◌, map, filter, length, Contains, Option, Some, None, ◌⊎◌}
+use Rattle.std.specs.Prelude.{◌≡◌, ◌≢◌, ℕ, ◌+◌, ◌<◌, ◌==◌, not, true, false, Bool, List, [], ◌∷◌, ◌++◌, map, filter, length, Option, Some, None, ◌⊎◌}
 use Rattle.std.specs.List.{list_any}
 use lib.ListN.{get_elem?}
 use mathlib.Core.Option.{some}
-use Rattle.atomic_table.specs.Table.{Step, rest}
+use Rattle.atomic_table.specs.Table.{Step}
 use Rattle.mdl_key.specs.declared.mode.Mode.{Mode}
 use Rattle.mdl_key.specs.declared.namespace.Kind.{Kind}
 use Rattle.mdl_key.specs.Words.{kind_of}
-use Rattle.mdl_word.specs.Words.{encode, increment_of, obtrusive_flag}
+use Rattle.mdl_word.specs.Words.{encode, increment_of}
 use Rattle.mdl_book.specs.declared.book_view.BookView.{BookView}
 use Rattle.mdl_book.specs.declared.ticket.Ticket.{Ticket}
 use Rattle.mdl_book.specs.Books.{lock_kind}
 use Rattle.mdl_book.specs.Tickets.{ticket_of}
+use Rattle.mdl_steps.specs.declared.deed.Deed.TheVariants.{Gain, Lose}
 use Rattle.mdl_steps.specs.declared.slot.Slot.{Slot}
-use Rattle.mdl_steps.specs.declared.slot.Slot.TheVariants as slot
+use Rattle.mdl_steps.specs.declared.step_kind.StepKind.{StepKind}
+use Rattle.mdl_steps.specs.declared.step_kind.StepKind.TheVariants as step
 use Rattle.mdl_steps.specs.declared.view.Held.{Held}
 use Rattle.mdl_steps.specs.declared.view.Known.{Known}
 use Rattle.mdl_steps.specs.declared.view.Own.{Own}
@@ -28,9 +30,17 @@ use Rattle.mdl_steps.specs.Plays.{Mine, changed, logged}
 
 -- ---- the view
 
--- the word of a place was read, or an exchange failed there. Nothing else changed
+-- the word of a place was met, and stayed, at a step of this kind. Nothing else changed
+abbrev pub met_word_by : StepKind → ℕ → ℕ → Mine → Mine
+met_word_by kind place found m = (logged kind [] (lock_word place) found m.0.latches m.0, m.1)
+
+-- it was read
 abbrev pub met_word : ℕ → ℕ → Mine → Mine
-met_word place found m = (logged (lock_word place) found m.0.latches m.0, m.1)
+met_word = met_word_by step.ReadWord
+
+-- it was to be exchanged for a fast grant, and was another one than the step expected
+abbrev pub missed_fast : ℕ → ℕ → Mine → Mine
+missed_fast = met_word_by step.MissFast
 
 -- a fast ticket of the next number
 abbrev pub fast_own : ℕ → ℕ → Mode → Option ℕ → Own
@@ -40,7 +50,7 @@ fast_own number place mode noted = record { number = number; place = place; mode
 abbrev pub granted_fast : ℕ → Mode → Option ℕ → ℕ → Mine → Mine
 granted_fast place mode noted found m =
     let v = record m.0 { fast = m.0.fast ++ fast_own m.0.next place mode noted ∷ []; next = m.0.next + 1 } in
-    (logged (lock_word place) found m.0.latches v, m.1)
+    (logged step.GrantFast (Gain m.0.next mode ∷ []) (lock_word place) found m.0.latches v, m.1)
 
 -- the tickets without the one with this number at a place
 abbrev pub but_own : ℕ → ℕ → List Own → List Own
@@ -50,7 +60,7 @@ but_own place number tickets = filter (λ t. not (is_own place number t)) ticket
 abbrev pub released_fast : ℕ → ℕ → ℕ → Mine → Mine
 released_fast place number found m =
     let v = record m.0 { fast = but_own place number m.0.fast } in
-    (logged (lock_word place) found m.0.latches v, m.1)
+    (logged step.ReleaseFast (Lose number ∷ []) (lock_word place) found m.0.latches v, m.1)
 
 -- the fast tickets that a session has at a place, as they are listed in a book
 abbrev pub moved : ℕ → View → List Ticket
@@ -83,7 +93,7 @@ numbered_else numbers tickets = filter (λ t. not (is_among numbers t.number)) t
 abbrev pub materialised : ℕ → List Own → ℕ → Mine → Mine
 materialised place slow found m =
     let v = changed place (with_granted (moved place m.0)) (record m.0 { fast = but_at place m.0.fast; slow = slow }) in
-    (logged (lock_word place) found v.latches v, m.1)
+    (logged step.Materialise [] (lock_word place) found v.latches v, m.1)
 
 -- ---- when it may be done
 
@@ -149,7 +159,7 @@ grants_fast mode noted st m found m′ =
     (m′.0.number ≡ m.0.number)
     × ((place : ℕ) → st.word ≡ lock_word place →
     (found ≡ st.first → m′ ≡ granted_fast place mode noted found m)
-    × (found ≢ st.first → m′ ≡ met_word place found m))
+    × (found ≢ st.first → m′ ≡ missed_fast place found m))
 
 -- a fast ticket is released
 abbrev pub releases_fast : ℕ → Step Slot → Mine → ℕ → Mine → Type 0

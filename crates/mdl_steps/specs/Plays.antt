@@ -1,5 +1,6 @@
 -- What each kind of step tells the session that makes it: of the step, what the seat knew, what the word was, and what it
--- knows then. Each is added to the session's list of steps.
+-- knows then. Each is added to the session's list of steps: its kind, what the session did to its own tickets by it, the word, what that was
+-- before, and the records of the latches that the session held.
 use Rattle.std.specs.Prelude.{◌≡◌, ◌≢◌, ℕ, ◌+◌, ◌-◌, ◌<◌, ◌≤◌, ◌==◌, not, Bool, true, ◌&&◌, ◌||◌, List, [], ◌∷◌, ◌++◌, map, filter, length, Some, None, if◌then◌else◌}
 use lib.ListN.{get_elem?}
 use mathlib.Core.Option.{some}
@@ -18,6 +19,8 @@ use Rattle.mdl_book.specs.Books.{lock_kind}
 use Rattle.mdl_steps.specs.declared.deed.Deed.{Deed}
 use Rattle.mdl_steps.specs.declared.slot.Slot.{Slot}
 use Rattle.mdl_steps.specs.declared.slot.Slot.TheVariants as slot
+use Rattle.mdl_steps.specs.declared.step_kind.StepKind.{StepKind}
+use Rattle.mdl_steps.specs.declared.step_kind.StepKind.TheVariants as step
 use Rattle.mdl_steps.specs.declared.view.Ask.{Ask}
 use Rattle.mdl_steps.specs.declared.view.Held.{Held}
 use Rattle.mdl_steps.specs.declared.view.Keys.{Keys}
@@ -34,9 +37,11 @@ use Rattle.mdl_steps.specs.Rule.{TellsLists, KnowsKeys, IsUnused, NoteAgrees, Re
 abbrev pub Mine : Type 0
 Mine = Me Slot View
 
--- with one step more, at which the session has the directory's record that is in the view
-abbrev pub logged : ℕ → ℕ → List Held → View → View
-logged word found held v = record v { log = v.log ++ record { word = word; found = found; held = held; directory = v.directory } ∷ [] }
+-- with one step more: of this kind, with these deeds, on this word, which was found so, under the latches with these records. The session has
+-- the directory's record that is in the view
+abbrev pub logged : StepKind → List Deed → ℕ → ℕ → List Held → View → View
+logged kind ds word found held v =
+    record v { log = v.log ++ record { kind = kind; deeds = ds; word = word; found = found; held = held; directory = v.directory } ∷ [] }
 
 -- ---- the record of a latch
 
@@ -103,25 +108,30 @@ changed place f v = record v { latches = map (λ h. if h.place == place then f h
 abbrev pub dropped : ℕ → View → View
 dropped place v = record v { latches = filter (λ h. not (h.place == place)) v.latches }
 
+-- the latch of a place was found taken, or that of the directory. Nothing else changed
+abbrev pub missed_latch : ℕ → ℕ → Mine → Mine
+missed_latch place found m = (logged step.MissLatch [] (latch_word place) found m.0.latches m.0, m.1)
+
 -- the latch of a place was taken, with this record of it
 abbrev pub latched : ℕ → Held → Mine → Mine
 latched place h m =
-    (logged (latch_word place) 0 (h ∷ m.0.latches) (record m.0 { latches = h ∷ m.0.latches }), (place, slot.Place h.book) ∷ m.1)
+    (logged step.TakeLatch [] (latch_word place) 0 (h ∷ m.0.latches) (record m.0 { latches = h ∷ m.0.latches }), (place, slot.Place h.book) ∷ m.1)
 
 -- the latch of a place, which the session's number stood for, was given back after some deeds
 abbrev pub unlatched : ℕ → List Deed → Mine → Mine
-unlatched place ds m = (logged (latch_word place) m.0.number m.0.latches (dropped place (all_done place ds m.0)), rest m.1)
+unlatched place ds m = (logged step.PutLatch ds (latch_word place) m.0.number m.0.latches (dropped place (all_done place ds m.0)), rest m.1)
 
--- the record of the latch of a place was changed by a step on its word
-abbrev pub stepped : ℕ → ℕ → (Held → Held) → Mine → Mine
-stepped place found f m =
+-- the record of the latch of a place was changed by a step of this kind on its word
+abbrev pub stepped : StepKind → ℕ → ℕ → (Held → Held) → Mine → Mine
+stepped kind place found f m =
     let v = changed place f m.0 in
-    (logged (lock_word place) found v.latches v, m.1)
+    (logged kind [] (lock_word place) found v.latches v, m.1)
 
 -- flags of a place were lowered after some deeds
 abbrev pub settled : ℕ → List Deed → ℕ → BookView → Bool → Bool → Mine → Mine
 settled place ds found book slow obtrusive m =
-    (logged (lock_word place) found m.0.latches (changed place (lowered book slow obtrusive) (all_done place ds m.0)), m.1)
+    let v = changed place (lowered book slow obtrusive) (all_done place ds m.0) in
+    (logged (step.LowerFlags slow obtrusive) ds (lock_word place) found m.0.latches v, m.1)
 
 -- what stands under the key of a place was changed: the session knows it from then on, under each ticket that it has there. What
 -- the version's word was before is one less
@@ -133,7 +143,7 @@ redefined place standing m =
       slow = noting_version place standing.version v.slow;
       reads = v.reads ++ record { place = place; standing = standing } ∷ [];
     } in
-    (logged (version_word place) (standing.version - 1) v.latches known, m.1)
+    (logged step.WriteVersion [] (version_word place) (standing.version - 1) v.latches known, m.1)
 
 -- the latch of a place was given back with nothing changed, and what stands under its key was read
 abbrev pub read_and_put : ℕ → Standing → Mine → Mine
@@ -143,7 +153,7 @@ read_and_put place standing m =
       slow = noting_version place standing.version m.0.slow;
       reads = m.0.reads ++ record { place = place; standing = standing } ∷ [];
     } in
-    (logged (latch_word place) m.0.number m.0.latches known, rest m.1)
+    (logged step.PutLatch [] (latch_word place) m.0.number m.0.latches known, rest m.1)
 
 -- ---- the directory
 
@@ -156,11 +166,11 @@ pub record IsDirectory (slots : ℕ) (k : Keys) (m : Mine) : Type 0 where
 
 -- the directory's latch was taken, with this record of it
 abbrev pub consulted : Keys → Mine → Mine
-consulted k m = (logged (latch_word 0) 0 m.0.latches (record m.0 { directory = Some k }), (0, slot.Directory k) ∷ m.1)
+consulted k m = (logged step.TakeLatch [] (latch_word 0) 0 m.0.latches (record m.0 { directory = Some k }), (0, slot.Directory k) ∷ m.1)
 
 -- it was given back, and the session knows these keys, too. The step tells the record that there was
 abbrev pub informed : List Known → Mine → Mine
-informed more m = (record (logged (latch_word 0) m.0.number m.0.latches m.0) { directory = None; known = m.0.known ++ more }, rest m.1)
+informed more m = (record (logged step.PutLatch [] (latch_word 0) m.0.number m.0.latches m.0) { directory = None; known = m.0.known ++ more }, rest m.1)
 
 -- with a key for the place after all others
 abbrev pub listing : KeyName → Keys → Keys
@@ -170,7 +180,7 @@ listing key k = record { keys = k.keys ++ key ∷ [] }
 abbrev pub named : ℕ → KeyName → Mine → Mine
 named place key m =
     let v = dropped place m.0 in
-    (logged (latch_word place) m.0.number m.0.latches (record v { directory = option_map (listing key) m.0.directory }), rest m.1)
+    (logged step.PutLatch [] (latch_word place) m.0.number m.0.latches (record v { directory = option_map (listing key) m.0.directory }), rest m.1)
 
 -- ---- the kinds of step: the session keeps its number
 
@@ -180,7 +190,7 @@ takes_directory st m found m′ =
     (m′.0.number ≡ m.0.number)
     × (st.word ≡ latch_word 0 →
     (found ≡ 0 → (k : Keys) × IsDirectory st.slots k m × (m′ ≡ consulted k m))
-    × (found ≢ 0 → m′ ≡ (logged (latch_word 0) found m.0.latches m.0, m.1)))
+    × (found ≢ 0 → m′ ≡ missed_latch 0 found m))
 
 -- the directory's latch is given back, and these keys are known from then on
 abbrev pub puts_directory : List Known → Step Slot → Mine → ℕ → Mine → Type 0
@@ -192,7 +202,7 @@ takes_latch st m found m′ =
     (m′.0.number ≡ m.0.number)
     × ((place : ℕ) → st.word ≡ latch_word place →
     (found ≡ 0 → (h : Held) × IsFresh place h m × (m′ ≡ latched place h m))
-    × (found ≢ 0 → m′ ≡ (logged (latch_word place) found m.0.latches m.0, m.1)))
+    × (found ≢ 0 → m′ ≡ missed_latch place found m))
 
 -- the latch of a place is given back, after these deeds
 abbrev pub puts_latch : List Deed → Step Slot → Mine → ℕ → Mine → Type 0
@@ -218,13 +228,13 @@ abbrev pub raises_flags : Step Slot → Mine → ℕ → Mine → Type 0
 raises_flags st m found m′ =
     (m′.0.number ≡ m.0.number)
     × ((place : ℕ) (slow obtrusive : Bool) → st.word ≡ lock_word place → st.first ≡ flags_alone slow obtrusive →
-    m′ ≡ stepped place found (raised slow obtrusive) m)
+    m′ ≡ stepped (step.RaiseFlags slow obtrusive) place found (raised slow obtrusive) m)
 
 -- the word of a place is read, and noted where that holds good
 abbrev pub reads_word : Step Slot → Mine → ℕ → Mine → Type 0
 reads_word st m found m′ =
     (m′.0.number ≡ m.0.number)
-    × ((place : ℕ) → st.word ≡ lock_word place → m′ ≡ stepped place found (noting found) m)
+    × ((place : ℕ) → st.word ≡ lock_word place → m′ ≡ stepped step.ReadWord place found (noting found) m)
 
 -- flags of a place are lowered, by `&` with the number of all bits but theirs, after these deeds. The record's book is the one in
 -- hand from then on
@@ -245,4 +255,4 @@ writes_version st m found m′ =
 abbrev pub enrols : Step Slot → Mine → ℕ → Mine → Type 0
 enrols st m found m′ =
     (found ≡ m.0.spare.drawn + 1)
-    × (m′ ≡ (logged st.word found m.0.latches (record m.0 { spare = record m.0.spare { drawn = found } }), m.1))
+    × (m′ ≡ (logged step.Enrol [] st.word found m.0.latches (record m.0 { spare = record m.0.spare { drawn = found } }), m.1))

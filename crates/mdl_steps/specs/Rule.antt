@@ -177,11 +177,20 @@ pub record WaitsAgree (slots most : ℕ) (waits : ℕ → ℕ) (waiters : List W
   pub each : (j : ℕ) (x : Waiter) → get_elem? waiters j ≡ some x → WaitOk slots (waits x.number) x
   pub unused : (n : ℕ) → n ≤ most → ((j : ℕ) (x : Waiter) → get_elem? waiters j ≡ some x → x.number ≢ n) → waits n ≡ 0
 
--- a session's tickets have numbers below its next one, and the one that it waits for has none of theirs. While it waits it has no
--- fast ticket
+-- a ticket has another number than one of its place
+abbrev pub IsUnlike : Own → Own → Type 0
+IsUnlike t u = u.place ≡ t.place → u.number ≢ t.number
+
+-- no slow ticket has the number of a fast one of its place
+abbrev pub AreUnmixed : List Own → List Own → Type 0
+AreUnmixed fast slow = Each (λ t. Each (IsUnlike t) slow) fast
+
+-- a session's tickets have numbers below its next one, its slow ones others than its fast ones of their place, and the one that it waits for has
+-- none of theirs. While it waits it has no fast ticket
 pub record Numbered (v : View) : Type 0 where
   pub fast : Each (λ (t : Own). t.number < v.next) v.fast
   pub slow : Each (λ (t : Own). t.number < v.next) v.slow
+  pub unmixed : AreUnmixed v.fast v.slow
   pub asks : (a : Ask) → v.asks ≡ Some a → a.number < v.next
   pub apart : (a : Ask) → v.asks ≡ Some a → Each (λ (t : Own). t.number ≢ a.number) v.slow
   pub unfast : (a : Ask) → v.asks ≡ Some a → v.fast ≡ []

@@ -5,18 +5,18 @@ pub use Rattle.atomic_table.specs.Table.{rest}
 use Rattle.std.specs.Option.{option_map, option_to_list}
 use Rattle.mdl_key.specs.Words.{KeyName, key_eq}
 use Rattle.mdl_key.specs.declared.mode.Mode.TheVariants.{X}
-use Rattle.mdl_defs.specs.declared.standing.Standing.{Standing}
-use Rattle.mdl_defs.specs.Standings.{MayStand}
+use Rattle.mdl_defs.specs.declared.change.Change.{Change}
+use Rattle.mdl_defs.specs.Standings.{standing_fault}
 use Rattle.mdl_book.specs.declared.book_view.BookView.{BookView}
 use Rattle.mdl_book.specs.declared.ticket.Ticket.{Ticket}
-use Rattle.mdl_book.specs.Books.{empty_book}
+use Rattle.mdl_book.specs.Books.{empty_book, redefining}
 use Rattle.mdl_steps.specs.declared.deed.Deed.{Deed}
 use Rattle.mdl_steps.specs.declared.slot.Slot.TheVariants as slot
 use Rattle.mdl_steps.specs.declared.view.Held.{Held}
 use Rattle.mdl_steps.specs.declared.view.Keys.{Keys}
 use Rattle.mdl_steps.specs.declared.view.Known.{Known}
 use Rattle.mdl_steps.specs.Cells.{held_at}
-use Rattle.mdl_steps.specs.Deeds.{MayAct, MayAll, all_booked}
+use Rattle.mdl_steps.specs.Deeds.{MayAct, MayDo, NotWaited, all_booked}
 use Rattle.mdl_steps.specs.Lists.{Each}
 use Rattle.mdl_steps.specs.Plays.{Mine}
 use Rattle.mdl_steps.specs.Rule.{TellsLists, Flagged, key_at}
@@ -34,11 +34,11 @@ pub record Holds (place : ℕ) (h : Held) (book : BookView) (m : Mine) : Type 0 
   pub recorded : held_at place m.0.latches ≡ Some h
   pub carried : m.1 ≡ (place, slot.Place book) ∷ rest m.1
 
--- the seat holds the latch of the place, and has done in the book what these deeds say
+-- the seat holds the latch of the place, and has done in the book what these deeds say, which are one event of the system of locks or none
 pub record HasDone (place : ℕ) (ds : List Deed) (h : Held) (m : Mine) : Type 0 where
   pub holds : Holds place h (all_booked m.0.number ds h.book) m
   pub act : MayAct m.0 place ds
-  pub may : MayAll place m.0 h.book h.noted ds
+  pub may : MayDo m.0 h.book h.noted ds
 
 -- it may give the latch back: the flags tell the lists exactly
 abbrev pub MayPut : ℕ → List Deed → Mine → Type 0
@@ -49,21 +49,21 @@ abbrev pub MayLower : ℕ → List Deed → Bool → Bool → Mine → Type 0
 MayLower place ds slow obtrusive m =
     (h : Held) × HasDone place ds h m × Flagged (all_booked m.0.number ds h.book) (slow && h.slow) (obtrusive && h.obtrusive)
 
--- the session has an exclusive ticket in the book
+-- the session holds an exclusive ticket: it is granted, and no wait for it is still to be ended
 abbrev pub HasExclusive : Held → Mine → Type 0
-HasExclusive h m = (t : Ticket) × Contains h.book.granted t × (t.session ≡ m.0.number) × (t.mode ≡ X)
+HasExclusive h m =
+    (t : Ticket) × Contains h.book.granted t × (t.session ≡ m.0.number) × (t.mode ≡ X) × NotWaited m.0 t.number
 
--- the seat holds the latch of the place, and has changed in the book what stands there, which only the holder of an exclusive ticket may, to
--- what may stand under the key
-pub record HasRedefined (place : ℕ) (h : Held) (standing : Standing) (m : Mine) : Type 0 where
-  pub holds : Holds place h (record h.book { standing = standing }) m
-  pub newer : standing.version ≡ h.book.standing.version + 1
-  pub may : MayStand h.book.key.namespace standing
+-- the seat holds the latch of the place, and has made in the book this change of what stands there, which can be made, and only by the holder of
+-- an exclusive ticket
+pub record HasRedefined (place : ℕ) (h : Held) (change : Change) (m : Mine) : Type 0 where
+  pub holds : Holds place h (redefining change h.book) m
+  pub allowed : standing_fault h.book.key.namespace change h.book.standing ≡ None
   pub exclusive : HasExclusive h m
 
 -- it may write the version
 abbrev pub MayWriteVersion : ℕ → Mine → Type 0
-MayWriteVersion place m = (h : Held) × (standing : Standing) × HasRedefined place h standing m
+MayWriteVersion place m = (h : Held) × (change : Change) × HasRedefined place h change m
 
 -- latches are taken in rising order: each that it holds is of a lower place
 abbrev pub IsRising : ℕ → Mine → Type 0

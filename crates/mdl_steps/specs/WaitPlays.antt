@@ -2,11 +2,13 @@
 -- wait and a state: idle, unsettled, granted, or lost, as a victim, by its timeout or killed.
 use Rattle.std.specs.Prelude.{◌≡◌, ◌≢◌, ℕ, ◌+◌, ◌*◌, ◌%◌, ◌==◌, ◌&&◌, true, nat_lt, if◌then◌else◌, List, ◌++◌, ◌∷◌, [], Option, Some, None}
 use Rattle.std.specs.Option.{option_map, option_to_list}
-use Rattle.atomic_table.specs.Table.{Step, rest}
+use Rattle.atomic_table.specs.Table.{Step}
 use Rattle.mdl_key.specs.declared.mode.Mode.{Mode}
 use Rattle.mdl_book.specs.declared.ticket.Ticket.{Ticket}
 use Rattle.mdl_book.specs.Books.{enqueueing, admitting, cancelling}
 use Rattle.mdl_steps.specs.declared.slot.Slot.{Slot}
+use Rattle.mdl_steps.specs.declared.step_kind.StepKind.{StepKind}
+use Rattle.mdl_steps.specs.declared.step_kind.StepKind.TheVariants as step
 use Rattle.mdl_steps.specs.declared.view.Ask.{Ask}
 use Rattle.mdl_steps.specs.declared.view.Held.{Held}
 use Rattle.mdl_steps.specs.declared.view.Own.{Own}
@@ -24,9 +26,17 @@ wait_in number state = 8 * number + state
 abbrev pub meeting : ℕ → ℕ → View → View
 meeting session word v = record v { told = if session == v.number && nat_lt 1 (word % 8) then Some (word % 8) else v.told }
 
--- the wait's word of a session was read
+-- the wait's word of a session was met, and stayed, at a step of this kind
+abbrev pub met_wait_by : StepKind → ℕ → ℕ → ℕ → Mine → Mine
+met_wait_by kind slots session found m = (logged kind [] (wait_word slots session) found m.0.latches (meeting session found m.0), m.1)
+
+-- it was read
 abbrev pub met_wait : ℕ → ℕ → ℕ → Mine → Mine
-met_wait slots session found m = (logged (wait_word slots session) found m.0.latches (meeting session found m.0), m.1)
+met_wait = met_wait_by step.ReadWait
+
+-- it was to be exchanged, and was another one than the step expected
+abbrev pub missed_wait : ℕ → ℕ → ℕ → Mine → Mine
+missed_wait = met_wait_by step.MissWait
 
 -- its own wait's word, as the rule has it: with the number of its last wait, idle exactly where it doesn't wait, and as it met it, settled
 abbrev pub TellsOwn : ℕ → ℕ → ℕ → View → Type 0
@@ -57,7 +67,7 @@ abbrev pub opened : ℕ → ℕ → Mode → Mine → Mine
 opened slots place mode m =
     let v = changed place (with_waiting (asked_ticket mode m.0)) m.0 in
     let waits = record v { asks = Some (asking place mode m.0); next = m.0.next + 1; waits = m.0.waits + 1; told = None; searches = true } in
-    (logged (wait_word slots m.0.number) (8 * m.0.waits) v.latches waits, m.1)
+    (logged step.OpenWait [] (wait_word slots m.0.number) (8 * m.0.waits) v.latches waits, m.1)
 
 -- a wait of a session was settled by it
 abbrev pub settling : ℕ → ℕ → ℕ → View → View
@@ -66,13 +76,13 @@ settling session number state v = record v { settles = v.settles ++ record { ses
 -- a wait of a session was settled as lost
 abbrev pub settled_lost : ℕ → ℕ → ℕ → ℕ → Mine → Mine
 settled_lost slots session number state m =
-    (logged (wait_word slots session) (wait_in number 1) m.0.latches (settling session number state (meeting session (wait_in number state) m.0)), m.1)
+    (logged step.SettleWait [] (wait_word slots session) (wait_in number 1) m.0.latches (settling session number state (meeting session (wait_in number state) m.0)), m.1)
 
 -- a wait of a session was granted: its ticket stands last in the record's granted list
 abbrev pub settled_granted : ℕ → ℕ → ℕ → ℕ → ℕ → Mine → Mine
 settled_granted slots place session ticket number m =
     let v = changed place (with_admitted session ticket) m.0 in
-    (logged (wait_word slots session) (wait_in number 1) v.latches (settling session number 2 (meeting session (wait_in number 2) v)), m.1)
+    (logged step.GrantWait [] (wait_word slots session) (wait_in number 1) v.latches (settling session number 2 (meeting session (wait_in number 2) v)), m.1)
 
 -- the ticket that was waited for, as the session has it from then on, with the note of those that it had there
 abbrev pub taken_over : Option Ask → List Own → List Own
@@ -83,13 +93,13 @@ taken_over asks slow =
 abbrev pub ended_granted : ℕ → Mine → Mine
 ended_granted slots m =
     let v = record m.0 { asks = None; told = None; slow = m.0.slow ++ taken_over m.0.asks m.0.slow } in
-    (logged (wait_word slots m.0.number) (wait_in m.0.waits 2) m.0.latches v, m.1)
+    (logged step.EndWait [] (wait_word slots m.0.number) (wait_in m.0.waits 2) m.0.latches v, m.1)
 
 -- a lost wait was ended: its ticket is gone from the record's waiting list
 abbrev pub ended_lost : ℕ → ℕ → ℕ → ℕ → Mine → Mine
 ended_lost slots place ticket state m =
     let v = record (changed place (with_cancelled m.0.number ticket) m.0) { asks = None; told = None } in
-    (logged (wait_word slots m.0.number) (wait_in m.0.waits state) m.0.latches v, m.1)
+    (logged step.EndWait [] (wait_word slots m.0.number) (wait_in m.0.waits state) m.0.latches v, m.1)
 
 -- ---- the kinds of step: the session keeps its number
 
@@ -106,7 +116,7 @@ settles_lost st m found m′ =
     × ((session number state : ℕ) → st.word ≡ wait_word st.slots session → st.first ≡ wait_in number 1 → st.second ≡ wait_in number state →
     TellsOwn st.slots session found m.0
     × (found ≡ wait_in number 1 → m′ ≡ settled_lost st.slots session number state m)
-    × (found ≢ wait_in number 1 → m′ ≡ met_wait st.slots session found m))
+    × (found ≢ wait_in number 1 → m′ ≡ missed_wait st.slots session found m))
 
 -- a wait of a session is granted under the latch of its place, where it was unsettled; otherwise its word is only met
 abbrev pub settles_granted : ℕ → ℕ → Step Slot → Mine → ℕ → Mine → Type 0
@@ -115,7 +125,7 @@ settles_granted place ticket st m found m′ =
     × ((session number : ℕ) → st.word ≡ wait_word st.slots session → st.first ≡ wait_in number 1 →
     TellsOwn st.slots session found m.0
     × (found ≡ wait_in number 1 → m′ ≡ settled_granted st.slots place session ticket number m)
-    × (found ≢ wait_in number 1 → m′ ≡ met_wait st.slots session found m))
+    × (found ≢ wait_in number 1 → m′ ≡ missed_wait st.slots session found m))
 
 -- a wait is opened under the latch of its place
 abbrev pub opens_wait : ℕ → Mode → Step Slot → Mine → ℕ → Mine → Type 0

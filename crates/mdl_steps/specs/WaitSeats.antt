@@ -5,6 +5,7 @@ use Rattle.mdl_key.specs.declared.mode.Mode.{Mode}
 use Rattle.mdl_key.specs.Words.{is_mode_of}
 use Rattle.mdl_book.specs.declared.ticket.Ticket.{Ticket}
 use Rattle.mdl_book.specs.Books.{enqueueing, lock_kind}
+use Rattle.mdl_book.specs.Granting.{goes_first}
 use Rattle.mdl_book.specs.Tickets.{ticket_of}
 use Rattle.mdl_steps.specs.declared.view.Ask.{Ask}
 use Rattle.mdl_steps.specs.declared.view.Held.{Held}
@@ -28,12 +29,14 @@ pub record MayOpen (place : ℕ) (mode : Mode) (h : Held) (m : Mine) : Type 0 wh
   pub mode_is : is_mode_of (lock_kind h.book) mode ≡ true
   pub flagged : Flagged (enqueueing (asked_ticket mode m.0) h.book) h.slow h.obtrusive
 
--- the seat holds the latch of the place, and the waiting ticket of a session there may stand beside all that is granted
+-- the seat holds the latch of the place, and the waiting ticket of a session there may stand beside all that is granted, and waits behind no
+-- other waiting one
 pub record MayGrant (place session ticket : ℕ) (h : Held) (m : Mine) : Type 0 where
   pub recorded : held_at place m.0.latches ≡ Some h
   pub wish : Ticket
   pub waits : ticket_of session ticket h.book.waiting ≡ Some wish
   pub may : MayJoin session h.book h.noted wish.mode
+  pub first : goes_first (lock_kind h.book) h.book.waiting session wish.mode ≡ true
 
 -- the seat met its own wait lost, and holds the latch of the place where its ticket waits
 pub record MayCancel (place : ℕ) (h : Held) (m : Mine) : Type 0 where

@@ -2,9 +2,7 @@
 ghost use Rattle.std.specs.Prelude.{◌≡◌, ◌≢◌, ℕ, ◌<◌, ◌∷◌, length, MatchOption};
 ghost use Rattle.mdl_steps.specs.declared.slot.Slot.TheVariants as slot;
 ghost use Rattle.mdl_steps.specs.declared.view.Keys.{Keys};
-ghost use Rattle.mdl_steps.specs.declared.view.Keys.{Keys};
-ghost use Rattle.mdl_steps.specs.Layout.{latch_word};
-ghost use Rattle.mdl_steps.specs.Plays.{IsDirectory, consulted, informed, logged};
+ghost use Rattle.mdl_steps.specs.Plays.{IsDirectory, consulted, informed, missed_latch};
 ghost use Rattle.mdl_steps.specs.Schemas.{StandThere, unknown};
 ghost use Rattle.mdl_steps.specs.Seats.{IsSized, HasDirectory, MayInform, learnt, rest};
 
@@ -25,7 +23,7 @@ impl Worker {
         requires first { length self.old.seat.me.0.latches ≡ 0 }
         ensures seat { (self.new.seat.table_id ≡ self.old.seat.table_id) × (self.new.number ≡ self.old.number) }
         ensures taken { MatchOption result
-            ((found : ℕ) × (found ≢ 0) × (self.new.seat.me ≡ (logged (latch_word 0) found self.old.seat.me.0.latches self.old.seat.me.0, self.old.seat.me.1)))
+            ((found : ℕ) × (found ≢ 0) × (self.new.seat.me ≡ missed_latch 0 found self.old.seat.me))
             (λ held. (k : Keys) × IsDirectory top.now.table_id.slots k self.old.seat.me × HasDirectory k self.new.seat.me × (self.new.seat.me ≡ consulted k self.old.seat.me)) }
     {
         let found = top.compare_exchange::<TakeDirectory>(&mut self.seat, 0, 0, self.number as u64);

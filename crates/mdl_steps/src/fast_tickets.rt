@@ -4,7 +4,7 @@ ghost use Rattle.mdl_book.specs.declared.book_view.BookView.{BookView};
 ghost use Rattle.mdl_steps.specs.declared.view.Held.{Held};
 ghost use Rattle.mdl_steps.specs.declared.view.Own.{Own};
 ghost use Rattle.mdl_word.specs.Words.{obtrusive_flag};
-ghost use Rattle.mdl_steps.specs.FastPlays.{met_word, granted_fast, released_fast, materialised, moved, numbered_else, with_granted, MayGrantFast, MayReleaseFast, MayMaterialise};
+ghost use Rattle.mdl_steps.specs.FastPlays.{met_word, missed_fast, granted_fast, released_fast, materialised, moved, numbered_else, with_granted, MayGrantFast, MayReleaseFast, MayMaterialise};
 ghost use Rattle.mdl_steps.specs.Seats.{IsSized, IsPlace, Holds, elsewhere};
 
 use crate::plays::{
@@ -47,7 +47,7 @@ impl Worker {
         requires gained { MayGrantFast place mode noted one self.old.seat.me }
         ensures seat { (self.new.seat.table_id ≡ self.old.seat.table_id) × (self.new.number ≡ self.old.number) }
         ensures gained { result.0 ≡ word.0 → self.new.seat.me ≡ granted_fast place mode noted result.0 self.old.seat.me }
-        ensures missed { result.0 ≢ word.0 → self.new.seat.me ≡ met_word place result.0 self.old.seat.me }
+        ensures missed { result.0 ≢ word.0 → self.new.seat.me ≡ missed_fast place result.0 self.old.seat.me }
     {
         self.grant_fast_as::<Brand>(top, place, mode, noted, word, one)
     }
@@ -68,7 +68,7 @@ impl Worker {
         requires picked { (_mode ≡ J.mode) × (_noted ≡ J.noted) }
         ensures seat { (self.new.seat.table_id ≡ self.old.seat.table_id) × (self.new.number ≡ self.old.number) }
         ensures gained { result.0 ≡ word.0 → self.new.seat.me ≡ granted_fast place _mode _noted result.0 self.old.seat.me }
-        ensures missed { result.0 ≢ word.0 → self.new.seat.me ≡ met_word place result.0 self.old.seat.me }
+        ensures missed { result.0 ≢ word.0 → self.new.seat.me ≡ missed_fast place result.0 self.old.seat.me }
     {
         let more = word.0.wrapping_add(one);
         Word(top.compare_exchange::<GrantFast<J>>(&mut self.seat, lock_word(place), word.0, more))

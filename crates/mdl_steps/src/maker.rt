@@ -1,5 +1,6 @@
 //! Seats for the sessions.
 ghost use Rattle.std.specs.Prelude.{◌≡◌, ℕ, ◌+◌, ◌^◌, ◌<◌, ◌≤◌, [], length, IfOk, MatchOption};
+ghost use Rattle.mdl_steps.specs.declared.step_kind.StepKind.TheVariants as step;
 ghost use Rattle.mdl_steps.specs.Cells.{blank, numbers_for, no_numbers};
 ghost use Rattle.mdl_steps.specs.Layout.{enrol_word, word_count};
 ghost use Rattle.mdl_steps.specs.Openings.{IsOpening};
@@ -79,7 +80,7 @@ impl Maker {
             ((self.old.given ≡ self.old.most) × (self.new.given ≡ self.old.given))
             (λ worker. (self.old.given < self.old.most) × (self.new.given ≡ self.old.given + 1) × (worker.number ≡ self.old.given + 1)
             × (worker.seat.table_id ≡ top.now.table_id)
-            × (worker.seat.me ≡ (logged (enrol_word slots) worker.number [] (blank worker.number no_numbers), []))) }
+            × (worker.seat.me ≡ (logged step.Enrol [] (enrol_word slots) worker.number [] (blank worker.number no_numbers), []))) }
     {
         if self.given == self.most {
             return None;

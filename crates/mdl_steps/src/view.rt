@@ -1,4 +1,5 @@
 //! What a session knows of the table, what it has there, and the steps that it made: plain data, of which no value is made.
+use crate::{Deed, StepKind};
 use mdl_book::BookView;
 use mdl_defs::Standing;
 use mdl_key::{Key, Mode};
@@ -78,9 +79,14 @@ pub struct Settlement {
     pub state: u64,
 }
 
-/// A step of a session.
+/// A step of a session: what it did, on which word, and what it met there.
 #[derive(Drop)]
 pub struct Met {
+    /// What the step did.
+    pub kind: StepKind,
+    /// What the session did to its own tickets at the step, the first one first: the deeds that a latch was given back or flags
+    /// were lowered after, the gain of a fast grant, and the loss of a fast release. No other step has any.
+    pub deeds: [Deed; 0],
     /// Which word it was on. It tells the place and, for a wait's word, the session.
     pub word: usize,
     /// What the word was just before. A store doesn't read the word: there it is what the rule says that the word was.

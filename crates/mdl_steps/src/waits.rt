@@ -5,7 +5,7 @@ ghost use Rattle.mdl_steps.specs.declared.view.Ask.{Ask};
 ghost use Rattle.mdl_steps.specs.declared.view.Held.{Held};
 ghost use Rattle.mdl_steps.specs.Layout.{wait_word};
 ghost use Rattle.mdl_steps.specs.Seats.{IsSized, IsPlace, Holds, elsewhere};
-ghost use Rattle.mdl_steps.specs.WaitPlays.{wait_in, met_wait, opened, settled_lost, settled_granted, ended_granted, ended_lost, asked_ticket, with_waiting, with_admitted, with_cancelled, TellsOwn};
+ghost use Rattle.mdl_steps.specs.WaitPlays.{wait_in, met_wait, missed_wait, opened, settled_lost, settled_granted, ended_granted, ended_lost, asked_ticket, with_waiting, with_admitted, with_cancelled, TellsOwn};
 ghost use Rattle.mdl_steps.specs.WaitSeats.{IsSession, MayOpen, MayGrant, MayCancel};
 ghost use Rattle.mdl_steps.specs.WaitStates.{lost_state};
 
@@ -92,7 +92,7 @@ impl Worker {
         requires wait { wait < 2 ^ 61 }
         ensures seat { (self.new.seat.table_id ≡ self.old.seat.table_id) × (self.new.number ≡ self.old.number) }
         ensures settled { result.0 ≡ wait_in wait 1 → self.new.seat.me ≡ settled_lost slots session wait (lost_state how) self.old.seat.me }
-        ensures missed { result.0 ≢ wait_in wait 1 → self.new.seat.me ≡ met_wait slots session result.0 self.old.seat.me }
+        ensures missed { result.0 ≢ wait_in wait 1 → self.new.seat.me ≡ missed_wait slots session result.0 self.old.seat.me }
         ensures own { TellsOwn slots session result.0 self.old.seat.me.0 }
     {
         let open = word_in(wait, WaitWord::UNSETTLED);
@@ -124,7 +124,7 @@ impl Worker {
         ensures granted { result.0 ≡ wait_in wait 1 → self.new.seat.me ≡ settled_granted slots latch.now.place session ticket wait self.old.seat.me }
         ensures keeps { result.0 ≡ wait_in wait 1 → (h : Held) (book : BookView) → Holds latch.now.place h book self.old.seat.me
             → Holds latch.now.place (with_admitted session ticket h) book self.new.seat.me }
-        ensures missed { result.0 ≢ wait_in wait 1 → self.new.seat.me ≡ met_wait slots session result.0 self.old.seat.me }
+        ensures missed { result.0 ≢ wait_in wait 1 → self.new.seat.me ≡ missed_wait slots session result.0 self.old.seat.me }
         ensures own { TellsOwn slots session result.0 self.old.seat.me.0 }
         ensures apart { elsewhere latch.now.place self.new.seat.me ≡ elsewhere latch.now.place self.old.seat.me }
     {
@@ -150,7 +150,7 @@ impl Worker {
         ensures granted { result.0 ≡ wait_in wait 1 → self.new.seat.me ≡ settled_granted slots latch.now.place session ticket wait self.old.seat.me }
         ensures keeps { result.0 ≡ wait_in wait 1 → (h : Held) (book : BookView) → Holds latch.now.place h book self.old.seat.me
             → Holds latch.now.place (with_admitted session ticket h) book self.new.seat.me }
-        ensures missed { result.0 ≢ wait_in wait 1 → self.new.seat.me ≡ met_wait slots session result.0 self.old.seat.me }
+        ensures missed { result.0 ≢ wait_in wait 1 → self.new.seat.me ≡ missed_wait slots session result.0 self.old.seat.me }
         ensures own { TellsOwn slots session result.0 self.old.seat.me.0 }
         ensures apart { elsewhere latch.now.place self.new.seat.me ≡ elsewhere latch.now.place self.old.seat.me }
     {

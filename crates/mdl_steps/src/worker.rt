@@ -2,10 +2,11 @@
 ghost use Rattle.std.specs.Prelude.{◌≡◌, ◌≢◌, ℕ, ◌+◌, ◌*◌, ◌^◌, ◌<◌, ◌∷◌, [], Some, MatchOption};
 ghost use Rattle.mdl_book.specs.declared.book_view.BookView.{BookView};
 ghost use Rattle.mdl_steps.specs.declared.slot.Slot.TheVariants as slot;
+ghost use Rattle.mdl_steps.specs.declared.step_kind.StepKind.TheVariants as step;
 ghost use Rattle.mdl_steps.specs.declared.view.Held.{Held};
 ghost use Rattle.mdl_steps.specs.Cells.{held_at};
 ghost use Rattle.mdl_steps.specs.Layout.{latch_word, lock_word, version_word};
-ghost use Rattle.mdl_steps.specs.Plays.{IsFresh, latched, unlatched, logged, stepped, settled, raised, noting, lowered, redefined, restood, read_and_put};
+ghost use Rattle.mdl_steps.specs.Plays.{IsFresh, latched, unlatched, missed_latch, stepped, settled, raised, noting, lowered, redefined, restood, read_and_put};
 ghost use Rattle.mdl_steps.specs.Seats.{IsSized, IsPlace, IsRising, Holds, MayPut, MayLower, MayWriteVersion, rest, elsewhere};
 
 use crate::plays::{
@@ -56,7 +57,7 @@ impl Worker {
         requires rising { IsRising place self.old.seat.me }
         ensures seat { (self.new.seat.table_id ≡ self.old.seat.table_id) × (self.new.number ≡ self.old.number) }
         ensures taken { MatchOption result
-            ((found : ℕ) × (found ≢ 0) × (self.new.seat.me ≡ (logged (latch_word place) found self.old.seat.me.0.latches self.old.seat.me.0, self.old.seat.me.1)))
+            ((found : ℕ) × (found ≢ 0) × (self.new.seat.me ≡ missed_latch place found self.old.seat.me))
             (λ held. (held.place ≡ place) × ((h : Held) × IsFresh place h self.old.seat.me × Holds place h h.book self.new.seat.me × (self.new.seat.me ≡ latched place h self.old.seat.me))) }
         ensures apart { elsewhere place self.new.seat.me ≡ elsewhere place self.old.seat.me }
     {
@@ -79,7 +80,7 @@ impl Worker {
         requires place { IsPlace top.now.table_id latch.now.place }
         requires held { (h : Held) × (held_at latch.now.place self.old.seat.me.0.latches ≡ Some h) }
         ensures seat { (self.new.seat.table_id ≡ self.old.seat.table_id) × (self.new.number ≡ self.old.number) }
-        ensures made { (found : ℕ) × (self.new.seat.me ≡ stepped latch.now.place found (raised slow obtrusive) self.old.seat.me) }
+        ensures made { (found : ℕ) × (self.new.seat.me ≡ stepped (step.RaiseFlags slow obtrusive) latch.now.place found (raised slow obtrusive) self.old.seat.me) }
         ensures keeps { (h : Held) (book : BookView) → Holds latch.now.place h book self.old.seat.me → Holds latch.now.place (raised slow obtrusive h) book self.new.seat.me }
         ensures apart { elsewhere latch.now.place self.new.seat.me ≡ elsewhere latch.now.place self.old.seat.me }
     {
@@ -96,7 +97,7 @@ impl Worker {
         requires place { IsPlace top.now.table_id latch.now.place }
         requires held { (h : Held) × (held_at latch.now.place self.old.seat.me.0.latches ≡ Some h) }
         ensures seat { (self.new.seat.table_id ≡ self.old.seat.table_id) × (self.new.number ≡ self.old.number) }
-        ensures made { self.new.seat.me ≡ stepped latch.now.place result.0 (noting result.0) self.old.seat.me }
+        ensures made { self.new.seat.me ≡ stepped step.ReadWord latch.now.place result.0 (noting result.0) self.old.seat.me }
         ensures keeps { (h : Held) (book : BookView) → Holds latch.now.place h book self.old.seat.me → Holds latch.now.place (noting result.0 h) book self.new.seat.me }
         ensures apart { elsewhere latch.now.place self.new.seat.me ≡ elsewhere latch.now.place self.old.seat.me }
     {

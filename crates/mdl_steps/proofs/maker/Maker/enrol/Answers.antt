@@ -2,6 +2,7 @@
 use Rattle.std.proofs.Common.{◌≡◌, ℕ, ◌+◌, ◌*◌, ◌%◌, ◌^◌, ◌<◌, [], sym, ◌∙◌, subst, arith}
 use mathlib.Core.Option.{none}
 use Rattle.atomic_table.specs.Table.{Allows, Splits, step}
+use Rattle.mdl_steps.specs.declared.step_kind.StepKind.TheVariants as step_kind
 use Rattle.mdl_steps.specs.Cells.{blank, numbers_for, no_numbers}
 use Rattle.mdl_steps.specs.Plays.{Mine, enrols, logged}
 use Rattle.mdl_steps.specs.Rule.{Rule}
@@ -28,7 +29,7 @@ MaySplit id m =
     Splits Rule id m.0 (record m.0 { spare = record m.0.spare { given = m.0.spare.drawn }; log = [] }) (record (blank m.0.spare.drawn no_numbers) { log = m.0.log })
 
 abbrev having_drawn : ℕ → ℕ → ℕ → ℕ → Mine
-having_drawn most given word number = (logged word number [] (blank 0 (numbers_for most number given)), [])
+having_drawn most given word number = (logged step_kind.Enrol [] word number [] (blank 0 (numbers_for most number given)), [])
 
 may_split : (most given word number id : ℕ) (m : Mine) → id ≡ 0 → number ≡ given + 1 → m ≡ having_drawn most given word number → MaySplit id m
 may_split most given word number id m first next drawn =

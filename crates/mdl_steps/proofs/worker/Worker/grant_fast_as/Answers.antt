@@ -1,5 +1,5 @@
 -- The exchange is a fast grant, or changes nothing.
-use Rattle.std.proofs.Common.{◌≡◌, ℕ, ◌+◌, ◌*◌, ◌%◌, ◌^◌, ◌<◌, ◌==◌, sym, subst, arith}
+use Rattle.std.proofs.Common.{ℕ, ◌+◌, ◌*◌, ◌%◌, ◌^◌, ◌<◌, ◌==◌, sym, subst, arith}
 use Rattle.std.specs.Prelude.{Option}
 use mathlib.Core.Option.{none}
 use prog.Atomic.{either}

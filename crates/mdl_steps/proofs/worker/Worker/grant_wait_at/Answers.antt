@@ -6,8 +6,7 @@ use Rattle.atomic_table.specs.Table.{Allows, step}
 use Rattle.mdl_steps.specs.Plays.{Mine}
 use Rattle.mdl_steps.specs.Rule.{Rule}
 use Rattle.mdl_steps.specs.Seats.{Holds, elsewhere}
-use Rattle.mdl_steps.specs.WaitPlays.{TellsOwn, settles_granted, settled_granted, met_wait, with_admitted, wait_in}
-use Rattle.mdl_steps.proofs.Views.{by_bool}
+use Rattle.mdl_steps.specs.WaitPlays.{TellsOwn, settles_granted, settled_granted, missed_wait, with_admitted, wait_in}
 use Rattle.mdl_steps.proofs.WaitGrants.{settles_granted_allowed}
 use Rattle.mdl_steps.proofs.WaitHands.{holds_changed, elsewhere_changed}
 use Rattle.mdl_steps.proofs.worker.Worker.grant_wait_at.Goals as goal
@@ -60,7 +59,7 @@ returns-clause-missed g c =
     let same = c.requires.session.0 in
     let word : c.wait_word.result ≡ 8 * slots + 8 + 8 * c.args.session = omega arith in
     λ missed. (c.compare_exchange.ensures.2.1 c.args.session c.args.wait word c.word_in-open.ensures).2 missed
-    ∙ ap (λ (k : ℕ). met_wait k c.args.session c.compare_exchange.result c.args.self.now.seat.me) (sym same)
+    ∙ ap (λ (k : ℕ). missed_wait k c.args.session c.compare_exchange.result c.args.self.now.seat.me) (sym same)
 
 pub returns-clause-keeps : goal.returns-clause-keeps
 returns-clause-keeps g c =

@@ -2,6 +2,7 @@
 use Rattle.std.proofs.Common.{ℕ, ◌<◌, refl, sym, ap, ◌∙◌, subst, arith, bit_or}
 use mathlib.Core.Option.{none}
 use Rattle.atomic_table.specs.Table.{Allows, step}
+use Rattle.mdl_steps.specs.declared.step_kind.StepKind.TheVariants as step_kind
 use Rattle.mdl_steps.specs.Plays.{Mine, raises_flags, raised}
 use Rattle.mdl_steps.specs.Rule.{Rule}
 use Rattle.mdl_steps.specs.Seats.{Holds, elsewhere}
@@ -31,10 +32,10 @@ returns-clause-keeps c =
     let seat = c.args.self.now.seat in
     let made = c.fetch_or.ensures.2.1 place c.args.slow c.args.obtrusive c.lock_word.ensures c.raising.ensures in
     λ h book has. subst (λ (m : Mine). Holds place (raised c.args.slow c.args.obtrusive h) book m) (sym made)
-    (holds_stepped place c.fetch_or.result (raised c.args.slow c.args.obtrusive) h book seat.me (λ x. refl) has)
+    (holds_stepped (step_kind.RaiseFlags c.args.slow c.args.obtrusive) place c.fetch_or.result (raised c.args.slow c.args.obtrusive) h book seat.me (λ x. refl) has)
 
 pub returns-clause-apart : goal.returns-clause-apart
 returns-clause-apart c =
     let place = c.args.latch.now.place in
     let made = c.fetch_or.ensures.2.1 place c.args.slow c.args.obtrusive c.lock_word.ensures c.raising.ensures in
-    ap (elsewhere place) made ∙ elsewhere-stepped place c.fetch_or.result (raised c.args.slow c.args.obtrusive) c.args.self.now.seat.me (λ x. refl)
+    ap (elsewhere place) made ∙ elsewhere-stepped (step_kind.RaiseFlags c.args.slow c.args.obtrusive) place c.fetch_or.result (raised c.args.slow c.args.obtrusive) c.args.self.now.seat.me (λ x. refl)

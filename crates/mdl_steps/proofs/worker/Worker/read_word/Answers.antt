@@ -2,6 +2,7 @@
 use Rattle.std.proofs.Common.{ℕ, ◌<◌, refl, sym, ap, ◌∙◌, subst, arith}
 use mathlib.Core.Option.{none}
 use Rattle.atomic_table.specs.Table.{Allows, step}
+use Rattle.mdl_steps.specs.declared.step_kind.StepKind.TheVariants as step_kind
 use Rattle.mdl_steps.specs.Plays.{Mine, reads_word, noting}
 use Rattle.mdl_steps.specs.Rule.{Rule}
 use Rattle.mdl_steps.specs.Seats.{Holds, elsewhere}
@@ -31,10 +32,10 @@ returns-clause-keeps c =
     let seat = c.args.self.now.seat in
     let made = c.load.ensures.2.1 place c.lock_word.ensures in
     λ h book has. subst (λ (m : Mine). Holds place (noting c.load.result h) book m) (sym made)
-    (holds_stepped place c.load.result (noting c.load.result) h book seat.me (λ x. refl) has)
+    (holds_stepped step_kind.ReadWord place c.load.result (noting c.load.result) h book seat.me (λ x. refl) has)
 
 pub returns-clause-apart : goal.returns-clause-apart
 returns-clause-apart c =
     let place = c.args.latch.now.place in
     let made = c.load.ensures.2.1 place c.lock_word.ensures in
-    ap (elsewhere place) made ∙ elsewhere-stepped place c.load.result (noting c.load.result) c.args.self.now.seat.me (λ x. refl)
+    ap (elsewhere place) made ∙ elsewhere-stepped step_kind.ReadWord place c.load.result (noting c.load.result) c.args.self.now.seat.me (λ x. refl)

@@ -1,5 +1,5 @@
 -- Any session may read the word of a place.
-use Rattle.std.proofs.Common.{ℕ, ◌+◌, ◌*◌, ◌<◌, sym, subst, arith}
+use Rattle.std.proofs.Common.{ℕ, ◌<◌, sym, subst, arith}
 use mathlib.Core.Option.{none}
 use Rattle.atomic_table.specs.Table.{Allows, step}
 use Rattle.mdl_steps.specs.FastPlays.{reads_word_unlatched}

@@ -2,6 +2,8 @@
 use Rattle.std.proofs.Common.{◌≡◌, ℕ, ◌+◌, ◌*◌, ◌<◌, ◌∷◌, sym, ap, ◌∙◌, subst, arith}
 use mathlib.Core.Option.{none}
 use Rattle.atomic_table.specs.Table.{Allows, step, rest}
+use Rattle.mdl_defs.specs.Standings.{standing_after}
+use Rattle.mdl_book.specs.Books.{redefining}
 use Rattle.mdl_steps.specs.declared.slot.Slot.TheVariants as slot
 use Rattle.mdl_steps.specs.Plays.{Mine, writes_version, redefined, restood}
 use Rattle.mdl_steps.specs.Rule.{Rule}
@@ -25,7 +27,7 @@ store-requires c =
     let inside : c.version_word.result < c.args.top.now.table_id.words = omega arith in
     let was = c.requires.written in
     let may : MayWriteVersion place seat.me = subst (λ (m : Mine). MayWriteVersion place m) (sym c.version-version.ensures.same) was in
-    let told : version ≡ may.1.version = c.version-version.ensures.told (record was.0.book { standing = was.1 }) was.2.holds.carried in (
+    let told : version ≡ was.0.book.standing.version + 1 = c.version-version.ensures.told (redefining was.1 was.0.book) was.2.holds.carried in (
       c.version-version.ensures.seat.0 ∙ c.requires.table.0,
       inside,
       subst (λ (i : ℕ). Allows Rule slots seat.id seat.me i (λ _. version) (λ _. writes_version (step slots i version 0 none) seat.me version)) (sym at)
@@ -49,6 +51,7 @@ returns-clause-apart c =
     let before = c.args.self.now.seat.me in
     let same = c.version-version.ensures.same in
     let was = c.requires.written in
-    let carried = subst (λ (m : Mine). m.1 ≡ (place, slot.Place (record was.0.book { standing = was.1 })) ∷ rest m.1) (sym same) was.2.holds.carried in
-    let made = c.store.ensures.2.1 place (record was.0.book { standing = was.1 }) c.version_word.ensures carried ∙ ap (λ (m : Mine). redefined place was.1 m) same in
-    ap (elsewhere place) made ∙ elsewhere-redefined place was.1 before
+    let carried = subst (λ (m : Mine). m.1 ≡ (place, slot.Place (redefining was.1 was.0.book)) ∷ rest m.1) (sym same) was.2.holds.carried in
+    let standing = standing_after was.1 was.0.book.standing in
+    let made = c.store.ensures.2.1 place (redefining was.1 was.0.book) c.version_word.ensures carried ∙ ap (λ (m : Mine). redefined place standing m) same in
+    ap (elsewhere place) made ∙ elsewhere-redefined place standing before

@@ -1,0 +1,56 @@
+-- No slow ticket of a session has the number of a fast one of its place, whatever is done.
+use Rattle.std.proofs.Common.{◌≡◌, ◌≢◌, ℕ, ◌<◌, ◌==◌, not, List, [], ◌∷◌, ◌++◌, refl, sym, ap, ◌∙◌, subst, arith}
+use Rattle.std.proofs.lemmas.Bool.{eq-eqb}
+use Rattle.mdl_key.specs.declared.mode.Mode.{Mode}
+use Rattle.mdl_steps.specs.declared.deed.Deed.{Deed}
+use Rattle.mdl_steps.specs.declared.deed.Deed.TheVariants.{Gain}
+use Rattle.mdl_steps.specs.declared.view.Own.{Own}
+use Rattle.mdl_steps.specs.Cells.{own_at}
+use Rattle.mdl_steps.specs.Deeds.{owned}
+use Rattle.mdl_steps.specs.FastPlays.{but_at}
+use Rattle.mdl_steps.specs.Lists.{Each}
+use Rattle.mdl_steps.specs.Plays.{noting_version}
+use Rattle.mdl_steps.specs.Rule.{AreUnmixed, IsUnlike}
+use Rattle.mdl_steps.proofs.Owns.{each-owned, each-from_at, each-to_at}
+use Rattle.mdl_steps.proofs.Views.{by_bool}
+
+-- a deed under a latch: what is gained has a number above those of the fast ones
+pub unmixed_deed : (place next : ℕ) (d : Deed) (fast slow : List Own) → ((number : ℕ) (mode : Mode) → d ≡ Gain number mode → number ≡ next)
+    → Each (λ (t : Own). t.number < next) fast → AreUnmixed fast slow → AreUnmixed fast (owned place d slow)
+unmixed_deed place next d [] slow gains below all = tt
+unmixed_deed place next d (t ∷ ts) slow gains below all = (
+  each-owned (IsUnlike t) place d slow (λ u mode unlike. unlike)
+      (λ number mode is. λ here same. let next_is = gains number mode is in let less = below.0 in omega arith) all.0,
+  unmixed_deed place next d ts slow gains below.1 all.1,
+)
+
+-- a fast grant: so has the new one, above those of the slow ones
+pub unlike_below : (t : Own) (slow : List Own) → Each (λ (u : Own). u.number < t.number) slow → Each (IsUnlike t) slow
+unlike_below t [] below = tt
+unlike_below t (u ∷ us) below = ((λ here same. let less = below.0 in omega arith), unlike_below t us below.1)
+
+-- a version is noted
+module _ (place version : ℕ) where
+  unlike_notes : (t : Own) (slow : List Own) → Each (IsUnlike t) slow → Each (IsUnlike t) (noting_version place version slow)
+  unlike_notes t [] all = tt
+  unlike_notes t (u ∷ us) all = by_bool (u.place == place)
+      (λ here. rw here (all.0, unlike_notes t us all.1))
+      (λ away. rw away (all.0, unlike_notes t us all.1))
+
+  pub unmixed_notes : (fast slow : List Own) → AreUnmixed fast slow → AreUnmixed (noting_version place version fast) (noting_version place version slow)
+  unmixed_notes [] slow all = tt
+  unmixed_notes (t ∷ ts) slow all = by_bool (t.place == place)
+      (λ here. rw here (unlike_notes t slow all.0, unmixed_notes ts slow all.1))
+      (λ away. rw away (unlike_notes t slow all.0, unmixed_notes ts slow all.1))
+
+-- the fast ones of a place become slow ones: those elsewhere are the same
+pub unmixed_joined : (place : ℕ) (fast slow joined : List Own) → ((q : ℕ) → q ≢ place → own_at q joined ≡ own_at q slow)
+    → AreUnmixed fast slow → AreUnmixed (but_at place fast) joined
+unmixed_joined place [] slow joined elsewhere all = tt
+unmixed_joined place (t ∷ ts) slow joined elsewhere all = by_bool (t.place == place)
+    (λ here. rw here (unmixed_joined place ts slow joined elsewhere all.1))
+    (λ away.
+    let other : t.place ≢ place = λ e. (let same = sym (eq-eqb t.place place e) ∙ away in absurd (cc)) in
+    let unlike : Own → Type 0 = λ u. u.number ≢ t.number in
+    let here = subst (λ (us : List Own). Each unlike us) (sym (elsewhere t.place other)) (each-to_at unlike t.place slow all.0) in
+    rw away (each-from_at unlike t.place joined here, unmixed_joined place ts slow joined elsewhere all.1))

@@ -1,0 +1,52 @@
+//! The kinds of step.
+
+/// What a step of a session did. Which place, or whose wait, it was on is told by the word beside it: the directory's latch is that of place 0.
+#[derive(Clone, Copy, Debug, PartialEq, Eq)]
+pub enum StepKind {
+    /// A number was drawn for one more session.
+    Enrol,
+    /// A latch was taken.
+    TakeLatch,
+    /// A latch was found taken.
+    MissLatch,
+    /// A latch was given back.
+    PutLatch,
+    /// Flags of a place's word were raised.
+    RaiseFlags {
+        /// Whether the flag [`SLOW`](mdl_word::Word::SLOW) was.
+        slow: bool,
+        /// Whether the flag [`OBTRUSIVE`](mdl_word::Word::OBTRUSIVE) was.
+        obtrusive: bool,
+    },
+    /// A place's word was read, with its latch or without.
+    ReadWord,
+    /// Flags of a place's word were lowered, all but these.
+    LowerFlags {
+        /// Whether the flag `SLOW` was left as it was.
+        slow: bool,
+        /// Whether the flag `OBTRUSIVE` was left as it was.
+        obtrusive: bool,
+    },
+    /// A place's version was written.
+    WriteVersion,
+    /// A wait was opened.
+    OpenWait,
+    /// A wait was granted.
+    GrantWait,
+    /// A wait was settled as lost.
+    SettleWait,
+    /// A wait wasn't settled: its word was another one than the step expected.
+    MissWait,
+    /// A wait's word was read.
+    ReadWait,
+    /// A settled wait was ended.
+    EndWait,
+    /// A fast ticket was granted.
+    GrantFast,
+    /// A fast ticket wasn't granted: the place's word was another one than the step expected.
+    MissFast,
+    /// A fast ticket was released.
+    ReleaseFast,
+    /// Fast tickets at a place became slow ones.
+    Materialise,
+}
