@@ -12,7 +12,7 @@ use Rattle.mdl_steps.specs.declared.slot.Slot.{Slot}
 use Rattle.mdl_steps.specs.declared.view.Own.{Own}
 use Rattle.mdl_steps.specs.declared.view.View.{View}
 use Rattle.mdl_steps.specs.Cells.{Part, all_fast, held_at, own_at, part_at, ticket_by, waits}
-use Rattle.mdl_steps.specs.FastPlays.{granting_all, materialised, met_word, moved, with_granted}
+use Rattle.mdl_steps.specs.FastPlays.{granting_all, materialised, met_word_by, moved, with_granted}
 use Rattle.mdl_steps.specs.Layout.{lock_word}
 use Rattle.mdl_steps.specs.Rule.{Rule}
 use Rattle.mdl_steps.specs.RuleLaws.{fast_at}
@@ -118,9 +118,9 @@ materialising_rests s r keys keys_are i key at id me seat slow weight h may =
 -- ---- to read a word
 
 pub reading_unlatched_rests : ReadingUnlatchedRests
-reading_unlatched_rests s r place first last id me seat =
-    met_rests s r id me (met_word place (word_at s place) me) seat refl refl refl refl refl place (first, last) (lock_word place) (omega arith, omega arith)
-    (met_rule (length s.homes) id place me first last s r refl seat)
+reading_unlatched_rests s r place first last id me seat kind =
+    met_rests s r id me (met_word_by kind place (word_at s place) me) seat refl refl refl refl refl place (first, last) (lock_word place) (omega arith, omega arith)
+    (met_rule (length s.homes) id place me first last s r refl seat kind)
 
 -- ---- who waits has no fast ticket
 

@@ -11,8 +11,9 @@ use Rattle.mdl_steps.specs.declared.deed.Deed.TheVariants.{Gain, Alter, Lose}
 use Rattle.mdl_steps.specs.declared.view.Own.{Own}
 use Rattle.mdl_steps.specs.declared.view.View.{View}
 use Rattle.mdl_steps.specs.Cells.{note_at}
-use Rattle.mdl_steps.specs.Deeds.{May, MayAll, all_owned, booked, done, is_own, next_after, owned}
+use Rattle.mdl_steps.specs.Deeds.{all_owned, booked, done, is_own, next_after, owned}
 use Rattle.mdl_steps.specs.Plays.{noting_version}
+use Rattle.mdl_steps.proofs.OneEvent.{May, MayAll}
 use Rattle.mdl_steps.proofs.Views.{by_bool}
 use Rattle.mdl_system.proofs.MemberLemmas.{Contains-none, Contains-map, Contains-map_from}
 use Rattle.mdl_system.proofs.OrderLemmas.{Contains-cons_cases, Contains-here, Contains-later}

@@ -9,7 +9,7 @@ use Rattle.atomic_table.specs.Table.{State, Step}
 use Rattle.atomic_table.proofs.Lists.{at_map}
 use Rattle.mdl_book.specs.declared.book_view.BookView.{BookView}
 use Rattle.mdl_book.specs.declared.ticket.Ticket.{Ticket}
-use Rattle.mdl_book.specs.Books.{empty_book}
+use Rattle.mdl_book.specs.Books.{empty_book, redefining}
 use Rattle.mdl_book.specs.Tickets.{is_ticket, ticket_of}
 use Rattle.mdl_book.proofs.TicketLemmas.{find-contains}
 use Rattle.mdl_steps.specs.declared.deed.Deed.{Deed}
@@ -21,11 +21,12 @@ use Rattle.mdl_steps.specs.declared.view.Own.{Own}
 use Rattle.mdl_steps.specs.declared.view.Read.{Read}
 use Rattle.mdl_steps.specs.declared.view.View.{View}
 use Rattle.mdl_steps.specs.Cells.{held_at, holder_at, note_at, own_at, ticket_by}
-use Rattle.mdl_steps.specs.Deeds.{MayAll, all_booked, all_owned, is_own}
+use Rattle.mdl_steps.specs.Deeds.{MayDo, all_booked, all_owned, is_own}
 use Rattle.mdl_steps.specs.FastPlays.{AreJoined, IsAs, but_at, but_own, fast_own, moved}
 use Rattle.mdl_steps.specs.Plays.{Mine, noting_version}
 use Rattle.mdl_steps.specs.Rule.{Rule}
 use Rattle.mdl_steps.specs.WaitPlays.{taken_over, wait_in}
+use Rattle.mdl_steps.proofs.OneEvent.{may_all}
 use Rattle.mdl_steps.proofs.Tickets.{is_itself, is_passed}
 use Rattle.mdl_steps.proofs.Views.{at_inside, by_bool}
 use Rattle.mdl_system.proofs.Deciding.{nat_told}
@@ -183,11 +184,11 @@ module _ (s : State Slot View) (r : Rule s) (place : ℕ) (has : HasPlace s plac
   same : (m′ n : Mine) → m′ ≡ n → n.0.slow ≡ m.0.slow → n.0.fast ≡ m.0.fast → n.0.reads ≡ m.0.reads → Keeps place number version m.0 m′.0
   same m′ n e slow fast reads = via m′ n e (leaves place number version m.0 n.0 slow fast reads)
 
-  by_deeds : (m′ n : Mine) → m′ ≡ n → (q : ℕ) (deeds : List Deed) (h : Held) → MayAll q m.0 h.book h.noted deeds → ¬ ((q ≡ place) × Contains deeds (Lose number))
+  by_deeds : (m′ n : Mine) → m′ ≡ n → (q : ℕ) (deeds : List Deed) (h : Held) → MayDo m.0 h.book h.noted deeds → ¬ ((q ≡ place) × Contains deeds (Lose number))
       → n.0.slow ≡ all_owned q deeds m.0.slow → n.0.fast ≡ m.0.fast → n.0.reads ≡ m.0.reads → Keeps place number version m.0 m′.0
   by_deeds m′ n e q deeds h may stays slow fast reads = via m′ n e (record {
     tickets = subst (λ ts. Kept place number version (m.0.slow ++ m.0.fast) ts) (λ i. sym slow i ++ sym fast i)
-        (slow_alone (all_owned q deeds m.0.slow) (kept_deeds place number version q deeds m.0 h.book h.noted below may (λ here lost. stays (here, lost))));
+        (slow_alone (all_owned q deeds m.0.slow) (kept_deeds place number version q deeds m.0 h.book h.noted below (may_all m.0 h.book h.noted q deeds may) (λ here lost. stays (here, lost))));
     reads = λ x among. subst (λ rs. Contains rs x) (sym reads) among;
   })
 
@@ -219,8 +220,9 @@ module _ (s : State Slot View) (r : Rule s) (place : ℕ) (has : HasPlace s plac
       by_deeds m′ _ (play.1 q slow obtrusive book at mask may.1.holds.carried) q deeds h may.1.may (λ gives. spares (inl gives)) refl refl refl
   made_keeps st found m′ (Makes.ReadsWord q at play) spares = same m′ _ (play.1 q at) refl refl refl
   made_keeps st found m′ (Makes.WritesVersion q may at play) spares =
-      let standing = may.1 in
-      via m′ _ (play.1 q (record may.0.book { standing = standing }) at may.2.holds.carried) (record {
+      let book : BookView = redefining may.1 may.0.book in
+      let standing = book.standing in
+      via m′ _ (play.1 q book at may.2.holds.carried) (record {
         tickets = notes q standing.version (λ here. absurd (spares (inr here)));
         reads = λ x among. Contains-append_left m.0.reads (record { place = q; standing = standing } ∷ []) x among;
       })

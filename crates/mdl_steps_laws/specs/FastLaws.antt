@@ -11,11 +11,12 @@ use Rattle.mdl_defs.specs.declared.definition.Definition.{Definition}
 use Rattle.mdl_book.specs.declared.ticket.Ticket.{Ticket}
 use Rattle.mdl_book.specs.Tickets.{ticket_of}
 use Rattle.mdl_steps.specs.declared.slot.Slot.{Slot}
+use Rattle.mdl_steps.specs.declared.step_kind.StepKind.{StepKind}
 use Rattle.mdl_steps.specs.declared.view.Held.{Held}
 use Rattle.mdl_steps.specs.declared.view.Own.{Own}
 use Rattle.mdl_steps.specs.declared.view.View.{View}
 use Rattle.mdl_steps.specs.Cells.{own_at, ticket_by}
-use Rattle.mdl_steps.specs.FastPlays.{granted_fast, released_fast, materialised, met_word, MayGrantFast, MayReleaseFast, MayMaterialise}
+use Rattle.mdl_steps.specs.FastPlays.{granted_fast, released_fast, materialised, met_word_by, MayGrantFast, MayReleaseFast, MayMaterialise}
 use Rattle.mdl_steps.specs.Layout.{lock_word}
 use Rattle.mdl_steps.specs.Plays.{Mine}
 use Rattle.mdl_steps.specs.Rule.{Rule}
@@ -67,7 +68,7 @@ MaterialisingRests =
 abbrev pub ReadingUnlatchedRests : Type 0
 ReadingUnlatchedRests =
     (s : State Slot View) → Rule s → (place : ℕ) → 0 < place → place < length s.homes → (id : ℕ) (me : Mine) → get_elem? s.views id ≡ some me.0 →
-    Rests s (after_word s place (word_at s place) id (met_word place (word_at s place) me))
+    (kind : StepKind) → Rests s (after_word s place (word_at s place) id (met_word_by kind place (word_at s place) me))
 
 -- a session that waits has no fast ticket, nor has one that hasn't ended its granted wait
 abbrev pub WaitersHaveNoFastTickets : Type 0
