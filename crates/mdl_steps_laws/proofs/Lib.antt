@@ -28,3 +28,4 @@ pub mod RestKinds
 pub mod RestKeys
 pub mod RestSplits
 pub mod NotesKept
+pub mod StepEvents

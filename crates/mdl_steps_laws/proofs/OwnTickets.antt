@@ -62,7 +62,7 @@ fresh session next (t ∷ ts) all =
     (fresh session next ts (λ o among. all o (Contains-later t ts o among)))
 
 -- where no ticket passes none is found
-none_found : (session number : ℕ) (ts : List Ticket) → ((t : Ticket) → Contains ts t → is_ticket session number t ≡ true → ⊥) → ticket_of session number ts ≡ None
+pub none_found : (session number : ℕ) (ts : List Ticket) → ((t : Ticket) → Contains ts t → is_ticket session number t ≡ true → ⊥) → ticket_of session number ts ≡ None
 none_found session number [] none = refl
 none_found session number (t ∷ ts) none = by_bool (is_ticket session number t)
     (λ hit. absurd (none t (Contains-here t ts) hit))
@@ -100,7 +100,7 @@ module _ (s : State Slot View) (r : Rule s) (j : ℕ) (v : View) (seat : get_ele
 
   module _ (i : ℕ) (key : KeyName) (at : get_elem? r.keys i ≡ some key) where
     -- the book has of the session what its view has, but for what it waits for
-    of_view : (number : ℕ) → ((t : Ticket) → due (part_at (waits s) (suc i) v).asks ≡ Some t → t.number ≢ number)
+    pub of_view : (number : ℕ) → ((t : Ticket) → due (part_at (waits s) (suc i) v).asks ≡ Some t → t.number ≢ number)
         → ticket_of v.number number (placed s r i key at).book.granted ≡ ticket_of v.number number (map (ticket_by v.number) (own_at (suc i) v.slow))
     of_view number unwaited =
         ((placed s r i key at).book_ok.each j (part_at (waits s) (suc i) v) (at_map (part_at (waits s) (suc i)) s.views j v seat)).slow_held.same number

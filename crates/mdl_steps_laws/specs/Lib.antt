@@ -4,6 +4,7 @@ pub mod Headline
 pub mod Locks
 pub mod RestLaws
 pub mod SessionSteps
+pub mod StepEvents
 pub mod StepLaws
 pub mod TableLaws
 pub mod ToldDeeds

@@ -28,8 +28,8 @@ pub use rests::{
     reading_rests, splitting_rests, taking_rests,
 };
 pub use steps::{
-    lowering_does, lowering_is_done, putting_does, putting_is_done, writing_is_done,
-    writing_redefines,
+    lowering_brings, lowering_does, lowering_is_done, putting_brings, putting_does,
+    putting_is_done, writing_brings, writing_is_done, writing_redefines,
 };
 pub use tables::{
     holders_may_join, next_numbers_are_new, one_place_is_one_lock, own_tickets_are_held,
