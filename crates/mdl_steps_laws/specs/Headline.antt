@@ -77,16 +77,19 @@ ReadsStand =
     (i j : ℕ) (v w : View) → get_elem? s.views i ≡ some v → get_elem? t.views j ≡ some w → v.number ≡ w.number →
     (number version : ℕ) → HasNoted place number version v → HasNoted place number version w →
     (slice_index s.words (version_word place) ≡ version) × (slice_index t.words (version_word place) ≡ version)
-    × ((standing : Standing) → standing.version ≡ version → HasRead place standing v → HasRead place standing w → Stands s place standing × Stands t place standing)
+    × ((standing : Standing) → standing.version ≡ version → HasRead place standing v → HasRead place standing w →
+    Stands s place standing × Stands t place standing)
 
 -- ---- from step to step
 
 -- each step, of whichever session, leaves the ticket and what is noted under it, and all that was read
 abbrev pub NotesStay : Type 0
 NotesStay =
-    (s t : State Slot View) → Rule s → (turn : Turn s t) → (place : ℕ) → HasPlace s place → (seat number version : ℕ) → Spares seat place number turn →
+    (s t : State Slot View) → Rule s → (turn : Turn s t) → (place : ℕ) → HasPlace s place →
+    (seat number version : ℕ) → Spares seat place number turn →
     (v : View) → get_elem? s.views seat ≡ some v → HasNoted place number version v →
-    (w : View) × (get_elem? t.views seat ≡ some w) × HasNoted place number version w × ((standing : Standing) → HasRead place standing v → HasRead place standing w)
+    (w : View) × (get_elem? t.views seat ≡ some w) × HasNoted place number version w
+    × ((standing : Standing) → HasRead place standing v → HasRead place standing w)
 
 -- by a reading a session learns what stands, and notes its version under each ticket that it has there, whatever it had noted before
 abbrev pub ReadingsNote : Type 0
@@ -107,4 +110,5 @@ abbrev pub DefinitionsStay : Type 0
 DefinitionsStay =
     (s : State Slot View) → Rule s → (place : ℕ) → HasPlace s place → (seat number : ℕ) (v : View) → get_elem? s.views seat ≡ some v →
     (standing : Standing) → HasNoted place number standing.version v → HasRead place standing v →
-    (t : State Slot View) (between : List (State Slot View)) → Follow seat place number s between t → Stands s place standing × Stands t place standing
+    (t : State Slot View) (between : List (State Slot View)) → Follow seat place number s between t →
+    Stands s place standing × Stands t place standing

@@ -102,8 +102,8 @@ TakingRests =
 abbrev pub MissingRests : Type 0
 MissingRests =
     (s : State Slot View) → Rule s → (place : ℕ) → HasPlace s place → (id : ℕ) (me me′ : Mine) → get_elem? s.views id ≡ some me.0 →
-    (st : Step Slot) (found : ℕ) → st.word ≡ latch_word place → found ≡ slice_index s.words (latch_word place) → found ≢ 0 → takes_latch st me found me′ →
-    IsRest s (after_step s (latch_word place) found id me′)
+    (st : Step Slot) (found : ℕ) → st.word ≡ latch_word place → found ≡ slice_index s.words (latch_word place) → found ≢ 0 →
+    takes_latch st me found me′ → IsRest s (after_step s (latch_word place) found id me′)
 
 -- it is given back with nothing done
 abbrev pub PuttingRests : Type 0
@@ -121,7 +121,8 @@ PuttingReadingRests =
 abbrev pub NamingRests : Type 0
 NamingRests =
     (s : State Slot View) → Rule s → (place : ℕ) → HasPlace s place → (id : ℕ) (me : Mine) → get_elem? s.views id ≡ some me.0 →
-    (key : KeyName) (k : Keys) (h : Held) → MayName place key k h me → IsRest s (after_giving s place (slot.Place (empty_book key)) id (named place key me))
+    (key : KeyName) (k : Keys) (h : Held) → MayName place key k h me →
+    IsRest s (after_giving s place (slot.Place (empty_book key)) id (named place key me))
 
 -- ---- its word, under the latch
 
@@ -130,7 +131,8 @@ abbrev pub RaisingRests : Type 0
 RaisingRests =
     (s : State Slot View) → Rule s → (place : ℕ) → HasPlace s place → (id : ℕ) (me me′ : Mine) → get_elem? s.views id ≡ some me.0 →
     (h : Held) → held_at place me.0.latches ≡ Some h → (st : Step Slot) (found left : ℕ) (slow obtrusive : Bool) →
-    st.word ≡ lock_word place → st.first ≡ flags_alone slow obtrusive → raises_flags st me found me′ → IsRest s (after_step s (lock_word place) left id me′)
+    st.word ≡ lock_word place → st.first ≡ flags_alone slow obtrusive → raises_flags st me found me′ →
+    IsRest s (after_step s (lock_word place) left id me′)
 
 -- it is read
 abbrev pub ReadingRests : Type 0
