@@ -48,7 +48,7 @@ use Rattle.mdl_steps_laws.proofs.DeedEvents.{altering_downgrades, altering_upgra
 use Rattle.mdl_steps_laws.proofs.FastEvents.{no_wait}
 use Rattle.mdl_steps_laws.proofs.Keeping.{filter_passes}
 use Rattle.mdl_steps_laws.proofs.Merging.{moving_merges}
-use Rattle.mdl_steps_laws.proofs.OwnTickets.{each_in, next_numbers_are_new, none_found, of_view, own_among, own_tickets_are_held}
+use Rattle.mdl_steps_laws.proofs.OwnTickets.{each_in, next_numbers_are_new, of_view, own_tickets_are_held}
 use Rattle.mdl_steps_laws.proofs.Redefining.{redefining_changes}
 use Rattle.mdl_steps_laws.proofs.TableLocks.{first_place, holders_may_join, into_rule, last_place, placed, ruled_book}
 use Rattle.mdl_steps_laws.proofs.TicketMembers.{found-passes}
@@ -91,20 +91,6 @@ module _ (s : State Slot View) (r : Rule s) (keys : List KeyName) (keys_are : Ar
       let mine : granted.1 ≡ me.0 = one_seat s r granted.0 id granted.1 me.0 granted.3 seat (granted.4 ∙ session) numbered in
       unwaited granted.2 (ap (λ (v : View). v.asks) (sym mine) ∙ granted.5) (granted.6 ∙ same)
 
-  -- no fast ticket of the session there has the number of a slow one
-  not_fast : (number : ℕ) (t : Ticket) → ticket_of me.0.number number (map (ticket_by me.0.number) (own_at (suc i) me.0.slow)) ≡ Some t
-      → ticket_of me.0.number number (map (ticket_by me.0.number) (own_at (suc i) me.0.fast)) ≡ None
-  not_fast number t found = none_found me.0.number number (map (ticket_by me.0.number) (own_at (suc i) me.0.fast)) (λ u among is.
-      let slow = Contains-map_from (ticket_by me.0.number) (own_at (suc i) me.0.slow) t (find-contains (is_ticket me.0.number number) (map (ticket_by me.0.number) (own_at (suc i) me.0.slow)) t found) in
-      let fast = Contains-map_from (ticket_by me.0.number) (own_at (suc i) me.0.fast) u among in
-      let one : t.number ≡ number = (is_passed me.0.number number t (found-passes me.0.number number (map (ticket_by me.0.number) (own_at (suc i) me.0.slow)) t found)).1 in
-      let other : u.number ≡ number = (is_passed me.0.number number u is).1 in
-      let unlike = each_in (λ (x : Own). Each (IsUnlike x) me.0.slow) me.0.fast (r.views id me.0 seat).0.unmixed fast.0 (own_among (suc i) me.0.fast fast.0 fast.1) in
-      let place_of = λ (x : Own) (ts : List Own) (within : Contains (own_at (suc i) ts) x). eqb-true x.place (suc i) (filter_passes (λ (o : Own). o.place == suc i) ts x within) in
-      each_in (IsUnlike fast.0) me.0.slow unlike slow.0 (own_among (suc i) me.0.slow slow.0 slow.1)
-      (place_of slow.0 me.0.slow slow.1 ∙ sym (place_of fast.0 me.0.fast fast.1))
-      (ap (λ (x : Ticket). x.number) (sym slow.2) ∙ one ∙ sym other ∙ ap (λ (x : Ticket). x.number) fast.2))
-
   pub holds_ticket : (number : ℕ) (t : Ticket) → HoldsTicket me.0 h.book number t → IsOnly me.0.number number (told.0 key) t × IsHeld a me.0.number (of_lock key t)
   holds_ticket number t held =
       let ruled = in_rule s r keys keys_are i key at in
@@ -112,7 +98,7 @@ module _ (s : State Slot View) (r : Rule s) (keys : List KeyName) (keys_are : Ar
       let in_view = sym (of_view s r id me.0 seat i key ruled number (λ u is equal.
       let b = due_asked (suc i) me.0.number (waits s me.0.number) me.0.asks u is in held.1 b.0 b.1 (sym b.2 ∙ equal)))
       ∙ ap (λ (b : BookView). ticket_of me.0.number number b.granted) (sym same) ∙ held.0 in
-      own_tickets_are_held s r told.0 told.1 a told.2 i key here id me.0 seat numbered number t in_view (not_fast number t in_view) held.1 (unasked number held.1)
+      own_tickets_are_held s r told.0 told.1 a told.2 i key here id me.0 seat numbered number t in_view held.1 (unasked number held.1)
 
   -- a ticket of the session in the book, for which it has no wait to end
   pub held_by_book : (t : Ticket) → Contains h.book.granted t → t.session ≡ me.0.number → IsOfNoWait a me.0.number t.number → IsHeld a me.0.number (of_lock key t)

@@ -48,12 +48,12 @@ GrantingFastGrants =
     Brings (Grant (of_lock key (record { session = me.0.number; number = me.0.next; mode = mode })))
     s (after_word s (suc i) (word_at s (suc i) + one) id (granted_fast (suc i) mode noted (word_at s (suc i)) me))
 
--- a fast release is the event of a release, where no slow ticket of the session there has the same number
+-- a fast release is the event of a release
 abbrev pub ReleasingFastReleases : Type 0
 ReleasingFastReleases =
     (s : State Slot View) → Rule s → (keys : List KeyName) → AreKeysOf s keys → (i : ℕ) (key : KeyName) → get_elem? keys i ≡ some key →
     (id : ℕ) (me : Mine) → get_elem? s.views id ≡ some me.0 → 0 < me.0.number →
-    (number one : ℕ) (may : MayReleaseFast (suc i) number one me) → ticket_of me.0.number number (map (ticket_by me.0.number) (own_at (suc i) me.0.slow)) ≡ None →
+    (number one : ℕ) (may : MayReleaseFast (suc i) number one me) →
     Brings (Release (of_lock key (ticket_by me.0.number may.ticket)))
     s (after_word s (suc i) ((word_at s (suc i) + (2 ^ 64 - one)) % 2 ^ 64) id (released_fast (suc i) number (word_at s (suc i)) me))
 
