@@ -46,7 +46,8 @@ use Rattle.mdl_steps_laws.specs.WaitLaws.{IsTold}
 use Rattle.mdl_steps_laws.specs.WaitsTold.{code_of}
 use Rattle.mdl_steps_laws.specs.FastLaws.{GrantingFastGrants, ReleasingFastReleases, after_word, word_at}
 use Rattle.mdl_steps_laws.proofs.OneLock.{one_lock}
-use Rattle.mdl_steps_laws.proofs.OwnTickets.{next_numbers_are_new}
+use Rattle.mdl_steps_laws.proofs.Keeping.{among_filter, own_parts}
+use Rattle.mdl_steps_laws.proofs.OwnTickets.{next_numbers_are_new, none_slow}
 use Rattle.mdl_steps_laws.proofs.SeatSteps.{all_fast-alike, any_waits}
 use Rattle.mdl_steps_laws.proofs.TableLocks.{first_place, same_book, same_keys}
 use Rattle.mdl_steps_laws.proofs.TicketMembers.{found-apart, loses-behind, loses-first, loses-later}
@@ -345,7 +346,7 @@ asks_nothing None never = refl
 asks_nothing (Some a) never = absurd (never a refl)
 
 pub releasing_fast_releases : ReleasingFastReleases
-releasing_fast_releases s r keys keys_are i key at id me seat some_number number one may not_slow =
+releasing_fast_releases s r keys keys_are i key at id me seat some_number number one may =
     let place : ℕ = suc i in
     let w : View = (released_fast place number (word_at s place) me).0 in
     let n : ℕ = (word_at s place + (2 ^ 64 - one)) % 2 ^ 64 in
@@ -357,7 +358,11 @@ releasing_fast_releases s r keys keys_are i key at id me seat some_number number
     let away : (q : ℕ) → q ≢ place → own_at q w.fast ≡ own_at q me.0.fast = λ q else. owned_else place q (Lose number) me.0.fast else in
     let part_there = at_map (part_at (waits s) place) s.views id me.0 seat in
     let own_is : is_own place number may.ticket ≡ true = only_passes (is_own place number) me.0.fast may.ticket may.only in
-    let number_is : may.ticket.number ≡ number = eqb-true _ _ (and_parts (may.ticket.place == place) (may.ticket.number == number) own_is).1 in (
+    let named = own_parts place number may.ticket own_is in
+    let among : Contains me.0.fast may.ticket =
+    among_filter (is_own place number) me.0.fast may.ticket (subst (λ (ts : List Own). Contains ts may.ticket) (sym may.only) (Contains-here may.ticket [])) in
+    let not_slow : ticket_of me.0.number number (map (ticket_by me.0.number) (own_at place me.0.slow)) ≡ None =
+    subst (λ (m : ℕ). ticket_of me.0.number m (map (ticket_by me.0.number) (own_at place me.0.slow)) ≡ None) named.1 (none_slow s r id me.0 seat place may.ticket among named.0) in (
       r′,
       λ a b told told′.
           let ok = r.places place first last in
@@ -367,7 +372,7 @@ releasing_fast_releases s r keys keys_are i key at id me seat some_number number
           ∙ (ok.book_ok.each id (part_at (waits s) place me.0) part_there).slow_held.same number
           ∙ ap (λ (o : Option Asking). ticket_of me.0.number number (option_to_list (due o) ++ map (ticket_by me.0.number) (own_at place me.0.slow))) (ap (asking_at place me.0.number (waits s me.0.number)) idle)
           ∙ not_slow in
-          let is : is_ticket me.0.number number t ≡ true = and_from _ _ (eq-eqb me.0.number me.0.number refl) (eq-eqb may.ticket.number number number_is) in
+          let is : is_ticket me.0.number number t ≡ true = and_from _ _ (eq-eqb me.0.number me.0.number refl) (eq-eqb may.ticket.number number named.1) in
           let apart : (y : Ticket) → Contains (told.0 key).book.granted y → y ≢ t = found-apart me.0.number number t is (told.0 key).book.granted not_granted in
           let loses = fast-loses (cell s place).parts id place number (part_at (waits s) place me.0) me.0.fast may.ticket part_there refl (alone_parts s r place id me.0 seat some_number) may.only in
           let fast_is = fast_then s r keys keys_are i key at id n me w seat refl refl (λ q else. refl) refl away place in

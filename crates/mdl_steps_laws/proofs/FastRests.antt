@@ -1,38 +1,32 @@
 -- Steps of the fast path by which nothing is done in the system, and that a session that waits has no fast ticket.
-use Rattle.std.proofs.Common.{◌≡◌, ◌≢◌, ℕ, zero, suc, ◌+◌, ◌-◌, ◌%◌, ◌^◌, inl, inr, List, [], ◌∷◌, ◌++◌, length, map, set, get_or, refl, sym, ap, ◌∙◌, subst}
+use Rattle.std.proofs.Common.{◌≡◌, ◌≢◌, ℕ, zero, suc, ◌+◌, ◌-◌, ◌%◌, ◌^◌, inl, inr, List, [], ◌∷◌, ◌++◌, length, map, set, refl, sym, ap, ◌∙◌, subst, arith}
 use Rattle.std.specs.Prelude.{◌⊎◌, Contains}
-use Rattle.std.proofs.lemmas.List.{map-set}
 use Rattle.std.proofs.lemmas.List.Elements.{Contains-append_left, Contains-append_right, Contains-append_cases}
 use mathlib.Core.Option.{some, some-injective, some-ne-none}
 use lib.ListN.{get_elem?}
 use Rattle.atomic_table.specs.Table.{State}
-use Rattle.atomic_table.proofs.Lists.{at_map, at_set, set_here}
-use Rattle.mdl_key.specs.Words.{KeyName}
+use Rattle.atomic_table.proofs.Lists.{at_map, set_here}
 use Rattle.mdl_book.specs.declared.book_view.BookView.{BookView}
 use Rattle.mdl_book.specs.declared.ticket.Ticket.{Ticket}
 use Rattle.mdl_steps.specs.declared.slot.Slot.{Slot}
 use Rattle.mdl_steps.specs.declared.view.Own.{Own}
 use Rattle.mdl_steps.specs.declared.view.View.{View}
 use Rattle.mdl_steps.specs.Cells.{Part, all_fast, held_at, own_at, part_at, ticket_by, waits}
-use Rattle.mdl_steps.specs.FastPlays.{granting_all, materialised, met_word, moved, with_granted}
-use Rattle.mdl_steps.specs.Layout.{latch_word, lock_word, wait_word}
-use Rattle.mdl_steps.specs.Plays.{Mine}
+use Rattle.mdl_steps.specs.FastPlays.{granting_all, materialised, met_word_by, moved, with_granted}
+use Rattle.mdl_steps.specs.Layout.{lock_word}
 use Rattle.mdl_steps.specs.Rule.{Rule}
 use Rattle.mdl_steps.specs.RuleLaws.{fast_at}
 use Rattle.mdl_steps.proofs.FastSteps.{met_rule}
 use Rattle.mdl_steps.proofs.Materialising.{gone_here, kept_else, materialised_rule}
 use Rattle.mdl_steps.proofs.Views.{at_inside, held_at-changed, held_at-unchanged}
-use Rattle.mdl_steps.proofs.WaitSteps.{set_found}
 use Rattle.mdl_system.specs.Systems.{HasNoWait}
 use Rattle.mdl_system.proofs.MemberLemmas.{Contains-map_from, Contains-none}
 use Rattle.mdl_steps_laws.specs.FastLaws.{MaterialisingRests, ReadingUnlatchedRests, WaitersHaveNoFastTickets, after_word, word_at}
-use Rattle.mdl_steps_laws.specs.Locks.{Lock, AreLocksOf, IsBookAt, granted_of}
+use Rattle.mdl_steps_laws.specs.Locks.{Lock, IsBookAt}
 use Rattle.mdl_steps_laws.proofs.FastEvents.{asks_nothing, fast_then, no_wait, same_by, standing_stays, waits_stay}
-use Rattle.mdl_steps_laws.proofs.SeatSteps.{all_fast-alike, any_waits}
+use Rattle.mdl_steps_laws.proofs.RestKinds.{met_rests}
 use Rattle.mdl_steps_laws.proofs.TableLocks.{find_key, first_place, ruled_book}
-use Rattle.mdl_steps_laws.proofs.ToldDeeds.{locks_once}
-use Rattle.mdl_steps_laws.proofs.WaitEvents.{in_locks, in_rule, inside, same_definitions, same_members, some_session}
-use Rattle.mdl_steps_laws.proofs.WaitMet.{waits_rest}
+use Rattle.mdl_steps_laws.proofs.WaitEvents.{in_locks, in_rule, inside, same_definitions, some_session}
 
 -- ---- all sessions' fast tickets, where one session has none any more
 
@@ -123,62 +117,10 @@ materialising_rests s r keys keys_are i key at id me seat slow weight h may =
 
 -- ---- to read a word
 
-module _ (s : State Slot View) (r : Rule s) (place id : ℕ) (me : Mine) (seat : get_elem? s.views id ≡ some me.0) where
-  abbrev w : View
-  w = (met_word place (word_at s place) me).0
-
-  abbrev s′ : State Slot View
-  s′ = after_word s place (word_at s place) id (met_word place (word_at s place) me)
-
-  words_same : set s.words (lock_word place) (get_or s.words (lock_word place) 0) ≡ s.words
-  words_same = set_found s.words (lock_word place)
-
-  any_word : (n : ℕ) → get_or (set s.words (lock_word place) (get_or s.words (lock_word place) 0)) n 0 ≡ get_or s.words n 0
-  any_word n = ap (λ ws. get_or ws n 0) words_same
-
-  fast_same : (q : ℕ) → fast_at s′ q ≡ fast_at s q
-  fast_same q =
-      any_waits (waits s′) (waits s) q (set s.views id w)
-      ∙ ap all_fast (map-set (part_at (waits s) q) s.views id w)
-      ∙ all_fast-alike (map (part_at (waits s) q) s.views) id (part_at (waits s) q me.0) (part_at (waits s) q w) (at_map (part_at (waits s) q) s.views id me.0 seat) refl
-
-  book_same : (q : ℕ) (b : BookView) → IsBookAt s q b → IsBookAt s′ q b
-  book_same q b is = record {
-    free = λ none. is.free (sym (any_word (latch_word q)) ∙ none);
-    taken = λ j u there h has. elim (at_set s.views id j w u there) [
-      | inl mine ↦ is.taken id me.0 seat h (ap (λ (x : View). held_at q x.latches) mine.1 ∙ has)
-      | inr other ↦ is.taken j u other.1 h has
-    ];
-  }
-
-  locks_stay : (locks : KeyName → Lock) → AreLocksOf s locks → AreLocksOf s′ locks
-  locks_stay locks are = record {
-    keys = are.keys;
-    keys_are = record {
-      free = λ none. are.keys_are.free (sym (any_word (latch_word 0)) ∙ none);
-      taken = λ j u there k has. elim (at_set s.views id j w u there) [
-        | inl mine ↦ are.keys_are.taken id me.0 seat k (ap (λ (x : View). x.directory) mine.1 ∙ has)
-        | inr other ↦ are.keys_are.taken j u other.1 k has
-      ];
-    };
-    fast_are = λ i key at. are.fast_are i key at ∙ sym (fast_same (suc i));
-    book_is = λ i key at. book_same (suc i) (locks key).book (are.book_is i key at);
-    without_place = are.without_place;
-  }
-
 pub reading_unlatched_rests : ReadingUnlatchedRests
-reading_unlatched_rests s r place first last id me seat =
-    let r′ : Rule (after_word s place (word_at s place) id (met_word place (word_at s place) me)) = met_rule (length s.homes) id place me first last s r refl seat in (
-      r′,
-      λ a b told told′.
-          let same : (k : KeyName) → told′.0 k ≡ told.0 k = locks_once (s′ s r place id me seat) r′ told′.0 told.0 told′.1 (locks_stay s r place id me seat told.0 told.1) in
-          record {
-            granted = same_members told.0 told′.0 a b told.2 told′.2 (λ k. ap granted_of (same k));
-            waits = waits_rest s id me.0 (w s r place id me seat) seat refl refl (set s.words (lock_word place) (word_at s place)) s.homes (λ m. any_word s r place id me seat (wait_word (length s.homes) m)) a b told told′
-                (λ k. ap (λ (l : Lock). l.book.waiting) (same k));
-            definitions = same_definitions told.0 told′.0 a b told.2 told′.2 (λ k. ap (λ (l : Lock). l.book.standing) (same k));
-          },
-    )
+reading_unlatched_rests s r place first last id me seat kind =
+    met_rests s r id me (met_word_by kind place (word_at s place) me) seat refl refl refl refl refl place (first, last) (lock_word place) (omega arith, omega arith)
+    (met_rule (length s.homes) id place me first last s r refl seat kind)
 
 -- ---- who waits has no fast ticket
 

@@ -20,3 +20,12 @@ pub mod WaitSteps
 pub mod WaitsTold
 pub mod FastEvents
 pub mod FastRests
+pub mod Keeping
+pub mod StepsKeep
+pub mod Staying
+pub mod RestSteps
+pub mod RestKinds
+pub mod RestKeys
+pub mod RestSplits
+pub mod NotesKept
+pub mod StepEvents

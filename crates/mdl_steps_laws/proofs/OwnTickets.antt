@@ -1,6 +1,7 @@
 -- What a session has by its view: the slow tickets that it holds, and that its next number is new.
 use Rattle.std.proofs.Common.{◌≡◌, ◌≢◌, ℕ, zero, suc, ◌<◌, ◌==◌, Bool, true, cond, inl, inr, List, [], ◌∷◌, map, Some, None, refl, sym, ap, ◌∙◌, subst, arith}
 use Rattle.std.specs.Prelude.{Contains}
+use Rattle.std.proofs.lemmas.Bool.{eq-eqb, eqb-true}
 use Rattle.std.proofs.lemmas.List.Elements.{Contains-append_right, Contains-append_cases}
 use mathlib.Core.Option.{some, some-injective}
 use lib.ListN.{get_elem?}
@@ -15,7 +16,7 @@ use Rattle.mdl_steps.specs.declared.view.Own.{Own}
 use Rattle.mdl_steps.specs.declared.view.View.{View}
 use Rattle.mdl_steps.specs.Cells.{Part, all_fast, cell, due, own_at, part_at, ticket_by, waits}
 use Rattle.mdl_steps.specs.Lists.{Each, Once}
-use Rattle.mdl_steps.specs.Rule.{Rule}
+use Rattle.mdl_steps.specs.Rule.{IsUnlike, Rule}
 use Rattle.mdl_steps.specs.RuleLaws.{fast_at}
 use Rattle.mdl_steps.proofs.Latch.{due_asked, of-unwaited}
 use Rattle.mdl_steps.proofs.Tickets.{is_itself, is_passed, of_other_number}
@@ -26,16 +27,17 @@ use Rattle.mdl_system.proofs.OrderLemmas.{Contains-cons_cases, Contains-here, Co
 use Rattle.mdl_steps_laws.specs.DeedLaws.{IsOnly}
 use Rattle.mdl_steps_laws.specs.Locks.{Lock, granted_of}
 use Rattle.mdl_steps_laws.specs.TableLaws.{NextNumbersAreNew, OwnTicketsAreHeld}
+use Rattle.mdl_steps_laws.proofs.Keeping.{filter_among, filter_passes}
 use Rattle.mdl_steps_laws.proofs.TableLocks.{find_key, into_rule, is_placed, placed}
 use Rattle.mdl_steps_laws.proofs.TicketMembers.{found-passes, none-passes}
 
 -- ---- lists
 
-each_in : {A : Type 0} → (P : A → Type 0) (xs : List A) → Each P xs → (x : A) → Contains xs x → P x
+pub each_in : {A : Type 0} → (P : A → Type 0) (xs : List A) → Each P xs → (x : A) → Contains xs x → P x
 each_in P [] all x among = absurd (Contains-none x among)
 each_in P (y ∷ ys) all x among = elim (Contains-cons_cases y ys x among) [ inl later ↦ each_in P ys all.1 x later | inr here ↦ subst P (sym here) all.0 ]
 
-own_among : (place : ℕ) (ts : List Own) (o : Own) → Contains (own_at place ts) o → Contains ts o
+pub own_among : (place : ℕ) (ts : List Own) (o : Own) → Contains (own_at place ts) o → Contains ts o
 own_among place [] o among = among
 own_among place (t ∷ ts) o among =
     let picked : Bool → List Own = λ b. cond {A = List Own} b (t ∷ own_at place ts) (own_at place ts) in
@@ -71,6 +73,31 @@ none_found session number (t ∷ ts) none = by_bool (is_ticket session number t)
 -- ---- a session's own
 
 module _ (s : State Slot View) (r : Rule s) (j : ℕ) (v : View) (seat : get_elem? s.views j ≡ some v) where
+  -- a fast ticket and a slow one of a place have different numbers
+  unlike_there : (place : ℕ) (fast slow : Own) → Contains (own_at place v.fast) fast → Contains (own_at place v.slow) slow → slow.number ≢ fast.number
+  unlike_there place fast slow in_fast in_slow =
+      let place_of : (ts : List Own) (o : Own) → Contains (own_at place ts) o → o.place ≡ place = λ ts o within. eqb-true o.place place (filter_passes (λ (x : Own). x.place == place) ts o within) in
+      let unlike = each_in (λ (x : Own). Each (IsUnlike x) v.slow) v.fast (r.views j v seat).0.unmixed fast (own_among place v.fast fast in_fast) in
+      each_in (IsUnlike fast) v.slow unlike slow (own_among place v.slow slow in_slow) (place_of v.slow slow in_slow ∙ sym (place_of v.fast fast in_fast))
+
+  -- so no fast ticket there has the number of a slow one
+  pub none_fast : (place number : ℕ) (t : Ticket) → ticket_of v.number number (map (ticket_by v.number) (own_at place v.slow)) ≡ Some t
+      → ticket_of v.number number (map (ticket_by v.number) (own_at place v.fast)) ≡ None
+  none_fast place number t found = none_found v.number number (map (ticket_by v.number) (own_at place v.fast)) (λ u among is.
+      let listed = map (ticket_by v.number) (own_at place v.slow) in
+      let slow = Contains-map_from (ticket_by v.number) (own_at place v.slow) t (find-contains (is_ticket v.number number) listed t found) in
+      let fast = Contains-map_from (ticket_by v.number) (own_at place v.fast) u among in
+      let one : t.number ≡ number = (is_passed v.number number t (found-passes v.number number listed t found)).1 in
+      let other : u.number ≡ number = (is_passed v.number number u is).1 in
+      unlike_there place fast.0 slow.0 fast.1 slow.1 (ap (λ (x : Ticket). x.number) (sym slow.2) ∙ one ∙ sym other ∙ ap (λ (x : Ticket). x.number) fast.2))
+
+  -- and no slow one has that of a fast one
+  pub none_slow : (place : ℕ) (o : Own) → Contains v.fast o → o.place ≡ place → ticket_of v.number o.number (map (ticket_by v.number) (own_at place v.slow)) ≡ None
+  none_slow place o among here = none_found v.number o.number (map (ticket_by v.number) (own_at place v.slow)) (λ u listed is.
+      let slow = Contains-map_from (ticket_by v.number) (own_at place v.slow) u listed in
+      let fast = filter_among (λ (x : Own). x.place == place) v.fast o among (eq-eqb o.place place here) in
+      unlike_there place o slow.0 fast slow.1 (ap (λ (x : Ticket). x.number) (sym slow.2) ∙ (is_passed v.number o.number u is).1))
+
   module _ (some_number : 0 < v.number) where
     -- no other seat has its number
     its_own : (m : ℕ) (w : View) → get_elem? s.views m ≡ some w → w.number ≡ v.number → w ≡ v
@@ -100,7 +127,7 @@ module _ (s : State Slot View) (r : Rule s) (j : ℕ) (v : View) (seat : get_ele
 
   module _ (i : ℕ) (key : KeyName) (at : get_elem? r.keys i ≡ some key) where
     -- the book has of the session what its view has, but for what it waits for
-    of_view : (number : ℕ) → ((t : Ticket) → due (part_at (waits s) (suc i) v).asks ≡ Some t → t.number ≢ number)
+    pub of_view : (number : ℕ) → ((t : Ticket) → due (part_at (waits s) (suc i) v).asks ≡ Some t → t.number ≢ number)
         → ticket_of v.number number (placed s r i key at).book.granted ≡ ticket_of v.number number (map (ticket_by v.number) (own_at (suc i) v.slow))
     of_view number unwaited =
         ((placed s r i key at).book_ok.each j (part_at (waits s) (suc i) v) (at_map (part_at (waits s) (suc i)) s.views j v seat)).slow_held.same number
@@ -131,7 +158,7 @@ next_numbers_are_new s r locks are system tells j v seat some_number held among 
     ]
 
 pub own_tickets_are_held : OwnTicketsAreHeld
-own_tickets_are_held s r locks are system tells i key at j v seat some_number number t found not_fast unwaited of_no_wait =
+own_tickets_are_held s r locks are system tells i key at j v seat some_number number t found unwaited of_no_wait =
     let here = into_rule s r locks are i key at in
     let by_rule = of_view s r j v seat i key here number (λ u is same.
     let a = due_asked (suc i) v.number (waits s v.number) v.asks u is in unwaited a.0 a.1 (sym a.2 ∙ same)) ∙ found in
@@ -142,7 +169,7 @@ own_tickets_are_held s r locks are system tells i key at j v seat some_number nu
     let only : IsOnly v.number number (locks key) t = record {
       found = in_lock;
       once = subst (λ (l : Lock). Once l.book.granted) (is_placed s r locks are i key at) (placed s r i key here).book_ok.once;
-      not_fast = subst (λ (l : Lock). ticket_of v.number number l.fast ≡ None) (is_placed s r locks are i key at) (fast_none s r j v seat some_number (suc i) number not_fast);
+      not_fast = subst (λ (l : Lock). ticket_of v.number number l.fast ≡ None) (is_placed s r locks are i key at) (fast_none s r j v seat some_number (suc i) number (none_fast s r j v seat (suc i) number t found));
     } in (
       only,
       (

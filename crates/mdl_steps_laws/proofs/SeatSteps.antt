@@ -42,38 +42,37 @@ all_fast-alike (z ∷ zs) zero x y at same =
     ap (λ ts. ts ++ all_fast zs) (same ∙ ap (λ (p : Part). map (ticket_by p.number) p.fast) (sym (some-injective z x at)))
 all_fast-alike (z ∷ zs) (suc id) x y at same = ap (λ ts. map (ticket_by z.number) z.fast ++ ts) (all_fast-alike zs id x y at same)
 
--- what a step of a seat at one place leaves: its number, its fast tickets, the directory's record and those of other latches
-record Leaves (place : ℕ) (v w : View) : Type 0 where
-  number : w.number ≡ v.number
-  fast : (number q : ℕ) → map (ticket_by number) (own_at q w.fast) ≡ map (ticket_by number) (own_at q v.fast)
-  directory : w.directory ≡ v.directory
-  held_else : (q : ℕ) → q ≢ place → held_at q w.latches ≡ held_at q v.latches
+-- what a step of a seat at one place leaves: its number, its fast tickets, and the records of other latches
+pub record Leaves (place : ℕ) (v w : View) : Type 0 where
+  pub number : w.number ≡ v.number
+  pub fast : (number q : ℕ) → map (ticket_by number) (own_at q w.fast) ≡ map (ticket_by number) (own_at q v.fast)
+  pub held_else : (q : ℕ) → q ≢ place → held_at q w.latches ≡ held_at q v.latches
 
 module _ (s : State Slot View) (place n m id : ℕ) (homes : List (Maybe Slot)) (v w : View) (seat : get_elem? s.views id ≡ some v) (leaves : Leaves place v w)
-    (first : 0 < place) (near : (8 * place ≤ n) × (n < 8 * place + 8)) (home_else : (q : ℕ) → q ≢ place → get_elem? homes q ≡ get_elem? s.homes q) where
-  abbrev after : State Slot View
+    (near : (8 * place ≤ n) × (n < 8 * place + 8)) (home_else : (q : ℕ) → q ≢ place → get_elem? homes q ≡ get_elem? s.homes q) where
+  abbrev pub after : State Slot View
   after = record { words = set s.words n m; homes = homes; views = set s.views id w }
 
-  latch_else : (q : ℕ) → q ≢ place → get_or (set s.words n m) (latch_word q) 0 ≡ get_or s.words (latch_word q) 0
+  pub latch_else : (q : ℕ) → q ≢ place → get_or (set s.words n m) (latch_word q) 0 ≡ get_or s.words (latch_word q) 0
   latch_else q else = get_or-set_other s.words n (latch_word q) m 0 (let low = near.0 in let high = near.1 in λ e. else (omega arith))
 
-  fast_same : (q : ℕ) → fast_at after q ≡ fast_at s q
+  pub fast_same : (q : ℕ) → fast_at after q ≡ fast_at s q
   fast_same q =
       any_waits (waits after) (waits s) q (set s.views id w)
       ∙ ap all_fast (map-set (part_at (waits s) q) s.views id w)
       ∙ all_fast-alike (map (part_at (waits s) q) s.views) id (part_at (waits s) q v) (part_at (waits s) q w)
       (at_map (part_at (waits s) q) s.views id v seat) (leaves.fast w.number q ∙ ap (λ (n : ℕ). map (ticket_by n) (own_at q v.fast)) leaves.number)
 
-  keys_same : (keys : List KeyName) → AreKeysOf s keys → AreKeysOf after keys
-  keys_same keys are = record {
+  pub keys_same : 0 < place → w.directory ≡ v.directory → (keys : List KeyName) → AreKeysOf s keys → AreKeysOf after keys
+  keys_same first directory keys are = record {
     free = λ none. home_else 0 (λ e. omega arith) ∙ are.free (sym (latch_else 0 (λ e. omega arith)) ∙ none);
     taken = λ j u there k has. elim (at_set s.views id j w u there) [
-      | inl mine ↦ are.taken id v seat k (sym leaves.directory ∙ ap (λ (x : View). x.directory) mine.1 ∙ has)
+      | inl mine ↦ are.taken id v seat k (sym directory ∙ ap (λ (x : View). x.directory) mine.1 ∙ has)
       | inr other ↦ are.taken j u other.1 k has
     ];
   }
 
-  book_else : (q : ℕ) → q ≢ place → (book : BookView) → IsBookAt s q book → IsBookAt after q book
+  pub book_else : (q : ℕ) → q ≢ place → (book : BookView) → IsBookAt s q book → IsBookAt after q book
   book_else q else book is = record {
     free = λ none. home_else q else ∙ is.free (sym (latch_else q else) ∙ none);
     taken = λ j u there h has. elim (at_set s.views id j w u there) [
@@ -87,7 +86,6 @@ put_leaves : (place : ℕ) (ds : List Deed) (me : Mine) → Leaves place me.0 (u
 put_leaves place ds me = record {
   number = refl;
   fast = λ number q. ap (λ (ts : List Own). map (ticket_by number) (own_at q ts)) (all_done_fast place ds me.0);
-  directory = refl;
   held_else = λ q else. held_at-undropped place q me.0.latches else;
 }
 
@@ -95,7 +93,6 @@ lowering_leaves : (place : ℕ) (ds : List Deed) (found : ℕ) (book : BookView)
 lowering_leaves place ds found book slow obtrusive me = record {
   number = refl;
   fast = λ number q. ap (λ (ts : List Own). map (ticket_by number) (own_at q ts)) (all_done_fast place ds me.0);
-  directory = refl;
   held_else = λ q else. held_at-unchanged place (lowered book slow obtrusive) (λ x. refl) q me.0.latches else;
 }
 
@@ -121,15 +118,15 @@ putting_does s r old new are i key at id me seat h holds ds r′ done =
     } in
     let booked : book ≡ (new key).book = ap (all_booked me.0.number ds) ((are.book_is i key at).taken id me.0 seat h holds) ∙ sym (ap (λ (l : Lock). l.book) done.0) in
     one_lock s (after_put s place ds book id me) r old new are
-    (keys_same s place (latch_word place) 0 id homes me.0 w seat leaves first near home_else are.keys are.keys_are) i key at
-    (λ q _ else. fast_same s place (latch_word place) 0 id homes me.0 w seat leaves first near home_else q)
-    (λ q _ else. book_else s place (latch_word place) 0 id homes me.0 w seat leaves first near home_else q else)
-    (ap (λ (l : Lock). l.fast) done.0 ∙ are.fast_are i key at ∙ sym (fast_same s place (latch_word place) 0 id homes me.0 w seat leaves first near home_else place))
+    (keys_same s place (latch_word place) 0 id homes me.0 w seat leaves near home_else first refl are.keys are.keys_are) i key at
+    (λ q _ else. fast_same s place (latch_word place) 0 id homes me.0 w seat leaves near home_else q)
+    (λ q _ else. book_else s place (latch_word place) 0 id homes me.0 w seat leaves near home_else q else)
+    (ap (λ (l : Lock). l.fast) done.0 ∙ are.fast_are i key at ∙ sym (fast_same s place (latch_word place) 0 id homes me.0 w seat leaves near home_else place))
     (subst (IsBookAt (after_put s place ds book id me) place) booked is) done.1
 
 -- a step of the holder of a latch, after which its record has the new book
 module _ (s : State Slot View) (r : Rule s) (old new : KeyName → Lock) (are : AreLocksOf s old) (i : ℕ) (key : KeyName) (at : get_elem? are.keys i ≡ some key)
-    (id : ℕ) (v w : View) (seat : get_elem? s.views id ≡ some v) (leaves : Leaves (suc i) v w) (n m : ℕ) (near : (8 * suc i ≤ n) × (n < 8 * suc i + 8)) where
+    (id : ℕ) (v w : View) (seat : get_elem? s.views id ≡ some v) (leaves : Leaves (suc i) v w) (directory : w.directory ≡ v.directory) (n m : ℕ) (near : (8 * suc i ≤ n) × (n < 8 * suc i + 8)) where
   recorded : Rule (record { words = set s.words n m; homes = s.homes; views = set s.views id w }) → (h : Held) → held_at (suc i) w.latches ≡ Some h
       → h.book ≡ (new key).book → (new key).fast ≡ (old key).fast → SameElsewhere key old new
       → AreLocksOf (record { words = set s.words n m; homes = s.homes; views = set s.views id w }) new
@@ -142,24 +139,24 @@ module _ (s : State Slot View) (r : Rule s) (old new : KeyName → Lock) (are : 
       let home_else : (q : ℕ) → q ≢ place → get_elem? s.homes q ≡ get_elem? s.homes q = λ q else. refl in
       let ruled = ruled_book s′ r′ place first last in
       let is : h.book ≡ (r′.places place first last).book = ruled.taken id w (set_here s.views id w (at_inside s.views id v seat)) h has in
-      one_lock s s′ r old new are (keys_same s place n m id s.homes v w seat leaves first near home_else are.keys are.keys_are) i key at
-      (λ q _ else. fast_same s place n m id s.homes v w seat leaves first near home_else q)
-      (λ q _ else. book_else s place n m id s.homes v w seat leaves first near home_else q else)
-      (fast ∙ are.fast_are i key at ∙ sym (fast_same s place n m id s.homes v w seat leaves first near home_else place))
+      one_lock s s′ r old new are (keys_same s place n m id s.homes v w seat leaves near home_else first directory are.keys are.keys_are) i key at
+      (λ q _ else. fast_same s place n m id s.homes v w seat leaves near home_else q)
+      (λ q _ else. book_else s place n m id s.homes v w seat leaves near home_else q else)
+      (fast ∙ are.fast_are i key at ∙ sym (fast_same s place n m id s.homes v w seat leaves near home_else place))
       (subst (IsBookAt s′ place) (sym is ∙ book) ruled) elsewhere
 
 pub lowering_does : LoweringDoes
 lowering_does s r old new are i key at id me seat h holds ds found left slow obtrusive r′ done =
     let place : ℕ = suc i in
     let book : BookView = all_booked me.0.number ds h.book in
-    recorded s r old new are i key at id me.0 (settled place ds found book slow obtrusive me).0 seat (lowering_leaves place ds found book slow obtrusive me)
+    recorded s r old new are i key at id me.0 (settled place ds found book slow obtrusive me).0 seat (lowering_leaves place ds found book slow obtrusive me) refl
     (lock_word place) left (omega arith, omega arith) r′ (lowered book slow obtrusive h)
     (held_at-changed place (lowered book slow obtrusive) (λ x. refl) me.0.latches h holds)
     (ap (all_booked me.0.number ds) ((are.book_is i key at).taken id me.0 seat h holds) ∙ sym (ap (λ (l : Lock). l.book) done.0))
     (ap (λ (l : Lock). l.fast) done.0) done.1
 
 -- what is noted under tickets changes none of them
-noted_alike : (place version number q : ℕ) (ts : List Own) → map (ticket_by number) (own_at q (noting_version place version ts)) ≡ map (ticket_by number) (own_at q ts)
+pub noted_alike : (place version number q : ℕ) (ts : List Own) → map (ticket_by number) (own_at q (noting_version place version ts)) ≡ map (ticket_by number) (own_at q ts)
 noted_alike place version number q [] = refl
 noted_alike place version number q (t ∷ ts) = by_bool (t.place == place)
     (λ here. by_bool (t.place == q)
@@ -176,9 +173,8 @@ writing_redefines s r old new are i key at id me seat h holds change r′ done e
     recorded s r old new are i key at id me.0 (redefined place standing me).0 seat (record {
       number = refl;
       fast = λ number q. noted_alike place standing.version number q me.0.fast;
-      directory = refl;
       held_else = λ q else. held_at-unchanged place (restood standing) (λ x. refl) q me.0.latches else;
-    }) (version_word place) standing.version (omega arith, omega arith) r′ (restood standing h)
+    }) refl (version_word place) standing.version (omega arith, omega arith) r′ (restood standing h)
     (held_at-changed place (restood standing) (λ x. refl) me.0.latches h holds)
     (ap (books.redefining change) ((are.book_is i key at).taken id me.0 seat h holds) ∙ sym (ap (λ (l : Lock). l.book) done))
     (ap (λ (l : Lock). l.fast) done) elsewhere

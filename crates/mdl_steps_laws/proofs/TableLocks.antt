@@ -59,7 +59,7 @@ one_place (k ∷ ks) distinct zero (suc j) key e f = absurd (each_at (λ y. (k �
 one_place (k ∷ ks) distinct (suc i) zero key e f = absurd (each_at (λ y. (k ≡ y) → ⊥) ks distinct.0 i key e (some-injective k key f))
 one_place (k ∷ ks) distinct (suc i) (suc j) key e f = ap suc (one_place ks distinct.1 i j key e f)
 
-one_directory : (a b : Keys) → some (some (slot.Directory a)) ≡ some (some (slot.Directory b)) → a ≡ b
+pub one_directory : (a b : Keys) → some (some (slot.Directory a)) ≡ some (some (slot.Directory b)) → a ≡ b
 one_directory a b e = cc
 
 -- ---- a system of given lists

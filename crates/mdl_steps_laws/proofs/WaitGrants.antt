@@ -37,7 +37,7 @@ use Rattle.mdl_steps_laws.proofs.WaitSteps.{Stays, now_there, other_session, une
 use Rattle.mdl_steps_laws.proofs.WaitsTold.{waiter_by}
 
 pub granting_grants_waiters : GrantingGrantsWaiters
-granting_grants_waiters s r keys keys_are i key at id me seat session ticket number h may some_theirs first found =
+granting_grants_waiters s r keys keys_are i key at id me seat session ticket number h may some_theirs found =
     let n : ℕ = wait_in number 2 in
     let wish : Ticket = may.wish in
     let w : View = (settled_granted (length s.homes) (suc i) session ticket number me).0 in
@@ -64,7 +64,7 @@ granting_grants_waiters s r keys keys_are i key at id me seat session ticket num
             grantable = subst (λ (m : ℕ). IsGrantable x m key may.wish.mode) (sym wish_is.0)
                 (grantable_by told.0 x told.2 session key may.wish.mode h.noted (holders_may_join s r told.0 told.1 i key here id me.0 seat h may.recorded)
                 (subst (λ (b : BookView). MayJoin session b h.noted may.wish.mode) was may.may)
-                (subst (λ (b : BookView). goes_first (books.lock_kind b) b.waiting session may.wish.mode ≡ true) was first));
+                (subst (λ (b : BookView). goes_first (books.lock_kind b) b.waiting session may.wish.mode ≡ true) was may.first));
             leaves =
                 let order = leaves_order session ticket (told.0 key).book.waiting may.wish found_wish (waits s) (waits s′) (λ u left.
                 waits_else s r session n id me.0 w u.session (apart key u (subst (λ (l : Lock). Contains l.book.waiting u) (sym turns) left))) in (

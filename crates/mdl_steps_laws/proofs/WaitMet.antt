@@ -9,7 +9,7 @@ use Rattle.mdl_steps.specs.declared.slot.Slot.{Slot}
 use Rattle.mdl_steps.specs.declared.view.View.{View}
 use Rattle.mdl_steps.specs.Cells.{waits}
 use Rattle.mdl_steps.specs.Layout.{wait_word}
-use Rattle.mdl_steps.specs.WaitPlays.{met_wait}
+use Rattle.mdl_steps.specs.WaitPlays.{met_wait_by}
 use Rattle.mdl_steps.proofs.WaitSteps.{met_rule, set_found}
 use Rattle.mdl_system.specs.Events.{SameWaits}
 use Rattle.mdl_system.specs.Systems.{System}
@@ -46,11 +46,11 @@ module _ (s : State Slot View) (id : ℕ) (v w : View) (seat : get_elem? s.views
   }
 
 pub meeting_rests : MeetingRests
-meeting_rests s r id me seat session =
+meeting_rests s r id me seat session kind =
     let n : ℕ = waits s session in
-    let w : View = (met_wait (length s.homes) session (waits s session) me).0 in
-    let then_ : State Slot View = after_wait s session (waits s session) id (met_wait (length s.homes) session (waits s session) me) in
-    let r′ = met_rule s r id session me seat in (
+    let w : View = (met_wait_by kind (length s.homes) session (waits s session) me).0 in
+    let then_ : State Slot View = after_wait s session (waits s session) id (met_wait_by kind (length s.homes) session (waits s session) me) in
+    let r′ = met_rule s r id session me seat kind in (
       r′,
       λ a b told told′.
           let stays : Stays me.0 w = record { number = refl; fast = refl; directory = refl } in

@@ -77,7 +77,6 @@ next_may_be_granted s r keys keys_are i key at id me seat h holds word noted uns
           (λ not_. not_),
       beside.0,
     )) in (
-      record { recorded = holds; wish = t; waits = once_found h.book.waiting u.book_ok.waiting.once t among; may = joins },
+      record { recorded = holds; wish = t; waits = once_found h.book.waiting u.book_ok.waiting.once t among; may = joins; first = both.1 },
       refl,
-      both.1,
     )

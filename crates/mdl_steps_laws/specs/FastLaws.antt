@@ -11,11 +11,12 @@ use Rattle.mdl_defs.specs.declared.definition.Definition.{Definition}
 use Rattle.mdl_book.specs.declared.ticket.Ticket.{Ticket}
 use Rattle.mdl_book.specs.Tickets.{ticket_of}
 use Rattle.mdl_steps.specs.declared.slot.Slot.{Slot}
+use Rattle.mdl_steps.specs.declared.step_kind.StepKind.{StepKind}
 use Rattle.mdl_steps.specs.declared.view.Held.{Held}
 use Rattle.mdl_steps.specs.declared.view.Own.{Own}
 use Rattle.mdl_steps.specs.declared.view.View.{View}
 use Rattle.mdl_steps.specs.Cells.{own_at, ticket_by}
-use Rattle.mdl_steps.specs.FastPlays.{granted_fast, released_fast, materialised, met_word, MayGrantFast, MayReleaseFast, MayMaterialise}
+use Rattle.mdl_steps.specs.FastPlays.{granted_fast, released_fast, materialised, met_word_by, MayGrantFast, MayReleaseFast, MayMaterialise}
 use Rattle.mdl_steps.specs.Layout.{lock_word}
 use Rattle.mdl_steps.specs.Plays.{Mine}
 use Rattle.mdl_steps.specs.Rule.{Rule}
@@ -47,12 +48,12 @@ GrantingFastGrants =
     Brings (Grant (of_lock key (record { session = me.0.number; number = me.0.next; mode = mode })))
     s (after_word s (suc i) (word_at s (suc i) + one) id (granted_fast (suc i) mode noted (word_at s (suc i)) me))
 
--- a fast release is the event of a release, where no slow ticket of the session there has the same number
+-- a fast release is the event of a release
 abbrev pub ReleasingFastReleases : Type 0
 ReleasingFastReleases =
     (s : State Slot View) → Rule s → (keys : List KeyName) → AreKeysOf s keys → (i : ℕ) (key : KeyName) → get_elem? keys i ≡ some key →
     (id : ℕ) (me : Mine) → get_elem? s.views id ≡ some me.0 → 0 < me.0.number →
-    (number one : ℕ) (may : MayReleaseFast (suc i) number one me) → ticket_of me.0.number number (map (ticket_by me.0.number) (own_at (suc i) me.0.slow)) ≡ None →
+    (number one : ℕ) (may : MayReleaseFast (suc i) number one me) →
     Brings (Release (of_lock key (ticket_by me.0.number may.ticket)))
     s (after_word s (suc i) ((word_at s (suc i) + (2 ^ 64 - one)) % 2 ^ 64) id (released_fast (suc i) number (word_at s (suc i)) me))
 
@@ -67,7 +68,7 @@ MaterialisingRests =
 abbrev pub ReadingUnlatchedRests : Type 0
 ReadingUnlatchedRests =
     (s : State Slot View) → Rule s → (place : ℕ) → 0 < place → place < length s.homes → (id : ℕ) (me : Mine) → get_elem? s.views id ≡ some me.0 →
-    Rests s (after_word s place (word_at s place) id (met_word place (word_at s place) me))
+    (kind : StepKind) → Rests s (after_word s place (word_at s place) id (met_word_by kind place (word_at s place) me))
 
 -- a session that waits has no fast ticket, nor has one that hasn't ended its granted wait
 abbrev pub WaitersHaveNoFastTickets : Type 0

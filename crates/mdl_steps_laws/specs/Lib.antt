@@ -1,6 +1,10 @@
 pub mod DeedLaws
 pub mod FastLaws
+pub mod Headline
 pub mod Locks
+pub mod RestLaws
+pub mod SessionSteps
+pub mod StepEvents
 pub mod StepLaws
 pub mod TableLaws
 pub mod ToldDeeds

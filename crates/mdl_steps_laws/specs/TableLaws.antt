@@ -1,5 +1,5 @@
 -- What the rule of the running table comes to in the system of locks.
-use Rattle.std.specs.Prelude.{◌≡◌, ◌≢◌, ℕ, suc, ◌<◌, map, Some, None}
+use Rattle.std.specs.Prelude.{◌≡◌, ◌≢◌, ℕ, suc, ◌<◌, map, Some}
 use mathlib.Core.Option.{some}
 use lib.ListN.{get_elem?}
 use Rattle.atomic_table.specs.Table.{State}
@@ -46,15 +46,14 @@ NextNumbersAreNew =
     (s : State Slot View) → Rule s → (locks : KeyName → Lock) → AreLocksOf s locks → (system : System Definition) → Tells locks system →
     (j : ℕ) (v : View) → get_elem? s.views j ≡ some v → 0 < v.number → IsNewNumber system v.number v.next
 
--- the slow ticket that a session has by its view, where no fast one of it there has the same number, is its only one in the lock of that
--- number; and the session holds it, but where it is that of a wait
+-- the slow ticket that a session has by its view is its only one in the lock of that number; and the session holds it, but where it is that
+-- of a wait
 abbrev pub OwnTicketsAreHeld : Type 0
 OwnTicketsAreHeld =
     (s : State Slot View) → Rule s → (locks : KeyName → Lock) → (are : AreLocksOf s locks) → (system : System Definition) → Tells locks system →
     (i : ℕ) (key : KeyName) → get_elem? are.keys i ≡ some key →
     (j : ℕ) (v : View) → get_elem? s.views j ≡ some v → 0 < v.number →
     (number : ℕ) (t : Ticket) → ticket_of v.number number (map (ticket_by v.number) (own_at (suc i) v.slow)) ≡ Some t →
-    ticket_of v.number number (map (ticket_by v.number) (own_at (suc i) v.fast)) ≡ None →
     NotWaited v number → IsOfNoWait system v.number number →
     IsOnly v.number number (locks key) t × IsHeld system v.number (of_lock key t)
 

@@ -13,8 +13,8 @@ use Rattle.mdl_defs.specs.declared.definition.Definition.{Definition}
 use Rattle.mdl_defs.specs.Standings.{applied}
 use Rattle.mdl_book.specs.declared.ticket.Ticket.{Ticket}
 use Rattle.mdl_book.specs.Books as books
-use Rattle.mdl_book.specs.Granting.{goes_first}
 use Rattle.mdl_steps.specs.declared.slot.Slot.{Slot}
+use Rattle.mdl_steps.specs.declared.step_kind.StepKind.{StepKind}
 use Rattle.mdl_steps.specs.declared.view.Ask.{Ask}
 use Rattle.mdl_steps.specs.declared.view.Held.{Held}
 use Rattle.mdl_steps.specs.declared.view.View.{View}
@@ -24,7 +24,7 @@ use Rattle.mdl_steps.specs.Cells.{held_at, waits}
 use Rattle.mdl_steps.specs.Layout.{wait_word}
 use Rattle.mdl_steps.specs.Plays.{Mine}
 use Rattle.mdl_steps.specs.Rule.{Rule}
-use Rattle.mdl_steps.specs.WaitPlays.{asked_ticket, ended_granted, ended_lost, met_wait, opened, settled_granted, settled_lost, wait_in}
+use Rattle.mdl_steps.specs.WaitPlays.{asked_ticket, ended_granted, ended_lost, met_wait_by, opened, settled_granted, settled_lost, wait_in}
 use Rattle.mdl_steps.specs.WaitSeats.{MayCancel, MayGrant, MayOpen}
 use Rattle.mdl_steps.specs.WaitStates.{lost_state}
 use Rattle.mdl_system.specs.Events.{BeginWait, EndGrantedWait, EndLostWait, Event, GrantWaiter, Happens, SameSystem, SettleLost}
@@ -80,17 +80,16 @@ SettlingLoses =
     × Brings (SettleLost key (record { ticket = ticket; wait = number; state = Unsettled }) (lost_as how))
     s (after_wait s session (wait_in number (lost_state how)) id (settled_lost (length s.homes) session number (lost_state how) me))
 
--- to grant an unsettled wait under the latch of its place is to grant the waiter, where its wish waits behind nobody
+-- to grant an unsettled wait under the latch of its place is to grant the waiter
 abbrev pub GrantingGrantsWaiters : Type 0
 GrantingGrantsWaiters =
     (s : State Slot View) → Rule s → (keys : List KeyName) → AreKeysOf s keys → (i : ℕ) (key : KeyName) → get_elem? keys i ≡ some key →
     (id : ℕ) (me : Mine) → get_elem? s.views id ≡ some me.0 →
-    (session ticket number : ℕ) (h : Held) → (may : MayGrant (suc i) session ticket h me) → 0 < session →
-    goes_first (books.lock_kind h.book) h.book.waiting session may.wish.mode ≡ true → waits s session ≡ wait_in number 1 →
+    (session ticket number : ℕ) (h : Held) → (may : MayGrant (suc i) session ticket h me) → 0 < session → waits s session ≡ wait_in number 1 →
     Brings (GrantWaiter key (record { ticket = may.wish; wait = number; state = Unsettled }))
     s (after_wait s session (wait_in number 2) id (settled_granted (length s.homes) (suc i) session ticket number me))
 
--- both are so of the ticket that the book finds next, by the word that was noted while the flag OBTRUSIVE is up
+-- the ticket that the book finds next may be granted, by the word that was noted while the flag OBTRUSIVE is up
 abbrev pub NextMayBeGranted : Type 0
 NextMayBeGranted =
     (s : State Slot View) → Rule s → (keys : List KeyName) → AreKeysOf s keys → (i : ℕ) (key : KeyName) → get_elem? keys i ≡ some key →
@@ -98,7 +97,6 @@ NextMayBeGranted =
     (word : ℕ) → (h.obtrusive ≡ true → h.noted ≡ Some word) →
     (unsettled : set.FinSet nat_cmp) (t : Ticket) → books.next_grantable word unsettled h.book ≡ Some t →
     (may : MayGrant (suc i) t.session t.number h me) × (may.wish ≡ t)
-    × (goes_first (books.lock_kind h.book) h.book.waiting t.session t.mode ≡ true)
 
 -- to end a wait that was met granted is to end a granted wait: from then on its session holds the ticket that it asked for
 abbrev pub EndingHolds : Type 0
@@ -123,5 +121,5 @@ EndingLeaves =
 -- to read a wait word, or to meet there another than the one that was to be settled, is to do nothing
 abbrev pub MeetingRests : Type 0
 MeetingRests =
-    (s : State Slot View) → Rule s → (id : ℕ) (me : Mine) → get_elem? s.views id ≡ some me.0 → (session : ℕ) →
-    Rests s (after_wait s session (waits s session) id (met_wait (length s.homes) session (waits s session) me))
+    (s : State Slot View) → Rule s → (id : ℕ) (me : Mine) → get_elem? s.views id ≡ some me.0 → (session : ℕ) (kind : StepKind) →
+    Rests s (after_wait s session (waits s session) id (met_wait_by kind (length s.homes) session (waits s session) me))

@@ -7,6 +7,8 @@
 
 mod deeds;
 mod fast_path;
+mod headline;
+mod rests;
 mod steps;
 mod tables;
 mod waits;
@@ -19,9 +21,15 @@ pub use fast_path::{
     granting_fast_grants, materialising_rests, reading_unlatched_rests, releasing_fast_releases,
     waiters_have_no_fast_tickets,
 };
+pub use headline::definitions_stay;
+pub use rests::{
+    consulting_rests, drawing_rests, informing_rests, lowering_rests, missing_directory_rests,
+    missing_rests, naming_rests, putting_reading_rests, putting_rests, raising_rests,
+    reading_rests, splitting_rests, taking_rests,
+};
 pub use steps::{
-    lowering_does, lowering_is_done, putting_does, putting_is_done, writing_is_done,
-    writing_redefines,
+    lowering_brings, lowering_does, lowering_is_done, putting_brings, putting_does,
+    putting_is_done, writing_brings, writing_is_done, writing_redefines,
 };
 pub use tables::{
     holders_may_join, next_numbers_are_new, one_place_is_one_lock, own_tickets_are_held,

@@ -1,6 +1,7 @@
 //! The steps by which deeds and changes of definitions come to be of the table do them in the locks that it tells. Each law is proved as
 //! the contract of a function that does nothing.
 ghost use Rattle.mdl_steps_laws.specs.StepLaws.{PuttingDoes, LoweringDoes, WritingRedefines};
+ghost use Rattle.mdl_steps_laws.specs.StepEvents.{PuttingBrings, LoweringBrings, WritingBrings};
 ghost use Rattle.mdl_steps_laws.specs.ToldDeeds.{PuttingIsDone, LoweringIsDone, WritingIsDone};
 
 /// As a latch is put after deeds, they are done to the lock of its key, and nothing is to any other.
@@ -16,6 +17,21 @@ pub fn lowering_does()
 /// As a version is written under the latch, what stands in the lock of its key is changed, and nothing is in any other.
 pub fn writing_redefines()
     ensures { WritingRedefines }
+{}
+
+/// What a session may do by the step that puts a latch is one event, or nothing.
+pub fn putting_brings()
+    ensures { PuttingBrings }
+{}
+
+/// So it is by the step that lowers flags.
+pub fn lowering_brings()
+    ensures { LoweringBrings }
+{}
+
+/// And the step that writes a version changes the definition.
+pub fn writing_brings()
+    ensures { WritingBrings }
 {}
 
 /// So the deeds are done in the system, whichever the table tells, as a latch is put after them: all waits stay as they are.

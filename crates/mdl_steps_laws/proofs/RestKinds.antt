@@ -1,0 +1,199 @@
+-- The kinds of step by which nothing is done in the system.
+use Rattle.std.proofs.Common.{◌≡◌, ◌≢◌, ℕ, ◌+◌, ◌*◌, ◌<◌, ◌≤◌, ◌==◌, cond, inl, inr, List, [], map, set, get_or, Some, None, refl, sym, ap, ◌∙◌, subst, arith, length-set, get_or-set_other, get_or-set_same}
+use mathlib.Core.Option.{Option as Maybe, some, none}
+use lib.ListN.{get_elem?}
+use Rattle.atomic_table.specs.Table.{State}
+use Rattle.atomic_table.proofs.Lists.{at_set, set_else, set_here}
+use Rattle.mdl_key.specs.Words.{KeyName}
+use Rattle.mdl_book.specs.declared.book_view.BookView.{BookView}
+use Rattle.mdl_steps.specs.declared.slot.Slot.{Slot}
+use Rattle.mdl_steps.specs.declared.slot.Slot.TheVariants as slot
+use Rattle.mdl_steps.specs.declared.view.Held.{Held}
+use Rattle.mdl_steps.specs.declared.view.View.{View}
+use Rattle.mdl_steps.specs.Cells.{held_at, own_at, ticket_by}
+use Rattle.mdl_steps.specs.Layout.{latch_word, lock_word}
+use Rattle.mdl_steps.specs.Plays.{Mine, latched, lowered, noting, raised, read_and_put, settled, unlatched}
+use Rattle.mdl_steps.specs.Rule.{Rule}
+use Rattle.mdl_steps.proofs.Views.{held_at-changed, held_at-dropped, held_at-first, held_at-past, held_at-unchanged, held_at-undropped}
+use Rattle.mdl_steps.proofs.WaitSteps.{set_found}
+use Rattle.mdl_steps_laws.specs.Headline.{HasPlace, IsFree}
+use Rattle.mdl_steps_laws.specs.Locks.{AreKeysOf, IsBookAt}
+use Rattle.mdl_steps_laws.specs.RestLaws.{LoweringRests, MissingDirectoryRests, MissingRests, PuttingReadingRests, PuttingRests, IsRest, RaisingRests, ReadingRests, TakingRests, after_step}
+use Rattle.mdl_steps_laws.proofs.RestSteps.{elsewhere_rests, one_book, place_rests}
+use Rattle.mdl_steps_laws.proofs.SeatSteps.{Leaves, noted_alike}
+
+one_record : (g h : Held) → Some g ≡ Some h → g ≡ h
+one_record g h e = cc
+
+-- ---- the book of a place
+
+module _ (s : State Slot View) (place : ℕ) (has : HasPlace s place) (id : ℕ) (v w : View) (seat : get_elem? s.views id ≡ some v) where
+  -- stays where its word, its slot, and what is recorded of the book do
+  kept_here : (n m : ℕ) → get_or (set s.words n m) (latch_word place) 0 ≡ get_or s.words (latch_word place) 0
+      → ((g : Held) → held_at place w.latches ≡ Some g → (h : Held) × (held_at place v.latches ≡ Some h) × (g.book ≡ h.book))
+      → (book : BookView) → IsBookAt s place book → IsBookAt (record { words = set s.words n m; homes = s.homes; views = set s.views id w }) place book
+  kept_here n m latch records book is = record {
+    free = λ free. is.free (sym latch ∙ free);
+    taken = λ j u there g holds. elim (at_set s.views id j w u there) [
+      | inl mine ↦
+          let was = records g (ap (λ (x : View). held_at place x.latches) mine.1 ∙ holds) in
+          was.2 ∙ is.taken id v seat was.0 was.1
+      | inr other ↦ is.taken j u other.1 g holds
+    ];
+  }
+
+  -- where its latch is given back with it
+  given_here : (h : Held) → held_at place v.latches ≡ Some h → held_at place w.latches ≡ None
+      → (book : BookView) → IsBookAt s place book
+      → IsBookAt (record { words = set s.words (latch_word place) 0; homes = set s.homes place (some (slot.Place h.book)); views = set s.views id w }) place book
+  given_here h holds gone book is = record {
+    free = λ _. set_here s.homes place (some (slot.Place h.book)) has.1 ∙ ap (λ (b : BookView). some (some (slot.Place b))) (is.taken id v seat h holds);
+    taken = λ j u there g has_g. elim (at_set s.views id j w u there) [
+      | inl mine ↦ (let e : None ≡ Some g = sym gone ∙ ap (λ (x : View). held_at place x.latches) mine.1 ∙ has_g in absurd (cc))
+      | inr other ↦ is.taken j u other.1 g has_g
+    ];
+  }
+
+  -- where it is taken with it
+  taken_here : (r : Rule s) (number : ℕ) → 0 < number → IsFree s place → (h : Held) → get_elem? s.homes place ≡ some (some (slot.Place h.book)) → held_at place w.latches ≡ Some h
+      → (book : BookView) → IsBookAt s place book
+      → IsBookAt (record { words = set s.words (latch_word place) number; homes = set s.homes place none; views = set s.views id w }) place book
+  taken_here r number some_number free h home now book is = record {
+    free = λ e.
+        let written : get_or (set s.words (latch_word place) number) (latch_word place) 0 ≡ number = get_or-set_same s.words (latch_word place) number 0 (let wide = r.wide in let last = has.1 in omega arith) in
+        absurd (omega arith);
+    taken = λ j u there g holds. elim (at_set s.views id j w u there) [
+      | inl mine ↦
+          let same : g ≡ h = one_record g h (sym holds ∙ ap (λ (x : View). held_at place x.latches) (sym mine.1) ∙ now) in
+          ap (λ (x : Held). x.book) same ∙ one_book h.book book (sym home ∙ is.free free)
+      | inr other ↦ is.taken j u other.1 g holds
+    ];
+  }
+
+-- ---- the latch of a place
+
+pub unmoved : (s : State Slot View) (place : ℕ) (q : ℕ) → q ≢ place → get_elem? s.homes q ≡ get_elem? s.homes q
+unmoved s place q else = refl
+
+pub taking_rests : TakingRests
+taking_rests s r place has id me seat some_number free h fresh home r′ =
+    let w : View = (latched place h me).0 in
+    let leaves : Leaves place me.0 w = record { number = refl; fast = λ number q. refl; held_else = λ q else. held_at-past place q h me.0.latches fresh.here else } in (
+      r′,
+      place_rests s r place id me.0 w seat leaves refl (latch_word place) me.0.number (omega arith, omega arith) (set s.homes place none) (length-set s.homes place none)
+          (λ q else. set_else s.homes place q none else) has refl
+          (taken_here s place has id me.0 w seat r me.0.number some_number free h home (held_at-first place h me.0.latches fresh.here)) r′,
+    )
+
+pub putting_rests : PuttingRests
+putting_rests s r place has id me seat h holds r′ =
+    let w : View = (unlatched place [] me).0 in
+    let home : Maybe Slot = some (slot.Place h.book) in
+    let leaves : Leaves place me.0 w = record { number = refl; fast = λ number q. refl; held_else = λ q else. held_at-undropped place q me.0.latches else } in (
+      r′,
+      place_rests s r place id me.0 w seat leaves refl (latch_word place) 0 (omega arith, omega arith) (set s.homes place home) (length-set s.homes place home)
+          (λ q else. set_else s.homes place q home else) has refl
+          (given_here s place has id me.0 w seat h holds (held_at-dropped place me.0.latches)) r′,
+    )
+
+pub putting_reading_rests : PuttingReadingRests
+putting_reading_rests s r place has id me seat h holds r′ =
+    let w : View = (read_and_put place h.book.standing me).0 in
+    let home : Maybe Slot = some (slot.Place h.book) in
+    let leaves : Leaves place me.0 w = record {
+      number = refl;
+      fast = λ number q. noted_alike place h.book.standing.version number q me.0.fast;
+      held_else = λ q else. held_at-undropped place q me.0.latches else;
+    } in (
+      r′,
+      place_rests s r place id me.0 w seat leaves refl (latch_word place) 0 (omega arith, omega arith) (set s.homes place home) (length-set s.homes place home)
+          (λ q else. set_else s.homes place q home else) has refl
+          (given_here s place has id me.0 w seat h holds (held_at-dropped place me.0.latches)) r′,
+    )
+
+-- ---- its word, under the latch
+
+module _ (s : State Slot View) (r : Rule s) (place : ℕ) (has : HasPlace s place) (id : ℕ) (me me′ : Mine) (seat : get_elem? s.views id ≡ some me.0)
+    (h : Held) (holds : held_at place me.0.latches ≡ Some h) where
+  -- the record of the latch has the same book, but else it may change
+  record_rests : (f : Held → Held) → ((x : Held) → (f x).place ≡ x.place) → (f h).book ≡ h.book
+      → me′.0.number ≡ me.0.number → me′.0.fast ≡ me.0.fast → me′.0.asks ≡ me.0.asks → me′.0.directory ≡ me.0.directory
+      → me′.0.latches ≡ map (λ x. cond (x.place == place) (f x) x) me.0.latches → (left : ℕ) → IsRest s (after_step s (lock_word place) left id me′)
+  record_rests f stays book number fast asks directory latches left r′ =
+      let leaves : Leaves place me.0 me′.0 = record {
+        number = number;
+        fast = λ n q. ap (λ ts. map (ticket_by n) (own_at q ts)) fast;
+        held_else = λ q else. ap (held_at q) latches ∙ held_at-unchanged place f stays q me.0.latches else;
+      } in
+      let now : held_at place me′.0.latches ≡ Some (f h) = ap (held_at place) latches ∙ held_at-changed place f stays me.0.latches h holds in (
+        r′,
+        place_rests s r place id me.0 me′.0 seat leaves asks (lock_word place) left (omega arith, omega arith) s.homes refl (unmoved s place) has directory
+            (kept_here s place has id me.0 me′.0 seat (lock_word place) left (get_or-set_other s.words (lock_word place) (latch_word place) left 0 (λ e. omega arith))
+            (λ g e. (h, holds, ap (λ (x : Held). x.book) (one_record g (f h) (sym e ∙ now)) ∙ book))) r′,
+      )
+
+pub raising_rests : RaisingRests
+raising_rests s r place has id me me′ seat h holds st found left slow obtrusive at mask play =
+    let e = play.1 place slow obtrusive at mask in
+    record_rests s r place has id me me′ seat h holds (raised slow obtrusive) (λ x. refl) refl
+    (ap (λ (x : Mine). x.0.number) e) (ap (λ (x : Mine). x.0.fast) e) (ap (λ (x : Mine). x.0.asks) e) (ap (λ (x : Mine). x.0.directory) e) (ap (λ (x : Mine). x.0.latches) e) left
+
+pub reading_rests : ReadingRests
+reading_rests s r place has id me me′ seat h holds st found at play =
+    let e = play.1 place at in
+    record_rests s r place has id me me′ seat h holds (noting found) (λ x. refl) refl
+    (ap (λ (x : Mine). x.0.number) e) (ap (λ (x : Mine). x.0.fast) e) (ap (λ (x : Mine). x.0.asks) e) (ap (λ (x : Mine). x.0.directory) e) (ap (λ (x : Mine). x.0.latches) e) found
+
+pub lowering_rests : LoweringRests
+lowering_rests s r place has id me seat h holds found left slow obtrusive =
+    record_rests s r place has id me (settled place [] found h.book slow obtrusive me) seat h holds (lowered h.book slow obtrusive) (λ x. refl) refl refl refl refl refl refl left
+
+-- ---- a step that changes the list of steps, and nothing else
+
+module _ (s : State Slot View) (r : Rule s) (id : ℕ) (me me′ : Mine) (seat : get_elem? s.views id ≡ some me.0) (number : me′.0.number ≡ me.0.number) (fast : me′.0.fast ≡ me.0.fast)
+    (asks : me′.0.asks ≡ me.0.asks) (directory : me′.0.directory ≡ me.0.directory) (latches : me′.0.latches ≡ me.0.latches) where
+  pub leaves_all : (place : ℕ) → Leaves place me.0 me′.0
+  leaves_all place = record {
+    number = number;
+    fast = λ n q. ap (λ ts. map (ticket_by n) (own_at q ts)) fast;
+    held_else = λ q else. ap (held_at q) latches;
+  }
+
+  -- on a word of a place that stays as it was
+  pub met_rests : (place : ℕ) → HasPlace s place → (n : ℕ) → (8 * place ≤ n) × (n < 8 * place + 8) → IsRest s (after_step s n (get_or s.words n 0) id me′)
+  met_rests place has n near r′ = (
+    r′,
+    place_rests s r place id me.0 me′.0 seat (leaves_all place) asks n (get_or s.words n 0) near s.homes refl (unmoved s place) has directory
+        (kept_here s place has id me.0 me′.0 seat n (get_or s.words n 0) (ap (λ ws. get_or ws (latch_word place) 0) (set_found s.words n))
+        (λ g e. (g, sym (ap (held_at place) latches) ∙ e, refl))) r′,
+  )
+
+  -- the directory's keys, while its word stays
+  met_keys : (keys : List KeyName) → AreKeysOf s keys → AreKeysOf (after_step s (latch_word 0) (get_or s.words (latch_word 0) 0) id me′) keys
+  met_keys keys are = record {
+    free = λ free. are.free (sym (ap (λ ws. get_or ws (latch_word 0) 0) (set_found s.words (latch_word 0))) ∙ free);
+    taken = λ j u there k has. elim (at_set s.views id j me′.0 u there) [
+      | inl mine ↦ are.taken id me.0 seat k (sym directory ∙ ap (λ (x : View). x.directory) mine.1 ∙ has)
+      | inr other ↦ are.taken j u other.1 k has
+    ];
+  }
+
+  met_directory : IsRest s (after_step s (latch_word 0) (get_or s.words (latch_word 0) 0) id me′)
+  met_directory r′ = (
+    r′,
+    elsewhere_rests s r 0 id me.0 me′.0 seat (leaves_all 0) asks (latch_word 0) (get_or s.words (latch_word 0) 0) (omega arith, omega arith) s.homes refl (unmoved s 0)
+        (omega arith) (λ q some last e. omega arith) met_keys r′,
+  )
+
+pub missing_rests : MissingRests
+missing_rests s r place has id me me′ seat st found at is taken play =
+    let e = (play.1 place at).1 taken in
+    subst (λ (n : ℕ). IsRest s (after_step s (latch_word place) n id me′)) (sym is)
+    (met_rests s r id me me′ seat (ap (λ (x : Mine). x.0.number) e) (ap (λ (x : Mine). x.0.fast) e) (ap (λ (x : Mine). x.0.asks) e) (ap (λ (x : Mine). x.0.directory) e) (ap (λ (x : Mine). x.0.latches) e)
+    place has (latch_word place) (omega arith, omega arith))
+
+pub missing_directory_rests : MissingDirectoryRests
+missing_directory_rests s r id me me′ seat st found at is taken play =
+    let e = (play.1 at).1 taken in
+    subst (λ (n : ℕ). IsRest s (after_step s (latch_word 0) n id me′)) (sym is)
+    (met_directory s r id me me′ seat (ap (λ (x : Mine). x.0.number) e) (ap (λ (x : Mine). x.0.fast) e) (ap (λ (x : Mine). x.0.asks) e) (ap (λ (x : Mine). x.0.directory) e) (ap (λ (x : Mine). x.0.latches) e))

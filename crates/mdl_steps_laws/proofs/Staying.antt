@@ -1,0 +1,159 @@
+-- What a session reads under a ticket stays, until it gives the ticket up or changes the definition.
+use Rattle.std.proofs.Common.{◌≡◌, ℕ, ◌<◌, ◌==◌, true, cond, inl, inr, List, [], ◌∷◌, ◌++◌, length, set, Some, refl, sym, ap, ◌∙◌, subst, length-set}
+use Rattle.std.specs.Prelude.{Contains, slice_index}
+use Rattle.std.proofs.lemmas.Bool.{eq-eqb}
+use Rattle.std.proofs.lemmas.List.Elements.{Contains-append_cases, Contains-append_left, Contains-append_right, Contains-push}
+use mathlib.Core.Option.{Option as Maybe, some, some-injective}
+use lib.ListN.{get_elem?}
+use Rattle.atomic_table.specs.Table.{Act, State, carried_after, chain, gives, homes_after, keeps, put_back, takes}
+use Rattle.atomic_table.proofs.Lists.{at_longer, at_map, set_else, set_here}
+use Rattle.mdl_defs.specs.declared.standing.Standing.{Standing}
+use Rattle.mdl_book.specs.declared.book_view.BookView.{BookView}
+use Rattle.mdl_steps.specs.declared.slot.Slot.{Slot}
+use Rattle.mdl_steps.specs.declared.view.Own.{Own}
+use Rattle.mdl_steps.specs.declared.view.View.{View}
+use Rattle.mdl_steps.specs.Cells.{holder_at}
+use Rattle.mdl_steps.specs.Deeds.{is_own}
+use Rattle.mdl_steps.specs.Plays.{Mine, noting_version, read_and_put}
+use Rattle.mdl_steps.specs.Rule.{Rule}
+use Rattle.mdl_steps.proofs.Views.{at_inside, by_bool}
+use Rattle.mdl_system.proofs.Deciding.{nat_told}
+use Rattle.mdl_system.proofs.MemberLemmas.{Contains-map, Contains-map_from}
+use Rattle.mdl_steps_laws.specs.Headline.{DefinitionsStay, Follow, HasNoted, HasPlace, HasRead, NotesStay, ReadingsNote, Stands}
+use Rattle.mdl_steps_laws.specs.SessionSteps.{Turn}
+use Rattle.mdl_steps_laws.proofs.Keeping.{Kept, own_is, own_parts}
+use Rattle.mdl_steps_laws.proofs.NotesKept.{noted_stands, read_stands}
+use Rattle.mdl_steps_laws.proofs.StepsKeep.{made_keeps}
+
+-- ---- one turn
+
+keeps_noted : (place number version : ℕ) (v w : View) → Kept place number version (v.slow ++ v.fast) (w.slow ++ w.fast) → HasNoted place number version v → HasNoted place number version w
+keeps_noted place number version v w kept noted =
+    let now = kept.ahead noted.ticket noted.has.0 noted.has.1 in
+    record {
+      ticket = now.0;
+      has = (now.1, now.2);
+      noted = λ t has. (let was = kept.back t has.0 has.1 in was.3 (noted.noted was.0 (was.1, was.2)));
+    }
+
+pub notes_stay : NotesStay
+notes_stay s t r (Turn.Steps id m m′ st left act there made moves) place has seat number version spares v at noted = elim (nat_told id seat) [
+  | inl mine ↦
+      let is : m.0 ≡ v = some-injective m.0 v (sym there ∙ ap (get_elem? s.views) mine ∙ at) in
+      let seat_there : get_elem? s.views seat ≡ some m.0 = at ∙ ap (λ (x : View). some x) (sym is) in
+      let had : HasNoted place number version m.0 = subst (HasNoted place number version) (sym is) noted in
+      let kept = made_keeps s r place has seat number version m seat_there had st (slice_index s.words st.word) m′ made (spares mine) in
+      let now : get_elem? (set s.views id m′.0) seat ≡ some m′.0 =
+      subst (λ (j : ℕ). get_elem? (set s.views id m′.0) j ≡ some m′.0) mine (set_here s.views id m′.0 (at_inside s.views id m.0 there)) in (
+        m′.0,
+        ap (λ (x : State Slot View). get_elem? x.views seat) moves ∙ now,
+        keeps_noted place number version m.0 m′.0 kept.tickets had,
+        λ standing read. kept.reads (record { place = place; standing = standing }) (subst (HasRead place standing) (sym is) read),
+      )
+  | inr other ↦ (v, ap (λ (x : State Slot View). get_elem? x.views seat) moves ∙ set_else s.views id seat m′.0 (λ e. other (sym e)) ∙ at, noted, λ standing read. read)
+]
+notes_stay s t r (Turn.Splits u first more there fast slow reads moves) place has seat number version spares v at noted = elim (nat_told 0 seat) [
+  | inl mine ↦
+      let is : u ≡ v = some-injective u v (sym there ∙ ap (get_elem? s.views) mine ∙ at) in
+      let now : get_elem? (set s.views 0 first) seat ≡ some first =
+      subst (λ (j : ℕ). get_elem? (set s.views 0 first) j ≡ some first) mine (set_here s.views 0 first (at_inside s.views 0 u there)) in
+      let tickets : v.slow ++ v.fast ≡ first.slow ++ first.fast = λ i. (ap (λ (x : View). x.slow) (sym is) ∙ sym slow) i ++ (ap (λ (x : View). x.fast) (sym is) ∙ sym fast) i in (
+        first,
+        ap (λ (x : State Slot View). get_elem? x.views seat) moves ∙ at_longer (set s.views 0 first) (more ∷ []) seat first now,
+        record {
+          ticket = noted.ticket;
+          has = (subst (λ ts. Contains ts noted.ticket) tickets noted.has.0, noted.has.1);
+          noted = λ o has_o. noted.noted o (subst (λ ts. Contains ts o) (sym tickets) has_o.0, has_o.1);
+        },
+        λ standing read. subst (λ rs. Contains rs (record { place = place; standing = standing })) (ap (λ (x : View). x.reads) (sym is) ∙ sym reads) read,
+      )
+  | inr other ↦ (
+    v,
+    ap (λ (x : State Slot View). get_elem? x.views seat) moves ∙ at_longer (set s.views 0 first) (more ∷ []) seat v (set_else s.views 0 seat first (λ e. other (sym e)) ∙ at),
+    noted,
+    λ standing read. read,
+  )
+]
+
+-- ---- many turns
+
+put_back-length : (hs : List (Maybe Slot)) (c : List (ℕ × Slot)) → length (put_back hs c) ≡ length hs
+put_back-length hs [] = refl
+put_back-length hs (x ∷ xs) = length-set hs x.0 (some x.1)
+
+homes-length : (hs : List (Maybe Slot)) (c : List (ℕ × Slot)) (a : Act Slot) → length (homes_after hs c a) ≡ length hs
+homes-length hs c keeps = refl
+homes-length hs c (takes k y) = length-set hs k Maybe.none
+homes-length hs c gives = put_back-length hs c
+homes-length hs c (chain a b) = homes-length (homes_after hs c a) (carried_after c a) b ∙ homes-length hs c a
+
+turn-places : (s t : State Slot View) → Turn s t → length t.homes ≡ length s.homes
+turn-places s t (Turn.Steps id m m′ st left act there made moves) = ap (λ (x : State Slot View). length x.homes) moves ∙ homes-length s.homes m.1 act
+turn-places s t (Turn.Splits u first more there fast slow reads moves) = ap (λ (x : State Slot View). length x.homes) moves
+
+all_stay : (s : State Slot View) → Rule s → (place : ℕ) → HasPlace s place → (seat number : ℕ) (v : View) → get_elem? s.views seat ≡ some v → (standing : Standing)
+    → HasNoted place number standing.version v → HasRead place standing v → (t : State Slot View) (between : List (State Slot View)) → Follow seat place number s between t → Stands t place standing
+all_stay s r place has seat number v at standing noted read t [] follow =
+    subst (λ (x : State Slot View). Stands x place standing) follow (read_stands s r place has seat v at standing read (noted_stands s r place has seat v at number standing.version noted))
+all_stay s r place has seat number v at standing noted read t (x ∷ xs) follow =
+    let turn = follow.1.0 in
+    let has′ : HasPlace x place = (has.0, subst (λ (n : ℕ). place < n) (sym (turn-places s x turn)) has.1) in
+    let now = notes_stay s x r turn place has seat number standing.version follow.1.1 v at noted in
+    all_stay x follow.0 place has′ seat number now.0 now.1 standing now.2 (now.3 standing read) t xs follow.2
+
+pub definitions_stay : DefinitionsStay
+definitions_stay s r place has seat number v at standing noted read t between follow = (
+  read_stands s r place has seat v at standing read (noted_stands s r place has seat v at number standing.version noted),
+  all_stay s r place has seat number v at standing noted read t between follow,
+)
+
+-- ---- a reading
+
+noted_all : (place version : ℕ) (ts : List Own) (t : Own) → Contains (noting_version place version ts) t → t.place ≡ place → t.noted ≡ Some version
+noted_all place version ts t among here =
+    let from = Contains-map_from (λ (o : Own). cond (o.place == place) (record o { noted = Some version }) o) ts t among in
+    by_bool (from.0.place == place)
+    (λ at. let is : t ≡ record from.0 { noted = Some version } = rw at at from.2 in ap (λ (o : Own). o.noted) is)
+    (λ away. let is : t ≡ from.0 = rw away at from.2 in let at = eq-eqb from.0.place place (ap (λ (o : Own). o.place) (sym is) ∙ here) in absurd (cc))
+
+-- the view after it, by its tickets alone
+noted_by_all : (place version : ℕ) (slow fast : List Own) (t : Own) → Contains (slow ++ fast) t → t.place ≡ place
+    → (now : Own) × (Contains (noting_version place version slow ++ noting_version place version fast) now × (is_own place t.number now ≡ true))
+noted_by_all place version slow fast t among here =
+    let f : Own → Own = λ o. cond (o.place == place) (record o { noted = Some version }) o in
+    let same : is_own place t.number (f t) ≡ true = by_bool (t.place == place) (λ at. rw at (own_is place t.number t here refl)) (λ away. rw away (own_is place t.number t here refl)) in (
+      f t,
+      (
+        elim (Contains-append_cases slow fast t among) [
+          | inl old ↦ Contains-append_left (noting_version place version slow) (noting_version place version fast) (f t) (Contains-map f slow t old)
+          | inr now ↦ Contains-append_right (noting_version place version slow) (noting_version place version fast) (f t) (Contains-map f fast t now)
+        ],
+        same,
+      ),
+    )
+
+pub readings_note : ReadingsNote
+readings_note s r place has seat m m′ there st found may at play =
+    let h = may.0 in
+    let standing : Standing = h.book.standing in
+    let e : m′ ≡ read_and_put place standing m = play.1 place h.book at may.1.holds.carried in
+    let ok = r.places place has.0 has.1 in
+    let held = ok.held seat (holder_at place m.0) (at_map (holder_at place) s.views seat m.0 there) h may.1.holds.recorded in
+    let is : h.book ≡ ok.book = held.book_is in (
+      standing,
+      record {
+        version = ok.book_ok.version_is ∙ ap (λ (b : BookView). b.standing.version) (sym is);
+        at_home = λ free. (ok.book, (ok.free free).0, ap (λ (b : BookView). b.standing) (sym is));
+        in_record = λ j w g there_w holds.
+            ap (λ (b : BookView). b.standing) ((ok.held j (holder_at place w) (at_map (holder_at place) s.views j w there_w) g holds).book_is ∙ sym is);
+      },
+      subst (λ (x : Mine). HasRead place standing x.0) (sym e) (Contains-push m.0.reads (record { place = place; standing = standing })),
+      λ t among here. subst (λ (x : Mine). HasNoted place t.number standing.version x.0) (sym e) ((let now = noted_by_all place standing.version m.0.slow m.0.fast t among here in record {
+        ticket = now.0;
+        has = now.1;
+        noted = λ o had. elim (Contains-append_cases (noting_version place standing.version m.0.slow) (noting_version place standing.version m.0.fast) o had.0) [
+          | inl old ↦ noted_all place standing.version m.0.slow o old (own_parts place t.number o had.1).0
+          | inr fast ↦ noted_all place standing.version m.0.fast o fast (own_parts place t.number o had.1).0
+        ];
+      })),
+    )

@@ -1,0 +1,264 @@
+-- By each kind of step a session keeps the notes of the tickets that it doesn't give up, but where it changes the definition.
+use Rattle.std.proofs.Common.{◌≡◌, ◌≢◌, ◌⊎◌, ℕ, zero, suc, ◌<◌, ◌==◌, true, not, inl, inr, List, [], ◌∷◌, ◌++◌, map, Some, None, refl, sym, ap, ◌∙◌, subst, arith, append-nil}
+use Rattle.std.specs.Prelude.{Contains, Option, slice_index_or}
+use Rattle.std.proofs.lemmas.Bool.{eq-eqb, eqb-true}
+use Rattle.std.proofs.lemmas.List.Elements.{Contains-append_left, Contains-append_right, Contains-append_cases}
+use mathlib.Core.Option.{some, some-injective}
+use lib.ListN.{get_elem?}
+use Rattle.atomic_table.specs.Table.{State, Step}
+use Rattle.atomic_table.proofs.Lists.{at_map}
+use Rattle.mdl_book.specs.declared.book_view.BookView.{BookView}
+use Rattle.mdl_book.specs.declared.ticket.Ticket.{Ticket}
+use Rattle.mdl_book.specs.Books.{empty_book, redefining}
+use Rattle.mdl_book.specs.Tickets.{is_ticket, ticket_of}
+use Rattle.mdl_book.proofs.TicketLemmas.{find-contains}
+use Rattle.mdl_steps.specs.declared.deed.Deed.{Deed}
+use Rattle.mdl_steps.specs.declared.deed.Deed.TheVariants.{Lose}
+use Rattle.mdl_steps.specs.declared.slot.Slot.{Slot}
+use Rattle.mdl_steps.specs.declared.view.Ask.{Ask}
+use Rattle.mdl_steps.specs.declared.view.Held.{Held}
+use Rattle.mdl_steps.specs.declared.view.Own.{Own}
+use Rattle.mdl_steps.specs.declared.view.Read.{Read}
+use Rattle.mdl_steps.specs.declared.view.View.{View}
+use Rattle.mdl_steps.specs.Cells.{held_at, holder_at, note_at, own_at, ticket_by}
+use Rattle.mdl_steps.specs.Deeds.{MayDo, all_booked, all_owned, is_own}
+use Rattle.mdl_steps.specs.FastPlays.{AreJoined, IsAs, but_at, but_own, fast_own, moved}
+use Rattle.mdl_steps.specs.Plays.{Mine, noting_version}
+use Rattle.mdl_steps.specs.Rule.{Rule}
+use Rattle.mdl_steps.specs.WaitPlays.{taken_over, wait_in}
+use Rattle.mdl_steps.proofs.OneEvent.{may_all}
+use Rattle.mdl_steps.proofs.Tickets.{is_itself, is_passed}
+use Rattle.mdl_steps.proofs.Views.{at_inside, by_bool}
+use Rattle.mdl_system.proofs.Deciding.{nat_told}
+use Rattle.mdl_system.proofs.MemberLemmas.{Contains-map, Contains-map_from, Contains-none}
+use Rattle.mdl_steps_laws.specs.Headline.{HasNoted, HasPlace}
+use Rattle.mdl_steps_laws.specs.SessionSteps.{Changes, GivesUp, Makes}
+use Rattle.mdl_steps_laws.proofs.Keeping.{Kept, among_filter, filter_among, filter_passes, kept_both, kept_deeds, kept_filter, kept_noting, kept_push, kept_same, own_is, own_parts}
+use Rattle.mdl_steps_laws.proofs.NotesKept.{noted_stands}
+use Rattle.mdl_steps_laws.proofs.OwnTickets.{each_in, own_among}
+use Rattle.mdl_steps_laws.proofs.TicketMembers.{found-passes, none-passes}
+
+-- ---- lists
+
+index_of_at : {A : Type 0} → (xs : List A) (i : ℕ) (x : A) → get_elem? xs i ≡ some x → slice_index_or xs i x ≡ x
+index_of_at [] i x at = refl
+index_of_at (y ∷ ys) zero x at = some-injective y x at
+index_of_at (y ∷ ys) (suc i) x at = index_of_at ys i x at
+
+there_among : {A : Type 0} → (xs : List A) (i : ℕ) (x : A) → get_elem? xs i ≡ some x → Contains xs x
+there_among xs i x at = (i, at_inside xs i x at, index_of_at xs i x at)
+
+-- ---- what a step keeps
+
+module _ (place number version : ℕ) where
+  pub record Keeps (v w : View) : Type 0 where
+    pub tickets : Kept place number version (v.slow ++ v.fast) (w.slow ++ w.fast)
+    pub reads : (x : Read) → Contains v.reads x → Contains w.reads x
+
+  -- where the tickets and the reads are the same
+  leaves : (v w : View) → w.slow ≡ v.slow → w.fast ≡ v.fast → w.reads ≡ v.reads → Keeps v w
+  leaves v w slow fast reads = record {
+    tickets = subst (λ ts. Kept place number version (v.slow ++ v.fast) ts) (λ i. sym slow i ++ sym fast i) (kept_same place number version (v.slow ++ v.fast));
+    reads = λ x among. subst (λ rs. Contains rs x) (sym reads) among;
+  }
+
+  -- ---- to materialise
+
+  module _ (q : ℕ) (v : View) (slow : List Own) (joined : AreJoined q v slow) where
+    joined_back : (t : Own) → Contains (slow ++ but_at q v.fast) t → is_own place number t ≡ true
+        → (u : Own) × Contains (v.slow ++ v.fast) u × (is_own place number u ≡ true) × (u.noted ≡ Some version → t.noted ≡ Some version)
+    joined_back t among is = elim (Contains-append_cases slow (but_at q v.fast) t among) [
+      | inl here ↦
+          let from = each_in (λ (o : Own). (i : ℕ) × (u : Own) × (get_elem? (v.slow ++ v.fast) i ≡ some u) × IsAs o u) slow joined.among t here in
+          let mine = own_parts place number t is in (
+            from.1,
+            there_among (v.slow ++ v.fast) from.0 from.1 from.2,
+            own_is place number from.1 (sym from.3.1 ∙ mine.0) (sym from.3.0 ∙ mine.1),
+            λ e. from.3.2 ∙ e,
+          )
+      | inr away ↦ (t, Contains-append_right v.slow v.fast t (among_filter (λ (o : Own). not (o.place == q)) v.fast t away), is, λ e. e)
+    ]
+
+    -- one is found where one was
+    found_here : (q ≡ place) → (u : Own) → Contains (map (ticket_by v.number) (own_at q v.slow) ++ moved q v) (ticket_by v.number u) → is_own place number u ≡ true
+        → (t : Own) × Contains slow t × (is_own place number t ≡ true)
+    found_here here u among is = go (ticket_of v.number number (map (ticket_by v.number) (own_at q slow))) refl
+      where
+        passes : is_ticket v.number number (ticket_by v.number u) ≡ true
+        passes = subst (λ (n : ℕ). is_ticket v.number n (ticket_by v.number u) ≡ true) (own_parts place number u is).1 (is_itself (ticket_by v.number u))
+
+        go : (o : Option Ticket) → ticket_of v.number number (map (ticket_by v.number) (own_at q slow)) ≡ o → (t : Own) × Contains slow t × (is_own place number t ≡ true)
+        go None none =
+            absurd (none-passes v.number number (map (ticket_by v.number) (own_at q v.slow) ++ moved q v) (sym (joined.same number) ∙ none) (ticket_by v.number u) among passes)
+        go (Some x) found =
+            let listed = find-contains (is_ticket v.number number) (map (ticket_by v.number) (own_at q slow)) x found in
+            let from = Contains-map_from (ticket_by v.number) (own_at q slow) x listed in
+            let named = is_passed v.number number x (found-passes v.number number (map (ticket_by v.number) (own_at q slow)) x found) in
+            let there : from.0.place ≡ q = eqb-true from.0.place q (filter_passes (λ (o : Own). o.place == q) slow from.0 from.1) in
+            (from.0, own_among q slow from.0 from.1, own_is place number from.0 (there ∙ here) (ap (λ (y : Ticket). y.number) (sym from.2) ∙ named.1))
+
+    joined_ahead : (u : Own) → Contains (v.slow ++ v.fast) u → is_own place number u ≡ true → (t : Own) × Contains (slow ++ but_at q v.fast) t × (is_own place number t ≡ true)
+    joined_ahead u among is = elim (nat_told q place) [
+      | inl here ↦
+          let at : (u.place == q) ≡ true = eq-eqb u.place q ((own_parts place number u is).0 ∙ sym here) in
+          let show : List Own → List Ticket = map (ticket_by v.number) in
+          let t = found_here here u (elim (Contains-append_cases v.slow v.fast u among) [
+            | inl old ↦ Contains-append_left (map (ticket_by v.number) (own_at q v.slow)) (moved q v) (ticket_by v.number u)
+                (Contains-map (ticket_by v.number) (own_at q v.slow) u (filter_among (λ (o : Own). o.place == q) v.slow u old at))
+            | inr fast ↦ Contains-append_right (map (ticket_by v.number) (own_at q v.slow)) (moved q v) (ticket_by v.number u)
+                (Contains-map (ticket_by v.number) (own_at q v.fast) u (filter_among (λ (o : Own). o.place == q) v.fast u fast at))
+          ]) is in
+          (t.0, Contains-append_left slow (but_at q v.fast) t.0 t.1, t.2)
+      | inr away ↦
+          let mine = own_parts place number u is in
+          elim (Contains-append_cases v.slow v.fast u among) [
+            | inl old ↦
+                let at : Contains (own_at place v.slow) u = filter_among (λ (o : Own). o.place == place) v.slow u old (eq-eqb u.place place mine.0) in
+                (u, Contains-append_left slow (but_at q v.fast) u (own_among place slow u (subst (λ ts. Contains ts u) (sym (joined.elsewhere place (λ e. away (sym e)))) at)), is)
+            | inr fast ↦ (
+              u,
+              Contains-append_right slow (but_at q v.fast) u (filter_among (λ (o : Own). not (o.place == q)) v.fast u fast
+                  (by_bool (u.place == q) (λ e. absurd (away (sym (eqb-true u.place q e) ∙ mine.0))) (λ e. rw e refl))),
+              is,
+            )
+          ]
+    ]
+
+    kept_joined : Kept place number version (v.slow ++ v.fast) (slow ++ but_at q v.fast)
+    kept_joined = record { back = joined_back; ahead = joined_ahead }
+
+-- ---- the kinds of step
+
+module _ (s : State Slot View) (r : Rule s) (place : ℕ) (has : HasPlace s place) (seat number version : ℕ) (m : Mine) (there : get_elem? s.views seat ≡ some m.0)
+    (noted : HasNoted place number version m.0) where
+  -- the next ticket has another number
+  below : number < m.0.next
+  below =
+      let mine = own_parts place number noted.ticket noted.has.1 in
+      let numbered = (r.views seat m.0 there).0 in
+      let is : noted.ticket.number < m.0.next = elim (Contains-append_cases m.0.slow m.0.fast noted.ticket noted.has.0) [
+        | inl old ↦ each_in (λ (t : Own). t.number < m.0.next) m.0.slow numbered.slow noted.ticket old
+        | inr fast ↦ each_in (λ (t : Own). t.number < m.0.next) m.0.fast numbered.fast noted.ticket fast
+      ] in
+      subst (λ (n : ℕ). n < m.0.next) mine.1 is
+
+  -- and so has the one that the session waits for
+  unasked : (a : Ask) → m.0.asks ≡ Some a → a.number ≢ number
+  unasked a asks same =
+      let mine = own_parts place number noted.ticket noted.has.1 in
+      let numbered = (r.views seat m.0 there).0 in
+      elim (Contains-append_cases m.0.slow m.0.fast noted.ticket noted.has.0) [
+        | inl old ↦ each_in (λ (t : Own). t.number ≢ a.number) m.0.slow (numbered.apart a asks) noted.ticket old (mine.1 ∙ sym same)
+        | inr fast ↦ Contains-none noted.ticket (subst (λ ts. Contains ts noted.ticket) (numbered.unfast a asks) fast)
+      ]
+
+  -- what the session has recorded there has that version
+  recorded_version : (h : Held) → held_at place m.0.latches ≡ Some h → h.book.standing.version ≡ version
+  recorded_version h holds =
+      let ok = r.places place has.0 has.1 in
+      let held = ok.held seat (holder_at place m.0) (at_map (holder_at place) s.views seat m.0 there) h holds in
+      ap (λ (b : BookView). b.standing.version) held.book_is ∙ sym ok.book_ok.version_is ∙ noted_stands s r place has seat m.0 there number version noted
+
+  -- the tickets at a place get a note
+  notes : (q standing : ℕ) → (q ≡ place → standing ≡ version)
+      → Kept place number version (m.0.slow ++ m.0.fast) (noting_version q standing m.0.slow ++ noting_version q standing m.0.fast)
+  notes q standing same =
+      kept_both place number version m.0.slow (noting_version q standing m.0.slow) m.0.fast (noting_version q standing m.0.fast)
+      (kept_noting place number version q standing same m.0.slow) (kept_noting place number version q standing same m.0.fast)
+
+  -- the slow ones change
+  slow_alone : (slow : List Own) → Kept place number version m.0.slow slow → Kept place number version (m.0.slow ++ m.0.fast) (slow ++ m.0.fast)
+  slow_alone slow kept = kept_both place number version m.0.slow slow m.0.fast m.0.fast kept (kept_same place number version m.0.fast)
+
+  -- the fast ones change
+  fast_alone : (fast : List Own) → Kept place number version m.0.fast fast → Kept place number version (m.0.slow ++ m.0.fast) (m.0.slow ++ fast)
+  fast_alone fast kept = kept_both place number version m.0.slow m.0.slow m.0.fast fast (kept_same place number version m.0.slow) kept
+
+  taken : (asks : Option Ask) → m.0.asks ≡ asks → Kept place number version m.0.slow (m.0.slow ++ taken_over asks m.0.slow)
+  taken None is = subst (λ ts. Kept place number version m.0.slow ts) (sym (append-nil m.0.slow)) (kept_same place number version m.0.slow)
+  taken (Some a) is = kept_push place number version m.0.slow (record { number = a.number; place = a.place; mode = a.mode; noted = note_at a.place m.0.slow }) (unasked a is)
+
+  via : (m′ n : Mine) → m′ ≡ n → Keeps place number version m.0 n.0 → Keeps place number version m.0 m′.0
+  via m′ n e keeps = subst (λ (x : Mine). Keeps place number version m.0 x.0) (sym e) keeps
+
+  same : (m′ n : Mine) → m′ ≡ n → n.0.slow ≡ m.0.slow → n.0.fast ≡ m.0.fast → n.0.reads ≡ m.0.reads → Keeps place number version m.0 m′.0
+  same m′ n e slow fast reads = via m′ n e (leaves place number version m.0 n.0 slow fast reads)
+
+  by_deeds : (m′ n : Mine) → m′ ≡ n → (q : ℕ) (deeds : List Deed) (h : Held) → MayDo m.0 h.book h.noted deeds → ¬ ((q ≡ place) × Contains deeds (Lose number))
+      → n.0.slow ≡ all_owned q deeds m.0.slow → n.0.fast ≡ m.0.fast → n.0.reads ≡ m.0.reads → Keeps place number version m.0 m′.0
+  by_deeds m′ n e q deeds h may stays slow fast reads = via m′ n e (record {
+    tickets = subst (λ ts. Kept place number version (m.0.slow ++ m.0.fast) ts) (λ i. sym slow i ++ sym fast i)
+        (slow_alone (all_owned q deeds m.0.slow) (kept_deeds place number version q deeds m.0 h.book h.noted below (may_all m.0 h.book h.noted q deeds may) (λ here lost. stays (here, lost))));
+    reads = λ x among. subst (λ rs. Contains rs x) (sym reads) among;
+  })
+
+  pub made_keeps : (st : Step Slot) (found : ℕ) (m′ : Mine) (made : Makes st m found m′) → ¬ (GivesUp place number made ⊎ Changes place made) → Keeps place number version m.0 m′.0
+  made_keeps st found m′ (Makes.DrawsNumber play) spares =
+      same m′ _ play.1 refl refl refl
+  made_keeps st found m′ (Makes.TakesDirectory at play) spares = elim (nat_told found 0) [
+    | inl free ↦ (let took = (play.1 at).0 free in same m′ _ took.2 refl refl refl)
+    | inr taken ↦ same m′ _ ((play.1 at).1 taken) refl refl refl
+  ]
+  made_keeps st found m′ (Makes.PutsDirectory more at play) spares = same m′ _ (play.1 at) refl refl refl
+  made_keeps st found m′ (Makes.TakesLatch q at play) spares = elim (nat_told found 0) [
+    | inl free ↦ (let took = (play.1 q at).0 free in same m′ _ took.2 refl refl refl)
+    | inr taken ↦ same m′ _ ((play.1 q at).1 taken) refl refl refl
+  ]
+  made_keeps st found m′ (Makes.PutsLatch q deeds may at play) spares =
+      by_deeds m′ _ (play.1 q at) q deeds may.0 may.1.may (λ gives. spares (inl gives)) refl refl refl
+  made_keeps st found m′ (Makes.PutsReading q may at play) spares =
+      let h = may.0 in
+      via m′ _ (play.1 q h.book at may.1.holds.carried) (record {
+        tickets = notes q h.book.standing.version (λ here. recorded_version h (subst (λ (p : ℕ). held_at p m.0.latches ≡ Some h) here may.1.holds.recorded));
+        reads = λ x among. Contains-append_left m.0.reads (record { place = q; standing = h.book.standing } ∷ []) x among;
+      })
+  made_keeps st found m′ (Makes.PutsKey q key k h may at play) spares = same m′ _ (play.1 q (empty_book key) at may.holds.carried) refl refl refl
+  made_keeps st found m′ (Makes.RaisesFlags q slow obtrusive at mask play) spares = same m′ _ (play.1 q slow obtrusive at mask) refl refl refl
+  made_keeps st found m′ (Makes.LowersFlags q deeds slow obtrusive may at mask play) spares =
+      let h = may.0 in
+      let book : BookView = all_booked m.0.number deeds h.book in
+      by_deeds m′ _ (play.1 q slow obtrusive book at mask may.1.holds.carried) q deeds h may.1.may (λ gives. spares (inl gives)) refl refl refl
+  made_keeps st found m′ (Makes.ReadsWord q at play) spares = same m′ _ (play.1 q at) refl refl refl
+  made_keeps st found m′ (Makes.WritesVersion q may at play) spares =
+      let book : BookView = redefining may.1 may.0.book in
+      let standing = book.standing in
+      via m′ _ (play.1 q book at may.2.holds.carried) (record {
+        tickets = notes q standing.version (λ here. absurd (spares (inr here)));
+        reads = λ x among. Contains-append_left m.0.reads (record { place = q; standing = standing } ∷ []) x among;
+      })
+  made_keeps st found m′ (Makes.OpensWait q mode at wait play) spares = same m′ _ (play.1 at wait) refl refl refl
+  made_keeps st found m′ (Makes.ReadsWait session at play) spares = same m′ _ (play.1 session at).1 refl refl refl
+  made_keeps st found m′ (Makes.SettlesLost session wait state at old new play) spares = elim (nat_told found (wait_in wait 1)) [
+    | inl won ↦ same m′ _ ((play.1 session wait state at old new).1 won) refl refl refl
+    | inr missed ↦ same m′ _ ((play.1 session wait state at old new).2 missed) refl refl refl
+  ]
+  made_keeps st found m′ (Makes.SettlesGranted q ticket session wait at old play) spares = elim (nat_told found (wait_in wait 1)) [
+    | inl won ↦ same m′ _ ((play.1 session wait at old).1 won) refl refl refl
+    | inr missed ↦ same m′ _ ((play.1 session wait at old).2 missed) refl refl refl
+  ]
+  made_keeps st found m′ (Makes.EndsGranted at play) spares = via m′ _ (play.1 at) (record {
+    tickets = slow_alone (m.0.slow ++ taken_over m.0.asks m.0.slow) (taken m.0.asks refl);
+    reads = λ x among. among;
+  })
+  made_keeps st found m′ (Makes.EndsLost a state asks told at play) spares = same m′ _ (play.1 a state at asks told) refl refl refl
+  made_keeps st found m′ (Makes.ReadsWordUnlatched q at play) spares = same m′ _ (play.1 q at) refl refl refl
+  made_keeps st found m′ (Makes.GrantsFast q mode under at play) spares = elim (nat_told found st.first) [
+    | inl won ↦ via m′ _ ((play.1 q at).0 won) (record {
+      tickets = fast_alone (m.0.fast ++ fast_own m.0.next q mode under ∷ []) (kept_push place number version m.0.fast (fast_own m.0.next q mode under) (let less = below in λ e. omega arith));
+      reads = λ x among. among;
+    })
+    | inr missed ↦ same m′ _ ((play.1 q at).1 missed) refl refl refl
+  ]
+  made_keeps st found m′ (Makes.ReleasesFast q n at play) spares = via m′ _ (play.1 q at) (record {
+    tickets = fast_alone (but_own q n m.0.fast) (kept_filter place number version (λ t. not (is_own q n t)) (λ t mine. by_bool (is_own q n t)
+        (λ hit.
+        let a = own_parts place number t mine in
+        let b = own_parts q n t hit in
+        absurd (spares (inl (sym b.0 ∙ a.0, sym b.1 ∙ a.1))))
+        (λ miss. rw miss refl)) m.0.fast);
+    reads = λ x among. among;
+  })
+  made_keeps st found m′ (Makes.Materialises q slow weight h may at play) spares = via m′ _ (play.1 q at) (record {
+    tickets = kept_joined place number version q m.0 slow may.joined;
+    reads = λ x among. among;
+  })

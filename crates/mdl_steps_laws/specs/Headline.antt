@@ -1,0 +1,114 @@
+-- The headline of the table that threads share. Whenever a lock's latch is free, its word counts exactly the fast tickets held, its two flags tell
+-- whether its lists hold an obtrusive ticket or any ticket, and granted tickets of different sessions are compatible by the matrix; every atomic
+-- step in every interleaving keeps this, so the definition a session reads under a ticket stays the same until it gives the ticket up or changes
+-- the definition itself.
+--
+-- The rule holds of the table between any two steps of all sessions, in every interleaving: it is asked of each step (`Order`).
+use Rattle.std.specs.Prelude.{◌≡◌, ℕ, ◌<◌, true, List, [], ◌∷◌, ◌++◌, length, slice_index, Some, Contains}
+use mathlib.Core.Option.{some}
+use lib.ListN.{get_elem?}
+use Rattle.atomic_table.specs.Table.{State, Step}
+use Rattle.mdl_defs.specs.declared.standing.Standing.{Standing}
+use Rattle.mdl_book.specs.declared.book_view.BookView.{BookView}
+use Rattle.mdl_book.specs.Books.{has_obtrusive, has_tickets, lock_kind}
+use Rattle.mdl_steps.specs.declared.slot.Slot.{Slot}
+use Rattle.mdl_steps.specs.declared.slot.Slot.TheVariants as slot
+use Rattle.mdl_steps.specs.declared.view.Held.{Held}
+use Rattle.mdl_steps.specs.declared.view.Own.{Own}
+use Rattle.mdl_steps.specs.declared.view.View.{View}
+use Rattle.mdl_steps.specs.Cells.{held_at}
+use Rattle.mdl_steps.specs.Deeds.{is_own}
+use Rattle.mdl_steps.specs.Layout.{latch_word, lock_word, version_word}
+use Rattle.mdl_steps.specs.Plays.{Mine, puts_reading}
+use Rattle.mdl_steps.specs.Rule.{Counted, Rule}
+use Rattle.mdl_steps.specs.RuleLaws.{StandsTogether, fast_at}
+use Rattle.mdl_steps.specs.Seats.{MayPut}
+use Rattle.mdl_steps_laws.specs.SessionSteps.{Spares, Turn}
+
+-- ---- locks
+
+-- a place of the table that a lock can have: place 0 is the directory's
+abbrev pub HasPlace : State Slot View → ℕ → Type 0
+HasPlace s place = (0 < place) × (place < length s.homes)
+
+-- nobody holds its latch
+abbrev pub IsFree : State Slot View → ℕ → Type 0
+IsFree s place = slice_index s.words (latch_word place) ≡ 0
+
+-- its book is at home; its word counts exactly the fast tickets held, and its two flags tell whether its lists hold any ticket, and an obtrusive
+-- one; and granted tickets of different sessions are compatible by the matrix, fast and slow ones together
+pub record IsInOrder (s : State Slot View) (place : ℕ) : Type 0 where
+  pub book : BookView
+  pub home : get_elem? s.homes place ≡ some (some (slot.Place book))
+  pub word : Counted (lock_kind book) (slice_index s.words (lock_word place)) (fast_at s place) (has_tickets book) (has_obtrusive book)
+  pub compatible : StandsTogether s place book
+
+-- whenever a lock's latch is free, it is in order
+abbrev pub FreeLocksAreInOrder : Type 0
+FreeLocksAreInOrder = (s : State Slot View) → Rule s → (place : ℕ) → HasPlace s place → IsFree s place → IsInOrder s place
+
+-- ---- definitions
+
+-- what stands under the lock's key: the word of the version has its version; while the latch is free the book at home has it, and while a
+-- session holds the latch the book in that one's record
+pub record Stands (s : State Slot View) (place : ℕ) (standing : Standing) : Type 0 where
+  pub version : slice_index s.words (version_word place) ≡ standing.version
+  pub at_home : IsFree s place → (book : BookView) × (get_elem? s.homes place ≡ some (some (slot.Place book))) × (book.standing ≡ standing)
+  pub in_record : (j : ℕ) (w : View) (h : Held) → get_elem? s.views j ≡ some w → held_at place w.latches ≡ Some h → h.book.standing ≡ standing
+
+-- the session has a ticket of this number there, fast or slow
+abbrev pub Has : ℕ → ℕ → View → Own → Type 0
+Has place number v t = Contains (v.slow ++ v.fast) t × (is_own place number t ≡ true)
+
+-- and has noted this version under it
+pub record HasNoted (place number version : ℕ) (v : View) : Type 0 where
+  pub ticket : Own
+  pub has : Has place number v ticket
+  pub noted : (t : Own) → Has place number v t → t.noted ≡ Some version
+
+-- it has read this there
+abbrev pub HasRead : ℕ → Standing → View → Type 0
+HasRead place standing v = Contains v.reads (record { place = place; standing = standing })
+
+-- at two times a session has a ticket and has noted the same version under it. What it has read in that version stands at both
+abbrev pub ReadsStand : Type 0
+ReadsStand =
+    (s t : State Slot View) → Rule s → Rule t → (place : ℕ) → HasPlace s place → HasPlace t place →
+    (i j : ℕ) (v w : View) → get_elem? s.views i ≡ some v → get_elem? t.views j ≡ some w → v.number ≡ w.number →
+    (number version : ℕ) → HasNoted place number version v → HasNoted place number version w →
+    (slice_index s.words (version_word place) ≡ version) × (slice_index t.words (version_word place) ≡ version)
+    × ((standing : Standing) → standing.version ≡ version → HasRead place standing v → HasRead place standing w →
+    Stands s place standing × Stands t place standing)
+
+-- ---- from step to step
+
+-- each step, of whichever session, leaves the ticket and what is noted under it, and all that was read
+abbrev pub NotesStay : Type 0
+NotesStay =
+    (s t : State Slot View) → Rule s → (turn : Turn s t) → (place : ℕ) → HasPlace s place →
+    (seat number version : ℕ) → Spares seat place number turn →
+    (v : View) → get_elem? s.views seat ≡ some v → HasNoted place number version v →
+    (w : View) × (get_elem? t.views seat ≡ some w) × HasNoted place number version w
+    × ((standing : Standing) → HasRead place standing v → HasRead place standing w)
+
+-- by a reading a session learns what stands, and notes its version under each ticket that it has there, whatever it had noted before
+abbrev pub ReadingsNote : Type 0
+ReadingsNote =
+    (s : State Slot View) → Rule s → (place : ℕ) → HasPlace s place → (seat : ℕ) (m m′ : Mine) → get_elem? s.views seat ≡ some m.0 →
+    (st : Step Slot) (found : ℕ) → MayPut place [] m → st.word ≡ latch_word place → puts_reading st m found m′ →
+    (standing : Standing) × Stands s place standing × HasRead place standing m′.0
+    × ((t : Own) → Contains (m.0.slow ++ m.0.fast) t → t.place ≡ place → HasNoted place t.number standing.version m′.0)
+
+-- these states follow one another, each by a turn that is no such step, and the rule holds of each
+abbrev pub Follow : ℕ → ℕ → ℕ → State Slot View → List (State Slot View) → State Slot View → Type 0
+Follow seat place number s [] t = s ≡ t
+Follow seat place number s (x ∷ xs) t = Rule x × ((turn : Turn s x) × Spares seat place number turn) × Follow seat place number x xs t
+
+-- what a session has read in the version that it noted under a ticket stands, whatever all sessions do, until it gives the ticket up or changes
+-- the definition itself
+abbrev pub DefinitionsStay : Type 0
+DefinitionsStay =
+    (s : State Slot View) → Rule s → (place : ℕ) → HasPlace s place → (seat number : ℕ) (v : View) → get_elem? s.views seat ≡ some v →
+    (standing : Standing) → HasNoted place number standing.version v → HasRead place standing v →
+    (t : State Slot View) (between : List (State Slot View)) → Follow seat place number s between t →
+    Stands s place standing × Stands t place standing

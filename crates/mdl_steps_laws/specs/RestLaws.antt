@@ -1,0 +1,149 @@
+-- The steps by which nothing is done in the system that the table tells, a law for each kind: whichever systems the table tells before and after
+-- are one. (For three kinds more see `WaitLaws` and `FastLaws`.) The rule holds after each step, as it does between any two.
+use Rattle.std.specs.Prelude.{◌≡◌, ◌≢◌, ℕ, ◌<◌, Bool, List, [], ◌∷◌, ◌++◌, length, slice_index, slice_set, Some}
+use mathlib.Core.Option.{some, none}
+use lib.ListN.{get_elem?}
+use Rattle.atomic_table.specs.Table.{State, Step}
+use Rattle.mdl_key.specs.Words.{KeyName}
+use Rattle.mdl_word.specs.Words.{flags_alone}
+use Rattle.mdl_book.specs.Books.{empty_book}
+use Rattle.mdl_steps.specs.declared.slot.Slot.{Slot}
+use Rattle.mdl_steps.specs.declared.slot.Slot.TheVariants as slot
+use Rattle.mdl_steps.specs.declared.view.Held.{Held}
+use Rattle.mdl_steps.specs.declared.view.Keys.{Keys}
+use Rattle.mdl_steps.specs.declared.view.Known.{Known}
+use Rattle.mdl_steps.specs.declared.view.View.{View}
+use Rattle.mdl_steps.specs.Cells.{blank, held_at, no_numbers}
+use Rattle.mdl_steps.specs.Layout.{enrol_word, latch_word, lock_word}
+use Rattle.mdl_steps.specs.Plays.{IsFresh, Mine, consulted, enrols, informed, latched, named, raises_flags, read_and_put, reads_word, settled, takes_directory, takes_latch, unlatched}
+use Rattle.mdl_steps.specs.Rule.{Rule}
+use Rattle.mdl_steps.specs.Seats.{MayName}
+use Rattle.mdl_steps_laws.specs.Headline.{HasPlace, IsFree}
+use Rattle.mdl_steps_laws.specs.WaitLaws.{Rests}
+
+-- ---- tables after a step of a seat
+
+-- no slot was moved: the step left this in a word
+abbrev pub after_step : State Slot View → ℕ → ℕ → ℕ → Mine → State Slot View
+after_step s word left id me = record { words = slice_set s.words word left; homes = s.homes; views = slice_set s.views id me.0 }
+
+-- the latch of a place was taken, or that of the directory, and the slot with it
+abbrev pub after_taking : State Slot View → ℕ → ℕ → Mine → State Slot View
+after_taking s place id me = record {
+  words = slice_set s.words (latch_word place) me.0.number;
+  homes = slice_set s.homes place none;
+  views = slice_set s.views id me.0;
+}
+
+-- it was given back, and this slot with it
+abbrev pub after_giving : State Slot View → ℕ → Slot → ℕ → Mine → State Slot View
+after_giving s place given id me = record {
+  words = slice_set s.words (latch_word place) 0;
+  homes = slice_set s.homes place (some given);
+  views = slice_set s.views id me.0;
+}
+
+-- to come from one table to another, of which the rule holds, too, is to do nothing
+abbrev pub IsRest : State Slot View → State Slot View → Type 0
+IsRest s s′ = Rule s′ → Rests s s′
+
+-- ---- numbers
+
+-- a number is drawn for one more seat
+abbrev pub DrawingRests : Type 0
+DrawingRests =
+    (s : State Slot View) → Rule s → (id : ℕ) (me me′ : Mine) → get_elem? s.views id ≡ some me.0 →
+    (st : Step Slot) (found left : ℕ) → enrols st me found me′ → IsRest s (after_step s (enrol_word (length s.homes)) left id me′)
+
+-- a seat is split off from the first one: what that keeps, what the new one gets (the number, and the step that drew it), and the table then
+abbrev pub first_after : View → View
+first_after v = record v { spare = record v.spare { given = v.spare.drawn }; log = [] }
+
+abbrev pub split_off : View → View
+split_off v = record (blank v.spare.drawn no_numbers) { log = v.log }
+
+abbrev pub after_split : State Slot View → View → State Slot View
+after_split s v = record { words = s.words; homes = s.homes; views = slice_set s.views 0 (first_after v) ++ split_off v ∷ [] }
+
+abbrev pub SplittingRests : Type 0
+SplittingRests = (s : State Slot View) → Rule s → (v : View) → get_elem? s.views 0 ≡ some v → IsRest s (after_split s v)
+
+-- ---- the directory
+
+-- its latch is taken
+abbrev pub ConsultingRests : Type 0
+ConsultingRests =
+    (s : State Slot View) → Rule s → (id : ℕ) (me : Mine) → get_elem? s.views id ≡ some me.0 → 0 < me.0.number →
+    IsFree s 0 → (k : Keys) → get_elem? s.homes 0 ≡ some (some (slot.Directory k)) → IsRest s (after_taking s 0 id (consulted k me))
+
+-- or is found taken
+abbrev pub MissingDirectoryRests : Type 0
+MissingDirectoryRests =
+    (s : State Slot View) → Rule s → (id : ℕ) (me me′ : Mine) → get_elem? s.views id ≡ some me.0 →
+    (st : Step Slot) (found : ℕ) → st.word ≡ latch_word 0 → found ≡ slice_index s.words (latch_word 0) → found ≢ 0 → takes_directory st me found me′ →
+    IsRest s (after_step s (latch_word 0) found id me′)
+
+-- it is given back, and keys are known from then on
+abbrev pub InformingRests : Type 0
+InformingRests =
+    (s : State Slot View) → Rule s → (id : ℕ) (me : Mine) → get_elem? s.views id ≡ some me.0 → (k : Keys) → me.0.directory ≡ Some k →
+    (more : List Known) → IsRest s (after_giving s 0 (slot.Directory k) id (informed more me))
+
+-- ---- the latch of a place
+
+-- it is taken
+abbrev pub TakingRests : Type 0
+TakingRests =
+    (s : State Slot View) → Rule s → (place : ℕ) → HasPlace s place → (id : ℕ) (me : Mine) → get_elem? s.views id ≡ some me.0 → 0 < me.0.number →
+    IsFree s place → (h : Held) → IsFresh place h me → get_elem? s.homes place ≡ some (some (slot.Place h.book)) →
+    IsRest s (after_taking s place id (latched place h me))
+
+-- or is found taken
+abbrev pub MissingRests : Type 0
+MissingRests =
+    (s : State Slot View) → Rule s → (place : ℕ) → HasPlace s place → (id : ℕ) (me me′ : Mine) → get_elem? s.views id ≡ some me.0 →
+    (st : Step Slot) (found : ℕ) → st.word ≡ latch_word place → found ≡ slice_index s.words (latch_word place) → found ≢ 0 →
+    takes_latch st me found me′ → IsRest s (after_step s (latch_word place) found id me′)
+
+-- it is given back with nothing done
+abbrev pub PuttingRests : Type 0
+PuttingRests =
+    (s : State Slot View) → Rule s → (place : ℕ) → HasPlace s place → (id : ℕ) (me : Mine) → get_elem? s.views id ≡ some me.0 →
+    (h : Held) → held_at place me.0.latches ≡ Some h → IsRest s (after_giving s place (slot.Place h.book) id (unlatched place [] me))
+
+-- or with a reading
+abbrev pub PuttingReadingRests : Type 0
+PuttingReadingRests =
+    (s : State Slot View) → Rule s → (place : ℕ) → HasPlace s place → (id : ℕ) (me : Mine) → get_elem? s.views id ≡ some me.0 →
+    (h : Held) → held_at place me.0.latches ≡ Some h → IsRest s (after_giving s place (slot.Place h.book) id (read_and_put place h.book.standing me))
+
+-- or with the empty book of a new key, which gets the place: its lock was empty before, too
+abbrev pub NamingRests : Type 0
+NamingRests =
+    (s : State Slot View) → Rule s → (place : ℕ) → HasPlace s place → (id : ℕ) (me : Mine) → get_elem? s.views id ≡ some me.0 →
+    (key : KeyName) (k : Keys) (h : Held) → MayName place key k h me →
+    IsRest s (after_giving s place (slot.Place (empty_book key)) id (named place key me))
+
+-- ---- its word, under the latch
+
+-- flags are raised
+abbrev pub RaisingRests : Type 0
+RaisingRests =
+    (s : State Slot View) → Rule s → (place : ℕ) → HasPlace s place → (id : ℕ) (me me′ : Mine) → get_elem? s.views id ≡ some me.0 →
+    (h : Held) → held_at place me.0.latches ≡ Some h → (st : Step Slot) (found left : ℕ) (slow obtrusive : Bool) →
+    st.word ≡ lock_word place → st.first ≡ flags_alone slow obtrusive → raises_flags st me found me′ →
+    IsRest s (after_step s (lock_word place) left id me′)
+
+-- it is read
+abbrev pub ReadingRests : Type 0
+ReadingRests =
+    (s : State Slot View) → Rule s → (place : ℕ) → HasPlace s place → (id : ℕ) (me me′ : Mine) → get_elem? s.views id ≡ some me.0 →
+    (h : Held) → held_at place me.0.latches ≡ Some h → (st : Step Slot) (found : ℕ) →
+    st.word ≡ lock_word place → reads_word st me found me′ → IsRest s (after_step s (lock_word place) found id me′)
+
+-- flags are lowered with nothing done
+abbrev pub LoweringRests : Type 0
+LoweringRests =
+    (s : State Slot View) → Rule s → (place : ℕ) → HasPlace s place → (id : ℕ) (me : Mine) → get_elem? s.views id ≡ some me.0 →
+    (h : Held) → held_at place me.0.latches ≡ Some h → (found left : ℕ) (slow obtrusive : Bool) →
+    IsRest s (after_step s (lock_word place) left id (settled place [] found h.book slow obtrusive me))

@@ -1,0 +1,61 @@
+-- Each step by which a latch is put, flags are lowered or a version is written is one event of the system that the table tells, or does nothing.
+use Rattle.std.specs.Prelude.{◌≡◌, ◌⊎◌, ℕ, suc, Bool, List, [], ◌∷◌}
+use mathlib.Core.Option.{some}
+use lib.ListN.{get_elem?}
+use Rattle.atomic_table.specs.Table.{State}
+use Rattle.mdl_key.specs.Words.{KeyName}
+use Rattle.mdl_defs.specs.declared.change.Change.{Change}
+use Rattle.mdl_defs.specs.Standings.{standing_after}
+use Rattle.mdl_book.specs.declared.ticket.Ticket.{Ticket}
+use Rattle.mdl_steps.specs.declared.deed.Deed.{Deed}
+use Rattle.mdl_steps.specs.declared.deed.Deed.TheVariants.{Gain, Alter, Lose}
+use Rattle.mdl_steps.specs.declared.slot.Slot.{Slot}
+use Rattle.mdl_steps.specs.declared.view.Held.{Held}
+use Rattle.mdl_steps.specs.declared.view.View.{View}
+use Rattle.mdl_steps.specs.Deeds.{all_booked}
+use Rattle.mdl_steps.specs.Plays.{Mine}
+use Rattle.mdl_steps.specs.Rule.{Rule}
+use Rattle.mdl_steps.specs.Seats.{HasDone, HasRedefined}
+use Rattle.mdl_system.specs.BookLaws.{of_lock}
+use Rattle.mdl_system.specs.Events.{ChangeDefinition, Clone, Downgrade, Grant, Merge, Release, Upgrade}
+use Rattle.mdl_steps_laws.specs.Locks.{AreKeysOf}
+use Rattle.mdl_steps_laws.specs.StepLaws.{after_lowering, after_put, after_writing}
+use Rattle.mdl_steps_laws.specs.WaitLaws.{Brings, Rests}
+
+-- from one table to another a session does this under a key, which is one event
+abbrev pub BringsDeeds : ℕ → KeyName → List Deed → State Slot View → State Slot View → Type 0
+BringsDeeds session key [] s s′ = Rests s s′
+BringsDeeds session key (Gain number mode ∷ []) s s′ =
+    let new : Ticket = record { session = session; number = number; mode = mode } in
+    Brings (Grant (of_lock key new)) s s′ ⊎ ((t : Ticket) × Brings (Clone (of_lock key t) (of_lock key new)) s s′)
+BringsDeeds session key (Alter number mode ∷ []) s s′ =
+    (t : Ticket) × (t.number ≡ number) × (Brings (Upgrade (of_lock key t) mode) s s′ ⊎ Brings (Downgrade (of_lock key t) mode) s s′)
+BringsDeeds session key (Lose number ∷ []) s s′ = (t : Ticket) × (t.number ≡ number) × Brings (Release (of_lock key t)) s s′
+BringsDeeds session key (Alter kept mode ∷ Lose lost ∷ []) s s′ =
+    (t u : Ticket) × (t.number ≡ kept) × (u.number ≡ lost) × (u.mode ≡ mode) × Brings (Merge (of_lock key t) (of_lock key u)) s s′
+BringsDeeds session key _ s s′ = ⊥
+
+-- the latch of a key's place is put after what a session may do
+abbrev pub PuttingBrings : Type 0
+PuttingBrings =
+    (s : State Slot View) → Rule s → (keys : List KeyName) → AreKeysOf s keys → (i : ℕ) (key : KeyName) → get_elem? keys i ≡ some key →
+    (id : ℕ) (me : Mine) → get_elem? s.views id ≡ some me.0 → (h : Held) (ds : List Deed) → HasDone (suc i) ds h me →
+    Rule (after_put s (suc i) ds (all_booked me.0.number ds h.book) id me) →
+    BringsDeeds me.0.number key ds s (after_put s (suc i) ds (all_booked me.0.number ds h.book) id me)
+
+-- flags are lowered after it
+abbrev pub LoweringBrings : Type 0
+LoweringBrings =
+    (s : State Slot View) → Rule s → (keys : List KeyName) → AreKeysOf s keys → (i : ℕ) (key : KeyName) → get_elem? keys i ≡ some key →
+    (id : ℕ) (me : Mine) → get_elem? s.views id ≡ some me.0 → (h : Held) (ds : List Deed) → HasDone (suc i) ds h me →
+    (found left : ℕ) (slow obtrusive : Bool) →
+    Rule (after_lowering s (suc i) ds found left (all_booked me.0.number ds h.book) slow obtrusive id me) →
+    BringsDeeds me.0.number key ds s (after_lowering s (suc i) ds found left (all_booked me.0.number ds h.book) slow obtrusive id me)
+
+-- the version of a key's place is written after a change that the session may make
+abbrev pub WritingBrings : Type 0
+WritingBrings =
+    (s : State Slot View) → Rule s → (keys : List KeyName) → AreKeysOf s keys → (i : ℕ) (key : KeyName) → get_elem? keys i ≡ some key →
+    (id : ℕ) (me : Mine) → get_elem? s.views id ≡ some me.0 → (h : Held) (change : Change) → HasRedefined (suc i) h change me →
+    Rule (after_writing s (suc i) (standing_after change h.book.standing) id me) →
+    (t : Ticket) × (t.session ≡ me.0.number) × Brings (ChangeDefinition (of_lock key t) change) s (after_writing s (suc i) (standing_after change h.book.standing) id me)
