@@ -7,7 +7,7 @@ pub fn blocked_wishes_werent_grantable()
     ensures { BlockedWishesWerentGrantable }
 {}
 
-/// A wish that was granted could be granted at the step that freed the latch, whichever fast tickets there were then.
+/// A wish that was granted could be granted at the step that did it, whichever fast tickets there were then.
 pub fn granted_wishes_were_grantable()
     ensures { GrantedWishesWereGrantable }
 {}
