@@ -59,6 +59,7 @@ module _ (place : ℕ) (m m′ m″ : Mine) (inside : IsInside place m m′) (pu
     puts,
     (inside.made, [], ap (λ (x : Mine). x.0.log) (put ∙ ap (unlatched place []) inside.now)),
     record {
+      kind = refl;
       word = refl;
       freed = mine;
       latch = h;

@@ -146,6 +146,8 @@ module _ (place : ℕ) (change : Change) (h : Held) (m m′ m″ : Mine) (inside
           write = record { kind = WriteVersion; deeds = []; word = version_word place; found = standing.version - 1; held = (redefined place standing m′).0.latches; directory = m′.0.directory };
           steps = steps place standing m m′ m″ done.1 h made took;
           meets = record {
+            takes = refl;
+            writes = refl;
             latched = refl;
             free = refl;
             latch = h;
@@ -176,7 +178,7 @@ module _ (place : ℕ) (change : Change) (h : Held) (m m′ m″ : Mine) (inside
           let puts : Met = record { kind = PutLatch; deeds = []; word = latch_word place; found = m.0.number; held = inside.latches; directory = m.0.directory } in (
             puts,
             (inside.made, [], ap (λ (x : Mine). x.0.log) (put ∙ ap (unlatched place []) inside.now)),
-            record { word = refl; freed = mine; latch = h; held = ap (λ (x : Mine). held_at place x.0.latches) (sym inside.now) ∙ has.recorded; fault = fault },
+            record { kind = refl; word = refl; freed = mine; latch = h; held = ap (λ (x : Mine). held_at place x.0.latches) (sym inside.now) ∙ has.recorded; fault = fault },
             after,
             named,
           )

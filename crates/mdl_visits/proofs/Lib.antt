@@ -3,6 +3,7 @@ pub mod Altering
 pub mod Trying
 pub mod Leaving
 pub mod Steps
+pub mod Doing
 pub mod Way
 pub mod Waiting
 pub mod Serving

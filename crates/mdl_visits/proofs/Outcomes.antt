@@ -60,6 +60,7 @@ module _ (slots session number : ℕ) (m m′ : Mine) (lost : m′ ≡ settled_l
         settles = ap (λ (x : Mine). x.0.settles) lost;
         moment = e;
         step = ([], [], ap (λ (x : Mine). x.0.log) lost ∙ ap (λ (log : List Met). log ++ e ∷ []) (sym (append-nil m.0.log)));
+        kind = refl;
         met = record { word = refl; found = refl };
         held = refl;
       }
@@ -95,6 +96,7 @@ module _ (slots who : ℕ) (latches : List Held) (audited : List Audited) (words
     settles = kept ∙ fells.settles ∙ ap (λ (all : List Settlement). all ++ record { session = victim; wait = fells.wait; state = 3 } ∷ []) same;
     moment = fells.moment;
     step = step_within a b c d fells.moment before fells.step after;
+    kind = fells.kind;
     met = record { word = fells.met.word; found = fells.met.found };
     held = fells.held;
   }

@@ -50,6 +50,7 @@ module _ (place : ℕ) (standing : Standing) (m m′ m″ : Mine) (inside : IsIn
     puts,
     (inside.made, [], ap (λ (x : Mine). x.0.log) (read ∙ ap (read_and_put place standing) inside.now)),
     record {
+      kind = refl;
       word = refl;
       freed = mine;
       latch = h;

@@ -5,6 +5,7 @@ use mathlib.Core.Option.{some}
 use Rattle.mdl_defs.specs.declared.standing.Standing.{Standing}
 use Rattle.mdl_book.specs.Tickets.{ticket_of}
 use Rattle.mdl_steps.specs.declared.deed.Deed.{Deed}
+use Rattle.mdl_steps.specs.declared.step_kind.StepKind.TheVariants.{PutLatch}
 use Rattle.mdl_steps.specs.declared.view.Held.{Held}
 use Rattle.mdl_steps.specs.declared.view.Met.{Met}
 use Rattle.mdl_steps.specs.declared.view.Own.{Own}
@@ -47,6 +48,7 @@ Learns place standing m m′ = (made : List Met) × (m′ ≡ and_made made (kno
 
 -- a step that gave the latch of a place back, whose record tells that this stood there
 pub record MeetsStanding (place session : ℕ) (standing : Standing) (e : Met) : Type 0 where
+  pub kind : e.kind ≡ PutLatch
   pub word : e.word ≡ latch_word place
   pub freed : e.found ≡ session
   pub latch : Held

@@ -14,6 +14,7 @@ use Rattle.mdl_defs.specs.Standings.{standing_fault, standing_after}
 use Rattle.mdl_calls.specs.declared.space_error.SpaceError.{SpaceError}
 use Rattle.mdl_calls.specs.declared.space_error.SpaceError.TheVariants.{NotHeld, NotExclusive}
 use Rattle.mdl_calls.specs.Reads.{cause_of}
+use Rattle.mdl_steps.specs.declared.step_kind.StepKind.TheVariants.{PutLatch, TakeLatch, WriteVersion}
 use Rattle.mdl_steps.specs.declared.view.Held.{Held}
 use Rattle.mdl_steps.specs.declared.view.Known.{Known}
 use Rattle.mdl_steps.specs.declared.view.Met.{Met}
@@ -41,6 +42,8 @@ redefined_and_put place standing m = unlatched place [] (redefined place standin
 -- what a change to this version met: a step that took the latch, by whose record what stood at the place could be changed so, and one that wrote the
 -- version. There it found the version before, and by its record the change stands; the rest of the record is the same
 pub record MeetsChange (place : ℕ) (change : Change) (version : ℕ) (take write : Met) : Type 0 where
+  pub takes : take.kind ≡ TakeLatch
+  pub writes : write.kind ≡ WriteVersion
   pub latched : take.word ≡ latch_word place
   pub free : take.found ≡ 0
   pub latch : Held
@@ -68,6 +71,7 @@ pub record Redefines (place : ℕ) (change : Change) (version : ℕ) (m m′ : M
 
 -- a step that gave the latch of a place back, whose record tells why what stood there couldn't be changed so
 pub record MeetsFault (place session : ℕ) (change : Change) (why : ChangeError) (e : Met) : Type 0 where
+  pub kind : e.kind ≡ PutLatch
   pub word : e.word ≡ latch_word place
   pub freed : e.found ≡ session
   pub latch : Held

@@ -8,6 +8,7 @@ use Rattle.mdl_calls.specs.declared.answers.Search.{Search}
 use Rattle.mdl_calls.specs.declared.answers.Search.TheVariants.{NoCycle, Victim}
 use Rattle.mdl_graph.specs.Graphs.{deadlock_in, victim_in}
 use Rattle.mdl_graph.specs.WaitsFor.{SessionTest}
+use Rattle.mdl_steps.specs.declared.step_kind.StepKind.TheVariants.{SettleWait}
 use Rattle.mdl_steps.specs.declared.view.Held.{Held}
 use Rattle.mdl_steps.specs.declared.view.Keys.{Keys}
 use Rattle.mdl_steps.specs.declared.view.Met.{Met}
@@ -55,13 +56,14 @@ books_of audited = map (λ (a : Audited). a.book) audited
 abbrev pub AreQueuesOf : List Audited → List Queues → Type 0
 AreQueuesOf audited lists = map (λ (a : Audited). queues_of a.book) audited ≡ lists
 
--- one of the steps between the two met the unsettled wait of a session while the session that searches had just these latches, and it alone was
--- settled then, as the victim's
+-- one of the steps between the two met the unsettled wait of a session and settled it, as the victim's, while the session that searches had just
+-- these latches, and no other wait was settled
 pub record Fells (slots victim : ℕ) (latches : List Held) (m m′ : Mine) : Type 0 where
   pub wait : ℕ
   pub settles : Settles victim wait 3 m m′
   pub moment : Met
   pub step : IsStepOf m m′ moment
+  pub kind : moment.kind ≡ SettleWait
   pub met : MeetsWait slots victim wait 1 moment
   pub held : moment.held ≡ latches
 

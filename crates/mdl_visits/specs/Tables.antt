@@ -4,6 +4,7 @@ use Rattle.std.specs.List.Sorted.{IsPermutation, IsSortedBy}
 use Rattle.std.specs.Ordering.{is_lt}
 use Rattle.std.specs.declared.cmp.Ordering.TheVariants.{Less}
 use Rattle.mdl_key.specs.Keys.{key_cmp}
+use Rattle.mdl_steps.specs.declared.step_kind.StepKind.TheVariants.{PutLatch}
 use Rattle.mdl_steps.specs.declared.view.Held.{Held}
 use Rattle.mdl_steps.specs.declared.view.Keys.{Keys}
 use Rattle.mdl_steps.specs.declared.view.Known.{Known}
@@ -48,6 +49,7 @@ AreWithin slots tables = All (λ (x : Known). (0 < x.place) × (x.place < slots)
 
 -- a step that gave the latch of a place back, whose record tells whether a definition stood there
 pub record MeetsDefinition (place session : ℕ) (defined : Bool) (e : Met) : Type 0 where
+  pub kind : e.kind ≡ PutLatch
   pub word : e.word ≡ latch_word place
   pub freed : e.found ≡ session
   pub latch : Held

@@ -145,11 +145,11 @@ WasNotGrantable place who mode e =
     × ((fast : List Ticket) → CountsFastTickets (lock_kind latch.book) e.found fast → AreOfOthers who fast
     → is_grantable (lock_kind latch.book) (fast ++ latch.book.granted) latch.book.waiting who mode ≡ false)
 
--- at the step the session's wish was grantable, as its latch was given back: whichever fast tickets there were by the rule of the table, no
--- granted ticket of another session clashed with it, and it waited behind no waiting one
-abbrev pub WasGrantable : ℕ → ℕ → Mode → Met → Type 0
-WasGrantable place who mode e =
-    (latch : Held) × (e.word ≡ latch_word place) × (e.found ≡ who) × (held_at place e.held ≡ Some latch)
+-- at the step, which did this deed as the latch was given back, the session's wish was grantable: whichever fast tickets there were by the rule
+-- of the table, no granted ticket of another session clashed with it, and it waited behind no waiting one
+abbrev pub WasGrantable : ℕ → ℕ → Mode → Deed → Met → Type 0
+WasGrantable place who mode deed e =
+    (latch : Held) × (e.deeds ≡ deed ∷ []) × (e.word ≡ latch_word place) × (e.found ≡ who) × (held_at place e.held ≡ Some latch)
     × ((fast : List Ticket) → Lawful (lock_kind latch.book) fast latch.book.granted → NotedCounts (lock_kind latch.book) fast latch.obtrusive latch.noted
     → is_grantable (lock_kind latch.book) (fast ++ latch.book.granted) latch.book.waiting who mode ≡ true)
 
@@ -158,7 +158,7 @@ abbrev pub BlockedWishesWerentGrantable : Type 0
 BlockedWishesWerentGrantable = (place who : ℕ) (mode : Mode) (e : Met) → MeetsBlocked place who mode e → WasNotGrantable place who mode e
 
 abbrev pub GrantedWishesWereGrantable : Type 0
-GrantedWishesWereGrantable = (place who : ℕ) (mode : Mode) (deed : Deed) (e : Met) → MeetsGrantable place who mode deed e → WasGrantable place who mode e
+GrantedWishesWereGrantable = (place who : ℕ) (mode : Mode) (deed : Deed) (e : Met) → MeetsGrantable place who mode deed e → WasGrantable place who mode deed e
 
 -- ---- what a session knows
 

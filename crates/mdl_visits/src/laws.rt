@@ -7,7 +7,7 @@ pub fn blocked_wishes_werent_grantable()
     ensures { BlockedWishesWerentGrantable }
 {}
 
-/// A wish that was granted could be granted at the step that freed the latch, whichever fast tickets there were then.
+/// A wish that was granted could be granted at the step that did it, whichever fast tickets there were then.
 pub fn granted_wishes_were_grantable()
     ensures { GrantedWishesWereGrantable }
 {}
@@ -17,7 +17,7 @@ pub fn granted_waits_were_grantable()
     ensures { GrantedWaitsWereGrantable }
 {}
 
-/// A wait that was left as way was made couldn't be granted, whichever fast tickets the lock's word counted, or was settled before.
+/// A wait that was passed over as way was made couldn't be granted, whichever fast tickets the lock's word counted, or was settled before.
 pub fn waits_left_werent_grantable()
     ensures { WaitsLeftWerentGrantable }
 {}

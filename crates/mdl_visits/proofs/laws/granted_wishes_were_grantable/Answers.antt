@@ -7,6 +7,7 @@ pub returns : goal.returns
 returns c = λ place who mode deed e meets.
     let latch = meets.latch in (
       latch,
+      meets.did,
       meets.word,
       meets.freed,
       meets.held,
