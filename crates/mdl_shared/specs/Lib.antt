@@ -13,6 +13,7 @@ pub use Rattle.mdl_visits.specs.Visits
 pub use Rattle.mdl_visits.specs.WaitEndings
 pub use Rattle.mdl_visits.specs.WaitOpenings
 pub mod Beginnings
+pub mod Doings
 pub mod Endings
 pub mod Keepings
 pub mod Limits

@@ -1,5 +1,5 @@
 //! An audit of the table.
-ghost use Rattle.std.specs.Prelude.{◌≡◌, IfOk, IfErr};
+ghost use Rattle.std.specs.Prelude.{◌≡◌, [], IfOk, IfErr};
 ghost use Rattle.std.specs.Arc.{arc_value};
 ghost use Rattle.mdl_calls.specs.declared.space_error.SpaceError.TheVariants as cause;
 ghost use Rattle.mdl_steps.specs.declared.view.Keys.{Keys};
@@ -8,6 +8,7 @@ ghost use Rattle.mdl_shared.specs.Keepings.{KeepsWait};
 ghost use Rattle.mdl_visits.specs.Lookups.{TookDirectory};
 ghost use Rattle.mdl_visits.specs.Polls.{SettlesNothing};
 ghost use Rattle.mdl_visits.specs.Readings.{ReadsNothing};
+ghost use Rattle.mdl_visits.specs.Visits.{Does};
 
 use crate::Session;
 use crate::member::Member;
@@ -24,6 +25,7 @@ impl Member {
         ensures wait { KeepsWait self.old self.new }
         ensures reads { ReadsNothing self.old.worker.seat.me self.new.worker.seat.me }
         ensures settles { SettlesNothing self.old.worker.seat.me self.new.worker.seat.me }
+        ensures did { Does [] self.old.worker.seat.me self.new.worker.seat.me }
         ensures told { (k : Keys) × TookDirectory (arc_value self.old.table).shared.table_id.slots k k self.old.worker.seat.me self.new.worker.seat.me
             × IfOk result (λ audited. Audits k audited.items self.old.worker.seat.me self.new.worker.seat.me) }
     {
@@ -44,6 +46,7 @@ impl<R: Wait> Session<R> {
         ensures wait { KeepsWait self.old.member self.new.member }
         ensures reads { ReadsNothing self.old.member.worker.seat.me self.new.member.worker.seat.me }
         ensures settles { SettlesNothing self.old.member.worker.seat.me self.new.member.worker.seat.me }
+        ensures did { Does [] self.old.member.worker.seat.me self.new.member.worker.seat.me }
         ensures told { (k : Keys) × TookDirectory (arc_value self.old.member.table).shared.table_id.slots k k self.old.member.worker.seat.me self.new.member.worker.seat.me
             × IfOk result (λ audited. Audits k audited.items self.old.member.worker.seat.me self.new.member.worker.seat.me) }
         ensures refused { IfErr result (λ why. why ≡ cause.OutOfMemory) }

@@ -13,7 +13,8 @@ ghost use Rattle.mdl_shared.specs.Keepings.{KeepsWait};
 ghost use Rattle.mdl_shared.specs.Members.{kind_known, most_numbers, wish_fault};
 ghost use Rattle.mdl_visits.specs.Polls.{SettlesNothing};
 ghost use Rattle.mdl_visits.specs.Readings.{ReadsNothing};
-ghost use Rattle.mdl_visits.specs.Visits.{AreStepsOf, IsStepOf, MeetsBlocked, MeetsFull, MeetsGrantable};
+ghost use Rattle.mdl_visits.specs.Visits.{AreStepsOf, Does, IsStepOf, MeetsBlocked, MeetsFull, MeetsGrantable};
+ghost use Rattle.mdl_shared.specs.Doings.{begin_deeds};
 
 use crate::Session;
 use crate::member::Member;
@@ -43,6 +44,7 @@ impl Member {
             × (self.new.sessions ≡ self.old.sessions) }
         ensures reads { ReadsNothing self.old.worker.seat.me self.new.worker.seat.me }
         ensures settles { SettlesNothing self.old.worker.seat.me self.new.worker.seat.me }
+        ensures did { Does (begin_deeds mode result) self.old.worker.seat.me self.new.worker.seat.me }
         ensures granted { (id : ℕ) → result ≡ Ok (Granted id) → KeepsWait self.old self.new × (id ≡ self.old.next)
             × (self.new.tickets.items ≡ self.old.tickets.items ++ record { number = id; place = place; mode = mode; noted = note_at place self.old.tickets.items } ∷ [])
             × ((e : Met) × IsStepOf self.old.worker.seat.me self.new.worker.seat.me e × MeetsGrantable place self.old.worker.number mode (Gain id mode) e) }
@@ -106,6 +108,7 @@ impl<R: Wait> Session<R> {
             × (self.new.member.known.items ≡ self.old.member.known.items) × (self.new.member.sessions ≡ self.old.member.sessions) }
         ensures reads { ReadsNothing self.old.member.worker.seat.me self.new.member.worker.seat.me }
         ensures settles { SettlesNothing self.old.member.worker.seat.me self.new.member.worker.seat.me }
+        ensures did { Does (begin_deeds mode result) self.old.member.worker.seat.me self.new.member.worker.seat.me }
         ensures granted { (id : ℕ) → result ≡ Ok (Granted id) → KeepsWait self.old.member self.new.member × (id ≡ self.old.member.next)
             × (self.new.member.tickets.items ≡ self.old.member.tickets.items ++ record { number = id; place = place; mode = mode; noted = note_at place self.old.member.tickets.items } ∷ [])
             × ((e : Met) × IsStepOf self.old.member.worker.seat.me self.new.member.worker.seat.me e × MeetsGrantable place self.old.member.worker.number mode (Gain id mode) e) }

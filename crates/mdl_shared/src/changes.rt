@@ -1,5 +1,5 @@
 //! What a session changes under its exclusive tickets.
-ghost use Rattle.std.specs.Prelude.{◌≡◌, ◌⊎◌, Some, Err, IfOk, IfErr, IfSome, OnErr};
+ghost use Rattle.std.specs.Prelude.{◌≡◌, ◌⊎◌, [], Some, Err, IfOk, IfErr, IfSome, OnErr};
 ghost use Rattle.std.specs.Option.{option_map};
 ghost use Rattle.mdl_key.specs.declared.mode.Mode.TheVariants.{X};
 ghost use Rattle.mdl_steps.specs.declared.view.Own.{Own};
@@ -9,6 +9,7 @@ ghost use Rattle.mdl_visits.specs.Numbers.{numbered};
 ghost use Rattle.mdl_visits.specs.Polls.{SettlesNothing};
 ghost use Rattle.mdl_visits.specs.Readings.{ReadsNothing};
 ghost use Rattle.mdl_visits.specs.Redefinitions.{HasExclusiveAt, IsRefusedAs, IsRefusedFor, Redefines, exclusive_fault};
+ghost use Rattle.mdl_visits.specs.Visits.{Does};
 
 use crate::Session;
 use crate::member::Member;
@@ -36,6 +37,7 @@ impl Member {
         ensures same { (self.new.table ≡ self.old.table) × (self.new.worker.number ≡ self.old.worker.number) × (self.new.next ≡ self.old.next) × (self.new.known.items ≡ self.old.known.items) }
         ensures wait { KeepsWait self.old self.new }
         ensures settles { SettlesNothing self.old.worker.seat.me self.new.worker.seat.me }
+        ensures did { Does [] self.old.worker.seat.me self.new.worker.seat.me }
         ensures changed { IfOk result (λ version. (self.new.tickets.items ≡ noting_version place version self.old.tickets.items)
             × Redefines place change.now version self.old.worker.seat.me self.new.worker.seat.me) }
         ensures unchanged { OnErr result ((self.new.tickets.items ≡ self.old.tickets.items) × ReadsNothing self.old.worker.seat.me self.new.worker.seat.me) }
@@ -55,6 +57,7 @@ impl<R: Wait> Session<R> {
             × (self.new.member.next ≡ self.old.member.next) × (self.new.member.known.items ≡ self.old.member.known.items) }
         ensures wait { KeepsWait self.old.member self.new.member }
         ensures settles { SettlesNothing self.old.member.worker.seat.me self.new.member.worker.seat.me }
+        ensures did { Does [] self.old.member.worker.seat.me self.new.member.worker.seat.me }
         ensures changed { IfOk result (λ version. (t : Own) × (numbered id self.old.member.tickets.items ≡ Some t) × (t.mode ≡ X)
             × (self.new.member.tickets.items ≡ noting_version t.place version self.old.member.tickets.items)
             × Redefines t.place change.now version self.old.member.worker.seat.me self.new.member.worker.seat.me) }

@@ -12,8 +12,9 @@ ghost use Rattle.mdl_visits.specs.Numbers.{numbered};
 ghost use Rattle.mdl_shared.specs.Modes.{clone_fault, is_fit};
 ghost use Rattle.mdl_visits.specs.Polls.{SettlesNothing};
 ghost use Rattle.mdl_visits.specs.Readings.{ReadsNothing};
-ghost use Rattle.mdl_visits.specs.Visits.{IsStepOf, MeetsFull};
+ghost use Rattle.mdl_visits.specs.Visits.{Does, IsStepOf, MeetsFull};
 ghost use Rattle.mdl_system.specs.Strength.{covers};
+ghost use Rattle.mdl_shared.specs.Doings.{deeds_if_done};
 
 use crate::Session;
 use crate::member::Member;
@@ -38,6 +39,7 @@ impl Member {
         ensures wait { KeepsWait self.old self.new }
         ensures reads { ReadsNothing self.old.worker.seat.me self.new.worker.seat.me }
         ensures settles { SettlesNothing self.old.worker.seat.me self.new.worker.seat.me }
+        ensures did { Does (deeds_if_done (Gain self.old.next mode ∷ []) result) self.old.worker.seat.me self.new.worker.seat.me }
         ensures doubled { IfOk result (λ id. (id ≡ self.old.next) × (self.new.next ≡ id + 1)
             × (self.new.tickets.items ≡ self.old.tickets.items ++ record { number = id; place = held.place; mode = mode; noted = note_at held.place self.old.tickets.items } ∷ [])
             × ((e : Met) × IsStepOf self.old.worker.seat.me self.new.worker.seat.me e × MeetsOwn held.place self.old.worker.number held.number e
@@ -76,6 +78,7 @@ impl<R: Wait> Session<R> {
         ensures wait { KeepsWait self.old.member self.new.member }
         ensures reads { ReadsNothing self.old.member.worker.seat.me self.new.member.worker.seat.me }
         ensures settles { SettlesNothing self.old.member.worker.seat.me self.new.member.worker.seat.me }
+        ensures did { Does (deeds_if_done (Gain self.old.member.next mode ∷ []) result) self.old.member.worker.seat.me self.new.member.worker.seat.me }
         ensures cloned { IfOk result (λ new. (new ≡ self.old.member.next) × (self.new.member.next ≡ new + 1)
             × ((t : Own) × (numbered id self.old.member.tickets.items ≡ Some t)
             × (self.new.member.tickets.items ≡ self.old.member.tickets.items ++ record { number = new; place = t.place; mode = mode; noted = note_at t.place self.old.member.tickets.items } ∷ [])

@@ -12,8 +12,9 @@ ghost use Rattle.mdl_visits.specs.Numbers.{numbered};
 ghost use Rattle.mdl_shared.specs.Modes.{downgrade_fault, in_mode_at, is_fit};
 ghost use Rattle.mdl_visits.specs.Polls.{SettlesNothing};
 ghost use Rattle.mdl_visits.specs.Readings.{ReadsNothing};
-ghost use Rattle.mdl_visits.specs.Visits.{IsStepOf};
+ghost use Rattle.mdl_visits.specs.Visits.{Does, IsStepOf};
 ghost use Rattle.mdl_system.specs.Strength.{may_downgrade};
+ghost use Rattle.mdl_shared.specs.Doings.{deeds_if_done};
 
 use crate::Session;
 use crate::holdings::set_mode;
@@ -34,6 +35,7 @@ impl Member {
         ensures same { (self.new.table ≡ self.old.table) × (self.new.worker.number ≡ self.old.worker.number) × (self.new.next ≡ self.old.next) × (self.new.known.items ≡ self.old.known.items) }
         ensures wait { SeesWait self.old self.new }
         ensures reads { ReadsNothing self.old.worker.seat.me self.new.worker.seat.me }
+        ensures did { Does (Alter held.number mode ∷ []) self.old.worker.seat.me self.new.worker.seat.me }
         ensures weakened { self.new.tickets.items ≡ in_mode_at held.place held.number mode self.old.tickets.items }
         ensures step { (e : Met) × IsStepOf self.old.worker.seat.me self.new.worker.seat.me e × MeetsOwn held.place self.old.worker.number held.number e
             × (e.deeds ≡ Alter held.number mode ∷ []) }
@@ -53,6 +55,7 @@ impl<R: Wait> Session<R> {
         ensures wait { SeesWait self.old.member self.new.member }
         ensures reads { ReadsNothing self.old.member.worker.seat.me self.new.member.worker.seat.me }
         ensures settles { OnErr result (SettlesNothing self.old.member.worker.seat.me self.new.member.worker.seat.me) }
+        ensures did { Does (deeds_if_done (Alter id mode ∷ []) result) self.old.member.worker.seat.me self.new.member.worker.seat.me }
         ensures downgraded { OnOk result ((t : Own) × (numbered id self.old.member.tickets.items ≡ Some t)
             × (self.new.member.tickets.items ≡ in_mode_at t.place id mode self.old.member.tickets.items)
             × ((e : Met) × IsStepOf self.old.member.worker.seat.me self.new.member.worker.seat.me e × MeetsOwn t.place self.old.member.worker.number id e

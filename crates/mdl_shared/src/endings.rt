@@ -12,7 +12,7 @@ ghost use Rattle.mdl_shared.specs.Keepings.{SeesWait};
 ghost use Rattle.mdl_visits.specs.Polls.{MeetsWait, SettlesNothing, state_of};
 ghost use Rattle.mdl_shared.specs.Waitings.{wait_fault};
 ghost use Rattle.mdl_visits.specs.Readings.{ReadsNothing};
-ghost use Rattle.mdl_visits.specs.Visits.{GoesOn, IsStepOf};
+ghost use Rattle.mdl_visits.specs.Visits.{Does, GoesOn, IsStepOf};
 
 use crate::Session;
 use crate::member::Member;
@@ -42,6 +42,7 @@ impl Member {
             × (self.new.known.items ≡ self.old.known.items) × (self.new.sessions ≡ self.old.sessions) }
         ensures reads { ReadsNothing self.old.worker.seat.me self.new.worker.seat.me }
         ensures settles { SettlesNothing self.old.worker.seat.me self.new.worker.seat.me }
+        ensures did { Does [] self.old.worker.seat.me self.new.worker.seat.me }
         ensures goes { GoesOn self.old.worker.seat.me self.new.worker.seat.me }
         ensures ended { EndsWith (self.old.tickets.items ++ ticket_asked ask self.old.tickets.items ∷ []) self.old self.new }
     {
@@ -65,6 +66,7 @@ impl Member {
         ensures same { (self.new.table ≡ self.old.table) × (self.new.worker.number ≡ self.old.worker.number) × (self.new.next ≡ self.old.next)
             × (self.new.known.items ≡ self.old.known.items) × (self.new.sessions ≡ self.old.sessions) }
         ensures reads { ReadsNothing self.old.worker.seat.me self.new.worker.seat.me }
+        ensures did { Does [] self.old.worker.seat.me self.new.worker.seat.me }
         ensures way { MadeWay (arc_value self.old.table).shared.table_id ask.place (without_wait self.old.worker.seat.me) self.new.worker.seat.me }
         ensures goes { GoesOn self.old.worker.seat.me self.new.worker.seat.me }
         ensures ended { EndsWith self.old.tickets.items self.old self.new }
@@ -80,6 +82,7 @@ impl Member {
             × (self.new.known.items ≡ self.old.known.items) × (self.new.sessions ≡ self.old.sessions) }
         ensures reads { ReadsNothing self.old.worker.seat.me self.new.worker.seat.me }
         ensures settles { OnErr result (SettlesNothing self.old.worker.seat.me self.new.worker.seat.me) }
+        ensures did { Does [] self.old.worker.seat.me self.new.worker.seat.me }
         ensures way { IfOk result (λ ended. EndMakesWay (arc_value self.old.table).shared.table_id ask.place ended self.old.worker.seat.me self.new.worker.seat.me) }
         ensures ended { IfOk result (λ ended. (how : Settled) × (ended ≡ end_of ask.number how)
             × EndsWith (tickets_after ask how self.old.tickets.items) self.old self.new
@@ -111,6 +114,7 @@ impl<R: Wait> Session<R> {
             × (self.new.member.sessions ≡ self.old.member.sessions) }
         ensures reads { ReadsNothing self.old.member.worker.seat.me self.new.member.worker.seat.me }
         ensures settles { OnErr result (SettlesNothing self.old.member.worker.seat.me self.new.member.worker.seat.me) }
+        ensures did { Does [] self.old.member.worker.seat.me self.new.member.worker.seat.me }
         ensures way { IfOk result (λ ended. (a : Ask) × (self.old.member.asks ≡ Some a)
             × EndMakesWay (arc_value self.old.member.table).shared.table_id a.place ended self.old.member.worker.seat.me self.new.member.worker.seat.me) }
         ensures ended { IfOk result (λ ended. (a : Ask) × (how : Settled) × (self.old.member.asks ≡ Some a) × (ended ≡ end_of a.number how)

@@ -11,8 +11,9 @@ ghost use Rattle.mdl_shared.specs.Members.{without_at};
 ghost use Rattle.mdl_shared.specs.Modes.{in_mode_at, may_merge, merge_fault};
 ghost use Rattle.mdl_visits.specs.Polls.{SettlesNothing};
 ghost use Rattle.mdl_visits.specs.Readings.{ReadsNothing};
-ghost use Rattle.mdl_visits.specs.Visits.{IsStepOf};
+ghost use Rattle.mdl_visits.specs.Visits.{Does, IsStepOf};
 ghost use Rattle.mdl_system.specs.Strength.{covers};
+ghost use Rattle.mdl_shared.specs.Doings.{merge_deeds};
 
 use crate::Session;
 use crate::holdings::set_mode;
@@ -37,6 +38,7 @@ impl Member {
         ensures wait { KeepsWait self.old self.new }
         ensures reads { ReadsNothing self.old.worker.seat.me self.new.worker.seat.me }
         ensures settles { SettlesNothing self.old.worker.seat.me self.new.worker.seat.me }
+        ensures did { Does (Alter kept.number gone.mode ∷ Lose gone.number ∷ []) self.old.worker.seat.me self.new.worker.seat.me }
         ensures folded { self.new.tickets.items ≡ without_at kept.place gone.number (in_mode_at kept.place kept.number gone.mode self.old.tickets.items) }
         ensures step { (e : Met) × IsStepOf self.old.worker.seat.me self.new.worker.seat.me e
             × MeetsOwn kept.place self.old.worker.number kept.number e × MeetsOwn kept.place self.old.worker.number gone.number e
@@ -64,6 +66,7 @@ impl<R: Wait> Session<R> {
         ensures wait { KeepsWait self.old.member self.new.member }
         ensures reads { ReadsNothing self.old.member.worker.seat.me self.new.member.worker.seat.me }
         ensures settles { SettlesNothing self.old.member.worker.seat.me self.new.member.worker.seat.me }
+        ensures did { Does (merge_deeds old new result (numbered new self.old.member.tickets.items)) self.old.member.worker.seat.me self.new.member.worker.seat.me }
         ensures merged { OnOk result ((kept : Own) × (gone : Own) × (numbered old self.old.member.tickets.items ≡ Some kept) × (numbered new self.old.member.tickets.items ≡ Some gone)
             × (self.new.member.tickets.items ≡ without_at kept.place new (in_mode_at kept.place old gone.mode self.old.member.tickets.items))
             × ((e : Met) × IsStepOf self.old.member.worker.seat.me self.new.member.worker.seat.me e

@@ -1,10 +1,11 @@
 //! What a session tells of its own lists: its tickets, and the keys that it has looked up. No step is needed for that.
-ghost use Rattle.std.specs.Prelude.{◌≡◌, ℕ, ◌<◌, length, map, slice_index_or, Some, IfOk, IfErr};
+ghost use Rattle.std.specs.Prelude.{◌≡◌, ℕ, ◌<◌, [], length, map, slice_index_or, Some, IfOk, IfErr};
 ghost use Rattle.std.specs.Option.{option_copied};
 ghost use Rattle.mdl_key.specs.Refusals.{Refuses};
 ghost use Rattle.mdl_calls.specs.declared.space_error.SpaceError.TheVariants as cause;
 ghost use Rattle.mdl_steps.specs.declared.view.Own.{Own};
 ghost use Rattle.mdl_shared.specs.OwnLists.{told_of, key_known, naming_fault};
+ghost use Rattle.mdl_visits.specs.Visits.{Does};
 
 use crate::Session;
 use crate::member::Member;
@@ -71,6 +72,7 @@ impl<R> Session<R> {
     /// The key of a place that the session has looked up.
     pub fn key_of(&mut self, place: Place) -> Result<Key, SpaceError>
         ensures same { self.new ≡ self.old }
+        ensures did { Does [] self.old.member.worker.seat.me self.new.member.worker.seat.me }
         ensures told { IfOk result (λ key. key_known place self.old.member.known.items ≡ Some key) }
         ensures refused { Refuses (naming_fault place self.old.member.known.items) cause.OutOfMemory result }
     {

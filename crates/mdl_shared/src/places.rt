@@ -9,6 +9,7 @@ ghost use Rattle.mdl_visits.specs.Lookups.{TookDirectory, IsAnswer};
 ghost use Rattle.mdl_shared.specs.Members.{LearnsPlace, is_known_place, place_known};
 ghost use Rattle.mdl_visits.specs.Polls.{SettlesNothing};
 ghost use Rattle.mdl_visits.specs.Readings.{ReadsNothing};
+ghost use Rattle.mdl_visits.specs.Visits.{Does};
 
 use crate::Session;
 use crate::member::Member;
@@ -36,6 +37,7 @@ impl Member {
         ensures wait { KeepsWait self.old self.new }
         ensures reads { ReadsNothing self.old.worker.seat.me self.new.worker.seat.me }
         ensures settles { SettlesNothing self.old.worker.seat.me self.new.worker.seat.me }
+        ensures did { Does [] self.old.worker.seat.me self.new.worker.seat.me }
         ensures known { IfOk result (λ place. (0 < place) × (place < (arc_value self.old.table).shared.table_id.slots)
             × (is_known_place self.old.known.items place ≡ false)
             × (self.new.known.items ≡ self.old.known.items ++ record { key = key.now; place = place } ∷ [])) }
@@ -72,6 +74,7 @@ impl<R: Wait> Session<R> {
         ensures wait { KeepsWait self.old.member self.new.member }
         ensures reads { ReadsNothing self.old.member.worker.seat.me self.new.member.worker.seat.me }
         ensures settles { SettlesNothing self.old.member.worker.seat.me self.new.member.worker.seat.me }
+        ensures did { Does [] self.old.member.worker.seat.me self.new.member.worker.seat.me }
         ensures known { IfOk result (λ place. (0 < place) × (place < (arc_value self.old.member.table).shared.table_id.slots)
             × LearnsPlace key.now place (place_known key.now self.old.member.known.items) self.old.member.known.items self.new.member.known.items) }
         ensures unchanged { OnErr result (self.new.member.known.items ≡ self.old.member.known.items) }

@@ -1,5 +1,5 @@
 //! How waits stand, by their words. No latch is needed for that, and no memory.
-ghost use Rattle.std.specs.Prelude.{◌≡◌, ◌⊎◌, ℕ, ◌<◌, ◌≤◌, ◌%◌, Ok, Some, None, true, false, is_some, IfSome, IfOk};
+ghost use Rattle.std.specs.Prelude.{◌≡◌, ◌⊎◌, ℕ, ◌<◌, ◌≤◌, ◌%◌, [], Ok, Some, None, true, false, is_some, IfSome, IfOk};
 ghost use Rattle.std.specs.Arc.{arc_value};
 ghost use Rattle.mdl_key.specs.Refusals.{RefusesJust};
 ghost use Rattle.mdl_calls.specs.declared.answers.Poll.TheVariants as poll;
@@ -11,7 +11,7 @@ ghost use Rattle.mdl_shared.specs.Limits.{is_within};
 ghost use Rattle.mdl_visits.specs.Polls.{MeetsNumber, MeetsWait, MeetsWord, SettlesNothing, number_in, state_of};
 ghost use Rattle.mdl_shared.specs.Waitings.{own_number, wait_fault};
 ghost use Rattle.mdl_visits.specs.Readings.{ReadsNothing};
-ghost use Rattle.mdl_visits.specs.Visits.{IsStepOf};
+ghost use Rattle.mdl_visits.specs.Visits.{Does, IsStepOf};
 
 use crate::Session;
 use crate::member::Member;
@@ -52,6 +52,7 @@ impl Member {
         ensures wait { SeesWait self.old self.new }
         ensures reads { ReadsNothing self.old.worker.seat.me self.new.worker.seat.me }
         ensures settles { SettlesNothing self.old.worker.seat.me self.new.worker.seat.me }
+        ensures did { Does [] self.old.worker.seat.me self.new.worker.seat.me }
         ensures met { (e : Met) × IsStepOf self.old.worker.seat.me self.new.worker.seat.me e
             × MeetsWord (arc_value self.old.table).shared.table_id.slots session result.0 e }
         ensures own { TellsOwn (arc_value self.old.table).shared.table_id.slots session result.0 self.old.worker.seat.me.0 }
@@ -69,6 +70,7 @@ impl Member {
         ensures wait { SeesWait self.old self.new }
         ensures reads { ReadsNothing self.old.worker.seat.me self.new.worker.seat.me }
         ensures settles { SettlesNothing self.old.worker.seat.me self.new.worker.seat.me }
+        ensures did { Does [] self.old.worker.seat.me self.new.worker.seat.me }
         ensures pending { result ≡ poll.Pending → (e : Met) × IsStepOf self.old.worker.seat.me self.new.worker.seat.me e
             × MeetsWait (arc_value self.old.table).shared.table_id.slots self.old.worker.number self.old.waits 1 e }
         ensures settled { (how : Settled) → result ≡ poll.Settled how → (self.new.worker.seat.me.0.told ≡ Some (state_of how))
@@ -93,6 +95,7 @@ impl<R> Session<R> {
         ensures wait { SeesWait self.old.member self.new.member }
         ensures reads { ReadsNothing self.old.member.worker.seat.me self.new.member.worker.seat.me }
         ensures settles { SettlesNothing self.old.member.worker.seat.me self.new.member.worker.seat.me }
+        ensures did { Does [] self.old.member.worker.seat.me self.new.member.worker.seat.me }
         ensures pending { result ≡ Ok poll.Pending → (e : Met) × IsStepOf self.old.member.worker.seat.me self.new.member.worker.seat.me e
             × MeetsWait (arc_value self.old.member.table).shared.table_id.slots self.old.member.worker.number self.old.member.waits 1 e }
         ensures settled { (how : Settled) → result ≡ Ok (poll.Settled how) → (self.new.member.worker.seat.me.0.told ≡ Some (state_of how))
@@ -115,6 +118,7 @@ impl<R> Session<R> {
         ensures wait { SeesWait self.old.member self.new.member }
         ensures reads { ReadsNothing self.old.member.worker.seat.me self.new.member.worker.seat.me }
         ensures settles { SettlesNothing self.old.member.worker.seat.me self.new.member.worker.seat.me }
+        ensures did { Does [] self.old.member.worker.seat.me self.new.member.worker.seat.me }
         ensures nobody { is_within self.old.member.sessions target ≡ false → (result ≡ None) × (self.new ≡ self.old) }
         ensures told { is_within self.old.member.sessions target ≡ true → (e : Met) × IsStepOf self.old.member.worker.seat.me self.new.member.worker.seat.me e
             × MeetsNumber (arc_value self.old.member.table).shared.table_id.slots target result e }

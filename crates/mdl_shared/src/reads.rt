@@ -1,5 +1,5 @@
 //! What a session reads under its tickets.
-ghost use Rattle.std.specs.Prelude.{◌≡◌, ◌≤◌, ℕ, Some, map, IfOk, IfErr, OnErr};
+ghost use Rattle.std.specs.Prelude.{◌≡◌, ◌≤◌, ℕ, [], Some, map, IfOk, IfErr, OnErr};
 ghost use Rattle.std.specs.Option.{option_map};
 ghost use Rattle.std.specs.Vec.{vec_capacity, vec_len};
 ghost use Rattle.mdl_key.specs.Refusals.{Refuses};
@@ -14,7 +14,7 @@ ghost use Rattle.mdl_shared.specs.Members.{noting_at, holding_fault};
 ghost use Rattle.mdl_visits.specs.Numbers.{numbered};
 ghost use Rattle.mdl_visits.specs.Polls.{SettlesNothing};
 ghost use Rattle.mdl_visits.specs.Readings.{Follows, ReadsNothing, ReadsThere};
-ghost use Rattle.mdl_visits.specs.Visits.{IsStepOf};
+ghost use Rattle.mdl_visits.specs.Visits.{Does, IsStepOf};
 
 use crate::Session;
 use crate::member::Member;
@@ -32,6 +32,7 @@ impl Member {
         ensures same { (self.new.table ≡ self.old.table) × (self.new.worker.number ≡ self.old.worker.number) × (self.new.next ≡ self.old.next) × (self.new.known.items ≡ self.old.known.items) }
         ensures wait { KeepsWait self.old self.new }
         ensures settles { SettlesNothing self.old.worker.seat.me self.new.worker.seat.me }
+        ensures did { Does [] self.old.worker.seat.me self.new.worker.seat.me }
         ensures read { IfOk result (λ standing. (self.new.tickets.items ≡ noting_version place standing.version self.old.tickets.items)
             × ReadsThere place standing self.old.worker.seat.me self.new.worker.seat.me
             × ((e : Met) × IsStepOf self.old.worker.seat.me self.new.worker.seat.me e × MeetsStanding place self.old.worker.number standing e)) }
@@ -82,6 +83,7 @@ impl<R: Wait> Session<R> {
             × (self.new.member.next ≡ self.old.member.next) × (self.new.member.known.items ≡ self.old.member.known.items) }
         ensures wait { KeepsWait self.old.member self.new.member }
         ensures settles { SettlesNothing self.old.member.worker.seat.me self.new.member.worker.seat.me }
+        ensures did { Does [] self.old.member.worker.seat.me self.new.member.worker.seat.me }
         ensures read { IfOk result (λ standing. (t : Own) × (numbered id self.old.member.tickets.items ≡ Some t)
             × (self.new.member.tickets.items ≡ noting_version t.place standing.version self.old.member.tickets.items)
             × ReadsThere t.place standing self.old.member.worker.seat.me self.new.member.worker.seat.me

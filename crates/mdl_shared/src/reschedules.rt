@@ -1,10 +1,11 @@
 //! A session makes way at a place where it gives up nothing.
-ghost use Rattle.std.specs.Prelude.{◌≡◌, true};
+ghost use Rattle.std.specs.Prelude.{◌≡◌, [], true};
 ghost use Rattle.std.specs.Arc.{arc_value};
 ghost use Rattle.mdl_visits.specs.Grantings.{MadeWay};
 ghost use Rattle.mdl_shared.specs.Keepings.{SeesWait};
 ghost use Rattle.mdl_shared.specs.Members.{is_known_place};
 ghost use Rattle.mdl_visits.specs.Readings.{ReadsNothing};
+ghost use Rattle.mdl_visits.specs.Visits.{Does};
 
 use crate::Session;
 use crate::member::Member;
@@ -20,6 +21,7 @@ impl Member {
             × (self.new.known.items ≡ self.old.known.items) × (self.new.tickets.items ≡ self.old.tickets.items) }
         ensures wait { SeesWait self.old self.new }
         ensures reads { ReadsNothing self.old.worker.seat.me self.new.worker.seat.me }
+        ensures did { Does [] self.old.worker.seat.me self.new.worker.seat.me }
         ensures way { MadeWay (arc_value self.old.table).shared.table_id place self.old.worker.seat.me self.new.worker.seat.me }
     {
         serve_place(rt, &mut self.worker, &self.table, place);
@@ -36,6 +38,7 @@ impl<R: Wait> Session<R> {
             × (self.new.member.tickets.items ≡ self.old.member.tickets.items) }
         ensures wait { SeesWait self.old.member self.new.member }
         ensures reads { ReadsNothing self.old.member.worker.seat.me self.new.member.worker.seat.me }
+        ensures did { Does [] self.old.member.worker.seat.me self.new.member.worker.seat.me }
         ensures way { MadeWay (arc_value self.old.member.table).shared.table_id place self.old.member.worker.seat.me self.new.member.worker.seat.me }
     {
         self.member.serve(&self.rt, place as usize);

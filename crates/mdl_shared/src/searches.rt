@@ -1,5 +1,5 @@
 //! Deadlocks are looked for.
-ghost use Rattle.std.specs.Prelude.{◌≡◌, Ok, None, true, is_some, IfOk, IfErr, OnErr};
+ghost use Rattle.std.specs.Prelude.{◌≡◌, [], Ok, None, true, is_some, IfOk, IfErr, OnErr};
 ghost use Rattle.std.specs.Arc.{arc_value};
 ghost use Rattle.mdl_calls.specs.declared.answers.Search.TheVariants.{NoCycle};
 ghost use Rattle.mdl_calls.specs.declared.space_error.SpaceError.TheVariants as cause;
@@ -9,6 +9,7 @@ ghost use Rattle.mdl_visits.specs.Lookups.{TookDirectory};
 ghost use Rattle.mdl_visits.specs.Polls.{SettlesNothing};
 ghost use Rattle.mdl_visits.specs.Readings.{ReadsNothing};
 ghost use Rattle.mdl_visits.specs.Searches.{KnowsFall, Searched};
+ghost use Rattle.mdl_visits.specs.Visits.{Does};
 
 use crate::Session;
 use crate::member::Member;
@@ -25,6 +26,7 @@ impl Member {
             × (self.new.known.items ≡ self.old.known.items) × (self.new.tickets.items ≡ self.old.tickets.items) }
         ensures wait { SeesWait self.old self.new }
         ensures reads { ReadsNothing self.old.worker.seat.me self.new.worker.seat.me }
+        ensures did { Does [] self.old.worker.seat.me self.new.worker.seat.me }
         ensures searched { (k : Keys) × TookDirectory (arc_value self.old.table).shared.table_id.slots k k self.old.worker.seat.me self.new.worker.seat.me
             × IfOk result (λ found. Searched (arc_value self.old.table).shared.table_id self.old.worker.number k found self.old.worker.seat.me self.new.worker.seat.me) }
         ensures own { IfOk result (λ found. KnowsFall self.old.worker.number found self.new.worker.seat.me) }
@@ -46,6 +48,7 @@ impl<R: Wait> Session<R> {
             × (self.new.member.tickets.items ≡ self.old.member.tickets.items) }
         ensures wait { SeesWait self.old.member self.new.member }
         ensures reads { ReadsNothing self.old.member.worker.seat.me self.new.member.worker.seat.me }
+        ensures did { Does [] self.old.member.worker.seat.me self.new.member.worker.seat.me }
         ensures idle { self.old.member.asks ≡ None → (result ≡ Ok NoCycle) × (self.new ≡ self.old) }
         ensures searched { is_some self.old.member.asks ≡ true → (k : Keys)
             × TookDirectory (arc_value self.old.member.table).shared.table_id.slots k k self.old.member.worker.seat.me self.new.member.worker.seat.me

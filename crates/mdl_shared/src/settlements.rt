@@ -12,7 +12,7 @@ ghost use Rattle.mdl_shared.specs.Limits.{is_within};
 ghost use Rattle.mdl_visits.specs.Polls.{MeetsOther, MeetsWait, MeetsWord, Settles, SettlesNothing, state_of};
 ghost use Rattle.mdl_shared.specs.Waitings.{own_number, wait_fault};
 ghost use Rattle.mdl_visits.specs.Readings.{ReadsNothing};
-ghost use Rattle.mdl_visits.specs.Visits.{IsStepOf};
+ghost use Rattle.mdl_visits.specs.Visits.{Does, IsStepOf};
 
 use crate::Session;
 use crate::member::Member;
@@ -37,6 +37,7 @@ impl Member {
             × (self.new.known.items ≡ self.old.known.items) × (self.new.tickets.items ≡ self.old.tickets.items) }
         ensures wait { SeesWait self.old self.new }
         ensures reads { ReadsNothing self.old.worker.seat.me self.new.worker.seat.me }
+        ensures did { Does [] self.old.worker.seat.me self.new.worker.seat.me }
         ensures met { (e : Met) × IsStepOf self.old.worker.seat.me self.new.worker.seat.me e
             × MeetsWord (arc_value self.old.table).shared.table_id.slots session result.0 e }
         ensures settled { result.0 ≡ wait_in wait 1 → Settles session wait (lost_state how) self.old.worker.seat.me self.new.worker.seat.me }
@@ -57,6 +58,7 @@ impl Member {
             × (self.new.known.items ≡ self.old.known.items) × (self.new.tickets.items ≡ self.old.tickets.items) }
         ensures wait { SeesWait self.old self.new }
         ensures reads { ReadsNothing self.old.worker.seat.me self.new.worker.seat.me }
+        ensures did { Does [] self.old.worker.seat.me self.new.worker.seat.me }
         ensures by_this_call { result ≡ ByThisCall → Settles self.old.worker.number self.old.waits 4 self.old.worker.seat.me self.new.worker.seat.me
             × (self.new.worker.seat.me.0.told ≡ Some 4)
             × ((e : Met) × IsStepOf self.old.worker.seat.me self.new.worker.seat.me e
@@ -84,6 +86,7 @@ impl Member {
             × (self.new.known.items ≡ self.old.known.items) × (self.new.tickets.items ≡ self.old.tickets.items) }
         ensures wait { SeesWait self.old self.new }
         ensures reads { ReadsNothing self.old.worker.seat.me self.new.worker.seat.me }
+        ensures did { Does [] self.old.worker.seat.me self.new.worker.seat.me }
         ensures killed { result ≡ true → Settles session number 5 self.old.worker.seat.me self.new.worker.seat.me
             × ((e : Met) × IsStepOf self.old.worker.seat.me self.new.worker.seat.me e
             × MeetsWait (arc_value self.old.table).shared.table_id.slots session number 1 e) }
@@ -110,6 +113,7 @@ impl<R> Session<R> {
         ensures wait { SeesWait self.old.member self.new.member }
         ensures reads { ReadsNothing self.old.member.worker.seat.me self.new.member.worker.seat.me }
         ensures settles { OnErr result (SettlesNothing self.old.member.worker.seat.me self.new.member.worker.seat.me) }
+        ensures did { Does [] self.old.member.worker.seat.me self.new.member.worker.seat.me }
         ensures by_this_call { result ≡ Ok ByThisCall → Settles self.old.member.worker.number self.old.member.waits 4 self.old.member.worker.seat.me self.new.member.worker.seat.me
             × (self.new.member.worker.seat.me.0.told ≡ Some 4)
             × ((e : Met) × IsStepOf self.old.member.worker.seat.me self.new.member.worker.seat.me e
@@ -134,6 +138,7 @@ impl<R> Session<R> {
             × (self.new.member.tickets.items ≡ self.old.member.tickets.items) }
         ensures wait { SeesWait self.old.member self.new.member }
         ensures reads { ReadsNothing self.old.member.worker.seat.me self.new.member.worker.seat.me }
+        ensures did { Does [] self.old.member.worker.seat.me self.new.member.worker.seat.me }
         ensures nobody { is_within self.old.member.sessions target ≡ false → (result ≡ false) × (self.new ≡ self.old) }
         ensures killed { result ≡ true → Settles target number 5 self.old.member.worker.seat.me self.new.member.worker.seat.me
             × ((e : Met) × IsStepOf self.old.member.worker.seat.me self.new.member.worker.seat.me e

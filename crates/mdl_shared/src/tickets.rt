@@ -15,7 +15,8 @@ ghost use Rattle.mdl_visits.specs.Numbers.{numbered};
 ghost use Rattle.mdl_shared.specs.Members.{without_at, holding_fault};
 ghost use Rattle.mdl_visits.specs.Polls.{SettlesNothing};
 ghost use Rattle.mdl_visits.specs.Readings.{ReadsNothing};
-ghost use Rattle.mdl_visits.specs.Visits.{IsStepOf};
+ghost use Rattle.mdl_visits.specs.Visits.{Does, IsStepOf};
+ghost use Rattle.mdl_shared.specs.Doings.{deeds_if_done};
 
 use crate::Session;
 use crate::member::Member;
@@ -41,6 +42,7 @@ impl Member {
         ensures same { (self.new.table ≡ self.old.table) × (self.new.worker.number ≡ self.old.worker.number) × (self.new.next ≡ self.old.next) × (self.new.known.items ≡ self.old.known.items) }
         ensures wait { SeesWait self.old self.new }
         ensures reads { ReadsNothing self.old.worker.seat.me self.new.worker.seat.me }
+        ensures did { Does (Lose id ∷ []) self.old.worker.seat.me self.new.worker.seat.me }
         ensures released { self.new.tickets.items ≡ without_at place id self.old.tickets.items }
         ensures step { (e : Met) × IsStepOf self.old.worker.seat.me self.new.worker.seat.me e × MeetsOwn place self.old.worker.number id e
             × (e.deeds ≡ Lose id ∷ []) }
@@ -74,6 +76,7 @@ impl<R: Wait> Session<R> {
         ensures wait { SeesWait self.old.member self.new.member }
         ensures reads { ReadsNothing self.old.member.worker.seat.me self.new.member.worker.seat.me }
         ensures settles { OnErr result (SettlesNothing self.old.member.worker.seat.me self.new.member.worker.seat.me) }
+        ensures did { Does (deeds_if_done (Lose id ∷ []) result) self.old.member.worker.seat.me self.new.member.worker.seat.me }
         ensures released { OnOk result ((t : Own) × (numbered id self.old.member.tickets.items ≡ Some t)
             × (self.new.member.tickets.items ≡ without_at t.place id self.old.member.tickets.items)
             × ((e : Met) × IsStepOf self.old.member.worker.seat.me self.new.member.worker.seat.me e × MeetsOwn t.place self.old.member.worker.number id e

@@ -15,7 +15,8 @@ ghost use Rattle.mdl_shared.specs.Modes.{in_mode_at};
 ghost use Rattle.mdl_visits.specs.Polls.{SettlesNothing};
 ghost use Rattle.mdl_visits.specs.Readings.{ReadsNothing};
 ghost use Rattle.mdl_shared.specs.Upgrades.{upgrade_fault};
-ghost use Rattle.mdl_visits.specs.Visits.{IsStepOf, MeetsBlocked, MeetsGrantable};
+ghost use Rattle.mdl_visits.specs.Visits.{Does, IsStepOf, MeetsBlocked, MeetsGrantable};
+ghost use Rattle.mdl_shared.specs.Doings.{rise_deeds, upgrade_deeds};
 
 use crate::Session;
 use crate::holdings::set_mode;
@@ -44,6 +45,7 @@ impl Member {
         ensures wait { KeepsWait self.old self.new }
         ensures reads { ReadsNothing self.old.worker.seat.me self.new.worker.seat.me }
         ensures settles { SettlesNothing self.old.worker.seat.me self.new.worker.seat.me }
+        ensures did { Does (rise_deeds id mode result) self.old.worker.seat.me self.new.worker.seat.me }
         ensures upgraded { result ≡ Upgraded → (self.new.tickets.items ≡ in_mode_at place id mode self.old.tickets.items)
             × ((e : Met) × IsStepOf self.old.worker.seat.me self.new.worker.seat.me e × MeetsGrantable place self.old.worker.number mode (Alter id mode) e) }
         ensures would_wait { result ≡ WouldWait → (self.new.tickets.items ≡ self.old.tickets.items)
@@ -68,6 +70,7 @@ impl<R: Wait> Session<R> {
         ensures wait { KeepsWait self.old.member self.new.member }
         ensures reads { ReadsNothing self.old.member.worker.seat.me self.new.member.worker.seat.me }
         ensures settles { SettlesNothing self.old.member.worker.seat.me self.new.member.worker.seat.me }
+        ensures did { Does (upgrade_deeds id mode result (numbered id self.old.member.tickets.items)) self.old.member.worker.seat.me self.new.member.worker.seat.me }
         ensures covered { (t : Own) → numbered id self.old.member.tickets.items ≡ Some t → covers t.mode mode ≡ true
             → self.new.member.tickets.items ≡ self.old.member.tickets.items }
         ensures upgraded { (t : Own) → numbered id self.old.member.tickets.items ≡ Some t → covers t.mode mode ≡ false → result ≡ Ok Upgraded

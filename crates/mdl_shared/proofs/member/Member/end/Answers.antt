@@ -9,6 +9,7 @@ use Rattle.mdl_shared.specs.Endings.{ticket_asked}
 use Rattle.mdl_visits.specs.WaitEndings.{without_wait}
 use Rattle.mdl_visits.specs.Grantings.{MadeWay}
 use Rattle.mdl_visits.specs.Polls.{state_of}
+use Rattle.mdl_visits.proofs.Steps.{does_then}
 use Rattle.mdl_shared.proofs.Ends.{granted_so, lost_over, lost_so, lost_way, step_earlier, way_met_before}
 use Rattle.mdl_shared.proofs.member.Member.end.Goals as goal
 
@@ -66,3 +67,13 @@ returns-in-Some-clause-way g c =
     let way = subst (λ (x : TableId). MadeWay x c.args.ask.place (without_wait polled) went) same c.withdraw.ensures.way in
     lost_way id c.args.ask.place m went how c.in-Some.ended (sym c.lost_end.ensures ∙ c.in-Some.is)
     (way_met_before id c.args.ask.place m polled went met.0 met.1 c.poll.ensures.settles number way)
+
+pub returns-in-Some-clause-did : goal.returns-in-Some-clause-did
+returns-in-Some-clause-did g c =
+    let polled : Mine = c.poll.new.self.worker.seat.me in
+    does_then [] [] c.args.self.now.worker.seat.me polled c.withdraw.new.self.worker.seat.me c.poll.ensures.did c.withdraw.ensures.did
+
+pub returns-clause-did : goal.returns-clause-did
+returns-clause-did g c =
+    let polled : Mine = c.poll.new.self.worker.seat.me in
+    does_then [] [] c.args.self.now.worker.seat.me polled c.take_over.new.self.worker.seat.me c.poll.ensures.did c.take_over.ensures.did

@@ -1,6 +1,8 @@
 -- The word of the session's own wait tells whether it is settled.
 use Rattle.std.specs.Arc.{arc_value}
-use Rattle.std.proofs.Common.{◌≡◌, false, Some, rules, sym, ap, ◌∙◌}
+use Rattle.std.proofs.Common.{◌≡◌, false, [], Some, rules, sym, ap, ◌∙◌}
+use Rattle.mdl_steps.specs.Plays.{Mine}
+use Rattle.mdl_visits.proofs.Steps.{does_then}
 use Rattle.mdl_shared.specs.Waitings.{own_number}
 use Rattle.mdl_shared.proofs.Polling.{own_settled}
 use Rattle.mdl_shared.proofs.member.Member.kill.Goals as goal
@@ -27,3 +29,8 @@ returns-clause-settled c = λ mine closed own.
     let same = ap (λ waits. own_number waits then.asks) kept.1 ∙ ap (own_number self.waits) kept.0 ∙ own in
     let settled = own_settled (arc_value then.table).shared.table_id.slots word c.args.number then.waits then.worker.seat.me.0 then.asks then.waits_is then.asks_is ok same other in
     (settled.1, c.settle.ensures.told still other settled.0 ∙ ap Some settled.2)
+
+pub returns-clause-did : goal.returns-clause-did
+returns-clause-did c =
+    let met : Mine = c.read_wait.new.self.worker.seat.me in
+    does_then [] [] c.args.self.now.worker.seat.me met c.settle.new.self.worker.seat.me c.read_wait.ensures.did c.settle.ensures.did

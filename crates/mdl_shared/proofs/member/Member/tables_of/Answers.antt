@@ -1,5 +1,5 @@
 -- The session's lists are those of its view, with the schema's tables that it didn't know.
-use Rattle.std.proofs.Common.{◌≡◌, ℕ, ◌<◌, not, List, ◌++◌, None, sym, ap, ◌∙◌, subst, ◌≤◌}
+use Rattle.std.proofs.Common.{◌≡◌, ℕ, ◌<◌, not, List, [], ◌++◌, None, sym, ap, ◌∙◌, subst, ◌≤◌}
 use Rattle.std.specs.Arc.{arc_value}
 use Rattle.std.proofs.lemmas.List.Elements.{All-filter}
 use Rattle.mdl_steps.specs.declared.view.Known.{Known}
@@ -15,6 +15,7 @@ use Rattle.mdl_shared.proofs.Awaiting.{awaited_and}
 use Rattle.mdl_visits.proofs.Asking.{asked_after, goes_on}
 use Rattle.mdl_visits.proofs.Listing.{took_earlier}
 use Rattle.mdl_visits.proofs.Lookups.{no_record}
+use Rattle.mdl_visits.proofs.Steps.{does_then}
 use Rattle.mdl_shared.proofs.Membership.{known_and, within_and}
 use Rattle.mdl_shared.proofs.KnownKeys.{all_learnt, apart_and}
 use Rattle.mdl_shared.specs.Rememberings.{Remembers}
@@ -89,3 +90,11 @@ returns-clause-told g c =
             (all_learnt c.args.schema.now found.0 old.0 tables found.1.recorded.known found.2.0 found.1.recorded.distinct),
       ),
     )
+
+pub returns-clause-did : goal.returns-clause-did
+returns-clause-did g c =
+    let old : Mine = c.args.self.now.worker.seat.me in
+    let mid : Mine = c.find_tables.new.worker.seat.me in
+    let found = c.in_ok-tables.ensures.found.2.1 in
+    let asked = c.ask_all.ensures.steps in
+    does_then [] [] old mid c.ask_all.new.worker.seat.me (found.0, ap (λ (m : Mine). m.0.log) found.1, found.2) (asked.0, ap (λ (m : Mine). m.0.log) asked.1, asked.2)
