@@ -15,6 +15,7 @@ use Rattle.mdl_shared.proofs.Awaiting.{awaited_and}
 use Rattle.mdl_visits.proofs.Asking.{asked_after, goes_on}
 use Rattle.mdl_visits.proofs.Listing.{took_earlier}
 use Rattle.mdl_visits.proofs.Lookups.{no_record}
+use Rattle.mdl_visits.proofs.Doing.{does_steps}
 use Rattle.mdl_visits.proofs.Steps.{does_then}
 use Rattle.mdl_shared.proofs.Membership.{known_and, within_and}
 use Rattle.mdl_shared.proofs.KnownKeys.{all_learnt, apart_and}
@@ -95,6 +96,6 @@ pub returns-clause-did : goal.returns-clause-did
 returns-clause-did g c =
     let old : Mine = c.args.self.now.worker.seat.me in
     let mid : Mine = c.find_tables.new.worker.seat.me in
-    let found = c.in_ok-tables.ensures.found.2.1 in
-    let asked = c.ask_all.ensures.steps in
-    does_then [] [] old mid c.ask_all.new.worker.seat.me (found.0, ap (λ (m : Mine). m.0.log) found.1, found.2) (asked.0, ap (λ (m : Mine). m.0.log) asked.1, asked.2)
+    let new : Mine = c.ask_all.new.worker.seat.me in
+    let knowing = knowing_all c.in_ok-tables.tables.items old in
+    does_then [] [] old mid new (does_steps knowing mid c.in_ok-tables.ensures.found.2.1) (does_steps mid new c.ask_all.ensures.steps)
