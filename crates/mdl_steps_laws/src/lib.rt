@@ -6,6 +6,7 @@
 #![tactic(auto)]
 
 mod deeds;
+mod each_step;
 mod fast_path;
 mod headline;
 mod rests;
@@ -17,6 +18,7 @@ pub use deeds::{
     altering_downgrades, altering_upgrades, gaining_clones, gaining_grants, losing_releases,
     moving_merges, redefining_changes,
 };
+pub use each_step::each_step_is_one_event;
 pub use fast_path::{
     granting_fast_grants, materialising_rests, reading_unlatched_rests, releasing_fast_releases,
     waiters_have_no_fast_tickets,
