@@ -15,7 +15,7 @@ use Rattle.mdl_system.specs.BookLaws.{of_lock}
 use Rattle.mdl_system.specs.Events.{BeginWait, ChangeDefinition, Clone, Downgrade, EndGrantedWait, EndLostWait, Event, Grant, GrantWaiter, Merge, Release, SameSystem, SettleLost, Step as SystemStep, Upgrade}
 use Rattle.mdl_system.specs.Systems.{System, Unsettled}
 use Rattle.mdl_system.proofs.Deciding.{nat_told}
-use Rattle.mdl_steps_laws.specs.EachStep.{BringsDeedsAt, BringsOrRests, EachStepIsAStep, IfMet}
+use Rattle.mdl_steps_laws.specs.EachStep.{BringsDeedsAt, BringsOrRests, EachStepHappensOrRests, IfMet}
 use Rattle.mdl_steps_laws.specs.SessionSteps.{Makes, Turn}
 use Rattle.mdl_steps_laws.specs.StepEvents.{BringsDeeds}
 use Rattle.mdl_steps_laws.specs.WaitLaws.{Brings, IsTold, Rests, lost_as}
@@ -88,8 +88,8 @@ module _ (s t : State Slot View) where
   is_a_step st m was m′ (Makes.ReleasesFast _ _ _ _) brought = happens (Release (of_lock brought.0 brought.2.0)) brought.2.2
   is_a_step st m was m′ (Makes.Materialises _ _ _ _ _ _ _) brought = nothing brought
 
-pub each_step_is_a_step : EachStepIsAStep
-each_step_is_a_step s t r r′ (Turn.Steps id m m′ st left act seat made moves) whole =
+pub each_step_happens_or_rests : EachStepHappensOrRests
+each_step_happens_or_rests s t r r′ (Turn.Steps id m m′ st left act seat made moves) whole =
     is_a_step s t st m (get_or s.words st.word 0) m′ made (each_step_is_one_event s t r r′ (Turn.Steps id m m′ st left act seat made moves) whole)
-each_step_is_a_step s t r r′ (Turn.Splits v first more seat fast slow reads moves) whole =
+each_step_happens_or_rests s t r r′ (Turn.Splits v first more seat fast slow reads moves) whole =
     nothing s t (each_step_is_one_event s t r r′ (Turn.Splits v first more seat fast slow reads moves) whole)

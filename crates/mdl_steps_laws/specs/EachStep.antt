@@ -62,6 +62,7 @@ Swaps expected new found left act = (act ≡ keeps) × (found ≡ expected → l
 abbrev pub HasLatch : ℕ → Mine → Type 0
 HasLatch place m = (h : Held) × (held_at place m.0.latches ≡ Some h)
 
+-- so it is of each kind of step
 abbrev pub IsWhole : State Slot View → ℕ → Act Slot → {st : Step Slot} {m : Mine} {found : ℕ} {m′ : Mine} → Makes st m found m′ → Type 0
 IsWhole s left act {st} (Makes.DrawsNumber _) = (st.word ≡ enrol_word st.slots) × (act ≡ keeps)
 IsWhole s left act {st} {m} {found} (Makes.TakesDirectory _ _) = Takes 0 m found left act
@@ -74,23 +75,26 @@ IsWhole s left act {st} {m} (Makes.RaisesFlags place _ _ _ _ _) = HasPlace s pla
 IsWhole s left act (Makes.LowersFlags place _ _ _ _ _ _ _) = HasPlace s place × (act ≡ keeps)
 IsWhole s left act {st} {m} {found} (Makes.ReadsWord place _ _) = HasPlace s place × HasLatch place m × Meets found left act
 IsWhole s left act (Makes.WritesVersion place may _ _) = HasPlace s place × Writes (standing_after may.1 may.0.book.standing).version left act
-IsWhole s left act {st} {m} (Makes.OpensWait place mode _ _ _) = HasPlace s place × ((h : Held) × MayOpen place mode h m) × Writes (wait_in (m.0.waits + 1) 1) left act
+IsWhole s left act {st} {m} (Makes.OpensWait place mode _ _ _) =
+    HasPlace s place × ((h : Held) × MayOpen place mode h m) × Writes (wait_in (m.0.waits + 1) 1) left act
 IsWhole s left act {st} {m} {found} (Makes.ReadsWait _ _ _) = Meets found left act
 IsWhole s left act {st} {m} {found} (Makes.SettlesLost session number state _ _ _ _) =
     (0 < session) × ((how : Loss) × (state ≡ lost_state how)) × Swaps (wait_in number 1) (wait_in number state) found left act
 IsWhole s left act {st} {m} {found} (Makes.SettlesGranted place ticket session number _ _ _) =
     HasPlace s place × (0 < session) × ((h : Held) × MayGrant place session ticket h m) × Swaps (wait_in number 1) (wait_in number 2) found left act
 IsWhole s left act {st} {m} (Makes.EndsGranted _ _) = (0 < m.0.number) × (m.0.told ≡ Some 2) × Writes (wait_in m.0.waits 0) left act
-IsWhole s left act {st} {m} (Makes.EndsLost a state _ _ _ _) = HasPlace s a.place × ((h : Held) × MayCancel a.place h m) × Writes (wait_in m.0.waits 0) left act
+IsWhole s left act {st} {m} (Makes.EndsLost a state _ _ _ _) =
+    HasPlace s a.place × ((h : Held) × MayCancel a.place h m) × Writes (wait_in m.0.waits 0) left act
 IsWhole s left act {st} {m} {found} (Makes.ReadsWordUnlatched place _ _) = HasPlace s place × Meets found left act
 IsWhole s left act {st} {m} {found} (Makes.GrantsFast place mode noted _ _) =
     HasPlace s place × (0 < m.0.number) × (obtrusive_flag st.first ≡ false)
     × ((one : ℕ) × MayGrantFast place mode noted one m × Swaps st.first (st.first + one) found left act)
 IsWhole s left act {st} {m} {found} (Makes.ReleasesFast place number _ _) =
     HasPlace s place × (0 < m.0.number) × ((one : ℕ) × MayReleaseFast place number one m × Writes ((found + (2 ^ 64 - one)) % 2 ^ 64) left act)
-IsWhole s left act {st} {m} {found} (Makes.Materialises place _ weight _ _ _ _) = HasPlace s place × Writes ((found + (2 ^ 64 - weight)) % 2 ^ 64) left act
+IsWhole s left act {st} {m} {found} (Makes.Materialises place _ weight _ _ _ _) =
+    HasPlace s place × Writes ((found + (2 ^ 64 - weight)) % 2 ^ 64) left act
 
--- so it is of what happens to the table: the seat's slots after the step are those that it gave back or took
+-- and of what happens to the table: what a seat has in hand after a step tells which slot it took or gave back
 abbrev pub IsWholeTurn : {s t : State Slot View} → Turn s t → Type 0
 IsWholeTurn {s} (Turn.Steps id m m′ st left act _ made _) =
     (st.slots ≡ length s.homes) × Valid s.homes m.1 act × (m′.1 ≡ carried_after m.1 act) × IsWhole s left act made
@@ -102,7 +106,7 @@ IsWholeTurn (Turn.Splits v first more _ _ _ _ _) = (first ≡ first_after v) × 
 abbrev pub IsKeyAt : State Slot View → ℕ → KeyName → Type 0
 IsKeyAt s place key = (keys : List KeyName) × AreKeysOf s keys × ((i : ℕ) × (place ≡ suc i) × (get_elem? keys i ≡ some key))
 
--- this is so of the key of a place
+-- the place has a key, of which this is so
 abbrev pub Under : State Slot View → ℕ → (KeyName → Type 0) → Type 0
 Under s place P = (key : KeyName) × IsKeyAt s place key × P key
 
@@ -131,11 +135,9 @@ BringsOrRests s t {st} {m} {found} (Makes.SettlesGranted place ticket session nu
     (x : Ticket) × IsOf session ticket x × Brings (GrantWaiter key (record { ticket = x; wait = number; state = Unsettled })) s t)) s t
 BringsOrRests s t {st} {m} (Makes.EndsGranted _ _) =
     (a : Ask) × (m.0.asks ≡ Some a) × Brings (EndGrantedWait (record { session = m.0.number; wait = m.0.waits; ticket = a.number })) s t
-BringsOrRests s t {st} {m} (Makes.EndsLost a state _ _ _ _) = Under s a.place (λ key. (how : WaitState) × (code_of how ≡ state) × Brings (EndLostWait key (record {
-  ticket = record { session = m.0.number; number = a.number; mode = a.mode };
-  wait = m.0.waits;
-  state = how;
-})) s t)
+BringsOrRests s t {st} {m} (Makes.EndsLost a state _ _ _ _) = Under s a.place (λ key.
+    let asked : Ticket = record { session = m.0.number; number = a.number; mode = a.mode } in
+    (how : WaitState) × (code_of how ≡ state) × Brings (EndLostWait key (record { ticket = asked; wait = m.0.waits; state = how })) s t)
 BringsOrRests s t {st} {m} {found} (Makes.GrantsFast place mode _ _ _) =
     IfMet st.first found (Under s place (λ key. Brings (Grant (of_lock key (record { session = m.0.number; number = m.0.next; mode = mode }))) s t)) s t
 BringsOrRests s t {st} {m} (Makes.ReleasesFast place number _ _) =
@@ -148,11 +150,12 @@ TurnBrings {s} {t} (Turn.Splits _ _ _ _ _ _ _ _) = Rests s t
 
 -- ---- the law
 
+-- the rule holds before and after, as it does between any two steps
 abbrev pub EachStepIsOneEvent : Type 0
 EachStepIsOneEvent = (s t : State Slot View) → Rule s → Rule t → (turn : Turn s t) → IsWholeTurn turn → TurnBrings turn
 
--- in short, whichever systems are told before and after: one step leads from one to the other, or they are the same
-abbrev pub EachStepIsAStep : Type 0
-EachStepIsAStep =
+-- in short, whichever systems are told before and after: one event leads from one to the other, or they are the same
+abbrev pub EachStepHappensOrRests : Type 0
+EachStepHappensOrRests =
     (s t : State Slot View) → Rule s → Rule t → (turn : Turn s t) → IsWholeTurn turn → (a b : System Definition) → IsTold s a → IsTold t b →
     SystemStep (λ (at : KeyName). applied at.namespace) a b ⊎ SameSystem a b
