@@ -1,6 +1,7 @@
 //! The running table is tied to the system of locks that a reader believes: which locks, and which system, a state of the table tells
-//! (`specs/Locks`), that this system is lawful, and that what a session does under a latch (`specs/DeedLaws`), to the words of waits
-//! (`specs/WaitLaws`) and by a lock word's fast path (`specs/FastLaws`) is an event of it.
+//! (`specs/Locks`), that this system is lawful, and that each step of a session is one event of it or does nothing there
+//! (`specs/EachStep`), whether it is made under a latch (`specs/StepEvents`), on the words of waits (`specs/WaitLaws`) or by a lock word's
+//! fast path (`specs/FastLaws`).
 //!
 //! There is no code here: each law is the contract of a function that does nothing.
 #![tactic(auto)]
