@@ -109,7 +109,7 @@ one_list : {T : Type 0} (x y : T) (xs ys : List T) → x ∷ xs ≡ y ∷ ys →
 one_list x y xs ys e = (cc, cc)
 
 -- the one that passes a test passes it
-only_passes : (test : Own → Bool) (ts : List Own) (t : Own) → filter test ts ≡ t ∷ [] → test t ≡ true
+pub only_passes : (test : Own → Bool) (ts : List Own) (t : Own) → filter test ts ≡ t ∷ [] → test t ≡ true
 only_passes test [] t e = absurd (cc)
 only_passes test (o ∷ os) t e = by_bool (test o)
     (λ is. subst (λ (u : Own). test u ≡ true) (one_list o t (filter test os) [] (rw is at e)).0 is)

@@ -29,3 +29,6 @@ pub mod RestKeys
 pub mod RestSplits
 pub mod NotesKept
 pub mod StepEvents
+pub mod StepKeys
+pub mod EachStep
+pub mod OneStep

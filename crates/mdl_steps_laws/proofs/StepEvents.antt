@@ -1,14 +1,11 @@
 -- What a session may do by one step is one event of the system.
-use Rattle.std.proofs.Common.{◌≡◌, ◌≢◌, ℕ, suc, ◌<◌, ◌==◌, true, inl, inr, List, [], ◌∷◌, map, Some, None, refl, sym, ap, ◌∙◌, subst}
+use Rattle.std.proofs.Common.{◌≡◌, ℕ, suc, ◌<◌, true, inl, inr, List, [], ◌∷◌, Some, None, sym, ap, ◌∙◌, subst}
 use Rattle.std.specs.Prelude.{◌⊎◌, Contains}
-use Rattle.std.proofs.lemmas.Bool.{eqb-true}
 use Rattle.std.proofs.lemmas.List.Elements.{Contains-append_right}
 use mathlib.Core.Option.{some}
 use lib.ListN.{get_elem?}
 use Rattle.atomic_table.specs.Table.{State}
-use Rattle.atomic_table.proofs.Lists.{at_map}
 use Rattle.mdl_key.specs.declared.mode.Mode.{Mode}
-use Rattle.mdl_key.specs.declared.mode.Mode.TheVariants.{X}
 use Rattle.mdl_key.specs.declared.namespace.Kind.{Kind}
 use Rattle.mdl_key.specs.declared.namespace.Namespace.{Namespace}
 use Rattle.mdl_key.specs.Words.{KeyName, IsAtLeast}
@@ -18,39 +15,33 @@ use Rattle.mdl_book.specs.declared.book_view.BookView.{BookView}
 use Rattle.mdl_book.specs.declared.ticket.Ticket.{Ticket}
 use Rattle.mdl_book.specs.Books as books
 use Rattle.mdl_book.specs.Granting.{goes_first}
-use Rattle.mdl_book.specs.Tickets.{is_ticket, ticket_of}
-use Rattle.mdl_book.proofs.TicketLemmas.{find-contains}
+use Rattle.mdl_book.specs.Tickets.{ticket_of}
 use Rattle.mdl_steps.specs.declared.deed.Deed.{Deed}
 use Rattle.mdl_steps.specs.declared.deed.Deed.TheVariants.{Gain, Alter, Lose}
 use Rattle.mdl_steps.specs.declared.slot.Slot.{Slot}
-use Rattle.mdl_steps.specs.declared.view.Ask.{Ask}
 use Rattle.mdl_steps.specs.declared.view.Held.{Held}
-use Rattle.mdl_steps.specs.declared.view.Own.{Own}
 use Rattle.mdl_steps.specs.declared.view.View.{View}
-use Rattle.mdl_steps.specs.Cells.{held_at, holder_at, own_at, ticket_by, waits}
+use Rattle.mdl_steps.specs.Cells.{held_at, waits}
 use Rattle.mdl_steps.specs.Deeds.{HoldsTicket, MayBeGranted, MayClone, MayDo, MayDowngrade, MayJoin, MayMerge, MayUpgrade, NotWaited, all_booked}
-use Rattle.mdl_steps.specs.Lists.{Each}
 use Rattle.mdl_steps.specs.Plays.{Mine}
-use Rattle.mdl_steps.specs.Rule.{IsUnlike, Rule}
+use Rattle.mdl_steps.specs.Rule.{Rule}
 use Rattle.mdl_steps.proofs.Latch.{due_asked}
 use Rattle.mdl_steps.proofs.Tickets.{is_passed}
 use Rattle.mdl_system.specs.BookLaws.{of_lock}
 use Rattle.mdl_system.specs.Events.{IsNewNumber}
-use Rattle.mdl_system.specs.Systems.{GrantedWait, System, Held as IsHeld, lock_kind}
+use Rattle.mdl_system.specs.Systems.{System, Held as IsHeld, lock_kind}
 use Rattle.mdl_system.proofs.Deciding.{key_told}
-use Rattle.mdl_system.proofs.MemberLemmas.{Contains-map_from}
 use Rattle.mdl_steps_laws.specs.DeedLaws.{Does, IsOnly, MayTake}
 use Rattle.mdl_steps_laws.specs.Locks.{Lock, AreKeysOf, IsOfNoWait, granted_of}
-use Rattle.mdl_steps_laws.specs.StepEvents.{BringsDeeds, LoweringBrings, PuttingBrings, WritingBrings}
-use Rattle.mdl_steps_laws.specs.StepLaws.{after_lowering, after_put, after_writing}
+use Rattle.mdl_steps_laws.specs.StepEvents.{BringsDeeds, IsOf, LoweringBrings, PuttingBrings, WritingBrings}
+use Rattle.mdl_steps_laws.specs.StepLaws.{after_lowering, after_put}
 use Rattle.mdl_steps_laws.specs.WaitLaws.{IsTold, Rests}
 use Rattle.mdl_steps_laws.proofs.DeedEvents.{altering_downgrades, altering_upgrades, gaining_clones, gaining_grants, losing_releases}
 use Rattle.mdl_steps_laws.proofs.FastEvents.{no_wait}
-use Rattle.mdl_steps_laws.proofs.Keeping.{filter_passes}
 use Rattle.mdl_steps_laws.proofs.Merging.{moving_merges}
-use Rattle.mdl_steps_laws.proofs.OwnTickets.{each_in, next_numbers_are_new, of_view, own_tickets_are_held}
+use Rattle.mdl_steps_laws.proofs.OwnTickets.{next_numbers_are_new, of_view, own_tickets_are_held}
 use Rattle.mdl_steps_laws.proofs.Redefining.{redefining_changes}
-use Rattle.mdl_steps_laws.proofs.TableLocks.{first_place, holders_may_join, into_rule, last_place, placed, ruled_book}
+use Rattle.mdl_steps_laws.proofs.TableLocks.{first_place, holders_may_join, last_place, placed, ruled_book}
 use Rattle.mdl_steps_laws.proofs.TicketMembers.{found-passes}
 use Rattle.mdl_steps_laws.proofs.ToldDeeds.{lowering_is_done, putting_is_done, writing_is_done}
 use Rattle.mdl_steps_laws.proofs.WaitEvents.{same_definitions, same_members, in_locks, in_rule, one_seat, some_session}
@@ -132,6 +123,9 @@ module _ (s : State Slot View) (r : Rule s) (keys : List KeyName) (keys_are : Ar
         },
   )
 
+  its : (number : ℕ) (t : Ticket) → HoldsTicket me.0 h.book number t → IsOf me.0.number number t
+  its number t held = is_passed me.0.number number t (found-passes me.0.number number h.book.granted t held.0)
+
   gains : (number : ℕ) (mode : Mode) → number ≡ me.0.next → MayBeGranted me.0 h.book h.noted mode ⊎ MayClone me.0 h.book mode → AreDone (Gain number mode ∷ [])
       → BringsDeeds me.0.number key (Gain number mode ∷ []) s s′
   gains number mode next may does = elim may [
@@ -145,6 +139,7 @@ module _ (s : State Slot View) (r : Rule s) (keys : List KeyName) (keys_are : Ar
         let t = clone.cloned.0 in
         inr (
           t,
+          clone.cloned.2,
           (
             r′,
             λ a b told told′.
@@ -162,7 +157,7 @@ module _ (s : State Slot View) (r : Rule s) (keys : List KeyName) (keys_are : Ar
   alters number mode may does = elim may [
     | inl up ↦ (
       up.0.0,
-      number_of number up.0.0 up.0.1,
+      its number up.0.0 up.0.1,
       inl (
         r′,
         λ a b told told′.
@@ -172,7 +167,7 @@ module _ (s : State Slot View) (r : Rule s) (keys : List KeyName) (keys_are : Ar
     )
     | inr down ↦ (
       down.ticket,
-      number_of number down.ticket down.held,
+      its number down.ticket down.held,
       inr (
         r′,
         λ a b told told′.
@@ -181,14 +176,11 @@ module _ (s : State Slot View) (r : Rule s) (keys : List KeyName) (keys_are : Ar
       ),
     )
   ]
-    where
-      number_of : (number : ℕ) (t : Ticket) → HoldsTicket me.0 h.book number t → t.number ≡ number
-      number_of number t held = (is_passed me.0.number number t (found-passes me.0.number number h.book.granted t held.0)).1
 
   loses : (number : ℕ) (t : Ticket) → HoldsTicket me.0 h.book number t → AreDone (Lose number ∷ []) → BringsDeeds me.0.number key (Lose number ∷ []) s s′
   loses number t held does = (
     t,
-    (is_passed me.0.number number t (found-passes me.0.number number h.book.granted t held.0)).1,
+    its number t held,
     (
       r′,
       λ a b told told′.
@@ -202,8 +194,8 @@ module _ (s : State Slot View) (r : Rule s) (keys : List KeyName) (keys_are : Ar
   merges kept mode lost may does = (
     may.old,
     may.new,
-    (is_passed me.0.number kept may.old (found-passes me.0.number kept h.book.granted may.old may.old_held.0)).1,
-    (is_passed me.0.number lost may.new (found-passes me.0.number lost h.book.granted may.new may.new_held.0)).1,
+    its kept may.old may.old_held,
+    its lost may.new may.new_held,
     may.mode_is,
     (
       r′,

@@ -28,7 +28,7 @@ use Rattle.mdl_steps_laws.proofs.WaitEvents.{one_seat}
 use Rattle.mdl_steps_laws.proofs.WaitsTold.{found_in}
 
 -- what a session asks for, but a granted wait's, waits at its place
-asked_at : (s : State Slot View) (r : Rule s) (place : ℕ) (first : 0 < place) (last : place < length s.homes) (j : ℕ) (v : View) → get_elem? s.views j ≡ some v
+pub asked_at : (s : State Slot View) (r : Rule s) (place : ℕ) (first : 0 < place) (last : place < length s.homes) (j : ℕ) (v : View) → get_elem? s.views j ≡ some v
     → (a : Ask) → v.asks ≡ Some a → a.place ≡ place → waits s v.number % 8 ≢ 2 → ticket_of v.number a.number (r.places place first last).book.waiting ≡ Some (wished v.number a)
 asked_at s r place first last j v seat a asks here not_granted =
     let asked : (part_at (waits s) place v).asks ≡ Some (record { ticket = wished v.number a; state = waits s v.number % 8 }) =

@@ -1,4 +1,5 @@
 pub mod DeedLaws
+pub mod EachStep
 pub mod FastLaws
 pub mod Headline
 pub mod Locks

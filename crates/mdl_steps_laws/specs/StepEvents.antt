@@ -1,4 +1,5 @@
--- Each step by which a latch is put, flags are lowered or a version is written is one event of the system that the table tells, or does nothing.
+-- Each step by which a latch is put, flags are lowered or a version is written is one event of the system that the table tells, or does nothing
+-- there. The laws ask only that the session may make the step, and the rule.
 use Rattle.std.specs.Prelude.{◌≡◌, ◌⊎◌, ℕ, suc, Bool, List, [], ◌∷◌}
 use mathlib.Core.Option.{some}
 use lib.ListN.{get_elem?}
@@ -22,20 +23,25 @@ use Rattle.mdl_steps_laws.specs.Locks.{AreKeysOf}
 use Rattle.mdl_steps_laws.specs.StepLaws.{after_lowering, after_put, after_writing}
 use Rattle.mdl_steps_laws.specs.WaitLaws.{Brings, Rests}
 
--- from one table to another a session does this under a key, which is one event
+-- a ticket is the session's, and has this number
+abbrev pub IsOf : ℕ → ℕ → Ticket → Type 0
+IsOf session number t = (t.session ≡ session) × (t.number ≡ number)
+
+-- from one table to another a session does this under a key, which is one event: a ticket that it gains is granted or cloned, one that it alters is
+-- upgraded or downgraded, one that it loses is released, and one that takes the mode of another, which is lost, is merged with it
 abbrev pub BringsDeeds : ℕ → KeyName → List Deed → State Slot View → State Slot View → Type 0
 BringsDeeds session key [] s s′ = Rests s s′
 BringsDeeds session key (Gain number mode ∷ []) s s′ =
     let new : Ticket = record { session = session; number = number; mode = mode } in
-    Brings (Grant (of_lock key new)) s s′ ⊎ ((t : Ticket) × Brings (Clone (of_lock key t) (of_lock key new)) s s′)
+    Brings (Grant (of_lock key new)) s s′ ⊎ ((t : Ticket) × (t.session ≡ session) × Brings (Clone (of_lock key t) (of_lock key new)) s s′)
 BringsDeeds session key (Alter number mode ∷ []) s s′ =
-    (t : Ticket) × (t.number ≡ number) × (Brings (Upgrade (of_lock key t) mode) s s′ ⊎ Brings (Downgrade (of_lock key t) mode) s s′)
-BringsDeeds session key (Lose number ∷ []) s s′ = (t : Ticket) × (t.number ≡ number) × Brings (Release (of_lock key t)) s s′
+    (t : Ticket) × IsOf session number t × (Brings (Upgrade (of_lock key t) mode) s s′ ⊎ Brings (Downgrade (of_lock key t) mode) s s′)
+BringsDeeds session key (Lose number ∷ []) s s′ = (t : Ticket) × IsOf session number t × Brings (Release (of_lock key t)) s s′
 BringsDeeds session key (Alter kept mode ∷ Lose lost ∷ []) s s′ =
-    (t u : Ticket) × (t.number ≡ kept) × (u.number ≡ lost) × (u.mode ≡ mode) × Brings (Merge (of_lock key t) (of_lock key u)) s s′
+    (t u : Ticket) × IsOf session kept t × IsOf session lost u × (u.mode ≡ mode) × Brings (Merge (of_lock key t) (of_lock key u)) s s′
 BringsDeeds session key _ s s′ = ⊥
 
--- the latch of a key's place is put after what a session may do
+-- the latch of a key's place is put after deeds that the session may do by one step
 abbrev pub PuttingBrings : Type 0
 PuttingBrings =
     (s : State Slot View) → Rule s → (keys : List KeyName) → AreKeysOf s keys → (i : ℕ) (key : KeyName) → get_elem? keys i ≡ some key →
@@ -43,7 +49,7 @@ PuttingBrings =
     Rule (after_put s (suc i) ds (all_booked me.0.number ds h.book) id me) →
     BringsDeeds me.0.number key ds s (after_put s (suc i) ds (all_booked me.0.number ds h.book) id me)
 
--- flags are lowered after it
+-- flags are lowered after such deeds
 abbrev pub LoweringBrings : Type 0
 LoweringBrings =
     (s : State Slot View) → Rule s → (keys : List KeyName) → AreKeysOf s keys → (i : ℕ) (key : KeyName) → get_elem? keys i ≡ some key →

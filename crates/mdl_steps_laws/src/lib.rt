@@ -1,11 +1,13 @@
 //! The running table is tied to the system of locks that a reader believes: which locks, and which system, a state of the table tells
-//! (`specs/Locks`), that this system is lawful, and that what a session does under a latch (`specs/DeedLaws`), to the words of waits
-//! (`specs/WaitLaws`) and by a lock word's fast path (`specs/FastLaws`) is an event of it.
+//! (`specs/Locks`), that this system is lawful, and that each step of a session is one event of it or does nothing there
+//! (`specs/EachStep`), whether it is made under a latch (`specs/StepEvents`), on the words of waits (`specs/WaitLaws`) or by a lock word's
+//! fast path (`specs/FastLaws`).
 //!
 //! There is no code here: each law is the contract of a function that does nothing.
 #![tactic(auto)]
 
 mod deeds;
+mod each_step;
 mod fast_path;
 mod headline;
 mod rests;
@@ -17,6 +19,7 @@ pub use deeds::{
     altering_downgrades, altering_upgrades, gaining_clones, gaining_grants, losing_releases,
     moving_merges, redefining_changes,
 };
+pub use each_step::each_step_is_one_event;
 pub use fast_path::{
     granting_fast_grants, materialising_rests, reading_unlatched_rests, releasing_fast_releases,
     waiters_have_no_fast_tickets,

@@ -1,0 +1,161 @@
+-- Whatever step is made, by whichever session, is one event of the system that the table tells, or does nothing there: which event, by the kind of
+-- step. Where the step is at a place, the event is one of the place's key.
+use Rattle.std.specs.Prelude.{◌≡◌, ◌≢◌, ◌⊎◌, ℕ, suc, ◌+◌, ◌-◌, ◌%◌, ◌^◌, ◌<◌, false, List, [], length, Some}
+use mathlib.Core.Option.{some}
+use lib.ListN.{get_elem?}
+use Rattle.atomic_table.specs.Table.{Act, State, Step, Valid, carried_after, gives, keeps, takes}
+use Rattle.mdl_key.specs.Words.{KeyName}
+use Rattle.mdl_word.specs.Words.{obtrusive_flag}
+use Rattle.mdl_defs.specs.declared.definition.Definition.{Definition}
+use Rattle.mdl_defs.specs.Standings.{applied, standing_after}
+use Rattle.mdl_book.specs.declared.ticket.Ticket.{Ticket}
+use Rattle.mdl_steps.specs.declared.deed.Deed.{Deed}
+use Rattle.mdl_steps.specs.declared.slot.Slot.{Slot}
+use Rattle.mdl_steps.specs.declared.view.Ask.{Ask}
+use Rattle.mdl_steps.specs.declared.view.Held.{Held}
+use Rattle.mdl_steps.specs.declared.view.View.{View}
+use Rattle.mdl_steps.specs.declared.wait_word.Loss.{Loss}
+use Rattle.mdl_steps.specs.Cells.{held_at}
+use Rattle.mdl_steps.specs.FastPlays.{MayGrantFast, MayReleaseFast}
+use Rattle.mdl_steps.specs.Layout.{enrol_word}
+use Rattle.mdl_steps.specs.Plays.{Mine}
+use Rattle.mdl_steps.specs.Rule.{Rule}
+use Rattle.mdl_steps.specs.Seats.{MayInform}
+use Rattle.mdl_steps.specs.WaitPlays.{asked_ticket, wait_in}
+use Rattle.mdl_steps.specs.WaitSeats.{MayCancel, MayGrant, MayOpen}
+use Rattle.mdl_steps.specs.WaitStates.{lost_state}
+use Rattle.mdl_system.specs.BookLaws.{of_lock}
+use Rattle.mdl_system.specs.Events.{BeginWait, ChangeDefinition, EndGrantedWait, EndLostWait, Grant, GrantWaiter, Release, SameSystem, SettleLost, Step as SystemStep}
+use Rattle.mdl_system.specs.Systems.{System, Unsettled, WaitState}
+use Rattle.mdl_steps_laws.specs.Headline.{HasPlace}
+use Rattle.mdl_steps_laws.specs.Locks.{AreKeysOf}
+use Rattle.mdl_steps_laws.specs.RestLaws.{first_after, split_off}
+use Rattle.mdl_steps_laws.specs.SessionSteps.{Makes, Turn}
+use Rattle.mdl_steps_laws.specs.StepEvents.{BringsDeeds, IsOf}
+use Rattle.mdl_steps_laws.specs.WaitLaws.{Brings, IsTold, Rests, lost_as}
+use Rattle.mdl_steps_laws.specs.WaitsTold.{code_of}
+
+-- ---- a whole step: what it leaves in its word, which was `found`, what it does with slots, and what its session has to know besides
+
+-- the word stays, and no slot is moved
+abbrev pub Meets : ℕ → ℕ → Act Slot → Type 0
+Meets found left act = (left ≡ found) × (act ≡ keeps)
+
+-- this is left there
+abbrev pub Writes : ℕ → ℕ → Act Slot → Type 0
+Writes written left act = (left ≡ written) × (act ≡ keeps)
+
+-- a free latch is taken, with its slot; one that isn't free stays
+abbrev pub Takes : ℕ → Mine → ℕ → ℕ → Act Slot → Type 0
+Takes place m found left act =
+    (0 < m.0.number) × (found ≡ 0 → (left ≡ m.0.number) × ((x : Slot) × (act ≡ takes place x))) × (found ≢ 0 → Meets found left act)
+
+-- a latch is given back, with its slot
+abbrev pub Gives : ℕ → Act Slot → Type 0
+Gives left act = (left ≡ 0) × (act ≡ gives)
+
+-- a word is exchanged where it is the expected one
+abbrev pub Swaps : ℕ → ℕ → ℕ → ℕ → Act Slot → Type 0
+Swaps expected new found left act = (act ≡ keeps) × (found ≡ expected → left ≡ new) × (found ≢ expected → left ≡ found)
+
+-- the session has a record of the place's latch
+abbrev pub HasLatch : ℕ → Mine → Type 0
+HasLatch place m = (h : Held) × (held_at place m.0.latches ≡ Some h)
+
+-- so it is of each kind of step
+abbrev pub IsWhole : State Slot View → ℕ → Act Slot → {st : Step Slot} {m : Mine} {found : ℕ} {m′ : Mine} → Makes st m found m′ → Type 0
+IsWhole s left act {st} (Makes.DrawsNumber _) = (st.word ≡ enrol_word st.slots) × (act ≡ keeps)
+IsWhole s left act {st} {m} {found} (Makes.TakesDirectory _ _) = Takes 0 m found left act
+IsWhole s left act {st} {m} (Makes.PutsDirectory _ _ _) = MayInform m × Gives left act
+IsWhole s left act {st} {m} {found} (Makes.TakesLatch place _ _) = HasPlace s place × Takes place m found left act
+IsWhole s left act (Makes.PutsLatch place _ _ _ _) = HasPlace s place × Gives left act
+IsWhole s left act (Makes.PutsReading place _ _ _) = HasPlace s place × Gives left act
+IsWhole s left act (Makes.PutsKey place _ _ _ _ _ _) = HasPlace s place × Gives left act
+IsWhole s left act {st} {m} (Makes.RaisesFlags place _ _ _ _ _) = HasPlace s place × HasLatch place m × (act ≡ keeps)
+IsWhole s left act (Makes.LowersFlags place _ _ _ _ _ _ _) = HasPlace s place × (act ≡ keeps)
+IsWhole s left act {st} {m} {found} (Makes.ReadsWord place _ _) = HasPlace s place × HasLatch place m × Meets found left act
+IsWhole s left act (Makes.WritesVersion place may _ _) = HasPlace s place × Writes (standing_after may.1 may.0.book.standing).version left act
+IsWhole s left act {st} {m} (Makes.OpensWait place mode _ _ _) =
+    HasPlace s place × ((h : Held) × MayOpen place mode h m) × Writes (wait_in (m.0.waits + 1) 1) left act
+IsWhole s left act {st} {m} {found} (Makes.ReadsWait _ _ _) = Meets found left act
+IsWhole s left act {st} {m} {found} (Makes.SettlesLost session number state _ _ _ _) =
+    (0 < session) × ((how : Loss) × (state ≡ lost_state how)) × Swaps (wait_in number 1) (wait_in number state) found left act
+IsWhole s left act {st} {m} {found} (Makes.SettlesGranted place ticket session number _ _ _) =
+    HasPlace s place × (0 < session) × ((h : Held) × MayGrant place session ticket h m) × Swaps (wait_in number 1) (wait_in number 2) found left act
+IsWhole s left act {st} {m} (Makes.EndsGranted _ _) = (0 < m.0.number) × (m.0.told ≡ Some 2) × Writes (wait_in m.0.waits 0) left act
+IsWhole s left act {st} {m} (Makes.EndsLost a state _ _ _ _) =
+    HasPlace s a.place × ((h : Held) × MayCancel a.place h m) × Writes (wait_in m.0.waits 0) left act
+IsWhole s left act {st} {m} {found} (Makes.ReadsWordUnlatched place _ _) = HasPlace s place × Meets found left act
+IsWhole s left act {st} {m} {found} (Makes.GrantsFast place mode noted _ _) =
+    HasPlace s place × (0 < m.0.number) × (obtrusive_flag st.first ≡ false)
+    × ((one : ℕ) × MayGrantFast place mode noted one m × Swaps st.first (st.first + one) found left act)
+IsWhole s left act {st} {m} {found} (Makes.ReleasesFast place number _ _) =
+    HasPlace s place × (0 < m.0.number) × ((one : ℕ) × MayReleaseFast place number one m × Writes ((found + (2 ^ 64 - one)) % 2 ^ 64) left act)
+IsWhole s left act {st} {m} {found} (Makes.Materialises place _ weight _ _ _ _) =
+    HasPlace s place × Writes ((found + (2 ^ 64 - weight)) % 2 ^ 64) left act
+
+-- and of what happens to the table: what a seat has in hand after a step tells which slot it took or gave back
+abbrev pub IsWholeTurn : {s t : State Slot View} → Turn s t → Type 0
+IsWholeTurn {s} (Turn.Steps id m m′ st left act _ made _) =
+    (st.slots ≡ length s.homes) × Valid s.homes m.1 act × (m′.1 ≡ carried_after m.1 act) × IsWhole s left act made
+IsWholeTurn (Turn.Splits v first more _ _ _ _ _) = (first ≡ first_after v) × (more ≡ split_off v)
+
+-- ---- what it does in the system
+
+-- a key has this place
+abbrev pub IsKeyAt : State Slot View → ℕ → KeyName → Type 0
+IsKeyAt s place key = (keys : List KeyName) × AreKeysOf s keys × ((i : ℕ) × (place ≡ suc i) × (get_elem? keys i ≡ some key))
+
+-- the place has a key, of which this is so
+abbrev pub Under : State Slot View → ℕ → (KeyName → Type 0) → Type 0
+Under s place P = (key : KeyName) × IsKeyAt s place key × P key
+
+-- where the exchange found the expected word this is so; otherwise nothing is done
+abbrev pub IfMet : ℕ → ℕ → Type 0 → State Slot View → State Slot View → Type 0
+IfMet expected found P s t = (found ≡ expected → P) × (found ≢ expected → Rests s t)
+
+-- these deeds of a session at a place are one event, if there is any
+abbrev pub BringsDeedsAt : ℕ → ℕ → List Deed → State Slot View → State Slot View → Type 0
+BringsDeedsAt session place [] s t = Rests s t
+BringsDeedsAt session place deeds s t = Under s place (λ key. BringsDeeds session key deeds s t)
+
+-- which event is brought by each kind of step. All that aren't named bring none
+abbrev pub BringsOrRests : (s t : State Slot View) → {st : Step Slot} {m : Mine} {found : ℕ} {m′ : Mine} → Makes st m found m′ → Type 0
+BringsOrRests s t {st} {m} (Makes.PutsLatch place deeds _ _ _) = BringsDeedsAt m.0.number place deeds s t
+BringsOrRests s t {st} {m} (Makes.LowersFlags place deeds _ _ _ _ _ _) = BringsDeedsAt m.0.number place deeds s t
+BringsOrRests s t {st} {m} (Makes.WritesVersion place may _ _) =
+    Under s place (λ key. (x : Ticket) × (x.session ≡ m.0.number) × Brings (ChangeDefinition (of_lock key x) may.1) s t)
+BringsOrRests s t {st} {m} (Makes.OpensWait place mode _ _ _) =
+    Under s place (λ key. Brings (BeginWait key (record { ticket = asked_ticket mode m.0; wait = m.0.waits + 1; state = Unsettled })) s t)
+BringsOrRests s t {st} {m} {found} (Makes.SettlesLost session number state _ _ _ _) = IfMet (wait_in number 1) found (
+    (key : KeyName) × (x : Ticket) × (how : Loss) × (x.session ≡ session) × (state ≡ lost_state how)
+    × Brings (SettleLost key (record { ticket = x; wait = number; state = Unsettled }) (lost_as how)) s t
+    ) s t
+BringsOrRests s t {st} {m} {found} (Makes.SettlesGranted place ticket session number _ _ _) = IfMet (wait_in number 1) found (Under s place (λ key.
+    (x : Ticket) × IsOf session ticket x × Brings (GrantWaiter key (record { ticket = x; wait = number; state = Unsettled })) s t)) s t
+BringsOrRests s t {st} {m} (Makes.EndsGranted _ _) =
+    (a : Ask) × (m.0.asks ≡ Some a) × Brings (EndGrantedWait (record { session = m.0.number; wait = m.0.waits; ticket = a.number })) s t
+BringsOrRests s t {st} {m} (Makes.EndsLost a state _ _ _ _) = Under s a.place (λ key.
+    let asked : Ticket = record { session = m.0.number; number = a.number; mode = a.mode } in
+    (how : WaitState) × (code_of how ≡ state) × Brings (EndLostWait key (record { ticket = asked; wait = m.0.waits; state = how })) s t)
+BringsOrRests s t {st} {m} {found} (Makes.GrantsFast place mode _ _ _) =
+    IfMet st.first found (Under s place (λ key. Brings (Grant (of_lock key (record { session = m.0.number; number = m.0.next; mode = mode }))) s t)) s t
+BringsOrRests s t {st} {m} (Makes.ReleasesFast place number _ _) =
+    Under s place (λ key. (x : Ticket) × IsOf m.0.number number x × Brings (Release (of_lock key x)) s t)
+BringsOrRests s t _ = Rests s t
+
+abbrev pub TurnBrings : {s t : State Slot View} → Turn s t → Type 0
+TurnBrings {s} {t} (Turn.Steps _ _ _ _ _ _ _ made _) = BringsOrRests s t made
+TurnBrings {s} {t} (Turn.Splits _ _ _ _ _ _ _ _) = Rests s t
+
+-- ---- the law
+
+-- the rule holds before and after, as it does between any two steps
+abbrev pub EachStepIsOneEvent : Type 0
+EachStepIsOneEvent = (s t : State Slot View) → Rule s → Rule t → (turn : Turn s t) → IsWholeTurn turn → TurnBrings turn
+
+-- in short, whichever systems are told before and after: one event leads from one to the other, or they are the same
+abbrev pub EachStepHappensOrRests : Type 0
+EachStepHappensOrRests =
+    (s t : State Slot View) → Rule s → Rule t → (turn : Turn s t) → IsWholeTurn turn → (a b : System Definition) → IsTold s a → IsTold t b →
+    SystemStep (λ (at : KeyName). applied at.namespace) a b ⊎ SameSystem a b
