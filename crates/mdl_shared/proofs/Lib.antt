@@ -27,3 +27,4 @@ pub mod ReadCalls
 pub mod KillCalls
 pub mod KeyCalls
 pub mod SoundSessions
+pub mod ShowingCalls

@@ -23,5 +23,6 @@ pub mod OwnLists
 pub mod Passes
 pub mod Rememberings
 pub mod SessionViews
+pub mod Showings
 pub mod Upgrades
 pub mod Waitings

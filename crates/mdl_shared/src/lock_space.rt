@@ -6,6 +6,7 @@ ghost use Rattle.mdl_session_laws.proofs.KeyLaws.{session-resolves, session-reme
 ghost use Rattle.mdl_session_laws.proofs.WaitLaws.{session-tells, session-waits_settled, session-settled_once, session-stays, session-agrees, session-victims, session-counts, session-kills, session-kills_or_settled};
 ghost use Rattle.mdl_session_laws.proofs.ReadLaws.{session-reads, session-redefines, session-redefines_so, session-reads_one, session-stands, session-reads_fit, session-sees, session-seen_stays, session-seen_below};
 ghost use Rattle.mdl_shared.specs.SessionViews.{space_of};
+ghost use Rattle.mdl_shared.specs.Showings.{Shows};
 
 use crate::Session;
 use mdl_calls::{
@@ -36,7 +37,8 @@ impl<R: Wait> LockSpace for Session<R> {
 
     ghost owes = { λ s. Owes (space_of s) };
 
-    ghost joins = { λ s call answer t. Joins (space_of s) call answer (space_of t) };
+    // A call joins what the session has before it to what it has after it, and its steps show what they met and did.
+    ghost joins = { λ s call answer t. Joins (space_of s) call answer (space_of t) × Shows call answer s.member t.member };
 
     fn resolve(&mut self, _who: u16, key: &Key) -> Result<Place, SpaceError> {
         Session::resolve(self, key)
@@ -124,25 +126,26 @@ impl<R: Wait> LockSpace for Session<R> {
         Session::held(self)
     }
 
-    ghost allowed = { λ a b. session-allowed (space_of a) (space_of b) };
+    ghost allowed = { λ a b call answer j. session-allowed (space_of a) (space_of b) call answer j.0 };
 
-    ghost keeps = { λ a b. session-keeps (space_of a) (space_of b) };
+    ghost keeps = { λ a b call answer w speaks j. session-keeps (space_of a) (space_of b) call answer w speaks j.0 };
 
-    ghost changes = { λ a b. session-changes (space_of a) (space_of b) };
+    ghost changes = { λ a b call answer who is j. session-changes (space_of a) (space_of b) call answer who is j.0 };
 
-    ghost others = { λ a b. session-others (space_of a) (space_of b) };
+    ghost others = { λ a b call answer w speaks other j. session-others (space_of a) (space_of b) call answer w speaks other j.0 };
 
     ghost rising = { λ a. session-rising (space_of a) };
 
-    ghost fits = { λ a b. session-fits (space_of a) (space_of b) };
+    ghost fits = { λ a b call answer j. session-fits (space_of a) (space_of b) call answer j.0 };
 
-    ghost lists = { λ a b. session-lists (space_of a) (space_of b) };
+    ghost lists = { λ a b who tickets j. session-lists (space_of a) (space_of b) who tickets j.0 };
 
-    ghost explains = { λ a b. session-explains (space_of a) (space_of b) };
+    ghost explains = { λ a b call answer who is j. session-explains (space_of a) (space_of b) call answer who is j.0 };
 
-    ghost resolves = { λ a b. session-resolves (space_of a) (space_of b) };
+    ghost resolves = { λ a b who place key j. session-resolves (space_of a) (space_of b) who place key j.0 };
 
-    ghost remembers = { λ a b. session-remembers (space_of a) (space_of b) };
+    ghost remembers = { λ a b call answer w place key speaks kept j.
+        session-remembers (space_of a) (space_of b) call answer w place key speaks kept j.0 };
 
     ghost one_key = { λ a. session-one_key (space_of a) };
 
@@ -152,55 +155,59 @@ impl<R: Wait> LockSpace for Session<R> {
 
     ghost wait_place = { λ a. session-wait_place (space_of a) };
 
-    ghost tells = { λ a b. session-tells (space_of a) (space_of b) };
+    ghost tells = { λ a b call answer who how is told j. session-tells (space_of a) (space_of b) call answer who how is told j.0 };
 
     ghost waits_settled = { λ a. session-waits_settled (space_of a) };
 
     ghost settled_once = { λ a. session-settled_once (space_of a) };
 
-    ghost stays = { λ a b. session-stays (space_of a) (space_of b) };
+    ghost stays = { λ a b call answer w how speaks going j. session-stays (space_of a) (space_of b) call answer w how speaks going j.0 };
 
-    ghost agrees = { λ a b. session-agrees (space_of a) (space_of b) };
+    ghost agrees = { λ a b call answer who how is settled j. session-agrees (space_of a) (space_of b) call answer who how is settled j.0 };
 
-    ghost victims = { λ a b. session-victims (space_of a) (space_of b) };
+    ghost victims = { λ a b who victim speaks j. session-victims (space_of a) (space_of b) who victim speaks j.0 };
 
-    ghost counts = { λ a b. session-counts (space_of a) (space_of b) };
+    ghost counts = { λ a b w number speaks j. session-counts (space_of a) (space_of b) w number speaks j.0 };
 
-    ghost kills = { λ a b. session-kills (space_of a) (space_of b) };
+    ghost kills = { λ a b w number speaks j. session-kills (space_of a) (space_of b) w number speaks j.0 };
 
-    ghost kills_or_settled = { λ a b. session-kills_or_settled (space_of a) (space_of b) };
+    ghost kills_or_settled = { λ a b w number speaks j. session-kills_or_settled (space_of a) (space_of b) w number speaks j.0 };
 
-    ghost draws = { λ a b. session-draws (space_of a) (space_of b) };
+    ghost draws = { λ a b call answer who is j. session-draws (space_of a) (space_of b) call answer who is j.0 };
 
-    ghost others_draw = { λ a b. session-others_draw (space_of a) (space_of b) };
+    ghost others_draw = { λ a b call answer w speaks other j. session-others_draw (space_of a) (space_of b) call answer w speaks other j.0 };
 
-    ghost reads = { λ a b. session-reads (space_of a) (space_of b) };
+    ghost reads = { λ a b call who id version definition ticket is under its j.
+        session-reads (space_of a) (space_of b) call who id version definition ticket is under its j.0 };
 
-    ghost redefines = { λ a b. session-redefines (space_of a) (space_of b) };
+    ghost redefines = { λ a b who id version change ticket its j. session-redefines (space_of a) (space_of b) who id version change ticket its j.0 };
 
-    ghost redefines_so = { λ a b. session-redefines_so (space_of a) (space_of b) };
+    ghost redefines_so = { λ a b who id change answer ticket key standing its exclusive knows read j.
+        session-redefines_so (space_of a) (space_of b) who id change answer ticket key standing its exclusive knows read j.0 };
 
     ghost reads_one = { λ a. session-reads_one (space_of a) };
 
-    ghost stands = { λ a b. session-stands (space_of a) (space_of b) };
+    ghost stands = { λ a b call answer w place standing speaks others holds j.
+        session-stands (space_of a) (space_of b) call answer w place standing speaks others holds j.0 };
 
     ghost reads_fit = { λ a. session-reads_fit (space_of a) };
 
     ghost sees = { λ a. session-sees (space_of a) };
 
-    ghost seen_stays = { λ a b. session-seen_stays (space_of a) (space_of b) };
+    ghost seen_stays = { λ a b call answer w place version speaks j.
+        session-seen_stays (space_of a) (space_of b) call answer w place version speaks j.0 };
 
     ghost seen_below = { λ a. session-seen_below (space_of a) };
 
-    ghost upgrades = { λ a b. session-upgrades (space_of a) (space_of b) };
+    ghost upgrades = { λ a b who id mode ticket its covered j. session-upgrades (space_of a) (space_of b) who id mode ticket its covered j.0 };
 
-    ghost tells_key = { λ a b. session-tells_key (space_of a) (space_of b) };
+    ghost tells_key = { λ a b who place key j. session-tells_key (space_of a) (space_of b) who place key j.0 };
 
-    ghost tells_tables = { λ a b. session-tells_tables (space_of a) (space_of b) };
+    ghost tells_tables = { λ a b who schema places j. session-tells_tables (space_of a) (space_of b) who schema places j.0 };
 
-    ghost resolved_pinned = { λ a b. session-resolved_pinned (space_of a) (space_of b) };
+    ghost resolved_pinned = { λ a b who place key j. session-resolved_pinned (space_of a) (space_of b) who place key j.0 };
 
-    ghost pins_stay = { λ a b. session-pins_stay (space_of a) (space_of b) };
+    ghost pins_stay = { λ a b call answer w place speaks kept j. session-pins_stay (space_of a) (space_of b) call answer w place speaks kept j.0 };
 
     ghost pinned_known = { λ a. session-pinned_known (space_of a) };
 
@@ -208,9 +215,9 @@ impl<R: Wait> LockSpace for Session<R> {
 
     ghost wait_pinned = { λ a. session-wait_pinned (space_of a) };
 
-    ghost unpins_none = { λ a b. session-unpins_none (space_of a) (space_of b) };
+    ghost unpins_none = { λ a b who place j. session-unpins_none (space_of a) (space_of b) who place j.0 };
 
-    ghost unpins_in_use = { λ a b. session-unpins_in_use (space_of a) (space_of b) };
+    ghost unpins_in_use = { λ a b who place j. session-unpins_in_use (space_of a) (space_of b) who place j.0 };
 
-    ghost unpins = { λ a b. session-unpins (space_of a) (space_of b) };
+    ghost unpins = { λ a b who place j. session-unpins (space_of a) (space_of b) who place j.0 };
 }
