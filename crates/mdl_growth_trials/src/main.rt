@@ -9,6 +9,7 @@
 mod books;
 mod contexts;
 mod definitions;
+mod owning;
 mod replays;
 mod scenes;
 mod scripts;
