@@ -2,11 +2,7 @@
 use Rattle.std.proofs.Common.{ap, arith}
 use Rattle.mdl_core.specs.Words.{own_at}
 use Rattle.mdl_growth_trials.proofs.PairLemmas.{fresh_two}
-<<<<<<< HEAD
-use Rattle.mdl_growth_trials.proofs.owning.OwningPair.new.Goals as goal
-=======
 use Rattle.mdl_growth_trials.proofs.statements.BorrowingPair.new.Goals as goal
->>>>>>> growth
 
 pub invariant_of-result : goal.invariant_of-result
 invariant_of-result c =
