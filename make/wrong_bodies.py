@@ -153,9 +153,11 @@ def rounds_of(bodies, folder):
 
 def told_of(function, said):
     """Returns what a check that said these lines tells of a function: its verdict, and the errors in its proof."""
-    proof = "proofs/" + "/".join(function.split("::")[1:]) + "/"
+    *folders, name = function.split("::")[1:]
+    # (that of a function that calls itself is in a folder with a `+`)
+    proofs = tuple("/".join(["proofs", *folders, mark + name, ""]) for mark in ("", "+"))
     verdict = [it for it in said if it.startswith(f"fn {function}: ")]
-    return verdict, [it for it in said if it.removeprefix("./").startswith(proof) and ": error: " in it]
+    return verdict, [it for it in said if it.removeprefix("./").startswith(proofs) and ": error: " in it]
 
 
 def is_refused(function, said):
