@@ -4,15 +4,15 @@
 # number is refused, so each word has another one of the lives refused. It is built here once, without its proof, which `rt ci` gives, and
 # runs compiled alone: the kit's interpreter can't run a program that reads its words, and one step is enough for it to say so.
 # Then mdlsim plays an example on threads, behind more and more lines: to each run one allocation is refused, and it has to tell just that.
-# Usage: sh growths/check.sh        each allocation, in some sixteen minutes
+# Usage: sh growths/check.sh        each allocation, in some twelve minutes
 #        sh growths/check.sh 7      every seventh of them
 growths=$(cd "$(dirname "$0")" && pwd)
 sh "$growths/../make/needs.sh" rt python3 awk || exit 1
 made=$(mktemp -d)
 trap 'rm -rf "$made"' EXIT
 
-# The number of the allocation that is refused. It has to be more than a run makes: some 2,100, those that read the word included.
-refused=2130
+# The number of the allocation that is refused. It has to be more than a run makes: some 1,550, those that read the word included.
+refused=1580
 
 # The same of mdlsim, where it plays the example alone.
 refused_on_threads=400

@@ -9,7 +9,6 @@
 mod books;
 mod contexts;
 mod definitions;
-mod owning;
 mod replays;
 mod scenes;
 mod scripts;

@@ -1,11 +1,10 @@
 //! The statements of two sessions over a space, in scenes. Where a statement finds no memory, it has ended, and all stands as it did before:
 //! what the sessions hold, and what is told of the tables. A second pair of sessions, which is led as far and to which no memory is refused,
-//! shows how that is. Then the statement is made again. In some scenes each statement is dropped as soon as it has begun, also where it waits.
+//! shows how that is. Then the statement is made again.
 ghost use Rattle.std.specs.Prelude.{◌≡◌};
 ghost use Rattle.mdl_core.specs.CoreJoins.{SpeaksFor, own_at, Knows};
 ghost use Rattle.mdl_context.specs.Contexts.{Attends, LeavesOthers};
 
-use crate::owning::OwningPair;
 use crate::spaces::new_space;
 use mdl_lines::Fault;
 use mdl_space::{CoreSpace, Held, LockSpace};
@@ -34,26 +33,24 @@ pub(crate) type Row = (&'static str, Outcome);
 pub(crate) struct Scene {
     /// What it shows.
     pub(crate) name: &'static str,
-    /// Whether each statement is dropped as soon as it has begun, also where it waits.
-    pub(crate) drops: bool,
     /// The lines.
     pub(crate) rows: &'static [Row],
     /// Lines that tell what stands, and change nothing.
     pub(crate) looks: &'static [&'static str],
 }
 
-/// The places of a space: those of the names in the longest scene, and some more.
-pub(crate) const PLACES: u16 = 12;
+// The places of a space: those of the names in the longest scene, and some more.
+const PLACES: u16 = 12;
 
-// A space, and its sessions 1 and 2, whose statements stay where they are.
+// A space, and its sessions 1 and 2.
 #[derive(Drop)]
-struct BorrowingPair<'s> {
+struct Pair<'s> {
     space: CoreSpace,
     first: Runner<'s, CoreSpace>,
     second: Runner<'s, CoreSpace>,
 }
 
-impl<'s> Model for BorrowingPair<'s> {
+impl<'s> Model for Pair<'s> {
     ghost use Rattle.mdl_growth_trials.specs.Pairs.{AreTwo};
 
     ghost Value = { Unit };
@@ -63,11 +60,11 @@ impl<'s> Model for BorrowingPair<'s> {
     ghost invariant = { λ pair. AreTwo pair.space pair.first.context pair.second.context };
 }
 
-impl<'s> BorrowingPair<'s> {
+impl<'s> Pair<'s> {
     // Nobody has asked for anything.
-    fn new(alloc: Global) -> Option<BorrowingPair<'s>> {
+    fn new(alloc: Global) -> Option<Pair<'s>> {
         let space = new_space(alloc, PLACES, 2)?;
-        Some(BorrowingPair {
+        Some(Pair {
             space,
             first: Runner::new(alloc, 1),
             second: Runner::new(alloc, 2),
@@ -98,48 +95,6 @@ impl<'s> BorrowingPair<'s> {
             held(&self.space, 1)
         } else {
             held(&self.space, 2)
-        }
-    }
-}
-
-// The two sessions of a scene.
-#[derive(Drop)]
-enum Pair<'s> {
-    Borrowing(BorrowingPair<'s>),
-    Owning(OwningPair),
-}
-
-impl<'s> Pair<'s> {
-    // Nobody has asked for anything.
-    fn new(alloc: Global, drops: bool) -> Option<Pair<'s>> {
-        if drops {
-            Some(Pair::Owning(OwningPair::new(alloc)?))
-        } else {
-            Some(Pair::Borrowing(BorrowingPair::new(alloc)?))
-        }
-    }
-
-    // Starts a statement of a session, or goes on with the one that waits.
-    fn play(&mut self, who: u16, statement: &'s Statement) -> Outcome {
-        match self {
-            Pair::Borrowing(pair) => pair.play(who, statement),
-            Pair::Owning(pair) => pair.play(who, statement),
-        }
-    }
-
-    // Whether a session waits.
-    fn waits(&self, who: u16) -> bool {
-        match self {
-            Pair::Borrowing(pair) => pair.waits(who),
-            Pair::Owning(pair) => pair.waits(who),
-        }
-    }
-
-    // What a session holds.
-    fn held(&self, who: u16) -> Option<Vec<Held>> {
-        match self {
-            Pair::Borrowing(pair) => pair.held(who),
-            Pair::Owning(pair) => pair.held(who),
         }
     }
 
@@ -174,15 +129,13 @@ fn play<'s>(
     outcome_of(runner.start(space, statement))
 }
 
-/// What a session holds.
-pub(crate) fn held<S: LockSpace>(space: &S, who: u16) -> Option<Vec<Held>>
+fn held<S: LockSpace>(space: &S, who: u16) -> Option<Vec<Held>>
     requires { S.speaks_for space.now who }
 {
     space.held(who).ok()
 }
 
-/// What comes of a statement that goes so far.
-pub(crate) fn outcome_of(progress: Result<Progress, OutOfMemory>) -> Outcome {
+fn outcome_of(progress: Result<Progress, OutOfMemory>) -> Outcome {
     match progress {
         Ok(Progress::Done(reply)) => outcome_of_reply(&reply),
         Ok(Progress::Waiting(_, _)) => Outcome::Waits,
@@ -210,7 +163,6 @@ const ENDS: &[&str] = &["1 COMMIT", "1 BEGIN", "1 ROLLBACK"];
 #[derive(Clone, Copy)]
 struct Staged<'s> {
     alloc: Global,
-    drops: bool,
     rows: &'static [Row],
     lines: &'s [Line],
     looks: &'s [Line],
@@ -223,7 +175,6 @@ impl<'s> Staged<'s> {
         let (looks, ends) = rest.split_at_checked(scene.looks.len())?;
         Some(Staged {
             alloc,
-            drops: scene.drops,
             rows: scene.rows,
             lines,
             looks,
@@ -233,7 +184,7 @@ impl<'s> Staged<'s> {
 
     // Whether it goes as it should, also where memory is refused once.
     fn goes_well(self) -> bool {
-        match Pair::new(self.alloc, self.drops) {
+        match Pair::new(self.alloc) {
             Some(mut pair) => self.goes_well_with(&mut pair),
             None => false,
         }
@@ -269,7 +220,7 @@ impl<'s> Staged<'s> {
 
     // A pair that is led up to a line, but for the statement with which its session waits.
     fn led_up_to(self, at: usize, who: u16) -> Option<Pair<'s>> {
-        let mut pair = Pair::new(self.alloc, self.drops)?;
+        let mut pair = Pair::new(self.alloc)?;
         let ended = self.last_end(at, who);
         let goes_so = self.leads_up_to(&mut pair, at, who, ended);
         goes_so.then_some(pair)

@@ -2,7 +2,7 @@
 use Rattle.std.proofs.Common.{ap, arith}
 use Rattle.mdl_core.specs.Words.{own_at}
 use Rattle.mdl_growth_trials.proofs.PairLemmas.{fresh_two}
-use Rattle.mdl_growth_trials.proofs.owning.OwningPair.new.Goals as goal
+use Rattle.mdl_growth_trials.proofs.statements.Pair.new.Goals as goal
 
 pub invariant_of-result : goal.invariant_of-result
 invariant_of-result c =
