@@ -7,12 +7,12 @@ use Rattle.mdl_defs.specs.declared.def_error.DefError.TheVariants.{Exists, Missi
 use Rattle.mdl_defs.specs.declared.definition.Definition.{Definition}
 use Rattle.mdl_defs.specs.declared.definition.Definition.TheVariants.{Schema, Table}
 use Rattle.mdl_defs.specs.Columns.{has_column, without_column}
-use Rattle.mdl_defs.specs.Definitions.{definition_fault}
+use Rattle.mdl_defs.specs.Definitions.{definition_fault, most_columns}
 
--- why a table can't gain a column: it has it, or has 64
+-- why a table can't gain a column: it has it, or has no room for another
 abbrev pub gain_fault : List ℕ → List (List ℕ) → Option DefError
 gain_fault column columns =
-    if has_column column columns then Some DuplicateColumn else (if nat_le 64 (length columns) then Some ManyColumns else None)
+    if has_column column columns then Some DuplicateColumn else (if nat_le most_columns (length columns) then Some ManyColumns else None)
 
 -- why a table can't lose a column: it hasn't it, or has no other
 abbrev pub loss_fault : List ℕ → List (List ℕ) → Option DefError

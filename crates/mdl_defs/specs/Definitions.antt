@@ -8,19 +8,23 @@ use Rattle.mdl_defs.specs.declared.definition.Definition.{Definition}
 use Rattle.mdl_defs.specs.declared.definition.Definition.TheVariants.{Schema, Table}
 use Rattle.mdl_defs.specs.Columns.{same_column, names_twice}
 
--- why these can't be the columns of a table: one is named twice, they are more than 64, or there are none
+-- how many columns a table has at most
+abbrev pub most_columns : ℕ
+most_columns = 64
+
+-- why these can't be the columns of a table: one is named twice, they are too many, or there are none
 abbrev pub columns_fault : List (List ℕ) → Option DefError
 columns_fault columns =
     if names_twice columns then Some DuplicateColumn
-    else (if nat_lt 64 (length columns) then Some ManyColumns else (if length columns == 0 then Some WrongKind else None))
+    else (if nat_lt most_columns (length columns) then Some ManyColumns else (if length columns == 0 then Some WrongKind else None))
 
 -- why a definition can't stand
 abbrev pub definition_fault : Definition → Option DefError
 definition_fault Schema = None
 definition_fault (Table columns) = columns_fault columns
 
--- what may stand: none, a schema, or a table of 1 to 64 columns, no two of one name
+-- what may stand: none, a schema, or a table of 1 to `most_columns` columns, no two of one name
 abbrev pub IsWellFormed : Option Definition → Type 0
 IsWellFormed None = Unit {0}
 IsWellFormed (Some Schema) = Unit {0}
-IsWellFormed (Some (Table columns)) = (1 ≤ length columns) × (length columns ≤ 64) × IsDistinct same_column columns
+IsWellFormed (Some (Table columns)) = (1 ≤ length columns) × (length columns ≤ most_columns) × IsDistinct same_column columns

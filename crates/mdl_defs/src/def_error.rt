@@ -23,7 +23,7 @@ pub enum DefError {
     /// The column that is to be dropped is the only one.
     #[error("a table can't lose its last column")]
     LastColumn,
-    /// A table would have more than 64 columns.
+    /// A table would have more than [`MOST_COLUMNS`](crate::MOST_COLUMNS) columns.
     #[error("more than 64 columns")]
     ManyColumns,
     /// A schema has no columns to change, and a table has to have some.

@@ -6,12 +6,12 @@ ghost use Rattle.mdl_defs.specs.Definitions.{columns_fault, definition_fault};
 use crate::{Columns, DefError};
 use std::alloc::AllocError;
 
-// The most columns of a table.
-pub(crate) const MOST_COLUMNS: usize = 64;
+/// How many columns a table has at most.
+pub const MOST_COLUMNS: usize = 64;
 
 /// What stands under the name of a schema or a table.
 ///
-/// Any columns can be written here. [`apply`](crate::apply) lets a table stand only with 1 to 64 columns, no two of one
+/// Any columns can be written here. [`apply`](crate::apply) lets a table stand only with 1 to [`MOST_COLUMNS`] columns, no two of one
 /// name.
 #[derive(Drop, PartialEq, Eq)]
 pub enum Definition {

@@ -38,6 +38,6 @@ pub use change::{Change, apply};
 pub use change_error::ChangeError;
 pub use columns::{Column, Columns};
 pub use def_error::DefError;
-pub use definition::Definition;
+pub use definition::{Definition, MOST_COLUMNS};
 pub use laws::{changes_keep_standing, changes_keep_well_formed};
 pub use standing::Standing;

@@ -9,16 +9,17 @@ use Rattle.mdl_key.specs.declared.namespace.Namespace.{Namespace}
 use Rattle.mdl_key.specs.declared.namespace.Namespace.TheVariants.{Global, Schema, Table, Commit}
 use Rattle.mdl_key.specs.declared.key_error.KeyError.{KeyError}
 use Rattle.mdl_key.specs.declared.key_error.KeyError.TheVariants.{EmptyName, LongName, BadByte}
+use Rattle.mdl_key.specs.Limits.{longest_name}
 
 -- a letter from a to z, a digit, or an underscore
 abbrev pub is_name_byte : ℕ → Bool
 is_name_byte b = (nat_le 97 b && nat_le b 122) || (nat_le 48 b && nat_le b 57) || b == 95
 
--- why a text is no name, if it is none: a name has 1 to 64 such bytes
+-- why a text is no name, if it is none: a name has such bytes alone, at least one and at most `longest_name`
 abbrev pub name_fault : List ℕ → Option KeyError
 name_fault text =
     if length text == 0 then Some EmptyName
-    else (if nat_lt 64 (length text) then Some LongName else option_map (λ at. BadByte at) (position (λ b. not (is_name_byte b)) text))
+    else (if nat_lt longest_name (length text) then Some LongName else option_map (λ at. BadByte at) (position (λ b. not (is_name_byte b)) text))
 
 -- what a key says: its namespace, and the names of its schema and its table where it has them
 pub record KeyName : Type 0 where

@@ -2,6 +2,7 @@ pub mod BitMaps
 pub mod Classes
 pub mod Keys
 pub mod Laws
+pub mod Limits
 pub mod Matrices
 pub mod Modes
 pub mod Refusals

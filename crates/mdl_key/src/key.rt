@@ -8,21 +8,19 @@ ghost use Rattle.std.specs.Cmp.Rules.{comparing, hashing};
 ghost use Rattle.std.specs.Hash as fed;
 ghost use Rattle.mdl_key.specs.Modes.{kind_of};
 ghost use Rattle.mdl_key.specs.Keys.{global_key, commit_key, schema_key, table_key, name_fault, table_fault, is_name_byte, key_eq, key_cmp, key_text};
+ghost use Rattle.mdl_key.specs.Limits.{longest_name};
 ghost use Rattle.mdl_key.specs.Refusals.{Refuses, RefusesJust};
 
-use crate::{KeyError, Kind, Namespace};
+use crate::{KeyError, Kind, LONGEST_NAME, Namespace};
 use std::alloc::{AllocError, Global};
 use std::cmp::Ordering;
 use std::fmt;
 use std::hash::{Hash, Hasher};
 use std::marker::Model;
 
-// The longest name, in bytes.
-const LONGEST_NAME: usize = 64;
-
 /// The name of a lock: a namespace, and within it a schema or a table.
 ///
-/// A name has 1 to 64 bytes of `a-z 0-9 _`. Keys are ordered by namespace, then by the bytes of the schema's name, then
+/// A name has 1 to [`LONGEST_NAME`] bytes of `a-z 0-9 _`. Keys are ordered by namespace, then by the bytes of the schema's name, then
 /// by those of the table's. After MySQL 5.7, `MDL_key` of `sql/mdl.h`.
 #[derive(Drop)]
 pub struct Key {
@@ -96,7 +94,7 @@ impl Key {
         schema: &str,
         table: &str,
     ) -> Result<Key, KeyError>
-        requires { length schema.now ≤ 64 }
+        requires { length schema.now ≤ longest_name }
         ensures made { IfOk result (λ key. key ≡ record { namespace = namespace; schema = schema.now; table = table.now }) }
         ensures memory { IsOkUnless result KeyError.OutOfMemory }
     {
@@ -225,7 +223,7 @@ impl fmt::Display for Key {
     }
 }
 
-/// Looks whether a text is a name: 1 to 64 bytes of `a-z 0-9 _`. The causes are looked for in the order of `KeyError`.
+/// Looks whether a text is a name: 1 to [`LONGEST_NAME`] bytes of `a-z 0-9 _`. The causes are looked for in the order of `KeyError`.
 pub fn check_name(name: &str) -> Result<(), KeyError>
     ensures { RefusesJust (name_fault name.now) result }
 {

@@ -7,7 +7,7 @@ pub enum KeyError {
     /// A name is empty.
     #[error("empty name")]
     EmptyName,
-    /// A name has more than 64 bytes.
+    /// A name has more than [`LONGEST_NAME`](crate::LONGEST_NAME) bytes.
     #[error("name of more than 64 bytes")]
     LongName,
     /// The byte of a name at this place, counted from 0, is none of `a-z 0-9 _`.

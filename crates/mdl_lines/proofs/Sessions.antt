@@ -3,6 +3,7 @@ use Rattle.std.proofs.Common.{◌≡◌, ℕ, ◌+◌, ◌-◌, ◌*◌, ◌≤�
 use Rattle.std.specs.Prelude.{Some, None, IfSome, fold}
 use Rattle.std.specs.List.{list_all}
 use Rattle.std.proofs.lemmas.Bool.{and_parts, leb-true}
+use Rattle.mdl_key.specs.Words.{most_sessions}
 use Rattle.mdl_lines.specs.Sessions.{IsScriptSession, is_digit, decimal_value, session_of}
 
 -- more digits make no smaller number
@@ -11,7 +12,7 @@ value_grows value [] = omega arith
 value_grows value (digit ∷ digits) = omega (arith, value_grows (10 * value + (digit - 48)) digits)
 
 -- what the test of a session's word says of it
-tested : (word : List ℕ) → (list_all is_digit word && nat_le 49 (slice_index word 0) && nat_le (decimal_value word) 64) ≡ true → (49 ≤ slice_index word 0) × (decimal_value word ≤ 64)
+tested : (word : List ℕ) → (list_all is_digit word && nat_le 49 (slice_index word 0) && nat_le (decimal_value word) most_sessions) ≡ true → (49 ≤ slice_index word 0) × (decimal_value word ≤ most_sessions)
 tested word h =
     let p = and_parts (list_all is_digit word && nat_le 49 (slice_index word 0)) _ h in
     (leb-true _ _ (and_parts (list_all is_digit word) _ p.0).1, leb-true _ _ p.1)

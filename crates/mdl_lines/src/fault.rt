@@ -8,7 +8,7 @@ use std::fmt;
 /// Why a line of a script is refused.
 #[derive(Clone, Copy, Debug, PartialEq, Eq)]
 pub enum LineError {
-    /// The first word is no session: a number from 1 to 64 in decimal, without a sign or a leading zero.
+    /// The first word is no session: a number from 1 to [`MOST_SESSIONS`](mdl_key::MOST_SESSIONS) in decimal, without a sign or a leading zero.
     BadSession,
     /// A word is missing, misspelled, or one too many.
     BadWord,

@@ -7,6 +7,7 @@ ghost use Rattle.mdl_lines.specs.ScriptLines.{is_comment};
 ghost use Rattle.mdl_lines.specs.Sessions.{session_of};
 
 use crate::fault::LineError;
+use mdl_key::MOST_SESSIONS;
 
 // The longest line, in bytes.
 const LONGEST_LINE: usize = 4096;
@@ -60,7 +61,7 @@ pub fn is_blank(byte: u8) -> bool
     byte == b' ' || byte == b'\t'
 }
 
-/// The session that a word names: a number from 1 to 64 in one or two digits, the first of which is not 0.
+/// The session that a word names: a number from 1 to [`MOST_SESSIONS`] in one or two digits, the first of which is not 0.
 #[tactic(auto, using(crate::proofs::Sessions::none_for_long))]
 pub fn session_of(word: &[u8]) -> Option<u16>
     ensures { result ≡ session_of word.now }
@@ -69,7 +70,7 @@ pub fn session_of(word: &[u8]) -> Option<u16>
         [ones @ b'1'..=b'9'] => Some(u16::from(*ones - b'0')),
         [tens @ b'1'..=b'9', ones @ b'0'..=b'9'] => {
             let session = 10 * u16::from(*tens - b'0') + u16::from(*ones - b'0');
-            (session <= 64).then_some(session)
+            (session <= MOST_SESSIONS).then_some(session)
         }
         _ => None,
     }

@@ -16,18 +16,26 @@ const SECOND: u64 = 1 << COUNT_BITS;
 
 const THIRD: u64 = 1 << (2 * COUNT_BITS);
 
-/// The packed word of one lock.
+/// The packed word of one lock: three counts of fast tickets, one for each class of modes, and two flags.
 ///
-/// Bits 0 to 19 count S and SH together, and IX where the lock is scoped. Bits 20 to 39 count SR, and bits 40 to 59 SW and
-/// SWLP together. Bit 60 is [`Word::SLOW`] and bit 61 [`Word::OBTRUSIVE`]; bits 62 and 63 are zero. Fast tickets alone are
-/// counted.
+/// | bits      | what they hold                                               | object lock | scoped lock |
+/// |-----------|--------------------------------------------------------------|-------------|-------------|
+/// | 63 and 62 | always 0                                                     |             |             |
+/// | 61        | [`Word::OBTRUSIVE`]: a ticket in an obtrusive mode is listed |             |             |
+/// | 60        | [`Word::SLOW`]: a ticket is listed                           |             |             |
+/// | 59 to 40  | how many fast tickets class 2 has                            | SW and SWLP | always 0    |
+/// | 39 to 20  | how many fast tickets class 1 has                            | SR          | always 0    |
+/// | 19 to 0   | how many fast tickets class 0 has                            | S and SH    | IX          |
 ///
-/// After MySQL 5.7, `MDL_lock::m_fast_path_state` of `sql/mdl.cc`. The layout is this project's own.
+/// A ticket is listed that is in one of the lock's lists, granted or waiting. A fast ticket is only counted.
+///
+/// After MySQL 5.7, `MDL_lock::m_fast_path_state` of `sql/mdl.cc`, which calls the flags `HAS_OBTRUSIVE` and
+/// `HAS_SLOW_PATH`. The layout is this project's own.
 #[derive(Clone, Copy, Debug, PartialEq, Eq)]
 pub struct Word(pub u64);
 
 impl Word {
-    /// The bit that says that a ticket stands in one of the lock's lists.
+    /// The bit that says that a ticket is in one of the lock's lists.
     pub const SLOW: u64 = 1 << 60;
 
     /// The bit that says that one of these tickets is in an obtrusive mode.
