@@ -98,15 +98,15 @@ graph-more settled books book old new was kept grown tied =
           ∙ sym (list_any-append (λ b. waits_at settled b waiter other) books (book ∷ []) ∙ ap (λ (b : Bool). waits_for settled books waiter other || b) (or_false (waits_at settled book waiter other)));
     }
 
--- likewise for a lock of the same key and lists
-pub graph-same : (settled : SessionTest) (books : List BookView) (book one : BookView) (old new : GraphView) → one.key ≡ book.key → one.granted ≡ book.granted → one.waiting ≡ book.waiting
+-- likewise for a lock of the same namespace and lists
+pub graph-same : (settled : SessionTest) (books : List BookView) (book one : BookView) (old new : GraphView) → one.key.namespace ≡ book.key.namespace → one.granted ≡ book.granted → one.waiting ≡ book.waiting
     → IsGraphOf settled books old
     → new.settled ≡ old.settled
     → new.wishes ≡ old.wishes ++ wishes_at (is_settled old) book
     → ((waiter other : ℕ) → waits new waiter other ≡ (waits old waiter other || waits_at (is_settled old) book waiter other))
     → IsGraphOf settled (books ++ one ∷ []) new
 graph-same settled books book one old new key granted waiting was kept grown tied =
-    let same : lock_of book.key book.granted book.waiting ≡ lock_of one.key one.granted one.waiting = (λ i. lock_of (sym key i) (sym granted i) (sym waiting i)) in
+    let same : lock_of book.key.namespace book.granted book.waiting ≡ lock_of one.key.namespace one.granted one.waiting = (λ i. lock_of (sym key i) (sym granted i) (sym waiting i)) in
     graph-more settled books one old new was kept
     (grown ∙ ap (λ (lock : BookView). old.wishes ++ wishes_at (is_settled old) lock) same)
     (λ waiter other. tied waiter other ∙ ap (λ (lock : BookView). waits old waiter other || waits_at (is_settled old) lock waiter other) same)

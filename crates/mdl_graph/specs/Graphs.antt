@@ -5,7 +5,7 @@ use Rattle.std.specs.FinSet as set
 use Rattle.std.specs.List.{list_any}
 use Rattle.std.specs.Option.{option_map}
 use Rattle.std.specs.Ordering.{nat_cmp}
-use Rattle.mdl_key.specs.Words.{KeyName}
+use Rattle.mdl_key.specs.declared.namespace.Namespace.{Namespace}
 use Rattle.mdl_book.specs.declared.book_view.BookView.{BookView}
 use Rattle.mdl_book.specs.declared.ticket.Ticket.{Ticket}
 use Rattle.mdl_book.specs.Books.{empty_book}
@@ -36,9 +36,10 @@ graph_code =
     (λ parts. record { settled = parts.0; wishes = parts.1.0; ties = parts.1.1 })
     (λ _. refl)
 
--- a lock of this key and these lists, under whose key nothing stands: who waits for whom there doesn't hang on that
-abbrev pub lock_of : KeyName → List Ticket → List Ticket → BookView
-lock_of key granted waiting = record (empty_book key) { granted = granted; waiting = waiting }
+-- a lock of this namespace and these lists, without a name and without a definition: neither decides who waits for whom there
+abbrev pub lock_of : Namespace → List Ticket → List Ticket → BookView
+lock_of namespace granted waiting =
+    record (empty_book (record { namespace = namespace; schema = []; table = [] })) { granted = granted; waiting = waiting }
 
 -- whether a session of a graph is settled
 abbrev pub is_settled : GraphView → ℕ → Bool

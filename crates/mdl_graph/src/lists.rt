@@ -3,13 +3,13 @@ ghost use Rattle.std.specs.Prelude.{◌≡◌};
 ghost use Rattle.mdl_graph.specs.Graphs.{lock_of};
 
 use mdl_book::Ticket;
-use mdl_key::Key;
+use mdl_key::Namespace;
 use std::marker::Model;
 
-/// A lock's key and its two lists of tickets, each in order. Who waits for whom there hangs on nothing else.
+/// A lock's namespace and its two lists of tickets, each in order. Nothing else decides who waits for whom there.
 #[derive(Drop)]
 pub(crate) struct Lists<'a> {
-    key: &'a Key,
+    namespace: Namespace,
     granted: &'a [Ticket],
     waiting: &'a [Ticket],
 }
@@ -20,26 +20,30 @@ impl<'a> Model for Lists<'a> {
 
     ghost Value = { BookView };
 
-    ghost view = { λ lists. lock_of lists.key.now lists.granted.now lists.waiting.now };
+    ghost view = { λ lists. lock_of lists.namespace lists.granted.now lists.waiting.now };
 }
 
 impl<'a> Lists<'a> {
     /// These lists.
-    pub(crate) fn new(key: &'a Key, granted: &'a [Ticket], waiting: &'a [Ticket]) -> Lists<'a>
-        ensures { result ≡ lock_of key.now granted.now waiting.now }
+    pub(crate) fn new(
+        namespace: Namespace,
+        granted: &'a [Ticket],
+        waiting: &'a [Ticket],
+    ) -> Lists<'a>
+        ensures { result ≡ lock_of namespace granted.now waiting.now }
     {
         Lists {
-            key,
+            namespace,
             granted,
             waiting,
         }
     }
 
-    /// The lock's key.
-    pub(crate) fn key(&self) -> &Key
-        ensures { result.now ≡ self.now.key }
+    /// The lock's namespace.
+    pub(crate) fn namespace(&self) -> Namespace
+        ensures { result ≡ self.now.key.namespace }
     {
-        self.key
+        self.namespace
     }
 
     /// The granted tickets.

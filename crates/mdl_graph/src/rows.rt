@@ -75,7 +75,7 @@ pub(crate) fn add_waiters(
     ensures ties { OnOk result ((waiter other : ℕ) → are_joined waits.new.items stands.new.items waiter other
         ≡ (are_joined waits.old.items stands.old.items waiter other || waits_at (set.contains settled.now) book.now waiter other)) }
 {
-    let namespace = book.key().namespace();
+    let namespace = book.namespace();
     let first = ranks.len();
     for ticket in book.waiting() {
         if !settled.contains(ticket.session) {
@@ -150,7 +150,7 @@ fn stand_holders(
     ensures stands { OnOk result ((session one : ℕ) → holds stands.new.items session one
         ≡ (holds stands.old.items session one || (row == one && holds_against book.now mode session))) }
 {
-    let kind = book.key().kind();
+    let kind = book.namespace().kind();
     for held in book.granted() {
         if conflicts_granted(kind, mode, held.mode) {
             stand_once(stands, seen, held.session, row)?;
@@ -174,7 +174,7 @@ fn stand_waiters(
     ensures stands { OnOk result ((session one : ℕ) → holds stands.new.items session one
         ≡ (holds stands.old.items session one || (row == one && waits_ahead (set.contains settled.now) book.now mode session))) }
 {
-    let kind = book.key().kind();
+    let kind = book.namespace().kind();
     for pending in book.waiting() {
         if !settled.contains(pending.session) && conflicts_waiting(kind, mode, pending.mode) {
             stand_once(stands, seen, pending.session, row)?;

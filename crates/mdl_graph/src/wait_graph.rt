@@ -13,7 +13,7 @@ use crate::waits::Waits;
 use crate::walks::walk;
 use crate::{Cycle, Member};
 use mdl_book::{Book, Sessions, Ticket};
-use mdl_key::Key;
+use mdl_key::Namespace;
 use std::alloc::{AllocError, Global};
 use std::marker::Model;
 
@@ -75,26 +75,26 @@ impl WaitGraph {
             → IsGraphOf settled books self.old → IsGraphOf settled (books ++ book.now ∷ []) self.new) }
         ensures unchanged { OnErr result (self.new ≡ self.old) }
     {
-        self.add_lists(book.key(), book.granted(), book.waiting())
+        self.add_lists(book.key().namespace(), book.granted(), book.waiting())
     }
 
-    /// Adds a lock that is told by its key and its two lists, each in order. A refused growth leaves the graph as it was.
+    /// Adds a lock by its namespace and its two lists, each in order. A refused growth leaves the graph as it was.
     pub fn add_lists(
         &mut self,
-        key: &Key,
+        namespace: Namespace,
         granted: &[Ticket],
         waiting: &[Ticket],
     ) -> Result<(), AllocError>
         ensures settled { self.new.settled ≡ self.old.settled }
-        ensures wishes { OnOk result (self.new.wishes ≡ self.old.wishes ++ wishes_at (is_settled self.old) (lock_of key.now granted.now waiting.now)) }
+        ensures wishes { OnOk result (self.new.wishes ≡ self.old.wishes ++ wishes_at (is_settled self.old) (lock_of namespace granted.now waiting.now)) }
         ensures waits { OnOk result ((waiter other : ℕ) → waits self.new waiter other
-            ≡ (waits self.old waiter other || waits_at (is_settled self.old) (lock_of key.now granted.now waiting.now) waiter other)) }
+            ≡ (waits self.old waiter other || waits_at (is_settled self.old) (lock_of namespace granted.now waiting.now) waiter other)) }
         ensures graph { OnOk result ((settled : SessionTest) (books : List BookView) (book : BookView)
-            → book.key ≡ key.now → book.granted ≡ granted.now → book.waiting ≡ waiting.now
+            → book.key.namespace ≡ namespace → book.granted ≡ granted.now → book.waiting ≡ waiting.now
             → IsGraphOf settled books self.old → IsGraphOf settled (books ++ book ∷ []) self.new) }
         ensures unchanged { OnErr result (self.new ≡ self.old) }
     {
-        let lists = Lists::new(key, granted, waiting);
+        let lists = Lists::new(namespace, granted, waiting);
         make_room(
             &mut self.wishes,
             &mut self.ranks,
@@ -112,7 +112,7 @@ impl WaitGraph {
         ensures waits { OnOk result ((waiter other : ℕ) → waits self.new waiter other
             ≡ (waits self.old waiter other || waits_at (is_settled self.old) book.now waiter other)) }
         ensures graph { OnOk result ((settled : SessionTest) (books : List BookView) (one : BookView)
-            → one.key ≡ book.now.key → one.granted ≡ book.now.granted → one.waiting ≡ book.now.waiting
+            → one.key.namespace ≡ book.now.key.namespace → one.granted ≡ book.now.granted → one.waiting ≡ book.now.waiting
             → IsGraphOf settled books self.old → IsGraphOf settled (books ++ one ∷ []) self.new) }
         ensures unchanged { OnErr result (self.new ≡ self.old) }
     {

@@ -1,6 +1,6 @@
 -- The settled sessions by the words of waits, and the graph of books that were copied.
 use Rattle.std.proofs.Common.{◌≡◌, ℕ, ◌+◌, ◌<◌, ◌≤◌, ◌==◌, ◌||◌, ◌&&◌, nat_lt, Bool, true, false, not, List, [], ◌∷◌, ◌++◌, length, map, filter, take, get_or, Option, refl, sym, ap, ◌∙◌, subst, arith, append_assoc, append-nil}
-use Rattle.std.specs.Prelude.{◌%◌, if◌then◌else◌}
+use Rattle.std.specs.Prelude.{◌%◌}
 use Rattle.std.specs.Cmp.{nat_cmp_total, unsigned_tied}
 use Rattle.std.specs.FinSet as set
 use Rattle.std.specs.List.{list_any}
@@ -9,12 +9,13 @@ use Rattle.std.specs.Ordering.{nat_cmp}
 use Rattle.std.proofs.lemmas.Bool.Decides.{nat_tests}
 use Rattle.std.proofs.lemmas.List.{get_or-map, length-map, map-append, take_all, take_more}
 use Rattle.std.proofs.lemmas.List.Folds.{list_any-append}
-use Rattle.mdl_key.specs.Words.{KeyName}
+use Rattle.mdl_key.specs.declared.namespace.Namespace.{Namespace}
+use Rattle.mdl_key.specs.Words.{global_key}
 use Rattle.mdl_book.specs.Books.{empty_book}
 use Rattle.mdl_book.specs.declared.book_view.BookView.{BookView}
 use Rattle.mdl_book.specs.declared.ticket.Ticket.{Ticket}
 use Rattle.mdl_graph.specs.declared.cycle.Member.{Member}
-use Rattle.mdl_graph.specs.Graphs.{GraphView, IsGraphOf, cycle_found, deadlock, deadlock_in, lock_of, member_of, victim_in, waits}
+use Rattle.mdl_graph.specs.Graphs.{GraphView, IsGraphOf, cycle_found, deadlock, deadlock_in, member_of, victim_in, waits}
 use Rattle.mdl_graph.specs.Victims.{victim_of}
 use Rattle.mdl_graph.specs.WaitsFor.{SessionTest, is_tied, is_unsettled, waits_at, waits_for, wish_of, wishes_at, wishes_in}
 use Rattle.mdl_graph.proofs.CycleLaws.{chosen_same}
@@ -70,27 +71,6 @@ deadlock_same settled books graph from is =
     (chosen_same (waits graph) (waits_for settled books) (map (λ (wish : Member). wish.session) graph.wishes) from is.same_waits)
     ∙ ap (λ wishes. cycle_found wishes (waits_for settled books) from) is.same_wishes
 
--- who waits for whom at a lock hangs on its namespace and its lists alone
-abbrev alike_book : Queues → BookView
-alike_book q = record (empty_book (record { namespace = q.0; schema = []; table = [] })) { granted = q.1.0; waiting = q.1.1 }
-
-module _ (settled : SessionTest) (a b : BookView) (same : queues_of a ≡ queues_of b) where
-  alike_wishes : (books : List BookView) → wishes_in settled (books ++ a ∷ []) ≡ wishes_in settled (books ++ b ∷ [])
-  alike_wishes [] = ap (λ (q : Queues). wishes_at settled (alike_book q) ++ []) same
-  alike_wishes (first ∷ books) = ap (λ (wishes : List Member). wishes_at settled first ++ wishes) (alike_wishes books)
-
-  alike_waits : (books : List BookView) (waiter other : ℕ) → waits_for settled (books ++ a ∷ []) waiter other ≡ waits_for settled (books ++ b ∷ []) waiter other
-  alike_waits [] waiter other = ap (λ (q : Queues). waits_at settled (alike_book q) waiter other || false) same
-  alike_waits (first ∷ books) waiter other = ap (λ (w : Bool). waits_at settled first waiter other || w) (alike_waits books waiter other)
-
-  alike : (books : List BookView) (graph : GraphView) → IsGraphOf settled (books ++ a ∷ []) graph → IsGraphOf settled (books ++ b ∷ []) graph
-  alike books graph is =
-      record {
-        same_settled = is.same_settled;
-        same_wishes = is.same_wishes ∙ alike_wishes books;
-        same_waits = λ waiter other. is.same_waits waiter other ∙ alike_waits books waiter other;
-      }
-
 -- the lists at a place are those of the book there
 queues_there : (audited : List Audited) (lists : List Queues) (i : ℕ) (d : Audited) → AreQueuesOf audited lists → i < length lists
     → (i < length audited) × (get_or lists i no_queues ≡ queues_of (get_or audited i d).book)
@@ -100,15 +80,19 @@ queues_there audited lists i d are inside =
     (here, ap (λ (qs : List Queues). get_or qs i no_queues) (sym are) ∙ get_or-map (λ (a : Audited). queues_of a.book) audited i d no_queues here)
 
 -- a lock more of those whose lists were copied
-pub lock_more : (settled : SessionTest) (audited : List Audited) (lists : List Queues) (i : ℕ) (graph : GraphView) (key : KeyName) (granted waiting : List Ticket)
-    → AreQueuesOf audited lists → i < length lists → (key.namespace, (granted, waiting)) ≡ get_or lists i no_queues
-    → IsGraphOf settled (books_of (take i audited) ++ lock_of key granted waiting ∷ []) graph → IsGraphOf settled (books_of (take (i + 1) audited)) graph
-lock_more settled audited lists i graph key granted waiting are inside told is =
-    let d : Audited = record { place = 0; book = alike_book no_queues } in
-    let there = queues_there audited lists i d are inside in
-    let now = alike settled (lock_of key granted waiting) (get_or audited i d).book (told ∙ there.1) (books_of (take i audited)) graph is in
+pub lock_more : (settled : SessionTest) (audited : List Audited) (lists : List Queues) (i : ℕ) (graph : GraphView) (namespace : Namespace) (granted waiting : List Ticket)
+    → AreQueuesOf audited lists → i < length lists → (namespace, (granted, waiting)) ≡ get_or lists i no_queues
+    → ((book : BookView) → book.key.namespace ≡ namespace → book.granted ≡ granted → book.waiting ≡ waiting
+    → IsGraphOf settled (books_of (take i audited) ++ book ∷ []) graph)
+    → IsGraphOf settled (books_of (take (i + 1) audited)) graph
+lock_more settled audited lists i graph namespace granted waiting are inside listed added =
+    let none : Audited = record { place = 0; book = empty_book global_key } in
+    let there = queues_there audited lists i none are inside in
+    let one = get_or audited i none in
+    let same : queues_of one.book ≡ (namespace, (granted, waiting)) = sym (listed ∙ there.1) in
+    let now = added one.book (ap (λ (q : Queues). q.0) same) (ap (λ (q : Queues). q.1.0) same) (ap (λ (q : Queues). q.1.1) same) in
     subst (λ (books : List BookView). IsGraphOf settled books graph)
-    (sym (ap books_of (take_more audited i d there.0) ∙ map-append (λ (a : Audited). a.book) (take i audited) (get_or audited i d ∷ []))) now
+    (sym (ap books_of (take_more audited i none there.0) ∙ map-append (λ (a : Audited). a.book) (take i audited) (one ∷ []))) now
 
 -- once all were added
 pub all_added : (settled : SessionTest) (audited : List Audited) (lists : List Queues) (added : ℕ) (graph : GraphView)

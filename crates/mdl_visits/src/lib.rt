@@ -53,7 +53,6 @@ mod directories;
 mod granting;
 mod hearing;
 mod judging;
-mod key_sample;
 mod latches;
 mod laws;
 mod making_way;

@@ -8,7 +8,6 @@ ghost use Rattle.mdl_visits.specs.declared.hearing.Heard.{Heard};
 ghost use Rattle.mdl_visits.specs.Searches.{AreQueuesOf, books_of, settled_by};
 
 use crate::hearing::Heard;
-use crate::key_sample::KeySample;
 use mdl_book::Sessions;
 use mdl_graph::{WaitGraph, victim};
 use mdl_steps::{ListCopies, WaitWord};
@@ -52,11 +51,10 @@ fn graph_of(alloc: Global, lists: &ListCopies, words: &[Heard]) -> Result<WaitGr
     ensures { IfOk result (λ graph. (audited : List Audited) → AreQueuesOf audited lists.now
         → IsGraphOf (settled_by words.now) (books_of audited) graph) }
 {
-    let keys = KeySample::new(alloc)?;
     let mut graph = WaitGraph::new(alloc, settled_of(words));
     for at in 0..lists.count() {
         let (namespace, granted, waiting) = lists.lock(at);
-        graph.add_lists(keys.of(namespace), granted, waiting)?;
+        graph.add_lists(namespace, granted, waiting)?;
     }
     Ok(graph)
 }

@@ -1,7 +1,5 @@
 -- Each lock more is that of a book.
-use Rattle.std.proofs.Common.{◌<◌, ◌≤◌, length, take, refl, ap, ◌∙◌, arith}
-use Rattle.mdl_key.specs.declared.namespace.Namespace.{Namespace}
-use Rattle.mdl_graph.specs.Graphs.{lock_of}
+use Rattle.std.proofs.Common.{◌<◌, ◌≤◌, length, take, arith}
 use Rattle.mdl_visits.specs.Searches.{books_of, settled_by}
 use Rattle.mdl_visits.proofs.Deadlocks.{all_added, lock_more}
 use Rattle.mdl_visits.proofs.victims.graph_of.Goals as goal
@@ -9,15 +7,12 @@ use Rattle.mdl_visits.proofs.victims.graph_of.Goals as goal
 pub loop-at-preserved : goal.loop-at-preserved
 loop-at-preserved c = λ audited are.
     let settled = settled_by c.args.words.now in
-    let lists = c.args.lists.now in
     let i = c.loop-at.at in
-    let key = c.of.result.now in
-    let granted = c.lock-namespace.result.1.now in
-    let waiting = c.lock-namespace.result.2.now in
-    let inside : i < length lists = omega (arith, c.loop-at-test.true, c.count-at-end.ensures) in
-    lock_more settled audited lists i c.add_lists.new.self key granted waiting are inside
-    (ap (λ (n : Namespace). (n, (granted, waiting))) c.of.ensures ∙ c.lock-namespace.ensures)
-    (c.in_ok-add_lists.ensures.graph settled (books_of (take i audited)) (lock_of key granted waiting) refl refl refl (c.loop-at.invariant audited are))
+    let inside : i < length c.args.lists.now = omega (arith, c.loop-at-test.true, c.count-at-end.ensures) in
+    lock_more settled audited c.args.lists.now i c.add_lists.new.self
+    c.lock-namespace.result.0 c.lock-namespace.result.1.now c.lock-namespace.result.2.now are inside c.lock-namespace.ensures
+    (λ book namespace granted waiting.
+    c.in_ok-add_lists.ensures.graph settled (books_of (take i audited)) book namespace granted waiting (c.loop-at.invariant audited are))
 
 pub returns : goal.returns
 returns c = λ audited are.

@@ -1,7 +1,8 @@
--- A book tells its key and its lists.
-use Rattle.std.proofs.Common.{◌≡◌, ℕ, sym, subst}
+-- The namespace and the lists are the book's.
+use Rattle.std.proofs.Common.{◌≡◌, ◌∙◌, ℕ, ap, sym, subst}
 use Rattle.std.specs.Prelude.{◌||◌, OnOk}
 use Rattle.std.proofs.lemmas.Result.{on_ok_weaker}
+use Rattle.mdl_key.specs.Words.{KeyName}
 use Rattle.mdl_book.specs.declared.book_view.BookView.{BookView}
 use Rattle.mdl_graph.specs.Graphs.{is_settled, lock_of, waits}
 use Rattle.mdl_graph.specs.WaitsFor.{waits_at}
@@ -10,13 +11,15 @@ use Rattle.mdl_graph.proofs.wait_graph.WaitGraph.add.Goals as goal
 pub returns-clause-waits : goal.returns-clause-waits
 returns-clause-waits c =
     let book = c.args.book.now in
-    let same : lock_of c.key.result.now c.granted.result.now c.waiting.result.now ≡ lock_of book.key book.granted book.waiting =
-    (λ i. lock_of (c.key.ensures i) (c.granted.ensures i) (c.waiting.ensures i)) in
+    let namespace : c.namespace.result ≡ book.key.namespace = c.namespace.ensures ∙ ap (λ (key : KeyName). key.namespace) c.key.ensures in
+    let same : lock_of c.namespace.result c.granted.result.now c.waiting.result.now ≡ lock_of book.key.namespace book.granted book.waiting =
+    (λ i. lock_of (namespace i) (c.granted.ensures i) (c.waiting.ensures i)) in
     subst (λ (lock : BookView). OnOk c.add_lists.result ((waiter other : ℕ) → waits c.add_lists.new.self waiter other
     ≡ (waits c.args.self.now waiter other || waits_at (is_settled c.args.self.now) lock waiter other))) same c.add_lists.ensures.waits
 
 pub returns-clause-graph : goal.returns-clause-graph
 returns-clause-graph c =
+    let namespace : c.namespace.result ≡ c.args.book.now.key.namespace = c.namespace.ensures ∙ ap (λ (key : KeyName). key.namespace) c.key.ensures in
     on_ok_weaker c.add_lists.result
-    (λ graph settled books was. graph settled books c.args.book.now (sym c.key.ensures) (sym c.granted.ensures) (sym c.waiting.ensures) was)
+    (λ graph settled books was. graph settled books c.args.book.now (sym namespace) (sym c.granted.ensures) (sym c.waiting.ensures) was)
     c.add_lists.ensures.graph

@@ -21,10 +21,10 @@ returns-clause-graph c =
     let roomy : GraphView = record { settled = c.self.inside.settled; wishes = c.make_room.new.wishes.items; ties = ties_of c.make_room.new.waits.items c.make_room.new.stands.items } in
     let same : roomy ≡ c.args.self.now = rw (c.make_room.ensures.wishes, c.make_room.ensures.waits, c.make_room.ensures.stands) c.self.view_is in
     subst (λ (lock : BookView). OnOk c.add_reserved.result ((settled : SessionTest) (books : List BookView) (one : BookView)
-    → one.key ≡ lock.key → one.granted ≡ lock.granted → one.waiting ≡ lock.waiting
+    → one.key.namespace ≡ lock.key.namespace → one.granted ≡ lock.granted → one.waiting ≡ lock.waiting
     → IsGraphOf settled books c.args.self.now → IsGraphOf settled (books ++ one ∷ []) c.add_reserved.new.self)) c.new-lists.ensures
     (subst (λ (graph : GraphView). OnOk c.add_reserved.result ((settled : SessionTest) (books : List BookView) (one : BookView)
-    → one.key ≡ c.new-lists.result.key → one.granted ≡ c.new-lists.result.granted → one.waiting ≡ c.new-lists.result.waiting
+    → one.key.namespace ≡ c.new-lists.result.key.namespace → one.granted ≡ c.new-lists.result.granted → one.waiting ≡ c.new-lists.result.waiting
     → IsGraphOf settled books graph → IsGraphOf settled (books ++ one ∷ []) c.add_reserved.new.self)) same c.add_reserved.ensures.graph)
 
 pub returns-clause-unchanged : goal.returns-clause-unchanged
