@@ -3,7 +3,7 @@ use Rattle.std.specs.Prelude.{◌≡◌, ℕ, ◌+◌, ◌-◌, ◌^◌, ◌⊎�
 use Rattle.std.specs.Option.{option_map}
 use Rattle.mdl_key.specs.declared.mode.Mode.{Mode}
 use Rattle.mdl_key.specs.declared.mode.Mode.TheVariants.{X}
-use Rattle.mdl_key.specs.Words.{KeyName, is_mode_of, same_mode}
+use Rattle.mdl_key.specs.Words.{KeyName, is_mode_of, most_places, most_sessions, same_mode}
 use Rattle.mdl_defs.specs.declared.change.Change.{Change}
 use Rattle.mdl_defs.specs.declared.change_error.ChangeError.{ChangeError}
 use Rattle.mdl_defs.specs.Standings.{standing_fault}
@@ -29,8 +29,8 @@ use Rattle.mdl_system.specs.Strength.{covers, may_upgrade, may_downgrade}
 -- why there can't be such a space
 abbrev pub new_fault : ℕ → ℕ → Option NewError
 new_fault places sessions =
-    if not (nat_le 1 places && nat_le places 256) then Some BadPlaces
-    else (if not (nat_le 1 sessions && nat_le sessions 64) then Some BadSessions else None)
+    if not (nat_le 1 places && nat_le places most_places) then Some BadPlaces
+    else (if not (nat_le 1 sessions && nat_le sessions most_sessions) then Some BadSessions else None)
 
 -- the first of these causes that stands
 abbrev pub first_cause : List (Bool × SpaceError) → Option SpaceError

@@ -1,4 +1,4 @@
--- No session ever has two tickets, so that a lock has 64 at most.
+-- No session ever has two tickets, so that a lock has at most as many as there are sessions.
 use Rattle.std.proofs.Common.{◌≡◌, ℕ, ◌+◌, ◌-◌, ◌<◌, ◌≤◌, Bool, true, false, cond, nat_eq, List, [], ◌∷◌, ◌++◌, length, length-append, map, get_or, Option, Some, None, Result, Err, refl, ap, inl, inr, arith, add-one}
 use Rattle.std.specs.List.{find, list_any, All, AllByRecursion, IsDistinct, count_by, sum_by, remove, position_or_len}
 use Rattle.std.proofs.lemmas.Bool.{cases_eq, cases_lt, or_parts, or_cases, eqb-true, ne_eqb}
@@ -18,6 +18,7 @@ use Rattle.mdl_book.specs.Tickets.{is_ticket, without}
 use Rattle.mdl_book.proofs.FastLemmas.{may_stand-none}
 use Rattle.mdl_book.proofs.TicketLemmas.{All-without}
 use Rattle.mdl_key.specs.declared.mode.Mode.{Mode}
+use Rattle.mdl_key.specs.Limits.{most_sessions}
 use Rattle.mdl_lines.specs.Sessions.{IsScriptSession}
 use Rattle.mdl_lock.specs.Answers.{Lock, free_lock, new_ticket, holds_or_waits, admitted}
 use Rattle.mdl_lock.specs.Locks.{lock_of, IsScriptTicket, IsOrderly, tickets_of}
@@ -154,8 +155,8 @@ places_distinct (ticket ∷ tickets) all one =
     let none : count_by (is_ticket ticket.session 1) tickets ≡ 0 = omega (arith, one ticket.session) in
     (places_apart ticket.session tickets this.0.0 rest none, places_distinct tickets rest (λ session. omega (arith, sum_by-cons (one_if (is_ticket session 1)) ticket tickets, one session)))
 
--- counted from 0, each session is below 64
-places_below : (tickets : List Ticket) (place : ℕ) → All IsScriptTicket tickets → list_any (nat_eq place) (places tickets) ≡ true → place < 64
+-- counted from 0, each session is below `most_sessions`
+places_below : (tickets : List Ticket) (place : ℕ) → All IsScriptTicket tickets → list_any (nat_eq place) (places tickets) ≡ true → place < most_sessions
 places_below [] place all there = cc
 places_below (ticket ∷ tickets) place all there =
     let this = All-head IsScriptTicket ticket tickets all in
@@ -165,17 +166,17 @@ places_below (ticket ∷ tickets) place all there =
     ]
 
 -- a lock has no more tickets than there are sessions
-pub at_most_64 : (lock : Lock) → IsOrderly lock → length lock.granted + length lock.waiting ≤ 64
-at_most_64 lock orderly =
+pub at_most_one_each : (lock : Lock) → IsOrderly lock → length lock.granted + length lock.waiting ≤ most_sessions
+at_most_one_each lock orderly =
     let tickets : List Ticket = lock.granted ++ lock.waiting in
     let all = All-append IsScriptTicket lock.granted lock.waiting orderly.holders orderly.waiters in
     let apart = places_distinct tickets all (λ session. omega (arith, sum_by-append (one_if (is_ticket session 1)) lock.granted lock.waiting, orderly.one_each session)) in
-    let few = length-le_from_distinct_below (places tickets) 64 apart (λ place there. places_below tickets place all there) in
+    let few = length-le_from_distinct_below (places tickets) most_sessions apart (λ place there. places_below tickets place all there) in
     omega (arith, simp (length-map, length-append) at few)
 
 -- so that its book is not full
 pub never_full : (lock : Lock) → IsOrderly lock → full_fault (length lock.granted + length lock.waiting) ≡ None
-never_full lock orderly = let few = at_most_64 lock orderly in grind (arith, nat_tests)
+never_full lock orderly = let few = at_most_one_each lock orderly in grind (arith, nat_tests)
 
 -- nor is a ticket refused that doesn't clash
 pub never_refused : (lists : BookView) (ticket : Ticket) → IsOrderly (lock_of lists) → is_compatible (lock_kind lists) lists.granted ticket.session ticket.mode ≡ true

@@ -1,6 +1,7 @@
 //! Reads lock scripts.
 ghost use Rattle.std.specs.Prelude.{◌≡◌, ◌≤◌, ◌++◌, ◌∷◌, [], true, Ok, IfOk, IfErr};
 ghost use Rattle.std.specs.List.{All};
+ghost use Rattle.mdl_key.specs.Words.{most_sessions};
 ghost use Rattle.mdl_lines.specs.Faults.{IsFaultOf};
 ghost use Rattle.mdl_lock.specs.Scripts.{parsed};
 
@@ -15,7 +16,7 @@ use std::alloc::Global;
 pub fn parse(alloc: Global, kind: Kind, text: &[u8]) -> Result<Vec<ScriptCommand>, Fault>
     ensures parsed { IfOk result (λ commands. parsed kind text.now ≡ Ok commands.items) }
     ensures refused { IfErr result (λ fault. IsFaultOf (parsed kind text.now) fault) }
-    ensures sessions { IfOk result (λ commands. All (λ command. (1 ≤ command.session) × (command.session ≤ 64)) commands.items) }
+    ensures sessions { IfOk result (λ commands. All (λ command. (1 ≤ command.session) × (command.session ≤ most_sessions)) commands.items) }
 {
     let mut commands = Vec::new(alloc);
     let mut number = 0;

@@ -15,7 +15,7 @@ pub enum Action {
 /// A line of a script: a session and what it wants.
 #[derive(Clone, Copy)]
 pub struct ScriptCommand {
-    /// The session, from 1 to 64.
+    /// The session, from 1 to [`MOST_SESSIONS`](mdl_key::MOST_SESSIONS).
     pub session: u16,
     /// What it wants.
     pub action: Action,

@@ -16,15 +16,11 @@ use crate::{
 };
 use mdl_book::Book;
 use mdl_core::Pending;
-use mdl_key::{Key, Mode};
+use mdl_key::{Key, MOST_PLACES, MOST_SESSIONS, Mode};
 use mdl_system::covers;
 use std::alloc::Global;
 use std::collections::HashMap;
 use std::marker::Model;
-
-const MOST_PLACES: u16 = 256;
-
-const MOST_SESSIONS: u16 = 64;
 
 // The most tickets, and the most waits, that a session can number.
 const MOST_NUMBERS: u64 = (1 << 60) - 1;
@@ -42,6 +38,7 @@ pub struct CoreSpace {
 impl Model for CoreSpace {
     ghost use Rattle.std.specs.Prelude.{◌≤◌, length};
     ghost use Rattle.std.specs.Vec.{vec_capacity};
+    ghost use Rattle.mdl_key.specs.Words.{most_places, most_sessions};
     ghost use Rattle.mdl_core.specs.Cores.{Core};
     ghost use Rattle.mdl_space.specs.KnownKeys.{TellsPlaces};
 
@@ -51,15 +48,16 @@ impl Model for CoreSpace {
 
     ghost invariant = { λ space. record {
       fewest : length space.books.items ≤ space.places;
-      most : space.places ≤ 256;
+      most : space.places ≤ most_places;
       room : space.places ≤ vec_capacity space.books;
       known : TellsPlaces space.known.entries space.books.items;
-      sessions : length space.seats.items ≤ 64;
+      sessions : length space.seats.items ≤ most_sessions;
     } };
 }
 
 impl CoreSpace {
-    /// A space of so many places and sessions, where nobody has asked for anything: 1 to 256 places, 1 to 64 sessions.
+    /// A space of so many places and sessions, where nobody has asked for anything: 1 to [`MOST_PLACES`] places, 1 to
+    /// [`MOST_SESSIONS`] sessions.
     pub fn new(alloc: Global, places: u16, sessions: u16) -> Result<CoreSpace, NewError>
         ensures made { IfOk result (λ space. space ≡ empty_core places sessions) }
         ensures speaks { IfOk result (λ space. (who : ℕ) → 1 ≤ who → who ≤ sessions → SpeaksFor space who) }

@@ -13,6 +13,7 @@ use Rattle.mdl_key.specs.declared.key_error.KeyError.{KeyError}
 use Rattle.mdl_key.specs.Keys.{KeyName, key_eq, name_fault, table_key}
 use Rattle.mdl_defs.specs.declared.change.Change.{Change}
 use Rattle.mdl_defs.specs.declared.change.Change.TheVariants.{AddColumn, DropColumn}
+use Rattle.mdl_defs.specs.Definitions.{most_columns}
 use Rattle.mdl_lines.specs.declared.fault.LineError.{LineError}
 use Rattle.mdl_lines.specs.declared.fault.LineError.TheVariants.{BadName, BadSession, BadWord}
 use Rattle.mdl_lines.specs.ScriptLines.{said_before}
@@ -165,11 +166,11 @@ some_locks-hold (word ∷ []) = one-lock [] word
 some_locks-hold (word ∷ behind ∷ words) = next-lock [] word behind words (λ more are. more_locks-hold more words are) (omega arith, none-distinct, All-nil IsTable)
 
 abbrev FewColumns : List (List ℕ) → Type 0
-FewColumns columns = (length columns ≤ 64) × All IsName columns
+FewColumns columns = (length columns ≤ most_columns) × All IsName columns
 
 more_columns-hold : (columns : List (List ℕ)) (word : List ℕ) → FewColumns columns → IfOk (more_columns columns word) AreColumns
-more_columns-hold columns word few = by (nat_le 64 (length columns)) refl where
-  by : (full : Bool) → nat_le 64 (length columns) ≡ full → IfOk (cond full (Err BadWord) (and_then (or_refuse BadName (name_of word)) (λ column. Ok (columns ++ column ∷ [])))) AreColumns
+more_columns-hold columns word few = by (nat_le most_columns (length columns)) refl where
+  by : (full : Bool) → nat_le most_columns (length columns) ≡ full → IfOk (cond full (Err BadWord) (and_then (or_refuse BadName (name_of word)) (λ column. Ok (columns ++ column ∷ [])))) AreColumns
   by true e = tt
   by false e =
       and_then-with IsName AreColumns (or_refuse BadName (name_of word)) _ (or_refuse-holds IsName BadName (name_of word) (name_of-IsName word))

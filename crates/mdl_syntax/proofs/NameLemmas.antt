@@ -10,6 +10,7 @@ use Rattle.std.proofs.lemmas.Str.Ascii.{IsAscii-from_all}
 use Rattle.mdl_key.specs.declared.key_error.KeyError.{KeyError}
 use Rattle.mdl_key.specs.declared.key_error.KeyError.TheVariants.{EmptyName, LongName, BadByte}
 use Rattle.mdl_key.specs.Keys.{is_name_byte, name_fault}
+use Rattle.mdl_key.specs.Limits.{longest_name}
 use Rattle.mdl_syntax.specs.Names.{is_dot, name_of, table_in, table_of, unless_fault}
 use Rattle.mdl_syntax.proofs.WordLemmas.{found_at, none_passes}
 
@@ -25,7 +26,7 @@ low byte h = grind (arith, nat_tests)
 faultless-IsUtf8 : (word : List ℕ) → name_fault word ≡ None → IsUtf8 word
 faultless-IsUtf8 word e =
     IsUtf8-from_ascii word (IsAscii-from_all word (All-weaker (λ b. not (is_name_byte b) ≡ false) (λ b. b < 128) low word
-    (none_passes (λ b. not (is_name_byte b)) word (sym (no_bad_byte (length word == 0) (nat_lt 64 (length word)) (position (λ b. not (is_name_byte b)) word) e)))))
+    (none_passes (λ b. not (is_name_byte b)) word (sym (no_bad_byte (length word == 0) (nat_lt longest_name (length word)) (position (λ b. not (is_name_byte b)) word) e)))))
 
 -- what is no text is no name
 pub name_of-no_text : (word : List ℕ) → (IsUtf8 word → ⊥) → name_of word ≡ None

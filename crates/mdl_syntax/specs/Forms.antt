@@ -6,6 +6,7 @@ use Rattle.std.specs.List.{list_any}
 use Rattle.mdl_key.specs.Keys.{KeyName, key_eq}
 use Rattle.mdl_defs.specs.declared.change.Change.{Change}
 use Rattle.mdl_defs.specs.declared.change.Change.TheVariants.{AddColumn, DropColumn}
+use Rattle.mdl_defs.specs.Definitions.{most_columns}
 use Rattle.mdl_lines.specs.declared.fault.LineError.{LineError}
 use Rattle.mdl_lines.specs.declared.fault.LineError.TheVariants.{BadName, BadSession, BadWord}
 use Rattle.mdl_lines.specs.Lines.{same_text, words_of}
@@ -65,10 +66,10 @@ next_table tables word =
 abbrev pub more_tables : List KeyName → List ℕ → Result (List KeyName) LineError
 more_tables tables word = and_then (next_table tables word) (λ table. Ok (tables ++ table ∷ []))
 
--- one column more than these: a 65th is a word too many
+-- one column more than these: past `most_columns` it is a word too many
 abbrev pub more_columns : List (List ℕ) → List ℕ → Result (List (List ℕ)) LineError
 more_columns columns word =
-    if nat_le 64 (length columns) then Err BadWord
+    if nat_le most_columns (length columns) then Err BadWord
     else and_then (or_refuse BadName (name_of word)) (λ column. Ok (columns ++ column ∷ []))
 
 -- what each word in turn adds to a list

@@ -5,6 +5,7 @@ use Rattle.mdl_key.specs.declared.namespace.Namespace.TheVariants.{Table}
 use Rattle.mdl_key.specs.Keys.{KeyName, key_eq, name_fault}
 use Rattle.mdl_defs.specs.declared.change.Change.{Change}
 use Rattle.mdl_defs.specs.declared.change.Change.TheVariants.{AddColumn, DropColumn}
+use Rattle.mdl_defs.specs.Definitions.{most_columns}
 use Rattle.mdl_lines.specs.Sessions.{IsScriptSession}
 use Rattle.mdl_syntax.specs.declared.script.Line.{Line}
 use Rattle.mdl_syntax.specs.declared.statement.Statement.{Statement}
@@ -12,7 +13,7 @@ use Rattle.mdl_syntax.specs.declared.statement.Statement.TheVariants.{Begin, Com
 use Rattle.mdl_syntax.specs.Forms.{tables_of}
 use Rattle.mdl_syntax.specs.Scripts.{parsed}
 
--- a name of 1 to 64 bytes of a-z, 0-9 and _
+-- a name of 1 to `longest_name` bytes of a-z, 0-9 and _
 abbrev pub IsName : List ℕ → Type 0
 IsName name = name_fault name ≡ None
 
@@ -24,9 +25,9 @@ IsTable key = (key.namespace ≡ Table) × IsName key.schema × IsName key.table
 abbrev pub AreTables : List KeyName → Type 0
 AreTables tables = (1 ≤ length tables) × (length tables ≤ 8) × IsDistinct key_eq tables × All IsTable tables
 
--- 1 to 64 columns
+-- 1 to `most_columns` columns
 abbrev pub AreColumns : List (List ℕ) → Type 0
-AreColumns columns = (1 ≤ length columns) × (length columns ≤ 64) × All IsName columns
+AreColumns columns = (1 ≤ length columns) × (length columns ≤ most_columns) × All IsName columns
 
 -- a column that a table gains or loses
 abbrev pub IsColumnChange : Change → Type 0

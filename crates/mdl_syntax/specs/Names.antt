@@ -10,7 +10,7 @@ abbrev pub unless_fault : Option KeyError → List ℕ → Option (List ℕ)
 unless_fault None text = Some text
 unless_fault (Some fault) text = None
 
--- the name that a word is: 1 to 64 bytes of a-z, 0-9 and _
+-- the name that a word is: 1 to `longest_name` bytes of a-z, 0-9 and _
 abbrev pub name_of : List ℕ → Option (List ℕ)
 name_of word = unless_fault (name_fault word) word
 

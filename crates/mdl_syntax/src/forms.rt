@@ -13,14 +13,11 @@ use crate::words::split_word;
 use crate::{
     Algorithm, Alteration, LockType, Name, Priority, Statement, TableLock, TableLocks, Tables,
 };
-use mdl_defs::{Change, Column, Columns};
+use mdl_defs::{Change, Column, Columns, MOST_COLUMNS};
 use mdl_key::Key;
 use mdl_lines::{LineError, session_of};
 use std::alloc::{AllocError, Global};
 use std::str;
-
-// The most columns of a table.
-const MOST_COLUMNS: usize = 64;
 
 /// The statement that words say. What refuses them is told also where memory ran out.
 pub(crate) fn statement_of(alloc: Global, words: &[u8]) -> Result<Statement, NoStatement>

@@ -6,7 +6,7 @@ use mdl_key::{KeyError, check_name};
 use std::alloc::{AllocError, Global};
 use std::marker::Model;
 
-/// The name of a savepoint or a schema: 1 to 64 bytes of `a-z 0-9 _`.
+/// The name of a savepoint or a schema: 1 to [`LONGEST_NAME`](mdl_key::LONGEST_NAME) bytes of `a-z 0-9 _`.
 #[derive(Drop)]
 pub struct Name {
     text: String,

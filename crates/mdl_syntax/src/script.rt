@@ -9,7 +9,7 @@ use std::marker::Model;
 pub struct Line {
     /// The line's number, counted from 1.
     pub number: u64,
-    /// The session that is asked, from 1 to 64.
+    /// The session that is asked, from 1 to [`MOST_SESSIONS`](mdl_key::MOST_SESSIONS).
     pub session: u16,
     /// What it is asked for.
     pub statement: Statement,

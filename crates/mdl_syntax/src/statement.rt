@@ -28,7 +28,7 @@ pub enum Statement {
         /// Whether the write was asked for with `LOW_PRIORITY`.
         priority: Priority,
     },
-    /// `CREATE TABLE`, with 1 to 64 columns, which may be named twice.
+    /// `CREATE TABLE`, with 1 to [`MOST_COLUMNS`](mdl_defs::MOST_COLUMNS) columns, which may be named twice.
     CreateTable {
         /// The new table.
         table: Key,
@@ -56,7 +56,7 @@ pub enum Statement {
     AlterTable(Alteration),
     /// `LOCK TABLES` of 1 to 8 tables.
     LockTables(TableLocks),
-    /// `KILL QUERY` of a session, from 1 to 64.
+    /// `KILL QUERY` of a session, from 1 to [`MOST_SESSIONS`](mdl_key::MOST_SESSIONS).
     KillQuery(u16),
     /// `TIMEOUT`: the session gives up its own wait.
     Timeout,

@@ -1,4 +1,5 @@
 use Rattle.std.proofs.Common.{◌≡◌, ◌≤◌, ℕ, List, [], true, length}
+use Rattle.mdl_defs.specs.Definitions.{most_columns}
 use Rattle.mdl_lines.specs.Lines.{words_of}
 use Rattle.mdl_syntax.specs.Forms.{each_word, more_columns}
 use Rattle.mdl_syntax.proofs.forms.some_columns.Given as goal
@@ -8,7 +9,7 @@ abbrev pub invariant-loop-word : goal.invariant-loop-word
 invariant-loop-word l = record {
   so_far : List (List ℕ);
   counted : l.count ≡ length so_far;
-  within : l.count ≤ 64;
+  within : l.count ≤ most_columns;
   read : each_word more_columns [] (words_of l.words) ≡ each_word more_columns so_far (words_of l.left);
   begun : l.count ≡ 0 → words_of l.words ≡ words_of l.left;
   kept : l.has_room ≡ true → so_far ≡ l.columns;
