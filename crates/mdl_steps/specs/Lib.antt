@@ -2,6 +2,7 @@ pub mod Cells
 pub mod Copies
 pub mod Deeds
 pub mod FastPlays
+pub mod InHand
 pub mod Layout
 pub mod Lists
 pub mod Openings

@@ -5,7 +5,7 @@ ghost use Rattle.mdl_steps.specs.declared.slot.Slot.TheVariants as slot;
 ghost use Rattle.mdl_steps.specs.Copies.{queues_of};
 ghost use Rattle.mdl_steps.specs.Seats.{rest};
 
-use crate::Slot;
+use crate::hand::book_in_hand;
 use crate::list_copies::ListCopies;
 use crate::worker::{Latched, LockTable, Worker};
 use mdl_book::{Book, Ticket};
@@ -56,14 +56,9 @@ impl Worker {
             → OnOk result (lists.new ≡ lists.old ++ queues_of book ∷ []) }
         ensures kept { OnErr result (lists.new ≡ lists.old) }
     {
-        match self.seat.slot_mut(top, latch.place) {
-            Slot::Place(book) => {
-                lists.make_room()?;
-                lists.add(book)
-            }
-            // It is a place that is held.
-            Slot::Directory(_) => Err(AllocError),
-        }
+        let book = book_in_hand(&mut self.seat, top, latch.place);
+        lists.make_room()?;
+        lists.add(book)
     }
 
     /// The book in hand, copied. Nothing changes, also where memory runs out.
@@ -80,11 +75,8 @@ impl Worker {
         ensures told { (book : BookView) → self.old.seat.me.1 ≡ (latch.now.place, slot.Place book) ∷ rest self.old.seat.me.1
             → IfOk result (λ copy. copy ≡ book) }
     {
-        match self.seat.slot_mut(top, latch.place) {
-            Slot::Place(book) => copied(alloc, book),
-            // It is a place that is held.
-            Slot::Directory(_) => Err(AllocError),
-        }
+        let book = book_in_hand(&mut self.seat, top, latch.place);
+        copied(alloc, book)
     }
 }
 

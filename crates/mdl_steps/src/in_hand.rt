@@ -12,7 +12,7 @@ ghost use Rattle.mdl_steps.specs.declared.slot.Slot.TheVariants as slot;
 ghost use Rattle.mdl_steps.specs.Deeds.{booked};
 ghost use Rattle.mdl_steps.specs.Seats.{rest, written};
 
-use crate::Slot;
+use crate::hand::book_in_hand;
 use crate::worker::{Latched, LockTable, Worker};
 use mdl_book::{BookError, Needs, Ticket};
 use mdl_defs::{Change, ChangeError, Standing};
@@ -30,14 +30,8 @@ impl Worker {
         ensures told { (book : BookView) → self.old.seat.me.1 ≡ (latch.now.place, slot.Place book) ∷ rest self.old.seat.me.1
             → (result.obtrusive ≡ has_obtrusive book) × (result.slow ≡ has_tickets book) }
     {
-        match self.seat.slot_mut(top, latch.place) {
-            Slot::Place(book) => book.needs(),
-            // It is a place that is held.
-            Slot::Directory(_) => Needs {
-                obtrusive: true,
-                slow: true,
-            },
-        }
+        let book = book_in_hand(&mut self.seat, top, latch.place);
+        book.needs()
     }
 
     /// Whether the book in hand lets the session's wish for a mode be granted, the place's word being `word`. Nothing changes.
@@ -50,11 +44,8 @@ impl Worker {
             → result ≡ can_be_granted (lock_kind book) book.granted book.waiting word.0 self.old.number mode }
     {
         let session = self.number;
-        match self.seat.slot_mut(top, latch.place) {
-            Slot::Place(book) => book.can_grant(session, mode, word),
-            // It is a place that is held.
-            Slot::Directory(_) => false,
-        }
+        let book = book_in_hand(&mut self.seat, top, latch.place);
+        book.can_grant(session, mode, word)
     }
 
     /// The version of what stands by the book in hand. Nothing changes.
@@ -66,11 +57,8 @@ impl Worker {
         ensures told { (book : BookView) → self.old.seat.me.1 ≡ (latch.now.place, slot.Place book) ∷ rest self.old.seat.me.1
             → result ≡ book.standing.version }
     {
-        match self.seat.slot_mut(top, latch.place) {
-            Slot::Place(book) => book.version(),
-            // It is a place that is held.
-            Slot::Directory(_) => 0,
-        }
+        let book = book_in_hand(&mut self.seat, top, latch.place);
+        book.version()
     }
 
     /// Whether a definition stands by the book in hand. Nothing changes.
@@ -82,11 +70,8 @@ impl Worker {
         ensures told { (book : BookView) → self.old.seat.me.1 ≡ (latch.now.place, slot.Place book) ∷ rest self.old.seat.me.1
             → result ≡ is_some book.standing.definition }
     {
-        match self.seat.slot_mut(top, latch.place) {
-            Slot::Place(book) => book.definition().is_some(),
-            // It is a place that is held.
-            Slot::Directory(_) => false,
-        }
+        let book = book_in_hand(&mut self.seat, top, latch.place);
+        book.definition().is_some()
     }
 
     /// What stands by the book in hand, copied. Nothing changes, also where memory runs out.
@@ -98,11 +83,8 @@ impl Worker {
         ensures told { (book : BookView) → self.old.seat.me.1 ≡ (latch.now.place, slot.Place book) ∷ rest self.old.seat.me.1
             → IfOk result (λ standing. standing ≡ book.standing) }
     {
-        match self.seat.slot_mut(top, latch.place) {
-            Slot::Place(book) => book.read(),
-            // It is a place that is held.
-            Slot::Directory(_) => Err(AllocError),
-        }
+        let book = book_in_hand(&mut self.seat, top, latch.place);
+        book.read()
     }
 
     /// Writes a ticket of the session into the book in hand, the place's word being `word`. What waits doesn't count here.
@@ -128,11 +110,8 @@ impl Worker {
             session: self.number,
             mode,
         };
-        match self.seat.slot_mut(top, latch.place) {
-            Slot::Place(book) => book.grant(ticket, word),
-            // It is a place that is held.
-            Slot::Directory(_) => Err(BookError::NotHere),
-        }
+        let book = book_in_hand(&mut self.seat, top, latch.place);
+        book.grant(ticket, word)
     }
 
     /// Writes another mode of a ticket of the session into the book in hand, the place's word being `word`. What waits doesn't count here.
@@ -154,11 +133,8 @@ impl Worker {
             → RefusesJust (change_fault self.old.number number mode word.0 book) result }
     {
         let session = self.number;
-        match self.seat.slot_mut(top, latch.place) {
-            Slot::Place(book) => book.set_mode(session, number, mode, word),
-            // It is a place that is held.
-            Slot::Directory(_) => Err(BookError::NotHere),
-        }
+        let book = book_in_hand(&mut self.seat, top, latch.place);
+        book.set_mode(session, number, mode, word)
     }
 
     /// Takes a ticket of the session out of the book in hand.
@@ -178,11 +154,8 @@ impl Worker {
             → result ≡ ok_or (ticket_of self.old.number number book.granted) BookError.NotHere }
     {
         let session = self.number;
-        match self.seat.slot_mut(top, latch.place) {
-            Slot::Place(book) => book.remove(session, number),
-            // It is a place that is held.
-            Slot::Directory(_) => Err(BookError::NotHere),
-        }
+        let book = book_in_hand(&mut self.seat, top, latch.place);
+        book.remove(session, number)
     }
 
     /// Changes what stands under the key of the book in hand, and answers its version, one greater than before. `Drop` takes no
@@ -205,10 +178,7 @@ impl Worker {
         ensures drop { (book : BookView) → self.old.seat.me.1 ≡ (latch.now.place, slot.Place book) ∷ rest self.old.seat.me.1
             → change.now ≡ Change.Drop → RefusesJust (standing_fault book.key.namespace change.now book.standing) result }
     {
-        match self.seat.slot_mut(top, latch.place) {
-            Slot::Place(book) => book.redefine(change),
-            // It is a place that is held.
-            Slot::Directory(_) => Err(ChangeError::OutOfMemory),
-        }
+        let book = book_in_hand(&mut self.seat, top, latch.place);
+        book.redefine(change)
     }
 }

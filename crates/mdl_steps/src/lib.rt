@@ -38,6 +38,7 @@ mod copies;
 mod deed;
 mod directory;
 mod fast_tickets;
+mod hand;
 mod in_hand;
 mod laws;
 mod list_copies;

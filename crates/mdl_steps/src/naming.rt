@@ -14,10 +14,11 @@ ghost use Rattle.mdl_steps.specs.declared.view.Keys.{Keys};
 ghost use Rattle.mdl_steps.specs.Plays.{listing, named};
 ghost use Rattle.mdl_steps.specs.Seats.{IsSized, IsPlace, HasDirectory, MayName, place_among, rest, written};
 
+use crate::Directory;
 use crate::directory::LatchedDirectory;
+use crate::hand::{book_in_hand, directory_in_hand};
 use crate::plays::PutKey;
 use crate::worker::{Latched, LockTable, Worker, latch_word};
-use crate::{Directory, Slot};
 use mdl_book::Book;
 use mdl_key::Key;
 use std::alloc::{AllocError, Global};
@@ -55,11 +56,8 @@ impl Worker {
         ensures told { (k : Keys) → self.old.seat.me.1 ≡ (0, slot.Directory k) ∷ rest self.old.seat.me.1
             → result ≡ place_among key.now k.keys }
     {
-        match self.seat.slot_mut(top, 0) {
-            Slot::Directory(directory) => directory.place_of(key),
-            // It is the directory that is held.
-            Slot::Place(_) => None,
-        }
+        let directory = directory_in_hand(&mut self.seat, top);
+        directory.place_of(key)
     }
 
     /// How many keys have a place by the directory in hand: these are the places from 1 on. Nothing changes.
@@ -71,11 +69,8 @@ impl Worker {
         ensures told { (k : Keys) → self.old.seat.me.1 ≡ (0, slot.Directory k) ∷ rest self.old.seat.me.1
             → result ≡ length k.keys }
     {
-        match self.seat.slot_mut(top, 0) {
-            Slot::Directory(directory) => directory.keys.len(),
-            // It is the directory that is held.
-            Slot::Place(_) => 0,
-        }
+        let directory = directory_in_hand(&mut self.seat, top);
+        directory.keys.len()
     }
 
     /// Adds a key to the directory in hand, for the next place. The directory's latch can be given back only once the place has it
@@ -93,11 +88,8 @@ impl Worker {
             → OnOk result (self.new.seat.me ≡ (self.old.seat.me.0, (0, slot.Directory (listing key k)) ∷ rest self.old.seat.me.1)) }
         ensures unchanged { OnErr result (self.new.seat.me ≡ self.old.seat.me) }
     {
-        match self.seat.slot_mut(top, 0) {
-            Slot::Directory(directory) => Ok(directory.keys.push(key)?),
-            // It is the directory that is held.
-            Slot::Place(_) => Err(AllocError),
-        }
+        let directory = directory_in_hand(&mut self.seat, top);
+        Ok(directory.keys.push(key)?)
     }
 
     /// Leaves the empty book of a key in hand in the place of that which was there.
@@ -107,7 +99,7 @@ impl Worker {
         ensures seat { (self.new.seat.table_id ≡ self.old.seat.table_id) × (self.new.number ≡ self.old.number) }
         ensures written { self.new.seat.me ≡ written latch.now.place (empty_book key) self.old.seat.me }
     {
-        *self.seat.slot_mut(top, latch.place) = Slot::Place(Book::new(alloc, key));
+        *book_in_hand(&mut self.seat, top, latch.place) = Book::new(alloc, key);
     }
 
     /// Gives the latch of a place back and the place to the key of the book in hand, which is last in the directory in hand.

@@ -6,8 +6,9 @@ ghost use Rattle.mdl_steps.specs.Schemas.{is_table_of, table_at, tables_from};
 ghost use Rattle.mdl_steps.specs.Seats.{rest};
 
 use crate::directory::LatchedDirectory;
+use crate::hand::directory_in_hand;
 use crate::worker::{LockTable, Worker};
-use crate::{Directory, Known, Slot};
+use crate::{Directory, Known};
 use mdl_key::{Key, Namespace};
 use std::alloc::{AllocError, Global};
 
@@ -71,10 +72,7 @@ impl Worker {
         ensures told { (k : Keys) → self.old.seat.me.1 ≡ (0, slot.Directory k) ∷ rest self.old.seat.me.1
             → IfOk result (λ tables. tables.items ≡ tables_from schema.now 1 k.keys) }
     {
-        match self.seat.slot_mut(top, 0) {
-            Slot::Directory(directory) => directory.tables_of(alloc, schema),
-            // It is the directory that is held.
-            Slot::Place(_) => Err(AllocError),
-        }
+        let directory = directory_in_hand(&mut self.seat, top);
+        directory.tables_of(alloc, schema)
     }
 }

@@ -8,7 +8,7 @@ ghost use Rattle.mdl_book.specs.declared.book_view.BookView.{BookView};
 ghost use Rattle.mdl_steps.specs.declared.slot.Slot.TheVariants as slot;
 ghost use Rattle.mdl_steps.specs.Seats.{rest, written};
 
-use crate::Slot;
+use crate::hand::book_in_hand;
 use crate::worker::{Latched, LockTable, Worker};
 use mdl_book::{BookError, Sessions, Ticket};
 use mdl_key::Mode;
@@ -24,11 +24,8 @@ impl Worker {
         ensures told { (book : BookView) → self.old.seat.me.1 ≡ (latch.now.place, slot.Place book) ∷ rest self.old.seat.me.1
             → result ≡ nat_lt 0 (length book.waiting) }
     {
-        match self.seat.slot_mut(top, latch.place) {
-            Slot::Place(book) => !book.waiting().is_empty(),
-            // It is a place that is held.
-            Slot::Directory(_) => false,
-        }
+        let book = book_in_hand(&mut self.seat, top, latch.place);
+        !book.waiting().is_empty()
     }
 
     /// The session and number of the first waiting ticket that can be granted by the book in hand, of those whose sessions are
@@ -47,11 +44,8 @@ impl Worker {
         ensures told { (book : BookView) → self.old.seat.me.1 ≡ (latch.now.place, slot.Place book) ∷ rest self.old.seat.me.1
             → result ≡ option_map ticket_id (next_grantable word.0 unsettled.now book) }
     {
-        match self.seat.slot_mut(top, latch.place) {
-            Slot::Place(book) => book.next_grantable(word, unsettled),
-            // It is a place that is held.
-            Slot::Directory(_) => None,
-        }
+        let book = book_in_hand(&mut self.seat, top, latch.place);
+        book.next_grantable(word, unsettled)
     }
 
     /// Writes a ticket of the session, which waits there last, into the book in hand. Its wait is opened with [`Worker::open_wait`].
@@ -76,11 +70,8 @@ impl Worker {
             session: self.number,
             mode,
         };
-        match self.seat.slot_mut(top, latch.place) {
-            Slot::Place(book) => book.enqueue(ticket),
-            // It is a place that is held.
-            Slot::Directory(_) => Err(BookError::NotHere),
-        }
+        let book = book_in_hand(&mut self.seat, top, latch.place);
+        book.enqueue(ticket)
     }
 
     /// Writes a waiting ticket of a session as granted last into the book in hand. Its wait is granted with [`Worker::grant_wait`]. It
@@ -101,11 +92,8 @@ impl Worker {
         ensures refused { (book : BookView) → self.old.seat.me.1 ≡ (latch.now.place, slot.Place book) ∷ rest self.old.seat.me.1
             → result ≡ ok_or (ticket_of session number book.waiting) BookError.NotHere }
     {
-        match self.seat.slot_mut(top, latch.place) {
-            Slot::Place(book) => book.admit(session, number),
-            // It is a place that is held.
-            Slot::Directory(_) => Err(BookError::NotHere),
-        }
+        let book = book_in_hand(&mut self.seat, top, latch.place);
+        book.admit(session, number)
     }
 
     /// Takes a waiting ticket of the session out of the book in hand. Its wait is ended with [`Worker::end_lost`]. It takes no memory.
@@ -125,10 +113,7 @@ impl Worker {
             → result ≡ ok_or (ticket_of self.old.number number book.waiting) BookError.NotHere }
     {
         let session = self.number;
-        match self.seat.slot_mut(top, latch.place) {
-            Slot::Place(book) => book.cancel(session, number),
-            // It is a place that is held.
-            Slot::Directory(_) => Err(BookError::NotHere),
-        }
+        let book = book_in_hand(&mut self.seat, top, latch.place);
+        book.cancel(session, number)
     }
 }

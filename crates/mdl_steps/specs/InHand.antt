@@ -1,0 +1,23 @@
+-- What a session has in hand, lent to be written: the book of a place, or the directory.
+use Rattle.std.specs.Prelude.{ℕ}
+use Rattle.std.specs.Borrow.{Fml, Lends, MutBor}
+use Rattle.atomic_table.specs.Lent.{seat_with}
+use Rattle.atomic_table.specs.contracts.shared.Seat as seat
+use Rattle.atomic_table.specs.declared.shared.Seat.{Seat}
+use Rattle.mdl_book.specs.contracts.book.Book as book
+use Rattle.mdl_book.specs.declared.book_view.BookView.{BookView}
+use Rattle.mdl_steps.specs.contracts.slot.Directory as directory
+use Rattle.mdl_steps.specs.contracts.slot.Slot as slot
+use Rattle.mdl_steps.specs.contracts.view.View as view
+use Rattle.mdl_steps.specs.declared.slot.Slot.{Slot}
+use Rattle.mdl_steps.specs.declared.slot.Slot.TheVariants.{Directory, Place}
+use Rattle.mdl_steps.specs.declared.view.Keys.{Keys}
+use Rattle.mdl_steps.specs.declared.view.View.{View}
+
+-- the seat ends with the book that was left behind the reference, in the place
+abbrev pub LendsBook : ℕ → MutBor (Seat Slot View) → MutBor BookView → Fml
+LendsBook place s r = Lends (seat.the_row slot.the_row view.the_row) book.the_row s r (λ book. seat_with s.now place (Place book))
+
+-- the seat ends with the directory that was left behind the reference
+abbrev pub LendsDirectory : MutBor (Seat Slot View) → MutBor Keys → Fml
+LendsDirectory s r = Lends (seat.the_row slot.the_row view.the_row) directory.the_row s r (λ keys. seat_with s.now 0 (Directory keys))
