@@ -11,8 +11,6 @@ use Rattle.mdl_book.specs.Books.{lock_kind, ticket_count}
 use Rattle.mdl_book.specs.declared.book_error.BookError.{BookError}
 use Rattle.mdl_book.specs.declared.book_error.BookError.TheVariants as book_error
 use Rattle.mdl_graph.specs.Graphs.{victim_in}
-use Rattle.mdl_core.specs.declared.new_error.NewError.{NewError}
-use Rattle.mdl_core.specs.declared.new_error.NewError.TheVariants.{BadPlaces, BadSessions}
 use Rattle.mdl_calls.specs.declared.space_error.SpaceError.{SpaceError}
 use Rattle.mdl_calls.specs.declared.space_error.SpaceError.TheVariants.{NoPlace, NotHeld, NotUpgradable, NotExclusive, AlreadyWaiting, BadMode, NoWait, Unsettled, CounterFull, Full, OutOfMemory}
 use Rattle.mdl_calls.specs.declared.answers.Held.{Held}
@@ -25,12 +23,6 @@ use Rattle.mdl_core.specs.Cores.{Core, book_at, seat_at, key_at, standing_at, ha
 use Rattle.mdl_core.specs.Changes.{opening, granting_to, queueing, losing, taking_up, leaving, freeing, altering, folding, redefining_at, serving}
 use Rattle.mdl_core.specs.Seats.{is_open, is_closed}
 use Rattle.mdl_system.specs.Strength.{covers, may_upgrade, may_downgrade}
-
--- why there can't be such a space
-abbrev pub new_fault : ℕ → ℕ → Option NewError
-new_fault places sessions =
-    if not (nat_le 1 places && nat_le places 256) then Some BadPlaces
-    else (if not (nat_le 1 sessions && nat_le sessions 64) then Some BadSessions else None)
 
 -- the first of these causes that stands
 abbrev pub first_cause : List (Bool × SpaceError) → Option SpaceError

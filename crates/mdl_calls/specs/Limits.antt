@@ -1,7 +1,7 @@
--- How many places and sessions a space may have.
+-- How many places and sessions a lock space may have.
 use Rattle.std.specs.Prelude.{ℕ, Bool, ◌&&◌, nat_le, not, Option, Some, None, if◌then◌else◌}
-use Rattle.mdl_shared.specs.declared.new_error.NewError.{NewError}
-use Rattle.mdl_shared.specs.declared.new_error.NewError.TheVariants.{BadPlaces, BadSessions}
+use Rattle.mdl_calls.specs.declared.new_error.NewError.{NewError}
+use Rattle.mdl_calls.specs.declared.new_error.NewError.TheVariants.{BadPlaces, BadSessions}
 
 -- whether it is a number from 1 to the most
 abbrev pub is_within : ℕ → ℕ → Bool
