@@ -1,5 +1,6 @@
 pub mod FaithfulLemmas
 pub mod LoneLemmas
+pub mod MappedLists
 pub mod OwnLemmas
 pub mod RunLemmas
 pub mod SeekingLemmas

@@ -141,7 +141,8 @@ IsCause knows (Key_of who place) OutOfMemory own = Unit {0}
 IsCause knows (Read_kept who id) NotHeld own = holds id own ≡ false
 IsCause knows (Read_kept who id) OutOfMemory own = Unit {0}
 IsCause knows (List_held who) OutOfMemory own = Unit {0}
-IsCause knows (Unpin who place) NoPlace own = IsUnknown knows place
+-- a session may know the key of a place that it doesn't pin, so this tells nothing: that there was no pin is a law of its own (`unpins_none`)
+IsCause knows (Unpin who place) NoPlace own = Unit {0}
 IsCause knows (Unpin who place) InUse own = Unit {0}
 IsCause knows _ _ own = ⊥
 

@@ -2,6 +2,7 @@ pub mod Answers
 pub mod Calls
 pub mod Causes
 pub mod Faithful
+pub mod Limits
 pub mod Own
 pub mod Reads
 pub mod Runs

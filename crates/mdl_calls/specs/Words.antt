@@ -3,6 +3,7 @@ pub use Rattle.mdl_calls.specs.Answers.{Answer, At_place, Changed, Done, Granted
 pub use Rattle.mdl_calls.specs.Calls.{Begin_wait, Call, Change_definition, Clone_ticket, Downgrade, End_wait, Key_of, Kill, List_held, Merge, Poll_wait, Read_definition, Read_kept, Release, Resolve, Search, Settle_timeout, Tables_of, Try_now, Unpin, Upgrade_now, Wait_of, caller, change_takes_memory, takes_memory}
 pub use Rattle.mdl_calls.specs.Causes.{IsCause, IsClear, IsExplained, IsFit, IsUnfit, IsUnknown, Knowledge, MayClone, MayDowngrade, MayNotClone, MayNotDowngrade, MayNotUpgrade, MayUpgrade, Mergeable, OfHeld, may_merge}
 pub use Rattle.mdl_calls.specs.Faithful.{Each, EachCall, IsFaithful, IsFrugal, StepsOrWants}
+pub use Rattle.mdl_calls.specs.Limits.{is_within, new_fault}
 pub use Rattle.mdl_calls.specs.Own.{Draws, IsRising, Numbers, Own, Wait, are_rising, cloning, ending, gaining, giving_up, holds, is_number, is_waiting, own_after, ticket_drawn, ticket_held, wait_number, winning}
 pub use Rattle.mdl_calls.specs.Reads.{AreTablesOf, AwaitsAt, HoldsAt, IsChangeOf, cause_of, is_table_of, read_under, redefined_place}
 pub use Rattle.mdl_calls.specs.Runs.{Ask, Give, Grow, Program, Runs, outcome_of, ◌>>=◌, ◌>>◌}

@@ -1,7 +1,8 @@
 //! The words of a lock space: its calls (`specs/Calls`), what they answer (`specs/Answers`), what each does to its caller
 //! (`specs/Own`), why it is refused (`specs/Causes`), how waits are settled (`specs/Waits`), and programs of calls (`specs/Runs`).
+//! The trait [`LockSpace`] is said in them.
 //!
-//! They say nothing of any one space. The trait that is said in them stands in `mdl_space`.
+//! They say nothing of any one space: `CoreSpace` of `mdl_space` is one, and a `Session` of `mdl_shared` another.
 //!
 //! # Example
 //!
@@ -17,9 +18,13 @@
 #![tactic(auto)]
 
 mod answers;
+mod lock_space;
+mod new_error;
 mod space_error;
 
 pub use answers::{
     Attempt, Begun, Ended, Held, Place, Poll, Search, Settled, TicketId, TimedOut, Upgrade,
 };
+pub use lock_space::LockSpace;
+pub use new_error::NewError;
 pub use space_error::SpaceError;

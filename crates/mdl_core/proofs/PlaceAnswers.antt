@@ -13,6 +13,7 @@ use Rattle.mdl_book.specs.Books.{empty_book}
 use Rattle.mdl_book.specs.Tickets.{ticket_id}
 use Rattle.mdl_calls.specs.declared.space_error.SpaceError.TheVariants.{NoPlace, Full}
 use Rattle.mdl_calls.specs.Words.{Answer, Refused, At_place, Granted, Waits, Key_is}
+use Rattle.mdl_calls.proofs.MappedLists.{pairs-map}
 use Rattle.mdl_core.specs.CoreCalls.{is_full, placing, resolving, naming, granted_unless_full, queued_unless_full}
 use Rattle.mdl_core.specs.CoreJoins.{numbers_at}
 use Rattle.mdl_core.specs.Cores.{Core, book_at, seat_at, key_at, has_key, index_of}
@@ -25,7 +26,7 @@ use Rattle.mdl_core.proofs.CoreGranted.{book_of-at, granted-place, granted-from_
 use Rattle.mdl_core.proofs.CoreReads.{within, of_within, found}
 use Rattle.mdl_core.proofs.CoreWaiting.{not_there}
 use Rattle.mdl_core.proofs.RightAnswers.{IsAnswer, only, met, unmet}
-use Rattle.mdl_core.proofs.TicketLists.{at_most, pairs-map}
+use Rattle.mdl_core.proofs.TicketLists.{at_most}
 use Rattle.mdl_system.proofs.MemberLemmas.{Contains-map, Contains-map_from}
 
 -- ---- the key of a place

@@ -1,11 +1,9 @@
 -- Lists of distinct tickets in one another, and lists in order with the same members.
-use Rattle.std.proofs.Common.{◌≡◌, ◌≢◌, ◌⊎◌, ◌↔◌, suc, ◌+◌, ◌≤◌, inl, inr, List, [], ◌∷◌, ◌++◌, length, map, refl, sym, ap, subst, ◌∙◌, arith}
+use Rattle.std.proofs.Common.{◌≡◌, ◌≢◌, ◌⊎◌, ◌↔◌, suc, ◌+◌, ◌≤◌, inl, inr, List, [], ◌∷◌, ◌++◌, length, refl, sym, ap, subst, ◌∙◌, arith}
 use Rattle.std.specs.Prelude.{AllPairs, Contains}
 use Rattle.std.proofs.lemmas.List.{length-append}
-use Rattle.std.proofs.lemmas.List.Kept.{AllPairs-cons}
 use Rattle.mdl_calls.specs.declared.answers.Held.{Held}
-use Rattle.mdl_core.proofs.PairLemmas.{none-in, below, all-from_members, pairs-head, pairs-tail}
-use Rattle.mdl_system.proofs.MemberLemmas.{Contains-map_from}
+use Rattle.mdl_core.proofs.PairLemmas.{none-in, below, pairs-head, pairs-tail}
 use Rattle.mdl_system.proofs.OrderLemmas.{Contains-cons_cases, Contains-here, Contains-later, around_cases, within}
 
 -- a list around one of its members
@@ -30,16 +28,6 @@ at_most {T} (x ∷ xs) ys distinct all =
     let whole : length ys ≡ length parts.0 + suc (length parts.1) = ap length parts.2 ∙ length-append parts.0 (x ∷ parts.1) in
     let without : length (parts.0 ++ parts.1) ≡ length parts.0 + length parts.1 = length-append parts.0 parts.1 in
     omega arith
-
--- what is in a relation stays so as it is mapped
-pub pairs-map : {X Y : Type 0} (R : X → X → Type 0) (S : Y → Y → Type 0) (f : X → Y) → ((x y : X) → R x y → S (f x) (f y)) → (xs : List X) → AllPairs R xs
-    → AllPairs S (map f xs)
-pairs-map R S f step [] pairs = λ i j d lt short. absurd (omega arith)
-pairs-map {X} {Y} R S f step (x ∷ xs) pairs =
-    let later : (y : Y) → Contains (map f xs) y → S (f x) y = λ y among.
-    (let from = Contains-map_from f xs y among in
-    subst (S (f x)) (sym from.2) (step x from.0 (pairs-head R x xs pairs from.0 from.1))) in
-    AllPairs-cons S (f x) (map f xs) (all-from_members S (S (f x)) (map f xs) later) (pairs-map R S f step xs (pairs-tail R x xs pairs))
 
 -- lists in one order, in which no member comes before itself, are one where they have the same members
 pub same-ordered : {T : Type 0} (R : T → T → Type 0) → ((x y : T) → R x y → R y x → ⊥) → (xs ys : List T) → AllPairs R xs → AllPairs R ys

@@ -3,7 +3,7 @@ use Rattle.std.specs.Prelude.{◌≡◌, ℕ, ◌+◌, ◌-◌, ◌^◌, ◌⊎�
 use Rattle.std.specs.Option.{option_map}
 use Rattle.mdl_key.specs.declared.mode.Mode.{Mode}
 use Rattle.mdl_key.specs.declared.mode.Mode.TheVariants.{X}
-use Rattle.mdl_key.specs.Words.{KeyName, is_mode_of, most_places, most_sessions, same_mode}
+use Rattle.mdl_key.specs.Words.{KeyName, is_mode_of, same_mode}
 use Rattle.mdl_defs.specs.declared.change.Change.{Change}
 use Rattle.mdl_defs.specs.declared.change_error.ChangeError.{ChangeError}
 use Rattle.mdl_defs.specs.Standings.{standing_fault}
@@ -11,8 +11,6 @@ use Rattle.mdl_book.specs.Books.{lock_kind, ticket_count}
 use Rattle.mdl_book.specs.declared.book_error.BookError.{BookError}
 use Rattle.mdl_book.specs.declared.book_error.BookError.TheVariants as book_error
 use Rattle.mdl_graph.specs.Graphs.{victim_in}
-use Rattle.mdl_core.specs.declared.new_error.NewError.{NewError}
-use Rattle.mdl_core.specs.declared.new_error.NewError.TheVariants.{BadPlaces, BadSessions}
 use Rattle.mdl_calls.specs.declared.space_error.SpaceError.{SpaceError}
 use Rattle.mdl_calls.specs.declared.space_error.SpaceError.TheVariants.{NoPlace, NotHeld, NotUpgradable, NotExclusive, AlreadyWaiting, BadMode, NoWait, Unsettled, CounterFull, Full, OutOfMemory}
 use Rattle.mdl_calls.specs.declared.answers.Held.{Held}
@@ -25,12 +23,6 @@ use Rattle.mdl_core.specs.Cores.{Core, book_at, seat_at, key_at, standing_at, ha
 use Rattle.mdl_core.specs.Changes.{opening, granting_to, queueing, losing, taking_up, leaving, freeing, altering, folding, redefining_at, serving}
 use Rattle.mdl_core.specs.Seats.{is_open, is_closed}
 use Rattle.mdl_system.specs.Strength.{covers, may_upgrade, may_downgrade}
-
--- why there can't be such a space
-abbrev pub new_fault : ℕ → ℕ → Option NewError
-new_fault places sessions =
-    if not (nat_le 1 places && nat_le places most_places) then Some BadPlaces
-    else (if not (nat_le 1 sessions && nat_le sessions most_sessions) then Some BadSessions else None)
 
 -- the first of these causes that stands
 abbrev pub first_cause : List (Bool × SpaceError) → Option SpaceError

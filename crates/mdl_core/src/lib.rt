@@ -30,7 +30,6 @@
 #![tactic(auto)]
 
 mod core_laws;
-mod new_error;
 mod pending;
 mod run_laws;
 mod session_laws;
@@ -41,7 +40,7 @@ pub use core_laws::{
     searches_find_deadlocks, searches_leave_no_deadlock, searches_suffice,
     searching_ends_deadlocks, upgrades_what_is_grantable, waiting_leaves_no_deadlock,
 };
-pub use new_error::NewError;
+pub use mdl_calls::NewError;
 pub use pending::Pending;
 pub use run_laws::{frugal_runs, outcomes_are_runs, sure_runs};
 pub use session_laws::{

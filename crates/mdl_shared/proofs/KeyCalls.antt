@@ -16,7 +16,7 @@ use Rattle.mdl_calls.specs.declared.space_error.SpaceError.{SpaceError}
 use Rattle.mdl_calls.specs.declared.space_error.SpaceError.TheVariants.{NoPlace, OutOfMemory}
 use Rattle.mdl_calls.specs.Words.{Resolve, Tables_of, IsCause, is_table_of as is_table_told, placed, tables_told}
 use Rattle.mdl_calls.specs.Reads.{is_of_tables as is_of_tables_told}
-use Rattle.mdl_core.proofs.TicketLists.{pairs-map}
+use Rattle.mdl_calls.proofs.MappedLists.{pairs-map}
 use Rattle.mdl_steps.specs.declared.view.Keys.{Keys}
 use Rattle.mdl_steps.specs.declared.view.Known.{Known}
 use Rattle.mdl_steps.specs.Schemas.{is_of_tables, is_table_of, unknown}

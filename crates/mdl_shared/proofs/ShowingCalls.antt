@@ -48,7 +48,7 @@ use Rattle.mdl_visits.specs.WaitOpenings.{MeetsOpening}
 use Rattle.mdl_shared.specs.declared.member.Member.{Member}
 use Rattle.mdl_shared.specs.Doings.{begin_deeds, deeds_if_done, merge_deeds, upgrade_deeds, wish_deeds}
 use Rattle.mdl_shared.specs.Endings.{EndMakesWay, end_of}
-use Rattle.mdl_shared.specs.Limits.{is_within}
+use Rattle.mdl_calls.specs.Limits.{is_within}
 use Rattle.mdl_shared.specs.Members.{kind_known, place_known, wish_fault}
 use Rattle.mdl_shared.specs.Modes.{clone_fault}
 use Rattle.mdl_shared.specs.Showings.{HasStep, LooksAtKeys, LooksUp, MakesNoStep, MakesWay, MeetsOwnWait, MeetsTicket, OfTicket, RefusesWish, Shows, mine, table_at}

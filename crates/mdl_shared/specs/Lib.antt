@@ -16,7 +16,6 @@ pub mod Beginnings
 pub mod Doings
 pub mod Endings
 pub mod Keepings
-pub mod Limits
 pub mod Members
 pub mod Modes
 pub mod OwnLists

@@ -38,7 +38,7 @@ use Rattle.mdl_visits.specs.WaitEndings.{without_wait}
 use Rattle.mdl_visits.specs.WaitOpenings.{MeetsOpening}
 use Rattle.mdl_shared.specs.declared.member.Member.{Member}
 use Rattle.mdl_shared.specs.Doings.{merge_deeds, upgrade_deeds}
-use Rattle.mdl_shared.specs.Limits.{is_within}
+use Rattle.mdl_calls.specs.Limits.{is_within}
 use Rattle.mdl_shared.specs.Members.{kind_known, place_known, wish_fault}
 use Rattle.mdl_shared.specs.Modes.{clone_fault}
 use Rattle.mdl_shared.specs.Waitings.{wait_fault}

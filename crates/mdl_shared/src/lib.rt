@@ -48,7 +48,6 @@ mod lock_space;
 mod manager;
 mod member;
 mod merges;
-mod new_error;
 mod own_lists;
 mod pass;
 mod places;
@@ -64,10 +63,10 @@ mod upgrades;
 mod wishes;
 
 pub use manager::Manager;
+pub use mdl_calls::NewError;
 pub use mdl_visits::{
     Audited, blocked_wishes_werent_grantable, granted_waits_were_grantable,
     granted_wishes_were_grantable, waits_left_werent_grantable,
 };
-pub use new_error::NewError;
 pub use pass::Pass;
 pub use session::{HoldsTickets, Session};

@@ -2,7 +2,7 @@
 ghost use Rattle.std.specs.Prelude.{◌≡◌, ℕ, ◌+◌, ◌<◌, ◌≤◌, length, IfOk};
 ghost use Rattle.std.specs.Arc.{arc_value};
 ghost use Rattle.mdl_key.specs.Refusals.{Refuses};
-ghost use Rattle.mdl_shared.specs.Limits.{new_fault};
+ghost use Rattle.mdl_calls.specs.Limits.{new_fault};
 ghost use Rattle.mdl_steps.specs.Layout.{word_count};
 ghost use Rattle.mdl_steps.specs.Seats.{IsSized};
 

@@ -7,7 +7,7 @@ ghost use Rattle.mdl_calls.specs.declared.answers.Settled.{Settled};
 ghost use Rattle.mdl_steps.specs.declared.view.Met.{Met};
 ghost use Rattle.mdl_steps.specs.WaitPlays.{TellsOwn};
 ghost use Rattle.mdl_shared.specs.Keepings.{SeesWait};
-ghost use Rattle.mdl_shared.specs.Limits.{is_within};
+ghost use Rattle.mdl_calls.specs.Limits.{is_within};
 ghost use Rattle.mdl_visits.specs.Polls.{MeetsNumber, MeetsWait, MeetsWord, SettlesNothing, number_in, state_of};
 ghost use Rattle.mdl_shared.specs.Waitings.{own_number, wait_fault};
 ghost use Rattle.mdl_visits.specs.Readings.{ReadsNothing};

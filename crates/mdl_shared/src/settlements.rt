@@ -8,7 +8,7 @@ ghost use Rattle.mdl_steps.specs.declared.view.Met.{Met};
 ghost use Rattle.mdl_steps.specs.WaitPlays.{TellsOwn, wait_in};
 ghost use Rattle.mdl_steps.specs.WaitStates.{lost_state};
 ghost use Rattle.mdl_shared.specs.Keepings.{SeesWait};
-ghost use Rattle.mdl_shared.specs.Limits.{is_within};
+ghost use Rattle.mdl_calls.specs.Limits.{is_within};
 ghost use Rattle.mdl_visits.specs.Polls.{MeetsOther, MeetsWait, MeetsWord, Settles, SettlesNothing, state_of};
 ghost use Rattle.mdl_shared.specs.Waitings.{own_number, wait_fault};
 ghost use Rattle.mdl_visits.specs.Readings.{ReadsNothing};

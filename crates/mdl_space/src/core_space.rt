@@ -5,8 +5,8 @@ ghost use Rattle.mdl_book.specs.Books.{lock_kind};
 ghost use Rattle.mdl_book.specs.Granting.{is_compatible};
 ghost use Rattle.mdl_book.specs.Tickets.{ticket_of};
 ghost use Rattle.mdl_system.specs.Strength.{covers};
-ghost use Rattle.mdl_core.specs.Words.{empty_core, book_at, has_key, has_session, seat_at, new_fault, first_cause, request_causes, clone_causes, listing, naming, resolving, trying, beginning, searching, polling, timing_out, ending, looking_after, killing, releasing, granted_unless_full, cloning, Makes, SpeaksFor, leaving, freeing, serving};
-ghost use Rattle.mdl_calls.specs.Words.{are_rising, Has_wait, Has_killed, keyed, placed, attempted, begun, searched, polled, timed_out, ended, done, cloned, listed};
+ghost use Rattle.mdl_core.specs.Words.{empty_core, book_at, has_key, has_session, seat_at, first_cause, request_causes, clone_causes, listing, naming, resolving, trying, beginning, searching, polling, timing_out, ending, looking_after, killing, releasing, granted_unless_full, cloning, Makes, SpeaksFor, leaving, freeing, serving};
+ghost use Rattle.mdl_calls.specs.Words.{are_rising, new_fault, Has_wait, Has_killed, keyed, placed, attempted, begun, searched, polled, timed_out, ended, done, cloned, listed};
 
 use crate::granting::{give, is_free, queue};
 use crate::seat::Seat;

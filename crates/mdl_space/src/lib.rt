@@ -34,17 +34,15 @@
 
 mod core_space;
 mod granting;
-mod lock_space;
 mod seat;
 
 pub use core_space::CoreSpace;
-pub use lock_space::LockSpace;
 pub use mdl_calls::{
-    Attempt, Begun, Ended, Held, Place, Poll, Search, Settled, SpaceError, TicketId, TimedOut,
-    Upgrade,
+    Attempt, Begun, Ended, Held, LockSpace, NewError, Place, Poll, Search, Settled, SpaceError,
+    TicketId, TimedOut, Upgrade,
 };
 pub use mdl_core::{
-    NewError, answers_are_determined, calls_are_events, calls_keep_sound, calls_lead_by_events,
+    answers_are_determined, calls_are_events, calls_keep_sound, calls_lead_by_events,
     changes_tell_the_version, grants_what_is_grantable, kills_just_that_wait,
     only_new_waits_make_deadlocks, places_and_numbers_follow, reads_tell_what_stands,
     refuses_changes_in_order, refuses_clones_in_order, refuses_for_cause, refuses_merges_in_order,

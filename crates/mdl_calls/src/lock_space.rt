@@ -26,7 +26,7 @@ use mdl_key::{Key, Mode};
 /// What the call does to that session is the same in every space; no call changes what another session holds. A space in
 /// which other sessions act meanwhile tells less about the rest than one that runs in a single thread.
 ///
-/// The laws behind the methods hold in every space. What a method's text says beyond them is what [`CoreSpace`](crate::CoreSpace) does,
+/// The laws behind the methods hold in every space. What a method's text says beyond them is what `CoreSpace` of `mdl_space` does,
 /// by the laws of `mdl_core`: that a new key takes the next free place, which victim a search chooses, that a clone overtakes
 /// waiters, that a session's other tickets don't stand in the way of its upgrade, that just those tables are told that have a
 /// definition, and that a number runs out only behind the last one.
@@ -358,6 +358,10 @@ pub trait LockSpace {
     // The place that is waited for is pinned.
     ghost wait_pinned: { (a : Self) (w : ℕ) (wait : Wait) → speaks_for a w → (own a w).wait ≡ Some wait
         → pins a w wait.place };
+
+    // No call leaves a new debt.
+    ghost debts_stay: { (a b : Self) (call : Call) (answer : Answer) (w place : ℕ) → speaks_for a w
+        → joins a call answer b → owes b w place → owes a w place };
 
     // Only where there is no pin is none found to be given up.
     ghost unpins_none: { (a b : Self) (who place : ℕ) → joins a (Unpin who place) (Refused SpaceError.NoPlace) b
