@@ -178,6 +178,7 @@ BEGIN => line 1: BadSession
 1 LOCK TABLES READ READ => line 1: BadName
 1 LOCK TABLES t u READ => line 1: BadWord
 1 LOCK TABLES t READ u => line 1: BadWord
+1 LOCK TABLES a WRITE b => line 1: BadWord
 1 LOCK TABLES t READ U => line 1: BadName
 1 LOCK TABLES t READ test.t WRITE => line 1: BadName
 1 LOCK TABLES t READ t x => line 1: BadName
