@@ -4,6 +4,11 @@ ghost use Rattle.mdl_steps.specs.WaitPlays.{wait_in};
 ghost use Rattle.mdl_steps.specs.WaitStates.{lost_state};
 
 /// The word of a session's wait, as a step met it: eight times the number of the session's last wait and a state.
+///
+/// | bits    | what they hold                                                                                |
+/// |---------|-----------------------------------------------------------------------------------------------|
+/// | 63 to 3 | the number of the session's last wait, or 0 before the first                                  |
+/// | 2 to 0  | the state: 0 idle, 1 unsettled, 2 granted, or lost: 3 as a victim, 4 by its timeout, 5 killed |
 #[derive(Clone, Copy, Debug, PartialEq, Eq)]
 pub struct WaitWord(pub u64);
 
