@@ -25,11 +25,11 @@ use Rattle.mdl_steps.specs.WaitPlays.{wait_in}
 use Rattle.mdl_visits.specs.declared.resolve_error.ResolveError.{ResolveError}
 use Rattle.mdl_visits.specs.declared.resolve_error.ResolveError.TheVariants as resolve_error
 use Rattle.mdl_visits.specs.Grantings.{MadeWay}
-use Rattle.mdl_visits.specs.Leavings.{MeetsOwn, MeetsStanding}
+use Rattle.mdl_visits.specs.Leavings.{MeetsOwn}
 use Rattle.mdl_visits.specs.Lookups.{TookDirectory, IsAnswer}
 use Rattle.mdl_visits.specs.Numbers.{numbered}
 use Rattle.mdl_visits.specs.Polls.{MeetsNumber, MeetsOther, MeetsWait, Settles, SettlesNothing, state_of}
-use Rattle.mdl_visits.specs.Readings.{ReadsThere}
+use Rattle.mdl_visits.specs.Readings.{MeetsRead, ReadsThere}
 use Rattle.mdl_visits.specs.Redefinitions.{IsRefusedAs, Redefines, exclusive_fault}
 use Rattle.mdl_visits.specs.Searches.{Searched}
 use Rattle.mdl_visits.specs.Tables.{AreTables, HasAsked}
@@ -172,7 +172,7 @@ MeetsSo (Merge who old new) Done m m′ =
 MeetsSo (Downgrade who id mode) Done m m′ = OfTicket id m (MeetsTicket id (Alter id mode ∷ []) m m′) × OfTicket id m (MakesWay m m′)
 MeetsSo (Read_definition who id) (Reads version definition) m m′ =
     OfTicket id m (λ t. ReadsThere t.place (record { version = version; definition = definition }) (mine m) (mine m′)
-    × HasStep m m′ (MeetsStanding t.place m.worker.number (record { version = version; definition = definition })))
+    × HasStep m m′ (MeetsRead t.place m.worker.number id (record { version = version; definition = definition })))
 MeetsSo (Change_definition who id change) (Changed version) m m′ =
     OfTicket id m (λ t. (t.mode ≡ X) × Redefines t.place change version (mine m) (mine m′))
 MeetsSo (Change_definition who id change) (Refused why) m m′ =

@@ -1,7 +1,6 @@
 //! The word of a session's wait.
-ghost use Rattle.std.specs.Prelude.{◌≡◌, ◌<◌, ◌^◌, ◌/◌, ◌%◌};
-ghost use Rattle.mdl_steps.specs.WaitPlays.{wait_in};
-ghost use Rattle.mdl_steps.specs.WaitStates.{lost_state};
+ghost use Rattle.std.specs.Prelude.{◌≡◌, ◌<◌, ◌^◌};
+ghost use Rattle.mdl_steps.specs.WaitStates.{lost_state, wait_in, wait_number, wait_state};
 
 /// The word of a session's wait, as a step met it: eight times the number of the session's last wait and a state.
 #[derive(Clone, Copy, Debug, PartialEq, Eq)]
@@ -28,14 +27,14 @@ impl WaitWord {
 
     /// The number of the session's last wait, or 0 before the first.
     pub fn number(self) -> u64
-        ensures { result ≡ self.0 / 8 }
+        ensures { result ≡ wait_number self.0 }
     {
         self.0 / 8
     }
 
     /// The state: one of the above, or how the wait was lost, as [`Loss::state`] has it.
     pub fn state(self) -> u64
-        ensures { result ≡ self.0 % 8 }
+        ensures { result ≡ wait_state self.0 }
     {
         self.0 % 8
     }

@@ -23,7 +23,7 @@ use Rattle.mdl_steps_laws.specs.Locks.{Lock, Tells}
 
 -- ---- what is done
 
--- one lock comes to be another, and the locks of other keys and all waits stay; the system `a` is told before, and `b` after it
+-- one lock comes to be another, and the locks of other keys and all waits stay; the system is `a` before, and `b` after it
 pub record Turns (key : KeyName) (lock : Lock) (old new : KeyName → Lock) (a b : System Definition) : Type 0 where
   pub before : Tells old a
   pub after : Tells new b
@@ -39,7 +39,7 @@ lock_after session deeds lock = record { fast = lock.fast; book = all_booked ses
 abbrev pub Does : ℕ → List Deed → KeyName → (KeyName → Lock) → (KeyName → Lock) → System Definition → System Definition → Type 0
 Does session deeds key old new a b = Turns key (lock_after session deeds (old key)) old new a b
 
--- and after a change of what stands
+-- and after a change of its definition
 abbrev pub lock_redefined : Change → Lock → Lock
 lock_redefined change lock = record { fast = lock.fast; book = books.redefining change lock.book }
 
@@ -56,13 +56,13 @@ pub record MayBeJoined (noted : Option ℕ) (lock : Lock) : Type 0 where
   pub obtrusive : Bool
   pub noted_counts : NotedCounts (books.lock_kind lock.book) lock.fast obtrusive noted
 
--- the session's one ticket of this number there, which stands in the granted list
+-- the session's one ticket of this number there, which is in the granted list
 pub record IsOnly (session number : ℕ) (lock : Lock) (t : Ticket) : Type 0 where
   pub found : ticket_of session number lock.book.granted ≡ Some t
   pub once : Once lock.book.granted
   pub not_fast : ticket_of session number lock.fast ≡ None
 
--- a session has no wait, and its wish may stand beside all that is granted and overtake all that waits
+-- a session has no wait, and its wish is compatible with all that is granted and may overtake all that waits
 pub record MayTake {D : Type 0} (session : ℕ) (mode : Mode) (lock : Lock) (a : System D) : Type 0 where
   pub free : HasNoWait a session
   pub noted : Option ℕ

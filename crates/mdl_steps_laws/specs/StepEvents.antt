@@ -1,5 +1,4 @@
--- Each step by which a latch is put, flags are lowered or a version is written is one event of the system that the table tells, or does nothing
--- there. The laws ask only that the session may make the step, and the rule.
+-- Each step by which a latch is put, flags are lowered or a version is written is one event of the table's system, or does nothing there. The laws ask only that the session may make the step, and the rule.
 use Rattle.std.specs.Prelude.{◌≡◌, ◌⊎◌, ℕ, suc, Bool, List, [], ◌∷◌}
 use mathlib.Core.Option.{some}
 use lib.ListN.{get_elem?}

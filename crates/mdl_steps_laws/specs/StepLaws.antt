@@ -1,4 +1,4 @@
--- The steps by which deeds and changes of definitions come to be of the table do them in the locks that it tells.
+-- The steps by which deeds and changes of definitions come to be of the table do them in its locks.
 use Rattle.std.specs.Prelude.{◌≡◌, ℕ, suc, Bool, List, Some, slice_set}
 use mathlib.Core.Option.{some}
 use lib.ListN.{get_elem?}
@@ -63,7 +63,7 @@ LoweringDoes =
     AreAfter me.0.number ds key old new →
     AreLocksOf (after_lowering s (suc i) ds found left (all_booked me.0.number ds h.book) slow obtrusive id me) new
 
--- the table after a seat has written the version of a place, with what stands there from then on (the play `redefined`)
+-- the table after a seat has written the version of a place, with the definition that it has from then on (the play `redefined`)
 abbrev pub after_writing : State Slot View → ℕ → Standing → ℕ → Mine → State Slot View
 after_writing s place standing id me = record {
   words = slice_set s.words (version_word place) standing.version;

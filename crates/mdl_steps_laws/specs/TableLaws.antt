@@ -20,13 +20,13 @@ use Rattle.mdl_system.specs.Systems.{System, Held as IsHeld, IsLawful}
 use Rattle.mdl_steps_laws.specs.DeedLaws.{IsOnly, MayBeJoined}
 use Rattle.mdl_steps_laws.specs.Locks.{Lock, AreKeysOf, AreLocksOf, IsBookAt, IsOfNoWait, Tells}
 
--- at any time the table tells the lock of each key, and these tell a system
+-- at any time the table has a lock for each key, and these make a system
 abbrev pub RunningTablesTellASystem : Type 0
 RunningTablesTellASystem =
     (s : State Slot View) → Rule s →
     (locks : KeyName → Lock) × AreLocksOf s locks × (system : System Definition) × Tells locks system
 
--- each system that they tell is lawful: no two sessions hold clashing tickets of one key, fast and slow ones together
+-- each such system is lawful: no two sessions hold clashing tickets of one key, fast and slow ones together
 abbrev pub RunningTablesAreLawful : Type 0
 RunningTablesAreLawful =
     (s : State Slot View) → Rule s → (locks : KeyName → Lock) → AreLocksOf s locks →

@@ -1,5 +1,5 @@
--- The steps by which deeds and changes of definitions come to be of the table do them in the system, whichever locks and systems the
--- table tells before and after, and leave all waits as they are: what the laws of deeds ask for is so.
+-- The steps by which deeds and changes of definitions come to be of the table do them in the system, whichever locks and systems the table has
+-- before and after, and leave all waits as they are: what the laws of deeds ask for is so.
 use Rattle.std.specs.Prelude.{◌≡◌, ℕ, suc, Bool, List, Some}
 use mathlib.Core.Option.{some}
 use lib.ListN.{get_elem?}

@@ -7,7 +7,7 @@ pub fn losing_releases()
     ensures { LosingReleases }
 {}
 
-/// A ticket that a session gains, whose wish may stand beside all that is granted and overtakes nobody that it has to wait behind, is granted.
+/// A ticket that a session gains, whose wish is compatible with all that is granted and overtakes nobody that it has to wait behind, is granted.
 pub fn gaining_grants()
     ensures { GainingGrants }
 {}

@@ -1,4 +1,4 @@
-//! The running table is tied to the system of locks that a reader believes: which locks, and which system, a state of the table tells
+//! The running table is tied to the system of locks that a reader believes: which locks, and which system, a state of the table has
 //! (`specs/Locks`), that this system is lawful, and that each step of a session is one event of it or does nothing there
 //! (`specs/EachStep`), whether it is made under a latch (`specs/StepEvents`), on the words of waits (`specs/WaitLaws`) or by a lock word's
 //! fast path (`specs/FastLaws`).

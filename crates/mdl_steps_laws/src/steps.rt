@@ -1,4 +1,4 @@
-//! The steps by which deeds and changes of definitions come to be of the table do them in the locks that it tells, and each is one event of
+//! The steps by which deeds and changes of definitions come to be of the table do them in its locks, and each is one event of
 //! the system. Each law is proved as the contract of a function that does nothing.
 ghost use Rattle.mdl_steps_laws.specs.StepLaws.{PuttingDoes, LoweringDoes, WritingRedefines};
 ghost use Rattle.mdl_steps_laws.specs.ToldDeeds.{PuttingIsDone, LoweringIsDone, WritingIsDone};
@@ -14,12 +14,12 @@ pub fn lowering_does()
     ensures { LoweringDoes }
 {}
 
-/// As a version is written under the latch, what stands in the lock of its key is changed, and nothing is in any other.
+/// As a version is written under the latch, the definition in the lock of its key is changed, and nothing is in any other.
 pub fn writing_redefines()
     ensures { WritingRedefines }
 {}
 
-/// So the deeds are done in the system, whichever the table tells, as a latch is put after them: all waits stay as they are.
+/// So the deeds are done in the system, whichever the table has, as a latch is put after them: all waits stay as they are.
 pub fn putting_is_done()
     ensures { PuttingIsDone }
 {}

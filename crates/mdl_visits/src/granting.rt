@@ -7,6 +7,7 @@ ghost use Rattle.mdl_steps.specs.WaitSeats.{IsSession};
 ghost use Rattle.mdl_visits.specs.Grantings.{ForgetsNobody, HasJustMet, IsGrantedFrom, IsOrderly, IsReady, IsServed, MakesWay, MakesWayInTurn};
 
 use mdl_book::Sessions;
+use mdl_steps::layout::wait_word;
 use mdl_steps::{Latched, OwnedTable, WaitWord, Worker};
 
 /// Reads the lock's word, and grants the waits of tickets at the latched place, the first in order of arrival first, as long as there is one
@@ -53,7 +54,7 @@ pub(crate) fn has_session(table: &OwnedTable, session: u16) -> bool
     requires { IsSized table.now.shared.table_id }
     ensures { result ≡ (nat_lt 0 session && nat_lt (wait_word table.now.shared.table_id.slots session) table.now.shared.table_id.words) }
 {
-    session > 0 && 8 * table.slot_count() + 8 + 8 * (session as usize) < table.word_count()
+    session > 0 && wait_word(table.slot_count(), session) < table.word_count()
 }
 
 // The same for a session of the table.
