@@ -5,8 +5,8 @@
 -- the latch is free, and at least so while it is taken (`free`, `flagged`); each session's slow tickets are those of it in the
 -- granted list (`slow_held`); the version's word, the book, and what sessions read and noted agree (`versions_agree`); the definition
 -- fits the key and its version (`stands`); a noted word counts at least the fast tickets (`noted_counts`); just the tickets of waits that
--- weren't granted are in the waiting list (`waiting`). Of the table: different keys have different places, and the book of a place is that of its key
--- (`directory_agrees`); a session's wait word has the number of its last wait, and a state that is idle exactly where it waits for
+-- weren't granted are in the waiting list (`waiting`). Of the table: different keys have different places, and the book of a place
+-- is that of its key (`directory_agrees`); a session's wait word has the number of its last wait, and a state that is idle exactly where it waits for
 -- nothing (`waits_agree`).
 use Rattle.std.specs.Prelude.{◌≡◌, ◌≢◌, ℕ, ◌+◌, ◌-◌, ◌<◌, ◌≤◌, Bool, true, not, List, [], ◌++◌, map, length, slice_index, slice_get, Option, Some, None}
 use Rattle.std.specs.List.{list_all}
@@ -57,7 +57,7 @@ Counted kind word fast slow obtrusive =
 abbrev pub Flagged : BookView → Bool → Bool → Type 0
 Flagged book slow obtrusive = (has_tickets book ≡ true → slow ≡ true) × (has_obtrusive book ≡ true → obtrusive ≡ true)
 
--- and only for these
+-- and just for these
 abbrev pub TellsLists : BookView → Bool → Bool → Type 0
 TellsLists book slow obtrusive = (slow ≡ has_tickets book) × (obtrusive ≡ has_obtrusive book)
 

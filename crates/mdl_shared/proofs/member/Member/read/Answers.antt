@@ -70,7 +70,7 @@ returns-clause-read g c =
     let learnt = c.in_ok-standing.ensures.learnt in
     let has = subst (λ (ts : List Own). HasTicket place id ts) self.listed (has_numbered place id self.tickets.items c.requires.held) in
     let unwaited = waits_apart self.worker.seat.me.0 self.next id self.tickets.items self.asks self.next_is self.listed self.asks_is self.apart
-        (some_there (λ (t : Own). t.place) (numbered id self.tickets.items) place c.requires.held) in (
+    (some_there (λ (t : Own). t.place) (numbered id self.tickets.items) place c.requires.held) in (
       c.note_all.ensures.noted,
       ap (λ (m : Mine). m.0.reads) learnt.0.1,
       (learnt.1.0, learnt.1.1, (learnt.1.2, learnt.1.3 id has unwaited)),
