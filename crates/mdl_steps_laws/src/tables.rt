@@ -1,5 +1,5 @@
 //! What the rule of the running table comes to in the system of locks. Each law is proved as the contract of a function that does nothing.
-ghost use Rattle.mdl_steps_laws.specs.TableLaws.{RunningTablesTellASystem, RunningTablesAreLawful, HoldersMayJoin, NextNumbersAreNew, OwnTicketsAreHeld, OnePlaceIsOneLock};
+ghost use Rattle.mdl_steps_laws.specs.TableLaws.{RunningTablesTellASystem, RunningTablesAreLawful, NextNumbersAreNew, OwnTicketsAreHeld, OnePlaceIsOneLock};
 ghost use Rattle.mdl_steps_laws.specs.WaitsTold.{RunningTablesTellWaits};
 
 /// Between any two steps of all sessions the table has a lock for each key, its fast tickets and its book, and with them a system.
@@ -15,11 +15,6 @@ pub fn running_tables_tell_waits()
 /// The table's system is lawful, whatever the interleaving: no two sessions hold clashing tickets of one key.
 pub fn running_tables_are_lawful()
     ensures { RunningTablesAreLawful }
-{}
-
-/// What the laws of deeds ask of a lock is so for the session that holds its latch.
-pub fn holders_may_join()
-    ensures { HoldersMayJoin }
 {}
 
 /// A session's next ticket has a number that none of its tickets has, whatever the key.

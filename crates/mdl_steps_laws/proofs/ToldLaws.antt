@@ -17,9 +17,9 @@ use Rattle.mdl_steps.specs.Deeds.{all_booked}
 use Rattle.mdl_steps.specs.Plays.{Mine}
 use Rattle.mdl_steps.specs.Rule.{Rule}
 use Rattle.mdl_system.specs.Systems.{System}
-use Rattle.mdl_steps_laws.specs.DeedLaws.{Does, Redefines}
+use Rattle.mdl_steps_laws.proofs.DeedLaws.{Does, Redefines}
 use Rattle.mdl_steps_laws.specs.Locks.{AreKeysOf}
-use Rattle.mdl_steps_laws.specs.StepLaws.{after_lowering, after_put, after_writing}
+use Rattle.mdl_steps_laws.specs.StepEvents.{after_lowering, after_put, after_writing}
 use Rattle.mdl_steps_laws.specs.WaitLaws.{IsTold}
 
 -- the latch of a key's place is put after deeds: they are done
