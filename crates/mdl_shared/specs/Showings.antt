@@ -21,7 +21,7 @@ use Rattle.mdl_steps.specs.declared.view.Known.{Known}
 use Rattle.mdl_steps.specs.declared.view.Met.{Met}
 use Rattle.mdl_steps.specs.declared.view.Own.{Own}
 use Rattle.mdl_steps.specs.Plays.{Mine}
-use Rattle.mdl_steps.specs.WaitPlays.{wait_in}
+use Rattle.mdl_steps.specs.WaitStates.{unsettled_state, wait_in}
 use Rattle.mdl_visits.specs.declared.resolve_error.ResolveError.{ResolveError}
 use Rattle.mdl_visits.specs.declared.resolve_error.ResolveError.TheVariants as resolve_error
 use Rattle.mdl_visits.specs.Grantings.{MadeWay}
@@ -155,7 +155,7 @@ MeetsSo (Wait_of target) (Has_wait number) m m′ =
     × (is_within m.sessions target ≡ true → HasStep m m′ (MeetsNumber (table_at m).slots target number))
 MeetsSo (Kill target number) (Has_killed true) m m′ = HasStep m m′ (MeetsWait (table_at m).slots target number 1)
 MeetsSo (Kill target number) (Has_killed false) m m′ =
-    is_within m.sessions target ≡ true → HasStep m m′ (MeetsOther (table_at m).slots target (wait_in number 1))
+    is_within m.sessions target ≡ true → HasStep m m′ (MeetsOther (table_at m).slots target (wait_in number unsettled_state))
 MeetsSo (Release who id) Done m m′ = OfTicket id m (MeetsTicket id (Lose id ∷ []) m m′) × OfTicket id m (MakesWay m m′)
 MeetsSo (Clone_ticket who id mode) (Granted new) m m′ = OfTicket id m (MeetsTicket id (Gain new mode ∷ []) m m′)
 MeetsSo (Clone_ticket who id mode) (Refused why) m m′ =

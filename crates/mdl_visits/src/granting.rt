@@ -1,9 +1,10 @@
 //! Waits are granted at a place, under its latch.
-ghost use Rattle.std.specs.Prelude.{◌≡◌, nat_lt, ◌&&◌, ◌%◌};
+ghost use Rattle.std.specs.Prelude.{◌≡◌, nat_lt, ◌&&◌};
 ghost use Rattle.mdl_steps.specs.declared.view.Held.{Held};
 ghost use Rattle.mdl_steps.specs.Layout.{wait_word};
 ghost use Rattle.mdl_steps.specs.Seats.{IsSized, IsPlace, Holds};
 ghost use Rattle.mdl_steps.specs.WaitSeats.{IsSession};
+ghost use Rattle.mdl_steps.specs.WaitStates.{unsettled_state, wait_state};
 ghost use Rattle.mdl_visits.specs.Grantings.{ForgetsNobody, HasJustMet, IsGrantedFrom, IsOrderly, IsReady, IsServed, MakesWay, MakesWayInTurn};
 
 use mdl_book::Sessions;
@@ -94,7 +95,7 @@ fn grant(
     requires session { IsSession table.now.shared.table_id session }
     requires ready { (h : Held) × Holds latch.now.place h h.book worker.old.seat.me × IsReady session number h
         × HasJustMet table.now.shared.table_id.slots latch.now.place session h worker.old.seat.me }
-    requires unsettled { wait.0 % 8 ≡ 1 }
+    requires unsettled { wait_state wait.0 ≡ unsettled_state }
     ensures seat { (worker.new.seat.table_id ≡ worker.old.seat.table_id) × (worker.new.number ≡ worker.old.number) }
     ensures granted { (h : Held) → Holds latch.now.place h h.book worker.old.seat.me
         → IsGrantedFrom table.now.shared.table_id.slots latch.now.place session number wait.0 h worker.old.seat.me worker.new.seat.me }
