@@ -4,6 +4,7 @@ pub mod Deeds
 pub mod FastPlays
 pub mod InHand
 pub mod Layout
+pub mod Limits
 pub mod Lists
 pub mod Openings
 pub mod Plays

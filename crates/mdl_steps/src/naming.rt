@@ -17,8 +17,9 @@ ghost use Rattle.mdl_steps.specs.Seats.{IsSized, IsPlace, HasDirectory, MayName,
 use crate::Directory;
 use crate::directory::LatchedDirectory;
 use crate::hand::{book_in_hand, directory_in_hand};
+use crate::layout::latch_word;
 use crate::plays::PutKey;
-use crate::worker::{Latched, LockTable, Worker, latch_word};
+use crate::worker::{Latched, LockTable, Worker};
 use mdl_book::Book;
 use mdl_key::Key;
 use std::alloc::{AllocError, Global};
@@ -33,7 +34,7 @@ impl Directory {
     }
 }
 
-// Where a key stands among others.
+// The index of a key among others.
 fn index_of(keys: &[Key], key: &Key) -> Option<usize>
     ensures here { result ≡ position (λ other. key_eq other key.now) keys.now }
     ensures inside { IfSome result (λ index. index < length keys.now) }
