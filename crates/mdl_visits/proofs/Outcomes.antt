@@ -49,7 +49,7 @@ module _ (slots session number : ℕ) (m m′ : Mine) (lost : m′ ≡ settled_l
     now = lost;
     did = refl;
     stays = stays_lost slots session number m.0 own;
-    had = (refl, tt);
+    had = ((refl, refl), tt);
   }
 
   pub fells_one : Fells slots session m.0.latches m m′

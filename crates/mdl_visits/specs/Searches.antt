@@ -22,7 +22,7 @@ use Rattle.mdl_visits.specs.declared.hearing.Heard.{Heard}
 use Rattle.mdl_visits.specs.Audits.{AreRecorded, Gathers}
 use Rattle.mdl_visits.specs.Grantings.{StaysTold}
 use Rattle.mdl_visits.specs.Polls.{MeetsWait, Settles, SettlesNothing}
-use Rattle.mdl_visits.specs.Visits.{AllHad, IsStepOf, deeds_of}
+use Rattle.mdl_visits.specs.Visits.{AllQuiet, IsStepOf, deeds_of}
 
 -- ---- the words of waits
 
@@ -125,7 +125,7 @@ pub record Listens (m m′ : Mine) : Type 0 where
   pub did : deeds_of made ≡ []
   pub stays : StaysTold m.0.told told
 
--- likewise, and at each step the session had of the directory what it had before
+-- likewise, and at each step the session had of the directory what it had before, and raised no flag
 pub record Hears (m m′ : Mine) : Type 0 where
   pub made : List Met
   pub told : Option ℕ
@@ -133,4 +133,4 @@ pub record Hears (m m′ : Mine) : Type 0 where
   pub now : m′ ≡ hearing made told settles m
   pub did : deeds_of made ≡ []
   pub stays : StaysTold m.0.told told
-  pub had : AllHad m.0.directory made
+  pub had : AllQuiet m.0.directory made
