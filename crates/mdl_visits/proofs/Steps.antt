@@ -95,17 +95,24 @@ quiet_on a b c first same more = (
   each_append (IsQuiet a.0.directory) first.0 more.0 first.2 (subst (λ (d : Option Keys). AllQuiet d more.0) same more.2),
 )
 
--- the latch of a place is taken, something is done, and it is given back
-pub quiet_there : (place : ℕ) (h : Held) (made : List Met) (a b c d : Mine) → AllQuiet a.0.directory made → b ≡ latched place h (and_made made a) → StaysQuiet b c
-    → c.0.directory ≡ b.0.directory → d ≡ unlatched place [] c → StaysQuiet a d
-quiet_there place h made a b c d had taken inside same put =
-    let took : Met = record { kind = TakeLatch; deeds = []; word = latch_word place; found = 0; held = h ∷ a.0.latches; directory = a.0.directory } in
-    let gave : Met = record { kind = PutLatch; deeds = []; word = latch_word place; found = c.0.number; held = c.0.latches; directory = c.0.directory } in
-    let first : StaysQuiet a b = (
+-- one step was made
+pub quiet_one : (e : Met) (m m′ : Mine) → m′.0.log ≡ m.0.log ++ e ∷ [] → IsQuiet m.0.directory e → StaysQuiet m m′
+quiet_one e m m′ log quiet = (e ∷ [], log, (quiet, tt))
+
+-- the latch of a place is taken
+pub quiet_taken : (place : ℕ) (h : Held) (made : List Met) (a b : Mine) → AllQuiet a.0.directory made → b ≡ latched place h (and_made made a) → StaysQuiet a b
+quiet_taken place h made a b had taken =
+    let took : Met = record { kind = TakeLatch; deeds = []; word = latch_word place; found = 0; held = h ∷ a.0.latches; directory = a.0.directory } in (
       made ++ took ∷ [],
       ap (λ (x : Mine). x.0.log) taken ∙ append_assoc a.0.log made (took ∷ []),
       each_append (IsQuiet a.0.directory) made (took ∷ []) had ((refl, refl), tt),
-    ) in
-    let last : StaysQuiet c d = (gave ∷ [], ap (λ (x : Mine). x.0.log) put, ((refl, refl), tt)) in
+    )
+
+-- it is taken, something is done, and it is given back
+pub quiet_there : (place : ℕ) (h : Held) (made : List Met) (a b c d : Mine) → AllQuiet a.0.directory made → b ≡ latched place h (and_made made a) → StaysQuiet b c
+    → c.0.directory ≡ b.0.directory → d ≡ unlatched place [] c → StaysQuiet a d
+quiet_there place h made a b c d had taken inside same put =
+    let gave : Met = record { kind = PutLatch; deeds = []; word = latch_word place; found = c.0.number; held = c.0.latches; directory = c.0.directory } in
+    let last : StaysQuiet c d = quiet_one gave c d (ap (λ (x : Mine). x.0.log) put) (refl, refl) in
     let had_still : b.0.directory ≡ a.0.directory = ap (λ (x : Mine). x.0.directory) taken in
-    quiet_on a c d (quiet_on a b c first had_still inside) (same ∙ had_still) last
+    quiet_on a c d (quiet_on a b c (quiet_taken place h made a b had taken) had_still inside) (same ∙ had_still) last

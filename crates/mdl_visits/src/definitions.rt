@@ -7,7 +7,7 @@ ghost use Rattle.mdl_steps.specs.Rule.{TellsLists};
 ghost use Rattle.mdl_steps.specs.Seats.{IsSized, IsPlace, IsRising, Holds};
 ghost use Rattle.mdl_visits.specs.Leavings.{Learns, Leaves, MeetsStanding};
 ghost use Rattle.mdl_visits.specs.Readings.{Follows};
-ghost use Rattle.mdl_visits.specs.Visits.{IsStepOf, Visits};
+ghost use Rattle.mdl_visits.specs.Visits.{IsStepOf, StaysQuiet, Visits};
 
 use crate::latches::await_latch;
 use mdl_defs::Standing;
@@ -30,6 +30,7 @@ pub fn read_at<R: Wait>(
         × ((e : Met) × IsStepOf worker.old.seat.me worker.new.seat.me e × MeetsStanding place worker.old.number standing e)) }
     ensures follows { IfOk result (λ standing. Follows place standing worker.old.seat.me) }
     ensures unchanged { OnErr result (Visits place [] worker.old.seat.me worker.new.seat.me) }
+    ensures quiet { StaysQuiet worker.old.seat.me worker.new.seat.me }
 {
     let latch = await_latch(rt, worker, top, place);
     read(worker, top, latch)
@@ -44,6 +45,7 @@ fn read(worker: &mut Worker, top: &LockTable, latch: Latched) -> Result<Standing
     ensures told { (h : Held) → Holds latch.place h h.book worker.old.seat.me → IfOk result (λ standing. (standing ≡ h.book.standing)
         × (worker.new.seat.me ≡ read_and_put latch.place standing worker.old.seat.me)) }
     ensures unchanged { OnErr result (Leaves latch.place [] worker.old.seat.me worker.new.seat.me) }
+    ensures quiet { StaysQuiet worker.old.seat.me worker.new.seat.me }
 {
     match worker.standing(top, &latch) {
         Ok(standing) => {
