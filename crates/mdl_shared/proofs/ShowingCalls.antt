@@ -35,11 +35,11 @@ use Rattle.mdl_steps.specs.declared.view.Met.{Met}
 use Rattle.mdl_steps.specs.declared.view.Own.{Own}
 use Rattle.mdl_steps.specs.WaitPlays.{wait_in}
 use Rattle.mdl_visits.specs.declared.resolve_error.ResolveError.TheVariants as resolve_error
-use Rattle.mdl_visits.specs.Leavings.{MeetsOwn, MeetsStanding}
+use Rattle.mdl_visits.specs.Leavings.{MeetsOwn}
 use Rattle.mdl_visits.specs.Lookups.{TookDirectory}
 use Rattle.mdl_visits.specs.Numbers.{numbered}
 use Rattle.mdl_visits.specs.Polls.{MeetsNumber, MeetsOther, MeetsWait, Settles, SettlesNothing, state_of}
-use Rattle.mdl_visits.specs.Readings.{ReadsThere}
+use Rattle.mdl_visits.specs.Readings.{MeetsRead, ReadsThere}
 use Rattle.mdl_visits.specs.Redefinitions.{IsRefusedAs, Redefines, exclusive_fault}
 use Rattle.mdl_visits.specs.Searches.{Searched}
 use Rattle.mdl_visits.specs.Tables.{AreTables, HasAsked}
@@ -254,7 +254,7 @@ module _ (m m′ : Member) (table : m′.table ≡ m.table) where
 
   pub read-shows : (who id : ℕ) (result : Result Standing SpaceError) → SettlesNothing (mine m) (mine m′) → Does [] (mine m) (mine m′)
       → IfOk result (λ standing. OfTicket id m (λ t. ReadsThere t.place standing (mine m) (mine m′)
-      × HasStep m m′ (MeetsStanding t.place m.worker.number standing)))
+      × HasStep m m′ (MeetsRead t.place m.worker.number id standing)))
       → Shows (Read_definition who id) (read result) m m′
   read-shows who id (Ok standing) settles did met = record { table = table; did = did; settled = settles; met = met }
   read-shows who id (Err why) settles did met = record { table = table; did = did; settled = settles; met = tt }

@@ -7,6 +7,8 @@ use Rattle.mdl_steps.specs.declared.view.Ask.{Ask}
 use Rattle.mdl_steps.specs.declared.view.Known.{Known}
 use Rattle.mdl_steps.specs.declared.view.Own.{Own}
 use Rattle.mdl_steps.specs.declared.view.Read.{Read}
+use Rattle.mdl_steps.specs.declared.wait_word.Loss.TheVariants as loss
+use Rattle.mdl_steps.specs.WaitStates.{granted_state, lost_state}
 use Rattle.mdl_session_laws.specs.SessionSpaces.{Space, Note}
 use Rattle.mdl_shared.specs.declared.member.Member.{Member}
 use Rattle.mdl_shared.specs.declared.session.Session.{Session}
@@ -15,8 +17,9 @@ use Rattle.mdl_shared.specs.OwnLists.{told_of}
 -- how a wait is settled whose word is in this state
 abbrev pub settled_of : ℕ → Option Settled
 settled_of state =
-    if state == 2 then Some Granted
-    else (if state == 3 then Some Victim else (if state == 4 then Some Timeout else (if state == 5 then Some Killed else None)))
+    if state == granted_state then Some Granted
+    else (if state == lost_state loss.Victim then Some Victim
+    else (if state == lost_state loss.Timeout then Some Timeout else (if state == lost_state loss.Killed then Some Killed else None)))
 
 -- how the session knows its wait to be settled, by the state that it met
 abbrev pub settled_told : Option ℕ → Option Settled

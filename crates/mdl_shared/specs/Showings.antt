@@ -21,15 +21,15 @@ use Rattle.mdl_steps.specs.declared.view.Known.{Known}
 use Rattle.mdl_steps.specs.declared.view.Met.{Met}
 use Rattle.mdl_steps.specs.declared.view.Own.{Own}
 use Rattle.mdl_steps.specs.Plays.{Mine}
-use Rattle.mdl_steps.specs.WaitPlays.{wait_in}
+use Rattle.mdl_steps.specs.WaitStates.{unsettled_state, wait_in}
 use Rattle.mdl_visits.specs.declared.resolve_error.ResolveError.{ResolveError}
 use Rattle.mdl_visits.specs.declared.resolve_error.ResolveError.TheVariants as resolve_error
 use Rattle.mdl_visits.specs.Grantings.{MadeWay}
-use Rattle.mdl_visits.specs.Leavings.{MeetsOwn, MeetsStanding}
+use Rattle.mdl_visits.specs.Leavings.{MeetsOwn}
 use Rattle.mdl_visits.specs.Lookups.{TookDirectory, IsAnswer}
 use Rattle.mdl_visits.specs.Numbers.{numbered}
 use Rattle.mdl_visits.specs.Polls.{MeetsNumber, MeetsOther, MeetsWait, Settles, SettlesNothing, state_of}
-use Rattle.mdl_visits.specs.Readings.{ReadsThere}
+use Rattle.mdl_visits.specs.Readings.{MeetsRead, ReadsThere}
 use Rattle.mdl_visits.specs.Redefinitions.{IsRefusedAs, Redefines, exclusive_fault}
 use Rattle.mdl_visits.specs.Searches.{Searched}
 use Rattle.mdl_visits.specs.Tables.{AreTables, HasAsked}
@@ -155,7 +155,7 @@ MeetsSo (Wait_of target) (Has_wait number) m m′ =
     × (is_within m.sessions target ≡ true → HasStep m m′ (MeetsNumber (table_at m).slots target number))
 MeetsSo (Kill target number) (Has_killed true) m m′ = HasStep m m′ (MeetsWait (table_at m).slots target number 1)
 MeetsSo (Kill target number) (Has_killed false) m m′ =
-    is_within m.sessions target ≡ true → HasStep m m′ (MeetsOther (table_at m).slots target (wait_in number 1))
+    is_within m.sessions target ≡ true → HasStep m m′ (MeetsOther (table_at m).slots target (wait_in number unsettled_state))
 MeetsSo (Release who id) Done m m′ = OfTicket id m (MeetsTicket id (Lose id ∷ []) m m′) × OfTicket id m (MakesWay m m′)
 MeetsSo (Clone_ticket who id mode) (Granted new) m m′ = OfTicket id m (MeetsTicket id (Gain new mode ∷ []) m m′)
 MeetsSo (Clone_ticket who id mode) (Refused why) m m′ =
@@ -172,7 +172,7 @@ MeetsSo (Merge who old new) Done m m′ =
 MeetsSo (Downgrade who id mode) Done m m′ = OfTicket id m (MeetsTicket id (Alter id mode ∷ []) m m′) × OfTicket id m (MakesWay m m′)
 MeetsSo (Read_definition who id) (Reads version definition) m m′ =
     OfTicket id m (λ t. ReadsThere t.place (record { version = version; definition = definition }) (mine m) (mine m′)
-    × HasStep m m′ (MeetsStanding t.place m.worker.number (record { version = version; definition = definition })))
+    × HasStep m m′ (MeetsRead t.place m.worker.number id (record { version = version; definition = definition })))
 MeetsSo (Change_definition who id change) (Changed version) m m′ =
     OfTicket id m (λ t. (t.mode ≡ X) × Redefines t.place change version (mine m) (mine m′))
 MeetsSo (Change_definition who id change) (Refused why) m m′ =

@@ -5,6 +5,7 @@ ghost use Rattle.mdl_calls.specs.declared.answers.Settled.{Settled};
 ghost use Rattle.mdl_calls.specs.declared.space_error.SpaceError.TheVariants as cause;
 ghost use Rattle.mdl_steps.specs.declared.view.Ask.{Ask};
 ghost use Rattle.mdl_steps.specs.declared.view.Met.{Met};
+ghost use Rattle.mdl_steps.specs.WaitStates.{IsLost, granted_state};
 ghost use Rattle.mdl_shared.specs.Endings.{EndMakesWay, EndsWith, end_of, lost_end, ticket_asked, tickets_after};
 ghost use Rattle.mdl_visits.specs.WaitEndings.{without_wait};
 ghost use Rattle.mdl_visits.specs.Grantings.{MadeWay};
@@ -37,7 +38,7 @@ impl Member {
     // Takes the ticket of the session's granted wait over.
     fn take_over(&mut self, ask: Ask)
         requires asks { self.old.asks ≡ Some ask }
-        requires granted { self.old.worker.seat.me.0.told ≡ Some 2 }
+        requires granted { self.old.worker.seat.me.0.told ≡ Some granted_state }
         ensures same { (self.new.table ≡ self.old.table) × (self.new.worker.number ≡ self.old.worker.number) × (self.new.next ≡ self.old.next)
             × (self.new.known.items ≡ self.old.known.items) × (self.new.sessions ≡ self.old.sessions) }
         ensures reads { ReadsNothing self.old.worker.seat.me self.new.worker.seat.me }
@@ -62,7 +63,7 @@ impl Member {
     // Gives the session's lost wait up, with its ticket, and makes way for those who wait at its place.
     fn withdraw<R: Wait>(&mut self, rt: &R, ask: Ask)
         requires asks { self.old.asks ≡ Some ask }
-        requires lost { (state : ℕ) × (self.old.worker.seat.me.0.told ≡ Some state) × (2 < state) }
+        requires lost { (state : ℕ) × (self.old.worker.seat.me.0.told ≡ Some state) × IsLost state }
         ensures same { (self.new.table ≡ self.old.table) × (self.new.worker.number ≡ self.old.worker.number) × (self.new.next ≡ self.old.next)
             × (self.new.known.items ≡ self.old.known.items) × (self.new.sessions ≡ self.old.sessions) }
         ensures reads { ReadsNothing self.old.worker.seat.me self.new.worker.seat.me }

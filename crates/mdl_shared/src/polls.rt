@@ -6,6 +6,8 @@ ghost use Rattle.mdl_calls.specs.declared.answers.Poll.TheVariants as poll;
 ghost use Rattle.mdl_calls.specs.declared.answers.Settled.{Settled};
 ghost use Rattle.mdl_steps.specs.declared.view.Met.{Met};
 ghost use Rattle.mdl_steps.specs.WaitPlays.{TellsOwn};
+ghost use Rattle.mdl_steps.specs.WaitStates.{IsSettled, granted_state, lost_state, wait_state};
+ghost use Rattle.mdl_steps.specs.declared.wait_word.Loss.TheVariants as loss;
 ghost use Rattle.mdl_shared.specs.Keepings.{SeesWait};
 ghost use Rattle.mdl_shared.specs.Limits.{is_within};
 ghost use Rattle.mdl_visits.specs.Polls.{MeetsNumber, MeetsWait, MeetsWord, SettlesNothing, number_in, state_of};
@@ -21,13 +23,13 @@ use mdl_steps::WaitWord;
 /// How a wait is settled whose word is in this state.
 pub(crate) fn settled_in(state: u64) -> Option<Settled>
     ensures settled { IfSome result (λ how. state ≡ state_of how) }
-    ensures open { result ≡ None → (state < 2) ⊎ (5 < state) }
+    ensures open { result ≡ None → (state < granted_state) ⊎ (lost_state loss.Killed < state) }
 {
     match state {
-        2 => Some(Settled::Granted),
-        3 => Some(Settled::Victim),
-        4 => Some(Settled::Timeout),
-        5 => Some(Settled::Killed),
+        WaitWord::GRANTED => Some(Settled::Granted),
+        WaitWord::VICTIM => Some(Settled::Victim),
+        WaitWord::TIMEOUT => Some(Settled::Timeout),
+        WaitWord::KILLED => Some(Settled::Killed),
         _ => None,
     }
 }
@@ -56,7 +58,7 @@ impl Member {
         ensures met { (e : Met) × IsStepOf self.old.worker.seat.me self.new.worker.seat.me e
             × MeetsWord (arc_value self.old.table).shared.table_id.slots session result.0 e }
         ensures own { TellsOwn (arc_value self.old.table).shared.table_id.slots session result.0 self.old.worker.seat.me.0 }
-        ensures told { session ≡ self.old.worker.number → 1 < result.0 % 8 → self.new.worker.seat.me.0.told ≡ Some (result.0 % 8) }
+        ensures told { session ≡ self.old.worker.number → IsSettled (wait_state result.0) → self.new.worker.seat.me.0.told ≡ Some (wait_state result.0) }
     {
         let slots = self.table.slot_count();
         self.worker.read_wait(&self.table.shared, slots, session)

@@ -9,11 +9,10 @@ ghost use Rattle.mdl_steps.specs.declared.view.Met.{Met};
 ghost use Rattle.mdl_steps.specs.declared.view.Own.{Own};
 ghost use Rattle.mdl_steps.specs.Plays.{noting_version};
 ghost use Rattle.mdl_shared.specs.Keepings.{KeepsWait};
-ghost use Rattle.mdl_visits.specs.Leavings.{MeetsStanding};
 ghost use Rattle.mdl_shared.specs.Members.{noting_at, holding_fault};
 ghost use Rattle.mdl_visits.specs.Numbers.{numbered};
 ghost use Rattle.mdl_visits.specs.Polls.{SettlesNothing};
-ghost use Rattle.mdl_visits.specs.Readings.{Follows, ReadsNothing, ReadsThere};
+ghost use Rattle.mdl_visits.specs.Readings.{Follows, MeetsRead, ReadsNothing, ReadsThere};
 ghost use Rattle.mdl_visits.specs.Visits.{Does, IsStepOf};
 
 use crate::Session;
@@ -35,7 +34,7 @@ impl Member {
         ensures did { Does [] self.old.worker.seat.me self.new.worker.seat.me }
         ensures read { IfOk result (λ standing. (self.new.tickets.items ≡ noting_version place standing.version self.old.tickets.items)
             × ReadsThere place standing self.old.worker.seat.me self.new.worker.seat.me
-            × ((e : Met) × IsStepOf self.old.worker.seat.me self.new.worker.seat.me e × MeetsStanding place self.old.worker.number standing e)) }
+            × ((e : Met) × IsStepOf self.old.worker.seat.me self.new.worker.seat.me e × MeetsRead place self.old.worker.number _id standing e)) }
         ensures follows { IfOk result (λ standing. Follows place standing self.old.worker.seat.me) }
         ensures unchanged { OnErr result ((self.new.tickets.items ≡ self.old.tickets.items) × ReadsNothing self.old.worker.seat.me self.new.worker.seat.me) }
     {
@@ -87,7 +86,7 @@ impl<R: Wait> Session<R> {
         ensures read { IfOk result (λ standing. (t : Own) × (numbered id self.old.member.tickets.items ≡ Some t)
             × (self.new.member.tickets.items ≡ noting_version t.place standing.version self.old.member.tickets.items)
             × ReadsThere t.place standing self.old.member.worker.seat.me self.new.member.worker.seat.me
-            × ((e : Met) × IsStepOf self.old.member.worker.seat.me self.new.member.worker.seat.me e × MeetsStanding t.place self.old.member.worker.number standing e)) }
+            × ((e : Met) × IsStepOf self.old.member.worker.seat.me self.new.member.worker.seat.me e × MeetsRead t.place self.old.member.worker.number id standing e)) }
         ensures follows { IfOk result (λ standing. (t : Own) → numbered id self.old.member.tickets.items ≡ Some t
             → Follows t.place standing self.old.member.worker.seat.me) }
         ensures unchanged { OnErr result ((self.new.member.tickets.items ≡ self.old.member.tickets.items) × ReadsNothing self.old.member.worker.seat.me self.new.member.worker.seat.me) }

@@ -5,8 +5,9 @@ ghost use Rattle.mdl_key.specs.Refusals.{RefusesJust};
 ghost use Rattle.mdl_calls.specs.declared.answers.Settled.{Settled};
 ghost use Rattle.mdl_calls.specs.declared.answers.TimedOut.TheVariants.{ByThisCall, Already};
 ghost use Rattle.mdl_steps.specs.declared.view.Met.{Met};
-ghost use Rattle.mdl_steps.specs.WaitPlays.{TellsOwn, wait_in};
-ghost use Rattle.mdl_steps.specs.WaitStates.{lost_state};
+ghost use Rattle.mdl_steps.specs.declared.wait_word.Loss.TheVariants as loss;
+ghost use Rattle.mdl_steps.specs.WaitPlays.{TellsOwn};
+ghost use Rattle.mdl_steps.specs.WaitStates.{IsSettled, lost_state, unsettled_state, wait_in, wait_state};
 ghost use Rattle.mdl_shared.specs.Keepings.{SeesWait};
 ghost use Rattle.mdl_shared.specs.Limits.{is_within};
 ghost use Rattle.mdl_visits.specs.Polls.{MeetsOther, MeetsWait, MeetsWord, Settles, SettlesNothing, state_of};
@@ -22,8 +23,8 @@ use mdl_steps::{Loss, WaitWord};
 
 // Whether a word is that of the unsettled wait of a number.
 fn is_open(word: WaitWord, number: u64) -> bool
-    ensures open { result ≡ true → word.0 ≡ wait_in number 1 }
-    ensures other { result ≡ false → word.0 ≢ wait_in number 1 }
+    ensures open { result ≡ true → word.0 ≡ wait_in number unsettled_state }
+    ensures other { result ≡ false → word.0 ≢ wait_in number unsettled_state }
 {
     word.number() == number && word.state() == WaitWord::UNSETTLED
 }
@@ -40,11 +41,11 @@ impl Member {
         ensures did { Does [] self.old.worker.seat.me self.new.worker.seat.me }
         ensures met { (e : Met) × IsStepOf self.old.worker.seat.me self.new.worker.seat.me e
             × MeetsWord (arc_value self.old.table).shared.table_id.slots session result.0 e }
-        ensures settled { result.0 ≡ wait_in wait 1 → Settles session wait (lost_state how) self.old.worker.seat.me self.new.worker.seat.me }
-        ensures missed { result.0 ≢ wait_in wait 1 → SettlesNothing self.old.worker.seat.me self.new.worker.seat.me }
+        ensures settled { result.0 ≡ wait_in wait unsettled_state → Settles session wait (lost_state how) self.old.worker.seat.me self.new.worker.seat.me }
+        ensures missed { result.0 ≢ wait_in wait unsettled_state → SettlesNothing self.old.worker.seat.me self.new.worker.seat.me }
         ensures own { TellsOwn (arc_value self.old.table).shared.table_id.slots session result.0 self.old.worker.seat.me.0 }
-        ensures lost { session ≡ self.old.worker.number → result.0 ≡ wait_in wait 1 → self.new.worker.seat.me.0.told ≡ Some (lost_state how) }
-        ensures told { session ≡ self.old.worker.number → result.0 ≢ wait_in wait 1 → 1 < result.0 % 8 → self.new.worker.seat.me.0.told ≡ Some (result.0 % 8) }
+        ensures lost { session ≡ self.old.worker.number → result.0 ≡ wait_in wait unsettled_state → self.new.worker.seat.me.0.told ≡ Some (lost_state how) }
+        ensures told { session ≡ self.old.worker.number → result.0 ≢ wait_in wait unsettled_state → IsSettled (wait_state result.0) → self.new.worker.seat.me.0.told ≡ Some (wait_state result.0) }
     {
         let slots = self.table.slot_count();
         self.worker
@@ -60,7 +61,7 @@ impl Member {
         ensures reads { ReadsNothing self.old.worker.seat.me self.new.worker.seat.me }
         ensures did { Does [] self.old.worker.seat.me self.new.worker.seat.me }
         ensures by_this_call { result ≡ ByThisCall → Settles self.old.worker.number self.old.waits 4 self.old.worker.seat.me self.new.worker.seat.me
-            × (self.new.worker.seat.me.0.told ≡ Some 4)
+            × (self.new.worker.seat.me.0.told ≡ Some (lost_state loss.Timeout))
             × ((e : Met) × IsStepOf self.old.worker.seat.me self.new.worker.seat.me e
             × MeetsWait (arc_value self.old.table).shared.table_id.slots self.old.worker.number self.old.waits 1 e) }
         ensures already { (how : Settled) → result ≡ Already how → SettlesNothing self.old.worker.seat.me self.new.worker.seat.me
@@ -92,8 +93,8 @@ impl Member {
             × MeetsWait (arc_value self.old.table).shared.table_id.slots session number 1 e) }
         ensures missed { result ≡ false → SettlesNothing self.old.worker.seat.me self.new.worker.seat.me
             × ((e : Met) × IsStepOf self.old.worker.seat.me self.new.worker.seat.me e
-            × MeetsOther (arc_value self.old.table).shared.table_id.slots session (wait_in number 1) e) }
-        ensures own { session ≡ self.old.worker.number → result ≡ true → (own_number self.old.waits self.old.asks ≡ Some number) × (self.new.worker.seat.me.0.told ≡ Some 5) }
+            × MeetsOther (arc_value self.old.table).shared.table_id.slots session (wait_in number unsettled_state) e) }
+        ensures own { session ≡ self.old.worker.number → result ≡ true → (own_number self.old.waits self.old.asks ≡ Some number) × (self.new.worker.seat.me.0.told ≡ Some (lost_state loss.Killed)) }
         ensures settled { session ≡ self.old.worker.number → result ≡ false → own_number self.old.waits self.old.asks ≡ Some number
             → (how : Settled) × (self.new.worker.seat.me.0.told ≡ Some (state_of how)) }
     {
@@ -115,7 +116,7 @@ impl<R> Session<R> {
         ensures settles { OnErr result (SettlesNothing self.old.member.worker.seat.me self.new.member.worker.seat.me) }
         ensures did { Does [] self.old.member.worker.seat.me self.new.member.worker.seat.me }
         ensures by_this_call { result ≡ Ok ByThisCall → Settles self.old.member.worker.number self.old.member.waits 4 self.old.member.worker.seat.me self.new.member.worker.seat.me
-            × (self.new.member.worker.seat.me.0.told ≡ Some 4)
+            × (self.new.member.worker.seat.me.0.told ≡ Some (lost_state loss.Timeout))
             × ((e : Met) × IsStepOf self.old.member.worker.seat.me self.new.member.worker.seat.me e
             × MeetsWait (arc_value self.old.member.table).shared.table_id.slots self.old.member.worker.number self.old.member.waits 1 e) }
         ensures already { (how : Settled) → result ≡ Ok (Already how) → SettlesNothing self.old.member.worker.seat.me self.new.member.worker.seat.me
@@ -145,9 +146,9 @@ impl<R> Session<R> {
             × MeetsWait (arc_value self.old.member.table).shared.table_id.slots target number 1 e) }
         ensures missed { result ≡ false → SettlesNothing self.old.member.worker.seat.me self.new.member.worker.seat.me
             × (is_within self.old.member.sessions target ≡ true → (e : Met) × IsStepOf self.old.member.worker.seat.me self.new.member.worker.seat.me e
-            × MeetsOther (arc_value self.old.member.table).shared.table_id.slots target (wait_in number 1) e) }
+            × MeetsOther (arc_value self.old.member.table).shared.table_id.slots target (wait_in number unsettled_state) e) }
         ensures own { target ≡ self.old.member.worker.number → result ≡ true → (own_number self.old.member.waits self.old.member.asks ≡ Some number)
-            × (self.new.member.worker.seat.me.0.told ≡ Some 5) }
+            × (self.new.member.worker.seat.me.0.told ≡ Some (lost_state loss.Killed)) }
         ensures settled { target ≡ self.old.member.worker.number → result ≡ false → own_number self.old.member.waits self.old.member.asks ≡ Some number
             → (how : Settled) × (self.new.member.worker.seat.me.0.told ≡ Some (state_of how)) }
     {

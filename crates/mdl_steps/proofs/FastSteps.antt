@@ -43,7 +43,7 @@ use Rattle.mdl_steps.proofs.Desks.{each-append}
 use Rattle.mdl_steps.proofs.Unmixed.{unlike_below}
 use Rattle.mdl_steps.proofs.FastLists.{all_fast-all, counted_set, count-append, counts_small, counted_mode, increment_is, increment_small, one_counted, length_mapped}
 use Rattle.mdl_steps.proofs.Lift.{Table, after, on_word, holders_again, parts_again}
-use Rattle.mdl_steps.proofs.Owns.{each-from_at, each-note, own_else-push, owned_else}
+use Rattle.mdl_steps.proofs.Owns.{each-first, own_else-push, owned_else}
 use Rattle.mdl_steps.proofs.Views.{by_bool, each_at}
 use Rattle.mdl_steps.proofs.Waiting.{owned_set, waiting_kept}
 use Rattle.mdl_steps.proofs.WaitEnds.{own_at-push}
@@ -414,10 +414,8 @@ module _ (slots id place : ℕ) (me : Mine) (first : 0 < place) (last : place < 
 
       agrees : NoteAgrees ok.book own
       unfolding old
-      agrees = λ version is. elim (may.noted_there version is) [
-        | inl fast ↦ each-note (λ (n : ℕ). n ≡ ok.book.standing.version) place me.0.fast (each-from_at (NoteAgrees ok.book) place me.0.fast old.versions_agree.fast) version fast
-        | inr slow ↦ each-note (λ (n : ℕ). n ≡ ok.book.standing.version) place me.0.slow (each-from_at (NoteAgrees ok.book) place me.0.slow old.versions_agree.slow) version slow
-      ]
+      agrees = λ version is. each-first (λ (n : ℕ). n ≡ ok.book.standing.version) (own_at place me.0.fast ++ own_at place me.0.slow)
+          (each-append (NoteAgrees ok.book) (own_at place me.0.fast) (own_at place me.0.slow) old.versions_agree.fast old.versions_agree.slow) version (sym may.noted_there ∙ is)
 
       key_is : key_at r.keys place ≡ Some may.counted_so.1.key
       key_is = let k = may.counted_so in key_known k.0 k.1 k.2 k.3

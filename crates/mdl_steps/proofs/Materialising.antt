@@ -33,7 +33,7 @@ use Rattle.mdl_steps.proofs.FastLists.{all_fast-all, all_fast-own, counted_set}
 use Rattle.mdl_steps.proofs.Holder.{Under, under, holder_cell}
 use Rattle.mdl_steps.proofs.Lift.{Table, after, on_word, alone, alone_parts, seat_there}
 use Rattle.mdl_steps.proofs.Owns.{each-from_at, each-to_at}
-use Rattle.mdl_steps.proofs.Unmixed.{unmixed_joined}
+use Rattle.mdl_steps.proofs.Unmixed.{unmixed_apart, unmixed_joined}
 use Rattle.mdl_steps.proofs.Tickets.{is_passed, of_other}
 use Rattle.mdl_steps.proofs.Views.{by_bool, each_at, held_at-changed, held_at-unchanged, other}
 use Rattle.mdl_steps.proofs.Waiting.{owned_set, waiting_kept}
@@ -292,8 +292,11 @@ module _ (slots id place : ℕ) (me : Mine) (some_number : 0 < me.0.number) (fir
     alone_here : (j : ℕ) (x : Part) → get_elem? c.parts j ≡ some x → x.number ≡ me.0.number → j ≡ id
     alone_here = alone_parts s r place id me.0 seat some_number
 
+    apart : Each (λ (t : Own). ticket_of me.0.number t.number (map (ticket_by me.0.number) (own_at place me.0.slow)) ≡ None) (own_at place me.0.fast)
+    apart = unmixed_apart me.0.number place me.0.fast me.0.slow (r.views id me.0 seat).0.unmixed
+
     counts : (class : ℕ) → counted (lock_kind h.book) class (all_fast parts′) + counted (lock_kind h.book) class (moved place me.0) ≡ counted (lock_kind h.book) class (all_fast c.parts)
-    counts class = counted_less key c.version c.parts h.book (waits s) place id me.0 part_there alone_here key_is u.book_ok slow may.idle may.joined may.once may.apart class
+    counts class = counted_less key c.version c.parts h.book (waits s) place id me.0 part_there alone_here key_is u.book_ok slow may.idle may.joined may.once apart class
 
     lighter : (weight ≤ found) × Counted (lock_kind h.book) (found - weight) (all_fast parts′) h.slow h.obtrusive
     lighter =
@@ -328,15 +331,15 @@ module _ (slots id place : ℕ) (me : Mine) (some_number : 0 < me.0.number) (fir
       flagged = (
         (λ _. may.raised),
         λ some_. u.flagged.1 (or_from _ _ _ (any_both (lock_kind h.book) h.book.granted (moved place me.0)
-            (gone_unobtrusive key c.version c.parts h.book (waits s) place id me.0 part_there alone_here key_is u.book_ok slow may.idle may.joined may.once may.apart)) some_),
+            (gone_unobtrusive key c.version c.parts h.book (waits s) place id me.0 part_there alone_here key_is u.book_ok slow may.idle may.joined may.once apart)) some_),
       );
       noted = λ word is. (let old = u.noted word is in (
         old.0,
         covers_fewer (lock_kind h.book) word (all_fast c.parts) (all_fast parts′)
-            (fast_then key c.version c.parts h.book (waits s) place id me.0 part_there alone_here key_is u.book_ok slow may.idle may.joined may.once may.apart)
+            (fast_then key c.version c.parts h.book (waits s) place id me.0 part_there alone_here key_is u.book_ok slow may.idle may.joined may.once apart)
             (λ class. (let count = counts class in omega arith)) old.1,
       ));
-      book_ok = joined_ok key c.version c.parts h.book (waits s) place id me.0 part_there alone_here key_is u.book_ok slow may.idle may.joined may.once may.apart;
+      book_ok = joined_ok key c.version c.parts h.book (waits s) place id me.0 part_there alone_here key_is u.book_ok slow may.idle may.joined may.once apart;
     }
 
     below : Each (λ (t : Own). t.number < me.0.next) slow

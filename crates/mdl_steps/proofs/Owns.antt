@@ -1,5 +1,6 @@
 -- A session's own tickets, after a deed at a place: what it has there, and what it has elsewhere.
 use Rattle.std.proofs.Common.{◌≡◌, ◌≢◌, ℕ, ◌==◌, Bool, not, cond, List, [], ◌∷◌, ◌++◌, map, Some, None, refl, sym, ap, ◌∙◌, subst}
+use Rattle.std.specs.Prelude.{is_some}
 use Rattle.std.specs.List.{filter}
 use Rattle.std.specs.Option.{option_map}
 use Rattle.std.proofs.lemmas.Bool.{eq-eqb, eqb-true}
@@ -11,6 +12,7 @@ use Rattle.mdl_steps.specs.declared.deed.Deed.TheVariants.{Gain, Alter, Lose}
 use Rattle.mdl_steps.specs.declared.view.Own.{Own}
 use Rattle.mdl_steps.specs.Cells.{note_at, own_at, ticket_by}
 use Rattle.mdl_steps.specs.Deeds.{is_own, owned}
+use Rattle.mdl_steps.specs.FastPlays.{first_note}
 use Rattle.mdl_steps.specs.Lists.{Each}
 use Rattle.mdl_steps.proofs.Tickets.{of_other_number}
 use Rattle.mdl_steps.proofs.Views.{by_bool, other}
@@ -139,3 +141,11 @@ each-note P place [] all version is = absurd (cc)
 each-note P place (t ∷ ts) all version is = by_bool (t.place == place)
     (λ here. all.0 (eqb-true _ _ here) version (rw here at is))
     (λ away. each-note P place ts all.1 version (rw away at is))
+
+-- the first note is that of one of the tickets
+pub each-first : (P : ℕ → Type 0) (ts : List Own) → Each (λ (t : Own). (version : ℕ) → t.noted ≡ Some version → P version) ts
+    → (version : ℕ) → first_note ts ≡ Some version → P version
+each-first P [] all version is = absurd (cc)
+each-first P (t ∷ ts) all version is = by_bool (is_some t.noted)
+    (λ noted. all.0 version (rw noted at is))
+    (λ unnoted. each-first P ts all.1 version (rw unnoted at is))

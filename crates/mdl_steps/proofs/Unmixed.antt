@@ -1,17 +1,19 @@
 -- No slow ticket of a session has the number of a fast one of its place, whatever is done.
-use Rattle.std.proofs.Common.{◌≡◌, ◌≢◌, ℕ, ◌<◌, ◌==◌, not, List, [], ◌∷◌, ◌++◌, refl, sym, ap, ◌∙◌, subst, arith}
+use Rattle.std.proofs.Common.{◌≡◌, ◌≢◌, ℕ, ◌<◌, ◌==◌, not, List, [], ◌∷◌, ◌++◌, map, None, refl, sym, ap, ◌∙◌, subst, arith}
 use Rattle.std.proofs.lemmas.Bool.{eq-eqb}
 use Rattle.mdl_key.specs.declared.mode.Mode.{Mode}
+use Rattle.mdl_book.specs.Tickets.{ticket_of}
 use Rattle.mdl_steps.specs.declared.deed.Deed.{Deed}
 use Rattle.mdl_steps.specs.declared.deed.Deed.TheVariants.{Gain}
 use Rattle.mdl_steps.specs.declared.view.Own.{Own}
-use Rattle.mdl_steps.specs.Cells.{own_at}
+use Rattle.mdl_steps.specs.Cells.{own_at, ticket_by}
 use Rattle.mdl_steps.specs.Deeds.{owned}
 use Rattle.mdl_steps.specs.FastPlays.{but_at}
 use Rattle.mdl_steps.specs.Lists.{Each}
 use Rattle.mdl_steps.specs.Plays.{noting_version}
 use Rattle.mdl_steps.specs.Rule.{AreUnmixed, IsUnlike}
 use Rattle.mdl_steps.proofs.Owns.{each-owned, each-from_at, each-to_at}
+use Rattle.mdl_steps.proofs.Tickets.{of_other_number}
 use Rattle.mdl_steps.proofs.Views.{by_bool}
 
 -- a deed under a latch: what is gained has a number above those of the fast ones
@@ -54,3 +56,20 @@ unmixed_joined place (t ∷ ts) slow joined elsewhere all = by_bool (t.place == 
     let unlike : Own → Type 0 = λ u. u.number ≢ t.number in
     let here = subst (λ (us : List Own). Each unlike us) (sym (elsewhere t.place other)) (each-to_at unlike t.place slow all.0) in
     rw away (each-from_at unlike t.place joined here, unmixed_joined place ts slow joined elsewhere all.1))
+
+-- by the number of a fast ticket no slow one of its place is found
+module _ (session place : ℕ) where
+  none_alike : (number : ℕ) (ts : List Own) → Each (λ (u : Own). u.number ≢ number) ts → ticket_of session number (map (ticket_by session) ts) ≡ None
+  none_alike number [] all = refl
+  none_alike number (u ∷ us) all = rw (of_other_number session number (ticket_by session u) all.0) (none_alike number us all.1)
+
+  pub unmixed_apart : (fast slow : List Own) → AreUnmixed fast slow
+      → Each (λ (t : Own). ticket_of session t.number (map (ticket_by session) (own_at place slow)) ≡ None) (own_at place fast)
+  unmixed_apart fast slow all = each-to_at (λ (t : Own). ticket_of session t.number (map (ticket_by session) (own_at place slow)) ≡ None) place fast (of_each fast all)
+    where
+      of_each : (ts : List Own) → AreUnmixed ts slow → Each (λ (t : Own). t.place ≡ place → ticket_of session t.number (map (ticket_by session) (own_at place slow)) ≡ None) ts
+      of_each [] unmixed = tt
+      of_each (t ∷ ts) unmixed = (
+        λ here. none_alike t.number (own_at place slow) (each-to_at (λ (u : Own). u.number ≢ t.number) place slow (subst (λ (q : ℕ). Each (λ (u : Own). u.place ≡ q → u.number ≢ t.number) slow) here unmixed.0)),
+        of_each ts unmixed.1,
+      )

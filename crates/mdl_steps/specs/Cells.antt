@@ -1,6 +1,6 @@
 -- What the table has for one place: its words, its slot, and what each session knows and has there. A step at one place leaves
 -- the cell of each other place the same.
-use Rattle.std.specs.Prelude.{ℕ, ◌%◌, ◌==◌, Bool, false, List, [], ◌∷◌, ◌++◌, filter, find, map, length, slice_index, if◌then◌else◌, Option, Some, None}
+use Rattle.std.specs.Prelude.{ℕ, ◌==◌, Bool, false, List, [], ◌∷◌, ◌++◌, filter, find, map, length, slice_index, if◌then◌else◌, Option, Some, None}
 use Rattle.std.specs.List.{list_any}
 use Rattle.std.specs.Option.{option_and_then, option_to_list}
 use mathlib.Core.Option.{Option as Maybe}
@@ -19,6 +19,7 @@ use Rattle.mdl_steps.specs.declared.view.Read.{Read}
 use Rattle.mdl_steps.specs.declared.view.Spare.{Spare}
 use Rattle.mdl_steps.specs.declared.view.View.{View}
 use Rattle.mdl_steps.specs.Layout.{latch_word, lock_word, version_word, wait_word}
+use Rattle.mdl_steps.specs.WaitStates.{granted_state, wait_state}
 
 -- ---- what one session has at a place
 
@@ -59,7 +60,7 @@ reads_at place reads = filter (λ r. r.place == place) reads
 abbrev pub held_at : ℕ → List Held → Option Held
 held_at place latches = find (λ h. h.place == place) latches
 
--- a session's ticket, as it stands in a book
+-- a session's ticket, as a book has it
 abbrev pub ticket_by : ℕ → Own → Ticket
 ticket_by session t = record { session = session; number = t.number; mode = t.mode }
 
@@ -68,7 +69,7 @@ abbrev pub asking_at : ℕ → ℕ → ℕ → Option Ask → Option Asking
 asking_at place session word None = None
 asking_at place session word (Some a) =
     if a.place == place
-    then Some (record { ticket = record { session = session; number = a.number; mode = a.mode }; state = word % 8 })
+    then Some (record { ticket = record { session = session; number = a.number; mode = a.mode }; state = wait_state word })
     else None
 
 -- a part of a view, where the waits' words are given by the sessions' numbers
@@ -131,17 +132,17 @@ all_fast (x ∷ xs) = map (ticket_by x.number) x.fast ++ all_fast xs
 abbrev pub counted : Kind → ℕ → List Ticket → ℕ
 counted kind class tickets = count_by (is_of_class kind class) tickets
 
--- the ticket of a wait that was granted and isn't ended: it stands in the granted list, and the session has yet to take it
+-- the ticket of a wait that was granted and isn't ended: it is in the granted list, and the session has yet to take it
 abbrev pub due : Option Asking → Option Ticket
 due None = None
-due (Some a) = if a.state == 2 then Some a.ticket else None
+due (Some a) = if a.state == granted_state then Some a.ticket else None
 
--- the ticket of a wait that wasn't granted, or wasn't yet: it stands in the waiting list
+-- the ticket of a wait that wasn't granted, or wasn't yet: it is in the waiting list
 abbrev pub pending : Option Asking → Option Ticket
 pending None = None
-pending (Some a) = if a.state == 2 then None else Some a.ticket
+pending (Some a) = if a.state == granted_state then None else Some a.ticket
 
--- a session's tickets that stand in the granted list
+-- a session's tickets that are in the granted list
 abbrev pub slow_tickets : Part → List Ticket
 slow_tickets x = option_to_list (due x.asks) ++ map (ticket_by x.number) x.slow
 

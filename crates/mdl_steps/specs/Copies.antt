@@ -22,10 +22,10 @@ no_queues = (namespace.Global, ([], []))
 abbrev pub between : ℕ → ℕ → List Ticket → List Ticket
 between from to tickets = take (to - from) (drop from tickets)
 
--- those that stand so among the tickets of all
+-- those that are so among the tickets of all
 abbrev pub queues_in : List Ticket → Extent → Queues
 queues_in tickets e = (e.namespace, (between e.granted e.waiting tickets, between e.waiting e.end tickets))
 
--- they stand among so many tickets
+-- they are among so many tickets
 abbrev pub IsWithin : ℕ → Extent → Type 0
 IsWithin count e = (e.granted ≤ e.waiting) × (e.waiting ≤ e.end) × (e.end ≤ count)

@@ -70,7 +70,7 @@ abbrev pub HasAtLeast : ℕ → BookView → Mode → Type 0
 HasAtLeast session book mode =
     (t : Ticket) × Contains book.granted t × (t.session ≡ session) × IsAtLeast (lock_kind book) t.mode mode
 
--- why a session's wish for a mode may stand beside all that is granted: it is unobtrusive, so that no fast ticket clashes with
+-- why a session's wish for a mode is compatible with all that is granted: it is unobtrusive, so that no fast ticket clashes with
 -- it, and no granted one does; or neither does, by a noted word; or the session has a ticket there that is at least as strong
 abbrev pub MayJoin : ℕ → BookView → Option ℕ → Mode → Type 0
 MayJoin session book noted mode =
@@ -86,7 +86,7 @@ NotWaited v number = (a : Ask) → v.asks ≡ Some a → a.number ≡ number →
 abbrev pub HoldsTicket : View → BookView → ℕ → Ticket → Type 0
 HoldsTicket v book number t = (ticket_of v.number number book.granted ≡ Some t) × NotWaited v number
 
--- a wish of the session can be granted: the session waits for nothing, the mode may stand beside all that is granted, and it waits behind no
+-- a wish of the session can be granted: the session waits for nothing, the mode is compatible with all that is granted, and it waits behind no
 -- waiting ticket
 pub record MayBeGranted (v : View) (book : BookView) (noted : Option ℕ) (mode : Mode) : Type 0 where
   pub idle : v.asks ≡ None
@@ -124,7 +124,7 @@ pub record MayMerge (v : View) (book : BookView) (kept : ℕ) (mode : Mode) (los
   pub is_mode : is_mode_of (lock_kind book) mode ≡ true
   pub at_least : IsAtLeast (lock_kind book) mode old.mode
 
--- what a step may do, under the latch in whose record this book and this noted word stand: nothing, a grant of a new ticket or a clone, an
+-- what a step may do, under the latch whose record has this book and this noted word: nothing, a grant of a new ticket or a clone, an
 -- upgrade or a downgrade, a release, or a merge
 abbrev pub MayDo : View → BookView → Option ℕ → List Deed → Type 0
 MayDo v book noted [] = Unit {0}

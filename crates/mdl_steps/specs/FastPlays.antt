@@ -1,8 +1,9 @@
 -- The steps of a lock word's fast path: what each changes in the view of its session, and when it may be made. A fast ticket is in no list:
 -- the lock's word counts it. After MySQL 5.7, sql/mdl.cc: the fast paths of `MDL_context::try_acquire_lock_impl` and
 -- `MDL_context::release_lock`, and `MDL_context::materialize_fast_path_locks`.
-use Rattle.std.specs.Prelude.{◌≡◌, ◌≢◌, ℕ, ◌+◌, ◌<◌, ◌==◌, not, true, false, Bool, List, [], ◌∷◌, ◌++◌, map, filter, length, Option, Some, None, ◌⊎◌}
+use Rattle.std.specs.Prelude.{◌≡◌, ◌≢◌, ℕ, ◌+◌, ◌<◌, ◌==◌, not, true, false, Bool, List, [], ◌∷◌, ◌++◌, map, filter, find, length, is_some, Option, Some, None}
 use Rattle.std.specs.List.{list_any}
+use Rattle.std.specs.Option.{option_and_then}
 use lib.ListN.{get_elem?}
 use mathlib.Core.Option.{some}
 use Rattle.atomic_table.specs.Table.{Step}
@@ -22,9 +23,10 @@ use Rattle.mdl_steps.specs.declared.view.Held.{Held}
 use Rattle.mdl_steps.specs.declared.view.Known.{Known}
 use Rattle.mdl_steps.specs.declared.view.Own.{Own}
 use Rattle.mdl_steps.specs.declared.view.View.{View}
-use Rattle.mdl_steps.specs.Cells.{counted, held_at, note_at, own_at, ticket_by}
+use Rattle.mdl_steps.specs.Cells.{counted, held_at, own_at, ticket_by}
 use Rattle.mdl_steps.specs.Deeds.{KnowsPlace, is_own}
 use Rattle.mdl_steps.specs.Layout.{lock_word}
+use Rattle.mdl_steps.specs.Limits.{most_fast}
 use Rattle.mdl_steps.specs.Lists.{Each, Once}
 use Rattle.mdl_steps.specs.Plays.{Mine, changed, logged}
 
@@ -82,10 +84,7 @@ but_at place tickets = filter (λ t. not (t.place == place)) tickets
 abbrev pub is_among : List ℕ → ℕ → Bool
 is_among numbers number = list_any (λ n. n == number) numbers
 
--- the tickets whose numbers are in a list, and the others
-abbrev pub numbered_among : List ℕ → List Own → List Own
-numbered_among numbers tickets = filter (λ t. is_among numbers t.number) tickets
-
+-- the tickets whose numbers aren't in a list
 abbrev pub numbered_else : List ℕ → List Own → List Own
 numbered_else numbers tickets = filter (λ t. not (is_among numbers t.number)) tickets
 
@@ -97,21 +96,26 @@ materialised place slow found m =
 
 -- ---- when it may be done
 
--- `noted` is none, or a version that the session noted under a ticket at the place
-abbrev pub NotedThere : ℕ → Option ℕ → View → Type 0
-NotedThere place noted v = (version : ℕ) → noted ≡ Some version → (note_at place v.fast ≡ Some version) ⊎ (note_at place v.slow ≡ Some version)
+-- the first version that is noted under these tickets, if any is
+abbrev pub first_note : List Own → Option ℕ
+first_note tickets = option_and_then (λ (t : Own). t.noted) (find (λ (t : Own). is_some t.noted) tickets)
+
+-- the version that the session noted at a place, under a fast ticket or a slow one
+abbrev pub noted_at : ℕ → View → Option ℕ
+noted_at place v = first_note (own_at place v.fast ++ own_at place v.slow)
 
 -- the session knows the key of the place, and the word counts a fast ticket in this mode by adding `one`
 abbrev pub IsCounted : View → ℕ → Mode → ℕ → Type 0
 IsCounted v place mode one =
     (i : ℕ) × (k : Known) × (get_elem? v.known i ≡ some k) × (k.place ≡ place) × (increment_of (kind_of k.key.namespace) mode ≡ Some one)
 
--- a fast ticket may be granted, if the flag OBTRUSIVE is down: the session waits for nothing, and has fewer than 1,023 fast tickets there
+-- a fast ticket may be granted, if the flag OBTRUSIVE is down: the session waits for nothing, and has room for one more fast ticket there. Where
+-- it noted a version there, that is noted under the new ticket too
 pub record MayGrantFast (place : ℕ) (mode : Mode) (noted : Option ℕ) (one : ℕ) (m : Mine) : Type 0 where
   pub idle : m.0.asks ≡ None
   pub counted_so : IsCounted m.0 place mode one
-  pub few : length (own_at place m.0.fast) < 1023
-  pub noted_there : NotedThere place noted m.0
+  pub few : length (own_at place m.0.fast) < most_fast
+  pub noted_there : noted ≡ noted_at place m.0
 
 -- a fast ticket may be released: it is the session's only one with this number at the place, and the word counts it by `one`
 pub record MayReleaseFast (place number one : ℕ) (m : Mine) : Type 0 where
@@ -135,14 +139,13 @@ abbrev pub weight_of : Kind → List Ticket → ℕ
 weight_of kind tickets = encode (counted kind 0 tickets) (counted kind 1 tickets) (counted kind 2 tickets) false false
 
 -- a session may materialise at a place: it holds the latch there, the flag SLOW is up by its record, and it waits for nothing. No two of its
--- tickets there have the same number, and `weight` is what its fast ones add to the word
+-- fast tickets there have the same number, and `weight` is what they add to the word
 pub record MayMaterialise (place : ℕ) (slow : List Own) (weight : ℕ) (h : Held) (m : Mine) : Type 0 where
   pub recorded : held_at place m.0.latches ≡ Some h
   pub raised : h.slow ≡ true
   pub idle : m.0.asks ≡ None
   pub known : KnowsPlace m.0 place
   pub once : Once (moved place m.0)
-  pub apart : Each (λ t. ticket_of m.0.number t.number (map (ticket_by m.0.number) (own_at place m.0.slow)) ≡ None) (own_at place m.0.fast)
   pub joined : AreJoined place m.0 slow
   pub weight_is : weight ≡ weight_of (lock_kind h.book) (moved place m.0)
 

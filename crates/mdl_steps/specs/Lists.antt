@@ -8,7 +8,7 @@ abbrev pub Each : {X : Type 0} → (X → Type 0) → List X → Type 0
 Each P [] = Unit {0}
 Each P (x ∷ xs) = P x × Each P xs
 
--- no element stands in the list twice
+-- no element is in the list twice
 abbrev pub Distinct : {X : Type 0} → List X → Type 0
 Distinct [] = Unit {0}
 Distinct (x ∷ xs) = Each (λ y. (x ≡ y) → ⊥) xs × Distinct xs

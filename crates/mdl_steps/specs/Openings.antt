@@ -8,10 +8,11 @@ use Rattle.mdl_book.specs.Books.{empty_book}
 use Rattle.mdl_steps.specs.declared.slot.Slot.{Slot}
 use Rattle.mdl_steps.specs.declared.slot.Slot.TheVariants as slot
 use Rattle.mdl_steps.specs.Layout.{enrol_word, word_count}
+use Rattle.mdl_steps.specs.Limits.{most_enrolled}
 
 -- the directory is empty, and so is the book of each place; number 1 is the first to be drawn, and every other word is 0
 pub record IsOpening (sessions : ℕ) (words : List ℕ) (slots : List Slot) : Type 0 where
-  pub limit : sessions ≤ 1024
+  pub limit : sessions ≤ most_enrolled
   pub wide : length words ≡ word_count (length slots) sessions
   pub drawn : slice_index words (enrol_word (length slots)) ≡ 1
   pub zeros : (i : ℕ) → i ≢ enrol_word (length slots) → slice_index words i ≡ 0

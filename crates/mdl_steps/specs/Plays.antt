@@ -1,4 +1,4 @@
--- What each kind of step tells the session that makes it: of the step, what the seat knew, what the word was, and what it
+-- What each kind of step lets its session know: by the step, what the seat knew, what the word was, and what it
 -- knows then. Each is added to the session's list of steps: its kind, what the session did to its own tickets by it, the word, what that was
 -- before, and the records of the latches that the session held.
 use Rattle.std.specs.Prelude.{◌≡◌, ◌≢◌, ℕ, ◌+◌, ◌-◌, ◌<◌, ◌≤◌, ◌==◌, not, Bool, true, ◌&&◌, ◌||◌, List, [], ◌∷◌, ◌++◌, map, filter, length, Some, None, if◌then◌else◌}
@@ -30,8 +30,10 @@ use Rattle.mdl_steps.specs.declared.view.View.{View}
 use Rattle.mdl_steps.specs.Cells.{own_at, reads_at, ticket_by}
 use Rattle.mdl_steps.specs.Deeds.{all_done, NotWaited}
 use Rattle.mdl_steps.specs.Layout.{latch_word, lock_word, version_word}
+use Rattle.mdl_steps.specs.Limits.{most_fast}
 use Rattle.mdl_steps.specs.Lists.{Distinct, Each, Once}
 use Rattle.mdl_steps.specs.Rule.{TellsLists, KnowsKeys, IsUnused, NoteAgrees, ReadAgrees, key_at}
+use Rattle.mdl_steps.specs.WaitStates.{IsLost}
 
 -- a session's seat: its view, and the slots that it took
 abbrev pub Mine : Type 0
@@ -45,11 +47,11 @@ logged kind ds word found held v =
 
 -- ---- the record of a latch
 
--- as the latch is taken: the word's flags tell the lists exactly then, granted tickets are compatible and in modes of the kind, the book has
+-- as the latch is taken: just the flags are up then that the lists need, granted tickets are compatible and in modes of the kind, the book has
 -- of the session just the tickets that it has (but for one that it waits for), and it is the book of each key that is known to be here,
 -- and of that which the directory has for the place, where the session holds its latch.
--- Each session waits at most once, for a mode of the kind, and so does the session itself where it met its wait lost. What stands may
--- stand under the key: no version that the session read is newer, what it read of this one is just that, and this is the version that it noted.
+-- Each session waits at most once, for a mode of the kind, and so does the session itself where it met its wait lost. The definition fits
+-- the key and its version: no version that the session read is newer, what it read of this one is just that, and this is the version that it noted.
 -- Its fast tickets there are in unobtrusive modes and compatible with all granted tickets, and the version agrees with what is noted under them
 pub record IsFresh (place : ℕ) (h : Held) (m : Mine) : Type 0 where
   pub here : h.place ≡ place
@@ -65,13 +67,13 @@ pub record IsFresh (place : ℕ) (h : Held) (m : Mine) : Type 0 where
   pub once : Once h.book.waiting
   pub single : (session first second : ℕ) (t u : Ticket) → ticket_of session first h.book.waiting ≡ Some t → ticket_of session second h.book.waiting ≡ Some u → first ≡ second
   pub wished : list_all (λ t. is_mode_of (lock_kind h.book) t.mode) h.book.waiting ≡ true
-  pub lost : (a : Ask) (state : ℕ) → m.0.asks ≡ Some a → a.place ≡ place → m.0.told ≡ Some state → 2 < state →
+  pub lost : (a : Ask) (state : ℕ) → m.0.asks ≡ Some a → a.place ≡ place → m.0.told ≡ Some state → IsLost state →
       ticket_of m.0.number a.number h.book.waiting ≡ Some (record { session = m.0.number; number = a.number; mode = a.mode })
   pub stands : MayStand h.book.key.namespace h.book.standing
   pub reads : Each (ReadAgrees h.book) (reads_at place m.0.reads)
   pub noted : Each (NoteAgrees h.book) (own_at place m.0.slow)
   pub fast_noted : Each (NoteAgrees h.book) (own_at place m.0.fast)
-  pub fast_few : length (own_at place m.0.fast) ≤ 1023
+  pub fast_few : length (own_at place m.0.fast) ≤ most_fast
   pub fast_plain : Each (λ (t : Own). not (is_obtrusive (lock_kind h.book) t.mode) ≡ true) (own_at place m.0.fast)
   pub fast_beside : Each (λ (t : Own). is_compatible (lock_kind h.book) h.book.granted m.0.number t.mode ≡ true) (own_at place m.0.fast)
 
@@ -88,7 +90,7 @@ abbrev pub lowered : BookView → Bool → Bool → Held → Held
 lowered book slow obtrusive h =
     record h { book = book; slow = slow && h.slow; obtrusive = obtrusive && h.obtrusive; noted = if obtrusive && h.obtrusive then h.noted else None }
 
--- with what stands now under the lock's key
+-- with the definition that the lock's key has now
 abbrev pub restood : Standing → Held → Held
 restood standing h = record h { book = record h.book { standing = standing } }
 
@@ -117,7 +119,7 @@ abbrev pub latched : ℕ → Held → Mine → Mine
 latched place h m =
     (logged step.TakeLatch [] (latch_word place) 0 (h ∷ m.0.latches) (record m.0 { latches = h ∷ m.0.latches }), (place, slot.Place h.book) ∷ m.1)
 
--- the latch of a place, which the session's number stood for, was given back after some deeds
+-- the latch of a place, whose word had the session's number, was given back after some deeds
 abbrev pub unlatched : ℕ → List Deed → Mine → Mine
 unlatched place ds m = (logged step.PutLatch ds (latch_word place) m.0.number m.0.latches (dropped place (all_done place ds m.0)), rest m.1)
 
@@ -133,8 +135,8 @@ settled place ds found book slow obtrusive m =
     let v = changed place (lowered book slow obtrusive) (all_done place ds m.0) in
     (logged (step.LowerFlags slow obtrusive) ds (lock_word place) found m.0.latches v, m.1)
 
--- what stands under the key of a place was changed: the session knows it from then on, under each ticket that it has there. What
--- the version's word was before is one less
+-- the definition of a place was changed: the session knows it from then on, and has noted its version under each ticket that it has there. The
+-- version's word was one less before
 abbrev pub redefined : ℕ → Standing → Mine → Mine
 redefined place standing m =
     let v = changed place (restood standing) m.0 in
@@ -145,7 +147,7 @@ redefined place standing m =
     } in
     (logged step.WriteVersion [] (version_word place) (standing.version - 1) v.latches known, m.1)
 
--- the latch of a place was given back with nothing changed, and what stands under its key was read
+-- the latch of a place was given back with nothing changed, and the definition there was read
 abbrev pub read_and_put : ℕ → Standing → Mine → Mine
 read_and_put place standing m =
     let known = record (dropped place m.0) {
@@ -168,7 +170,7 @@ pub record IsDirectory (slots : ℕ) (k : Keys) (m : Mine) : Type 0 where
 abbrev pub consulted : Keys → Mine → Mine
 consulted k m = (logged step.TakeLatch [] (latch_word 0) 0 m.0.latches (record m.0 { directory = Some k }), (0, slot.Directory k) ∷ m.1)
 
--- it was given back, and the session knows these keys, too. The step tells the record that there was
+-- it was given back, and the session knows these keys, too. The step has the record that there was
 abbrev pub informed : List Known → Mine → Mine
 informed more m = (record (logged step.PutLatch [] (latch_word 0) m.0.number m.0.latches m.0) { directory = None; known = m.0.known ++ more }, rest m.1)
 

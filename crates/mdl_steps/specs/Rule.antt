@@ -1,15 +1,14 @@
 -- The rule of the table, which holds between any two steps of all sessions.
 --
 -- Of each place: granted tickets of different sessions are compatible, fast and slow ones together (`lawful`); the word counts
--- just the fast tickets (`counted`); its flags tell whether the lists hold any ticket, and any obtrusive one, exactly while
+-- just the fast tickets (`counted`); its flags show whether the lists hold any ticket, and any obtrusive one, exactly while
 -- the latch is free, and at least so while it is taken (`free`, `flagged`); each session's slow tickets are those of it in the
--- granted list (`slow_held`); the version's word, the book, and what sessions read and noted agree (`versions_agree`); what stands
--- may stand under the key (`stands`); a noted
--- word counts at least the fast tickets (`noted_counts`); just the tickets of waits that weren't granted stand in the waiting list
--- (`waiting`). Of the table: different keys have different places, and the book of a place is that of its key
--- (`directory_agrees`); a session's wait word is eight times the number of its last wait and a state, which is 0 exactly where it
--- waits for nothing (`waits_agree`).
-use Rattle.std.specs.Prelude.{◌≡◌, ◌≢◌, ℕ, ◌+◌, ◌-◌, ◌/◌, ◌%◌, ◌<◌, ◌≤◌, Bool, true, not, List, [], ◌++◌, map, length, slice_index, slice_get, Option, Some, None}
+-- granted list (`slow_held`); the version's word, the book, and what sessions read and noted agree (`versions_agree`); the definition
+-- fits the key and its version (`stands`); a noted word counts at least the fast tickets (`noted_counts`); just the tickets of waits that
+-- weren't granted are in the waiting list (`waiting`). Of the table: different keys have different places, and the book of a place
+-- is that of its key (`directory_agrees`); a session's wait word has the number of its last wait, and a state that is idle exactly where it waits for
+-- nothing (`waits_agree`).
+use Rattle.std.specs.Prelude.{◌≡◌, ◌≢◌, ℕ, ◌+◌, ◌-◌, ◌<◌, ◌≤◌, Bool, true, not, List, [], ◌++◌, map, length, slice_index, slice_get, Option, Some, None}
 use Rattle.std.specs.List.{list_all}
 use Rattle.std.specs.Option.{option_to_list}
 use mathlib.Core.Option.{Option as Maybe, some}
@@ -37,7 +36,9 @@ use Rattle.mdl_steps.specs.declared.view.Spare.{Spare}
 use Rattle.mdl_steps.specs.declared.view.View.{View}
 use Rattle.mdl_steps.specs.Cells.{Part, Holder, Desk, Cell, Waiter, ticket_by, desk_of, waiter_of, waits, cell, all_fast, counted, due, pending, slow_tickets}
 use Rattle.mdl_steps.specs.Layout.{latch_word, enrol_word, word_count}
+use Rattle.mdl_steps.specs.Limits.{most_enrolled, most_fast}
 use Rattle.mdl_steps.specs.Lists.{Each, Distinct, Once}
+use Rattle.mdl_steps.specs.WaitStates.{IsSettled, IsState, idle_state, wait_number, wait_state}
 
 -- ---- the clauses of one place
 
@@ -52,11 +53,11 @@ abbrev pub Counted : Kind → ℕ → List Ticket → Bool → Bool → Type 0
 Counted kind word fast slow obtrusive =
     Encodes word (counted kind 0 fast) (counted kind 1 fast) (counted kind 2 fast) slow obtrusive
 
--- the flags tell of each ticket in the lists
+-- the flags are up for each ticket in the lists that needs them
 abbrev pub Flagged : BookView → Bool → Bool → Type 0
 Flagged book slow obtrusive = (has_tickets book ≡ true → slow ≡ true) × (has_obtrusive book ≡ true → obtrusive ≡ true)
 
--- the flags tell the lists exactly
+-- and just for these
 abbrev pub TellsLists : BookView → Bool → Bool → Type 0
 TellsLists book slow obtrusive = (slow ≡ has_tickets book) × (obtrusive ≡ has_obtrusive book)
 
@@ -71,7 +72,7 @@ Owned parts tickets =
     (session number : ℕ) (t : Ticket) → ticket_of session number tickets ≡ Some t →
     (j : ℕ) × (x : Part) × (get_elem? parts j ≡ some x) × (x.number ≡ session)
 
--- just the tickets of waits that weren't granted stand in the waiting list, each once and in a mode of the kind
+-- just the tickets of waits that weren't granted are in the waiting list, each once and in a mode of the kind
 pub record WaitingOk (kind : Kind) (parts : List Part) (waiting : List Ticket) : Type 0 where
   pub once : Once waiting
   pub modes : list_all (λ t. is_mode_of kind t.mode) waiting ≡ true
@@ -79,12 +80,12 @@ pub record WaitingOk (kind : Kind) (parts : List Part) (waiting : List Ticket) :
   pub same : (j : ℕ) (x : Part) → get_elem? parts j ≡ some x → (number : ℕ) →
       ticket_of x.number number waiting ≡ ticket_of x.number number (option_to_list (pending x.asks))
 
--- what was read is no newer than what stands, and where it is as new it is that
+-- what was read is no newer than the definition of the book, and if it is as new it is that
 abbrev pub ReadAgrees : BookView → Read → Type 0
 ReadAgrees book r =
     (r.standing.version ≤ book.standing.version) × (r.standing.version ≡ book.standing.version → r.standing ≡ book.standing)
 
--- a version that is noted under a ticket is the one that stands
+-- a version that is noted under a ticket is that of the book
 abbrev pub NoteAgrees : BookView → Own → Type 0
 NoteAgrees book t = (version : ℕ) → t.noted ≡ Some version → version ≡ book.standing.version
 
@@ -94,7 +95,7 @@ pub record ReadsAgree (book : BookView) (x : Part) : Type 0 where
   pub fast : Each (NoteAgrees book) x.fast
   pub slow : Each (NoteAgrees book) x.slow
 
--- nobody has a ticket in the book or waits for one, and nothing ever stood under its key
+-- nobody has a ticket in the book or waits for one, and nothing was ever defined under its key
 abbrev pub IsUnused : BookView → Type 0
 IsUnused book = (book.granted ≡ []) × (book.waiting ≡ []) × (book.standing ≡ nothing_yet)
 
@@ -105,7 +106,7 @@ pub record Named (key : Option KeyName) (book : BookView) (parts : List Part) : 
 
 -- what is said of one session's part
 pub record PartOk (book : BookView) (x : Part) : Type 0 where
-  pub few : length x.fast ≤ 1023
+  pub few : length x.fast ≤ most_fast
   pub slow_held : SlowHeld book.granted x
   pub versions_agree : ReadsAgree book x
 
@@ -125,7 +126,7 @@ abbrev pub NotedCounts : Kind → List Ticket → Bool → Option ℕ → Type 0
 NotedCounts kind fast obtrusive noted =
     (word : ℕ) → noted ≡ Some word → (obtrusive ≡ true) × CoversFastTickets kind word fast
 
--- the record of a latch tells the book and the flags as they are, and its session holds the latch
+-- the record of a latch has the book and the flags as they are, and its session holds the latch
 pub record HeldOk (latch : ℕ) (parts : List Part) (book : BookView) (slow obtrusive : Bool) (number : ℕ) (h : Held) : Type 0 where
   pub mine : number ≡ latch
   pub some_session : 0 < number
@@ -152,7 +153,7 @@ pub record PlaceOk (key : Option KeyName) (c : Cell) : Type 0 where
 -- the first seat draws numbers in turn, each for one more seat; so sessions have numbers of their own, from 1 on, and there are no
 -- more of them than there may be
 pub record Enrolled (most drawn : ℕ) (numbers : List ℕ) (spares : List Spare) : Type 0 where
-  pub limit : most ≤ 1024
+  pub limit : most ≤ most_enrolled
   pub first : Spare
   pub first_is : get_elem? spares 0 ≡ some first
   pub of_all : first.most ≡ most
@@ -163,14 +164,14 @@ pub record Enrolled (most drawn : ℕ) (numbers : List ℕ) (spares : List Spare
   pub apart : (i j n : ℕ) → get_elem? numbers i ≡ some n → get_elem? numbers j ≡ some n → 0 < n → i ≡ j
   pub room : length numbers ≡ first.given + 1
 
--- a session's wait word is eight times the number of its last wait and a state: idle (0) exactly where it waits for nothing,
--- unsettled (1), granted (2), or lost, as a victim (3), by its timeout (4) or killed (5). Where the session met it settled, it is so
+-- a session's wait word has the number of its last wait, and a state: idle exactly where it waits for nothing. Where the session met it
+-- settled, it is so
 pub record WaitOk (slots word : ℕ) (x : Waiter) : Type 0 where
-  pub number : word / 8 ≡ x.waits
-  pub state : word % 8 ≤ 5
-  pub idle : x.asks ≡ None → word % 8 ≡ 0
-  pub asks : (a : Ask) → x.asks ≡ Some a → (word % 8 ≢ 0) × (0 < a.place) × (a.place < slots)
-  pub told : (state : ℕ) → x.told ≡ Some state → (1 < state) × (word % 8 ≡ state)
+  pub number : wait_number word ≡ x.waits
+  pub state : IsState (wait_state word)
+  pub idle : x.asks ≡ None → wait_state word ≡ idle_state
+  pub asks : (a : Ask) → x.asks ≡ Some a → (wait_state word ≢ idle_state) × (0 < a.place) × (a.place < slots)
+  pub told : (state : ℕ) → x.told ≡ Some state → IsSettled state × (wait_state word ≡ state)
 
 -- it is so of each session, and the wait word of a number that no session has yet is 0
 pub record WaitsAgree (slots most : ℕ) (waits : ℕ → ℕ) (waiters : List Waiter) : Type 0 where

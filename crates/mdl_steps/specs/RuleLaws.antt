@@ -1,5 +1,5 @@
 -- What the rule of the table comes to, in words of its own. The rule holds between any two steps of all sessions.
-use Rattle.std.specs.Prelude.{◌≡◌, ◌≢◌, ℕ, ◌/◌, ◌%◌, ◌<◌, ◌≤◌, true, List, ◌++◌, length, slice_index, Some, None}
+use Rattle.std.specs.Prelude.{◌≡◌, ◌≢◌, ℕ, ◌<◌, true, List, ◌++◌, length, slice_index, Some, None}
 use mathlib.Core.Option.{some}
 use lib.ListN.{get_elem?}
 use Rattle.atomic_table.specs.Table.{State}
@@ -18,6 +18,7 @@ use Rattle.mdl_steps.specs.declared.view.View.{View}
 use Rattle.mdl_steps.specs.Cells.{cell, waits, all_fast, held_at}
 use Rattle.mdl_steps.specs.Layout.{latch_word, lock_word, version_word}
 use Rattle.mdl_steps.specs.Rule.{Rule, Counted, Flagged}
+use Rattle.mdl_steps.specs.WaitStates.{IsState, granted_state, idle_state, wait_number, wait_state}
 
 -- the fast tickets that all sessions have at a place
 abbrev pub fast_at : State Slot View → ℕ → List Ticket
@@ -27,7 +28,7 @@ fast_at s place = all_fast (cell s place).parts
 abbrev pub StandsTogether : State Slot View → ℕ → BookView → Type 0
 StandsTogether s place book = is_lawful (lock_kind book) (fast_at s place ++ book.granted) ≡ true
 
--- whenever a lock's latch is free, its book is in its slot, its word counts exactly the fast tickets held, its two flags tell whether
+-- whenever a lock's latch is free, its book is in its slot, its word counts exactly the fast tickets held, its two flags show whether
 -- its lists hold any ticket and an obtrusive one, and granted tickets of different sessions are compatible
 abbrev pub FreeLocksAreAsTheirWordsTell : Type 0
 FreeLocksAreAsTheirWordsTell =
@@ -36,8 +37,8 @@ FreeLocksAreAsTheirWordsTell =
     × Counted (lock_kind book) (slice_index s.words (lock_word place)) (fast_at s place) (has_tickets book) (has_obtrusive book)
     × StandsTogether s place book
 
--- while a session holds the latch, its number stands in the latch's word, its record tells the book as it is, its word counts exactly
--- the fast tickets held, its two flags are those of the record and tell of each ticket in the lists, and granted tickets of different
+-- while a session holds the latch, the latch's word has its number, its record has the book as it is, its word counts exactly
+-- the fast tickets held, its two flags are those of the record and up for each ticket in the lists that needs them, and granted tickets of different
 -- sessions are compatible
 abbrev pub HeldLocksAreAsTheirRecordsTell : Type 0
 HeldLocksAreAsTheirRecordsTell =
@@ -47,20 +48,20 @@ HeldLocksAreAsTheirRecordsTell =
     × Counted (lock_kind h.book) (slice_index s.words (lock_word place)) (fast_at s place) h.slow h.obtrusive
     × Flagged h.book h.slow h.obtrusive × StandsTogether s place h.book
 
--- a latch is taken only by a session that has a record of it, and the session's number stands in the latch's word
+-- a latch is taken only by a session that has a record of it, and the latch's word has the session's number
 abbrev pub TakenLatchesAreHeld : Type 0
 TakenLatchesAreHeld =
     (s : State Slot View) → Rule s → (place : ℕ) → 0 < place → place < length s.homes → slice_index s.words (latch_word place) ≢ 0 →
     (i : ℕ) × (v : View) × (h : Held) × (get_elem? s.views i ≡ some v) × (held_at place v.latches ≡ Some h) × (slice_index s.words (latch_word place) ≡ v.number)
 
--- a version that a session noted under a ticket is the one that stands, as long as it has the ticket
+-- a version that a session noted under a ticket is the current one, as long as it has the ticket
 abbrev pub NotedVersionsStand : Type 0
 NotedVersionsStand =
     (s : State Slot View) → Rule s → (i : ℕ) (v : View) → get_elem? s.views i ≡ some v →
     (k : ℕ) (t : Own) → get_elem? (v.slow ++ v.fast) k ≡ some t → 0 < t.place → t.place < length s.homes →
     (version : ℕ) → t.noted ≡ Some version → slice_index s.words (version_word t.place) ≡ version
 
--- what a session read in the version that stands is what stands: no two reads of it differ, while the latch is free the book has it, and
+-- what a session read in the current version is the definition: no two reads of it differ, while the latch is free the book has it, and
 -- while a session holds the latch the book by its record
 abbrev pub ReadsAreOfWhatStands : Type 0
 ReadsAreOfWhatStands =
@@ -70,17 +71,17 @@ ReadsAreOfWhatStands =
     × (slice_index s.words (latch_word r.place) ≡ 0 → (book : BookView) × (get_elem? s.homes r.place ≡ some (some (slot.Place book))) × (book.standing ≡ r.standing))
     × ((j : ℕ) (w : View) (h : Held) → get_elem? s.views j ≡ some w → held_at r.place w.latches ≡ Some h → h.book.standing ≡ r.standing)
 
--- where a session waits, its wait's word is eight times the number of its last wait and a state from 1 to 5: while that is 2 its ticket
--- stands in the granted list of the lock's book, and otherwise in the waiting list; where it waits for nothing the state is 0. While the
--- latch is free the book is at home
+-- a session's wait word has the number of its last wait, and its state: idle where the session waits for nothing. Where it waits, its ticket
+-- is in the granted list of the lock's book while the state is granted, and otherwise in the waiting list. While the latch is free the book is
+-- at home
 abbrev pub WaitersAreAsTheirWordsTell : Type 0
 WaitersAreAsTheirWordsTell =
     (s : State Slot View) → Rule s → (i : ℕ) (v : View) → get_elem? s.views i ≡ some v →
-    (waits s v.number / 8 ≡ v.waits) × (waits s v.number % 8 ≤ 5) × (v.asks ≡ None → waits s v.number % 8 ≡ 0)
-    × ((a : Ask) → v.asks ≡ Some a → (waits s v.number % 8 ≢ 0) × (0 < a.place) × (a.place < length s.homes)
+    (wait_number (waits s v.number) ≡ v.waits) × IsState (wait_state (waits s v.number)) × (v.asks ≡ None → wait_state (waits s v.number) ≡ idle_state)
+    × ((a : Ask) → v.asks ≡ Some a → (wait_state (waits s v.number) ≢ idle_state) × (0 < a.place) × (a.place < length s.homes)
     × (slice_index s.words (latch_word a.place) ≡ 0 → (book : BookView) × (get_elem? s.homes a.place ≡ some (some (slot.Place book)))
-    × (waits s v.number % 8 ≡ 2 → ticket_of v.number a.number book.granted ≡ Some (record { session = v.number; number = a.number; mode = a.mode }))
-    × (waits s v.number % 8 ≢ 2 → ticket_of v.number a.number book.waiting ≡ Some (record { session = v.number; number = a.number; mode = a.mode }))))
+    × (wait_state (waits s v.number) ≡ granted_state → ticket_of v.number a.number book.granted ≡ Some (record { session = v.number; number = a.number; mode = a.mode }))
+    × (wait_state (waits s v.number) ≢ granted_state → ticket_of v.number a.number book.waiting ≡ Some (record { session = v.number; number = a.number; mode = a.mode }))))
 
 -- each ticket in the waiting list of a free lock's book is of a session that waits for it and wasn't granted it
 abbrev pub NobodyElseWaits : Type 0
@@ -89,4 +90,4 @@ NobodyElseWaits =
     (book : BookView) → get_elem? s.homes place ≡ some (some (slot.Place book)) →
     (session number : ℕ) (t : Ticket) → ticket_of session number book.waiting ≡ Some t →
     (i : ℕ) × (v : View) × (a : Ask) × (get_elem? s.views i ≡ some v) × (v.number ≡ session) × (v.asks ≡ Some a)
-    × (a.place ≡ place) × (a.number ≡ number) × (waits s session % 8 ≢ 2)
+    × (a.place ≡ place) × (a.number ≡ number) × (wait_state (waits s session) ≢ granted_state)

@@ -27,7 +27,7 @@ abbrev pub tables_from : List ℕ → ℕ → List KeyName → List Known
 tables_from schema place [] = []
 tables_from schema place (key ∷ keys) = table_at schema place key ++ tables_from schema (place + 1) keys
 
--- each of these keys stands at its place by the record of the directory
+-- each of these keys has its place by the record of the directory
 abbrev pub StandThere : Keys → List Known → Type 0
 StandThere k known = All (λ (x : Known). (0 < x.place) × (key_at k.keys x.place ≡ Some x.key)) known
 

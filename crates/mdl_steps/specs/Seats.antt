@@ -40,11 +40,11 @@ pub record HasDone (place : ℕ) (ds : List Deed) (h : Held) (m : Mine) : Type 0
   pub act : MayAct m.0 place ds
   pub may : MayDo m.0 h.book h.noted ds
 
--- it may give the latch back: the flags tell the lists exactly
+-- it may give the latch back: just the flags are up that the lists need
 abbrev pub MayPut : ℕ → List Deed → Mine → Type 0
 MayPut place ds m = (h : Held) × HasDone place ds h m × TellsLists (all_booked m.0.number ds h.book) h.slow h.obtrusive
 
--- it may leave just these flags up: they tell of each ticket in the lists
+-- it may leave just these flags up: the lists need no others
 abbrev pub MayLower : ℕ → List Deed → Bool → Bool → Mine → Type 0
 MayLower place ds slow obtrusive m =
     (h : Held) × HasDone place ds h m × Flagged (all_booked m.0.number ds h.book) (slow && h.slow) (obtrusive && h.obtrusive)
@@ -54,8 +54,8 @@ abbrev pub HasExclusive : Held → Mine → Type 0
 HasExclusive h m =
     (t : Ticket) × Contains h.book.granted t × (t.session ≡ m.0.number) × (t.mode ≡ X) × NotWaited m.0 t.number
 
--- the seat holds the latch of the place, and has made in the book this change of what stands there, which can be made, and only by the holder of
--- an exclusive ticket
+-- the seat holds the latch of the place, and has made in the book this change of the definition, which can be made, and only by the holder of an
+-- exclusive ticket
 pub record HasRedefined (place : ℕ) (h : Held) (change : Change) (m : Mine) : Type 0 where
   pub holds : Holds place h (redefining change h.book) m
   pub allowed : standing_fault h.book.key.namespace change h.book.standing ≡ None
@@ -92,7 +92,7 @@ pub record IsNewKey (key : KeyName) (k : Keys) (m : Mine) : Type 0 where
   pub new : place_among key k.keys ≡ None
 
 -- it may give the latch of a place back and the place to a new key: the place comes after all that have one, and the empty book of the key is
--- in hand, which the flags tell exactly
+-- in hand, and just the flags are up that it needs
 pub record MayName (place : ℕ) (key : KeyName) (k : Keys) (h : Held) (m : Mine) : Type 0 where
   pub key_is : IsNewKey key k m
   pub next : place ≡ length k.keys + 1

@@ -1,6 +1,5 @@
--- What each kind of step on a wait's word tells the session that makes it. The word of a session is eight times the number of its last
--- wait and a state: idle, unsettled, granted, or lost, as a victim, by its timeout or killed.
-use Rattle.std.specs.Prelude.{◌≡◌, ◌≢◌, ℕ, ◌+◌, ◌*◌, ◌%◌, ◌==◌, ◌&&◌, true, nat_lt, if◌then◌else◌, List, ◌++◌, ◌∷◌, [], Option, Some, None}
+-- What each kind of step on a wait's word lets its session know.
+use Rattle.std.specs.Prelude.{◌≡◌, ◌≢◌, ℕ, ◌+◌, ◌==◌, ◌&&◌, true, if◌then◌else◌, List, ◌++◌, ◌∷◌, [], Option, Some, None}
 use Rattle.std.specs.Option.{option_map, option_to_list}
 use Rattle.atomic_table.specs.Table.{Step}
 use Rattle.mdl_key.specs.declared.mode.Mode.{Mode}
@@ -17,14 +16,12 @@ use Rattle.mdl_steps.specs.Cells.{note_at, waiter_of}
 use Rattle.mdl_steps.specs.Layout.{wait_word}
 use Rattle.mdl_steps.specs.Plays.{Mine, logged, changed}
 use Rattle.mdl_steps.specs.Rule.{WaitOk}
-
--- the word of a wait in a state
-abbrev pub wait_in : ℕ → ℕ → ℕ
-wait_in number state = 8 * number + state
+pub use Rattle.mdl_steps.specs.WaitStates.{wait_in}
+use Rattle.mdl_steps.specs.WaitStates.{granted_state, idle_state, is_settled, unsettled_state, wait_state}
 
 -- the session met a wait's word: where it is its own and settled, it knows that from then on
 abbrev pub meeting : ℕ → ℕ → View → View
-meeting session word v = record v { told = if session == v.number && nat_lt 1 (word % 8) then Some (word % 8) else v.told }
+meeting session word v = record v { told = if session == v.number && is_settled (wait_state word) then Some (wait_state word) else v.told }
 
 -- the wait's word of a session was met, and stayed, at a step of this kind
 abbrev pub met_wait_by : StepKind → ℕ → ℕ → ℕ → Mine → Mine
@@ -62,12 +59,12 @@ asking place mode v = record { number = v.next; place = place; mode = mode }
 abbrev pub asked_ticket : Mode → View → Ticket
 asked_ticket mode v = record { session = v.number; number = v.next; mode = mode }
 
--- a wait was opened at a place: its ticket stands last in the record's waiting list. The word was idle before
+-- a wait was opened at a place: its ticket is the last in the record's waiting list. The word was idle before
 abbrev pub opened : ℕ → ℕ → Mode → Mine → Mine
 opened slots place mode m =
     let v = changed place (with_waiting (asked_ticket mode m.0)) m.0 in
     let waits = record v { asks = Some (asking place mode m.0); next = m.0.next + 1; waits = m.0.waits + 1; told = None; searches = true } in
-    (logged step.OpenWait [] (wait_word slots m.0.number) (8 * m.0.waits) v.latches waits, m.1)
+    (logged step.OpenWait [] (wait_word slots m.0.number) (wait_in m.0.waits idle_state) v.latches waits, m.1)
 
 -- a wait of a session was settled by it
 abbrev pub settling : ℕ → ℕ → ℕ → View → View
@@ -76,13 +73,13 @@ settling session number state v = record v { settles = v.settles ++ record { ses
 -- a wait of a session was settled as lost
 abbrev pub settled_lost : ℕ → ℕ → ℕ → ℕ → Mine → Mine
 settled_lost slots session number state m =
-    (logged step.SettleWait [] (wait_word slots session) (wait_in number 1) m.0.latches (settling session number state (meeting session (wait_in number state) m.0)), m.1)
+    (logged step.SettleWait [] (wait_word slots session) (wait_in number unsettled_state) m.0.latches (settling session number state (meeting session (wait_in number state) m.0)), m.1)
 
--- a wait of a session was granted: its ticket stands last in the record's granted list
+-- a wait of a session was granted: its ticket is the last in the record's granted list
 abbrev pub settled_granted : ℕ → ℕ → ℕ → ℕ → ℕ → Mine → Mine
 settled_granted slots place session ticket number m =
     let v = changed place (with_admitted session ticket) m.0 in
-    (logged step.GrantWait [] (wait_word slots session) (wait_in number 1) v.latches (settling session number 2 (meeting session (wait_in number 2) v)), m.1)
+    (logged step.GrantWait [] (wait_word slots session) (wait_in number unsettled_state) v.latches (settling session number granted_state (meeting session (wait_in number granted_state) v)), m.1)
 
 -- the ticket that was waited for, as the session has it from then on, with the note of those that it had there
 abbrev pub taken_over : Option Ask → List Own → List Own
@@ -93,7 +90,7 @@ taken_over asks slow =
 abbrev pub ended_granted : ℕ → Mine → Mine
 ended_granted slots m =
     let v = record m.0 { asks = None; told = None; slow = m.0.slow ++ taken_over m.0.asks m.0.slow } in
-    (logged step.EndWait [] (wait_word slots m.0.number) (wait_in m.0.waits 2) m.0.latches v, m.1)
+    (logged step.EndWait [] (wait_word slots m.0.number) (wait_in m.0.waits granted_state) m.0.latches v, m.1)
 
 -- a lost wait was ended: its ticket is gone from the record's waiting list
 abbrev pub ended_lost : ℕ → ℕ → ℕ → ℕ → Mine → Mine
@@ -113,24 +110,24 @@ reads_wait st m found m′ =
 abbrev pub settles_lost : Step Slot → Mine → ℕ → Mine → Type 0
 settles_lost st m found m′ =
     (m′.0.number ≡ m.0.number)
-    × ((session number state : ℕ) → st.word ≡ wait_word st.slots session → st.first ≡ wait_in number 1 → st.second ≡ wait_in number state →
+    × ((session number state : ℕ) → st.word ≡ wait_word st.slots session → st.first ≡ wait_in number unsettled_state → st.second ≡ wait_in number state →
     TellsOwn st.slots session found m.0
-    × (found ≡ wait_in number 1 → m′ ≡ settled_lost st.slots session number state m)
-    × (found ≢ wait_in number 1 → m′ ≡ missed_wait st.slots session found m))
+    × (found ≡ wait_in number unsettled_state → m′ ≡ settled_lost st.slots session number state m)
+    × (found ≢ wait_in number unsettled_state → m′ ≡ missed_wait st.slots session found m))
 
 -- a wait of a session is granted under the latch of its place, where it was unsettled; otherwise its word is only met
 abbrev pub settles_granted : ℕ → ℕ → Step Slot → Mine → ℕ → Mine → Type 0
 settles_granted place ticket st m found m′ =
     (m′.0.number ≡ m.0.number)
-    × ((session number : ℕ) → st.word ≡ wait_word st.slots session → st.first ≡ wait_in number 1 →
+    × ((session number : ℕ) → st.word ≡ wait_word st.slots session → st.first ≡ wait_in number unsettled_state →
     TellsOwn st.slots session found m.0
-    × (found ≡ wait_in number 1 → m′ ≡ settled_granted st.slots place session ticket number m)
-    × (found ≢ wait_in number 1 → m′ ≡ missed_wait st.slots session found m))
+    × (found ≡ wait_in number unsettled_state → m′ ≡ settled_granted st.slots place session ticket number m)
+    × (found ≢ wait_in number unsettled_state → m′ ≡ missed_wait st.slots session found m))
 
 -- a wait is opened under the latch of its place
 abbrev pub opens_wait : ℕ → Mode → Step Slot → Mine → ℕ → Mine → Type 0
 opens_wait place mode st m found m′ =
-    (m′.0.number ≡ m.0.number) × (st.word ≡ wait_word st.slots m.0.number → st.first ≡ wait_in (m.0.waits + 1) 1 → m′ ≡ opened st.slots place mode m)
+    (m′.0.number ≡ m.0.number) × (st.word ≡ wait_word st.slots m.0.number → st.first ≡ wait_in (m.0.waits + 1) unsettled_state → m′ ≡ opened st.slots place mode m)
 
 -- a granted wait is ended
 abbrev pub ends_granted : Step Slot → Mine → ℕ → Mine → Type 0

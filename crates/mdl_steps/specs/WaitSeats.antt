@@ -15,12 +15,13 @@ use Rattle.mdl_steps.specs.Layout.{wait_word}
 use Rattle.mdl_steps.specs.Plays.{Mine}
 use Rattle.mdl_steps.specs.Rule.{Flagged}
 use Rattle.mdl_steps.specs.WaitPlays.{asked_ticket}
+use Rattle.mdl_steps.specs.WaitStates.{IsLost}
 
--- the wait word of a session stands among the words
+-- the wait word of a session is among the words
 abbrev pub IsSession : TableId → ℕ → Type 0
 IsSession id session = (0 < session) × (wait_word id.slots session < id.words)
 
--- the seat holds the latch of the place and may open a wait there: it has none yet, nor any fast ticket, and the flags tell of its ticket too
+-- the seat holds the latch of the place and may open a wait there: it has none yet, nor any fast ticket, and the flags are up that its ticket needs
 pub record MayOpen (place : ℕ) (mode : Mode) (h : Held) (m : Mine) : Type 0 where
   pub recorded : held_at place m.0.latches ≡ Some h
   pub idle : m.0.asks ≡ None
@@ -29,7 +30,7 @@ pub record MayOpen (place : ℕ) (mode : Mode) (h : Held) (m : Mine) : Type 0 wh
   pub mode_is : is_mode_of (lock_kind h.book) mode ≡ true
   pub flagged : Flagged (enqueueing (asked_ticket mode m.0) h.book) h.slow h.obtrusive
 
--- the seat holds the latch of the place, and the waiting ticket of a session there may stand beside all that is granted, and waits behind no
+-- the seat holds the latch of the place, and the waiting ticket of a session there is compatible with all that is granted, and waits behind no
 -- other waiting one
 pub record MayGrant (place session ticket : ℕ) (h : Held) (m : Mine) : Type 0 where
   pub recorded : held_at place m.0.latches ≡ Some h
@@ -43,7 +44,7 @@ pub record MayCancel (place : ℕ) (h : Held) (m : Mine) : Type 0 where
   pub recorded : held_at place m.0.latches ≡ Some h
   pub state : ℕ
   pub told : m.0.told ≡ Some state
-  pub lost : 2 < state
+  pub lost : IsLost state
   pub ask : Ask
   pub asks : m.0.asks ≡ Some ask
   pub here : ask.place ≡ place

@@ -23,7 +23,7 @@ pub struct BookCopy {
     pub granted: Vec<Ticket>,
     /// The waiting tickets, in order of arrival.
     pub waiting: Vec<Ticket>,
-    /// What stood under the key, and how often that was changed.
+    /// The definition under the key, if any, and how often that was changed.
     pub standing: Standing,
 }
 

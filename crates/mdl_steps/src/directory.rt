@@ -1,4 +1,4 @@
-//! The directory's latch: which key stands at which place.
+//! The directory's latch: which key has which place.
 ghost use Rattle.std.specs.Prelude.{◌≡◌, ◌≢◌, ℕ, ◌<◌, ◌∷◌, length, MatchOption};
 ghost use Rattle.mdl_steps.specs.declared.slot.Slot.TheVariants as slot;
 ghost use Rattle.mdl_steps.specs.declared.view.Keys.{Keys};
@@ -7,6 +7,7 @@ ghost use Rattle.mdl_steps.specs.Schemas.{StandThere, unknown};
 ghost use Rattle.mdl_steps.specs.Seats.{IsSized, HasDirectory, MayInform, learnt, rest};
 
 use crate::Known;
+use crate::layout::DIRECTORY_LATCH;
 use crate::plays::{Learning, PutDirectory, TakeDirectory};
 use crate::worker::{LockTable, Worker};
 use std::marker::Brand;
@@ -26,7 +27,12 @@ impl Worker {
             ((found : ℕ) × (found ≢ 0) × (self.new.seat.me ≡ missed_latch 0 found self.old.seat.me))
             (λ held. (k : Keys) × IsDirectory top.now.table_id.slots k self.old.seat.me × HasDirectory k self.new.seat.me × (self.new.seat.me ≡ consulted k self.old.seat.me)) }
     {
-        let found = top.compare_exchange::<TakeDirectory>(&mut self.seat, 0, 0, self.number as u64);
+        let found = top.compare_exchange::<TakeDirectory>(
+            &mut self.seat,
+            DIRECTORY_LATCH,
+            0,
+            self.number as u64,
+        );
         if found == 0 {
             Some(LatchedDirectory { marker: () })
         } else {
@@ -34,7 +40,7 @@ impl Worker {
         }
     }
 
-    /// Gives the directory's latch back. From then on the session knows the key that stands at a place, if one does; place 0 is none.
+    /// Gives the directory's latch back. From then on the session knows the key of a place, if it has one; place 0 has none.
     pub fn put_directory(&mut self, top: &LockTable, latch: LatchedDirectory, place: usize)
         requires table { (self.old.seat.table_id ≡ top.now.table_id) × IsSized top.now.table_id × (0 < top.now.table_id.slots) }
         requires put { MayInform self.old.seat.me }
@@ -52,7 +58,7 @@ impl Worker {
         ensures seat { (self.new.seat.table_id ≡ self.old.seat.table_id) × (self.new.number ≡ self.old.number) }
         ensures made { self.new.seat.me ≡ informed (learnt self.old.seat.me _place) self.old.seat.me }
     {
-        top.store::<PutDirectory<J>>(&mut self.seat, 0, 0);
+        top.store::<PutDirectory<J>>(&mut self.seat, DIRECTORY_LATCH, 0);
     }
     /// Gives the directory's latch back. From then on the session knows those of these keys that it didn't know.
     pub fn put_directory_telling(
@@ -77,6 +83,6 @@ impl Worker {
         ensures seat { (self.new.seat.table_id ≡ self.old.seat.table_id) × (self.new.number ≡ self.old.number) }
         ensures made { self.new.seat.me ≡ informed (unknown self.old.seat.me.0.known _known.now) self.old.seat.me }
     {
-        top.store::<PutDirectory<J>>(&mut self.seat, 0, 0);
+        top.store::<PutDirectory<J>>(&mut self.seat, DIRECTORY_LATCH, 0);
     }
 }

@@ -7,12 +7,13 @@ ghost use Rattle.mdl_word.specs.Words.{obtrusive_flag};
 ghost use Rattle.mdl_steps.specs.FastPlays.{met_word, missed_fast, granted_fast, released_fast, materialised, moved, numbered_else, with_granted, MayGrantFast, MayReleaseFast, MayMaterialise};
 ghost use Rattle.mdl_steps.specs.Seats.{IsSized, IsPlace, Holds, elsewhere};
 
+use crate::layout::lock_word;
 use crate::plays::{
     GrantFast, GrantingFast, Materialise, Materialising, ReadWordUnlatched, ReleaseFast,
     ReleasingFast,
 };
 use crate::view::Own;
-use crate::worker::{Latched, LockTable, Worker, lock_word};
+use crate::worker::{Latched, LockTable, Worker};
 use mdl_key::Mode;
 use mdl_word::Word;
 use std::marker::Brand;
@@ -31,7 +32,7 @@ impl Worker {
     /// A fast grant: if the place's word is still `word`, the session gets a fast ticket with its next number, and the word counts it from then
     /// on. Otherwise nothing changes. Returns the word that the exchange found.
     ///
-    /// `one` is what [`Word::increment`] returns for the mode. `noted` is the version that the session noted at the place, if any.
+    /// `one` is what [`Word::increment`] returns for the mode. `noted` is the version that the session noted under a ticket of the place, if it noted one.
     pub fn grant_fast(
         &mut self,
         top: &LockTable,

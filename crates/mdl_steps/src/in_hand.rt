@@ -21,7 +21,7 @@ use mdl_word::Word;
 use std::alloc::AllocError;
 
 impl Worker {
-    /// What the lists of the book in hand have to tell those who take fast tickets. Nothing changes.
+    /// Which flags of the place's word the lists of the book in hand need. Nothing changes.
     pub fn needs(&mut self, top: &LockTable, latch: &Latched) -> Needs
         requires table { self.old.seat.table_id ≡ top.now.table_id }
         requires carried { (book : BookView) × (self.old.seat.me.1 ≡ (latch.now.place, slot.Place book) ∷ rest self.old.seat.me.1) }
@@ -40,7 +40,8 @@ impl Worker {
         }
     }
 
-    /// Whether the book in hand lets the session's wish for a mode be granted, the place's word being `word`. Nothing changes.
+    /// Whether the book in hand lets the session's wish for a mode be granted, the place's word being `word`. All fast tickets that the
+    /// word counts are taken for those of other sessions. Nothing changes.
     pub fn can_grant(&mut self, top: &LockTable, latch: &Latched, mode: Mode, word: Word) -> bool
         requires table { self.old.seat.table_id ≡ top.now.table_id }
         requires carried { (book : BookView) × (self.old.seat.me.1 ≡ (latch.now.place, slot.Place book) ∷ rest self.old.seat.me.1) }
@@ -57,7 +58,7 @@ impl Worker {
         }
     }
 
-    /// The version of what stands by the book in hand. Nothing changes.
+    /// The version of the definition in the book in hand. Nothing changes.
     pub fn version(&mut self, top: &LockTable, latch: &Latched) -> u64
         requires table { self.old.seat.table_id ≡ top.now.table_id }
         requires carried { (book : BookView) × (self.old.seat.me.1 ≡ (latch.now.place, slot.Place book) ∷ rest self.old.seat.me.1) }
@@ -73,7 +74,7 @@ impl Worker {
         }
     }
 
-    /// Whether a definition stands by the book in hand. Nothing changes.
+    /// Whether the book in hand has a definition. Nothing changes.
     pub fn has_definition(&mut self, top: &LockTable, latch: &Latched) -> bool
         requires table { self.old.seat.table_id ≡ top.now.table_id }
         requires carried { (book : BookView) × (self.old.seat.me.1 ≡ (latch.now.place, slot.Place book) ∷ rest self.old.seat.me.1) }
@@ -89,7 +90,7 @@ impl Worker {
         }
     }
 
-    /// What stands by the book in hand, copied. Nothing changes, also where memory runs out.
+    /// The definition in the book in hand and its version, copied. Nothing changes, also if memory runs out.
     pub fn standing(&mut self, top: &LockTable, latch: &Latched) -> Result<Standing, AllocError>
         requires table { self.old.seat.table_id ≡ top.now.table_id }
         requires carried { (book : BookView) × (self.old.seat.me.1 ≡ (latch.now.place, slot.Place book) ∷ rest self.old.seat.me.1) }
@@ -185,7 +186,7 @@ impl Worker {
         }
     }
 
-    /// Changes what stands under the key of the book in hand, and answers its version, one greater than before. `Drop` takes no
+    /// Changes the definition in the book in hand, and returns its version, one greater than before. `Drop` takes no
     /// memory. The version's word follows with [`Worker::write_version`].
     pub fn write_change(
         &mut self,

@@ -1,14 +1,14 @@
 //! What the rule of the table comes to. Each law is proved as the contract of a function that does nothing.
 ghost use Rattle.mdl_steps.specs.RuleLaws.{FreeLocksAreAsTheirWordsTell, HeldLocksAreAsTheirRecordsTell, TakenLatchesAreHeld, NotedVersionsStand, ReadsAreOfWhatStands, WaitersAreAsTheirWordsTell, NobodyElseWaits};
 
-/// Whenever a lock's latch is free, its word counts exactly the fast tickets held, its two flags tell whether its lists hold any
+/// Whenever a lock's latch is free, its word counts exactly the fast tickets held, its two flags show whether its lists hold any
 /// ticket and an obtrusive one, and granted tickets of different sessions are compatible by the matrix. The rule holds between any two
 /// steps, so this does, whatever the interleaving.
 pub fn free_locks_are_as_their_words_tell()
     ensures { FreeLocksAreAsTheirWordsTell }
 {}
 
-/// While a session holds the latch, the same goes by its record of it, but that the flags may tell of more than there is.
+/// While a session holds the latch, the same goes by its record of it, but that a flag may be up without need.
 pub fn held_locks_are_as_their_records_tell()
     ensures { HeldLocksAreAsTheirRecordsTell }
 {}
@@ -18,18 +18,18 @@ pub fn taken_latches_are_held()
     ensures { TakenLatchesAreHeld }
 {}
 
-/// A version that a session noted under a ticket stands as long as it has that ticket: nobody else changes it meanwhile.
+/// A version that a session noted under a ticket is current as long as it has that ticket: nobody else changes it meanwhile.
 pub fn noted_versions_stand()
     ensures { NotedVersionsStand }
 {}
 
-/// What a session read in the version that stands is what stands, and each of its reads of that version is the same.
+/// What a session read in the current version is the definition, and each of its reads of that version is the same.
 pub fn reads_are_of_what_stands()
     ensures { ReadsAreOfWhatStands }
 {}
 
-/// Where a session waits, its wait's word tells how the wait stands, and its ticket is in the granted list of the lock's book where the
-/// wait was granted, and otherwise in the waiting list. Where it waits for nothing its word says so.
+/// While a session waits, its wait's word has the state of the wait, and its ticket is in the granted list of the lock's book if the wait
+/// was granted, and otherwise in the waiting list. If it waits for nothing, its word says so.
 pub fn waiters_are_as_their_words_tell()
     ensures { WaitersAreAsTheirWordsTell }
 {}

@@ -3,7 +3,7 @@
 //!
 //! A [`Worker`] is a session's seat. Each kind of step is a method; others read and write the book or the directory in hand, which is
 //! no step. The latch of a place is taken
-//! ([`Worker::take_latch`]), and the value that stands for it, [`Latched`], has to be given back ([`Worker::put_latch`]);
+//! ([`Worker::take_latch`]), and its value, [`Latched`], has to be given back ([`Worker::put_latch`]);
 //! meanwhile the session may raise flags of the lock's word ([`Worker::raise_flags`]), read it ([`Worker::read_word`]), and lower
 //! flags ([`Worker::lower_flags`]). Each keeps the rule ([`Order`]) in every interleaving of all sessions' steps, and is listed in
 //! the session's [`View`].
@@ -40,6 +40,7 @@ mod directory;
 mod fast_tickets;
 mod in_hand;
 mod laws;
+pub mod layout;
 mod list_copies;
 mod maker;
 mod naming;

@@ -3,10 +3,12 @@ ghost use Rattle.std.specs.Prelude.{◌≡◌, ℕ, ◌+◌, ◌^◌, ◌<◌, �
 ghost use Rattle.mdl_steps.specs.declared.step_kind.StepKind.TheVariants as step;
 ghost use Rattle.mdl_steps.specs.Cells.{blank, numbers_for, no_numbers};
 ghost use Rattle.mdl_steps.specs.Layout.{enrol_word, word_count};
+ghost use Rattle.mdl_steps.specs.Limits.{most_enrolled};
 ghost use Rattle.mdl_steps.specs.Openings.{IsOpening};
 ghost use Rattle.mdl_steps.specs.Plays.{logged};
 ghost use Rattle.mdl_steps.specs.Seats.{IsSized};
 
+use crate::layout::enrol_word;
 use crate::opening::{opening_slots, opening_words};
 use crate::plays::{Enrol, SplitOff};
 use crate::worker::{LockTable, Worker};
@@ -25,7 +27,7 @@ pub struct Maker {
     seat: Seat<Slot, View>,
     ghost first: { seat.id ≡ 0 },
     ghost idle: { seat.me ≡ (blank 0 (numbers_for most given given), []) },
-    ghost few: { (given ≤ most) × (most ≤ 1024) },
+    ghost few: { (given ≤ most) × (most ≤ most_enrolled) },
 }
 
 impl Maker {
@@ -36,7 +38,7 @@ impl Maker {
         sessions: usize,
     ) -> Result<(OwnedTable, Maker), AllocError>
         requires places { places + 1 < 2 ^ 32 }
-        requires sessions { sessions ≤ 1024 }
+        requires sessions { sessions ≤ most_enrolled }
         ensures { IfOk result (λ made. (made.0.shared.table_id.words ≡ word_count (places + 1) sessions) × (made.0.shared.table_id.slots ≡ places + 1)
             × (made.1.seat.table_id ≡ made.0.shared.table_id) × (made.1.most ≡ sessions) × (made.1.given ≡ 0)) }
     {
@@ -85,7 +87,7 @@ impl Maker {
         if self.given == self.most {
             return None;
         }
-        let number = top.fetch_add::<Enrol>(&mut self.seat, 8 * slots, 1);
+        let number = top.fetch_add::<Enrol>(&mut self.seat, enrol_word(slots), 1);
         let seat = top.split_seat::<SplitOff>(&mut self.seat);
         self.given += 1;
         Some(Worker {

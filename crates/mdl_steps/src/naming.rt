@@ -15,8 +15,9 @@ ghost use Rattle.mdl_steps.specs.Plays.{listing, named};
 ghost use Rattle.mdl_steps.specs.Seats.{IsSized, IsPlace, HasDirectory, MayName, place_among, rest, written};
 
 use crate::directory::LatchedDirectory;
+use crate::layout::latch_word;
 use crate::plays::PutKey;
-use crate::worker::{Latched, LockTable, Worker, latch_word};
+use crate::worker::{Latched, LockTable, Worker};
 use crate::{Directory, Slot};
 use mdl_book::Book;
 use mdl_key::Key;
@@ -32,7 +33,7 @@ impl Directory {
     }
 }
 
-// Where a key stands among others.
+// The index of a key among others.
 fn index_of(keys: &[Key], key: &Key) -> Option<usize>
     ensures here { result ≡ position (λ other. key_eq other key.now) keys.now }
     ensures inside { IfSome result (λ index. index < length keys.now) }

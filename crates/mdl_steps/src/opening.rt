@@ -1,7 +1,9 @@
 //! What a table is made of, before any session has a number.
 ghost use Rattle.std.specs.Prelude.{◌≡◌, ◌^◌, ◌<◌, ◌≤◌, IfOk};
+ghost use Rattle.mdl_steps.specs.Limits.{most_enrolled};
 ghost use Rattle.mdl_steps.specs.Openings.{opening_words, opening_slots};
 
+use crate::layout::{enrol_word, word_count};
 use crate::{Directory, Slot};
 use mdl_book::Book;
 use mdl_key::Key;
@@ -14,11 +16,11 @@ pub(crate) fn opening_words(
     sessions: usize,
 ) -> Result<Vec<u64>, AllocError>
     requires slots { slots < 2 ^ 32 }
-    requires sessions { sessions ≤ 1024 }
+    requires sessions { sessions ≤ most_enrolled }
     ensures { IfOk result (λ words. words.items ≡ opening_words slots sessions) }
 {
-    let mut words = vec![in alloc; 0; 8 * slots + 16 + 8 * sessions]?;
-    words[8 * slots] = 1;
+    let mut words = vec![in alloc; 0; word_count(slots, sessions)]?;
+    words[enrol_word(slots)] = 1;
     Ok(words)
 }
 

@@ -1,4 +1,4 @@
-//! The rule of the table, and what each kind of step tells its session.
+//! The rule of the table, and what each kind of step lets its session know.
 ghost use Rattle.std.specs.Prelude.{ℕ, List, [], Option, None};
 ghost use Rattle.mdl_key.specs.declared.mode.Mode.{Mode};
 ghost use Rattle.mdl_key.specs.declared.mode.Mode.TheVariants.{S};
@@ -15,7 +15,7 @@ use crate::{Slot, View};
 use atomic_table::{Play, Split, TableRule};
 use std::marker::{Brand, PhantomData};
 
-/// The rule of the table. It is told how many sessions there may be.
+/// The rule of the table. Its parameter is how many sessions there may be.
 pub struct Order;
 
 impl TableRule<Slot, View, usize> for Order {
@@ -87,7 +87,7 @@ impl<J: Doing> Play<Slot, View> for PutLatch<J> {
     ghost then = { puts_latch J.deeds };
 }
 
-/// A latch is given back, and what stands there was read.
+/// A latch is given back, and the definition was read.
 pub(crate) struct PutReading;
 
 impl Play<Slot, View> for PutReading {

@@ -3,7 +3,7 @@ use mdl_book::Book;
 use mdl_key::Key;
 use std::marker::Model;
 
-/// Which key stands at which place: the keys in the order of their places, from place 1 on.
+/// Which key has which place: the keys in the order of their places, from place 1 on.
 #[derive(Drop)]
 pub struct Directory {
     /// The keys.

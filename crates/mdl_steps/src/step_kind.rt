@@ -1,6 +1,6 @@
 //! The kinds of step.
 
-/// What a step of a session did. Which place, or whose wait, it was on is told by the word beside it: the directory's latch is that of place 0.
+/// What a step of a session did. The word beside it says at which place, or on whose wait: the directory's latch is that of place 0.
 #[derive(Clone, Copy, Debug, PartialEq, Eq)]
 pub enum StepKind {
     /// A number was drawn for one more session.

@@ -55,7 +55,7 @@ pub struct Keys {
 pub struct Read {
     /// The place of the lock.
     pub place: usize,
-    /// What stood there, and its version.
+    /// The definition that it had, if any, and its version.
     pub standing: Standing,
 }
 
@@ -87,7 +87,7 @@ pub struct Met {
     /// What the session did to its own tickets at the step, the first one first: the deeds that a latch was given back or flags
     /// were lowered after, the gain of a fast grant, and the loss of a fast release. No other step has any.
     pub deeds: [Deed; 0],
-    /// Which word it was on. It tells the place and, for a wait's word, the session.
+    /// Which word it was on, that is, at which place, or on which session's wait.
     pub word: usize,
     /// What the word was just before. A store doesn't read the word: there it is what the rule says that the word was.
     pub found: u64,
@@ -129,7 +129,7 @@ pub struct View {
     pub settles: [Settlement; 0],
     /// Its tickets that are only counted.
     pub fast: [Own; 0],
-    /// Its tickets that stand in books.
+    /// Its tickets that are in books.
     pub slow: [Own; 0],
     /// The records of the latches that it holds, the last one first.
     pub latches: [Held; 0],

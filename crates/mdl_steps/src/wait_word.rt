@@ -1,7 +1,6 @@
 //! The word of a session's wait.
-ghost use Rattle.std.specs.Prelude.{◌≡◌, ◌<◌, ◌^◌, ◌/◌, ◌%◌};
-ghost use Rattle.mdl_steps.specs.WaitPlays.{wait_in};
-ghost use Rattle.mdl_steps.specs.WaitStates.{lost_state};
+ghost use Rattle.std.specs.Prelude.{◌≡◌, ◌<◌, ◌^◌};
+ghost use Rattle.mdl_steps.specs.WaitStates.{lost_state, wait_in, wait_number, wait_state};
 
 /// The word of a session's wait, as a step met it: eight times the number of the session's last wait and a state.
 #[derive(Clone, Copy, Debug, PartialEq, Eq)]
@@ -25,17 +24,23 @@ impl WaitWord {
     pub const UNSETTLED: u64 = 1;
     /// The state of a wait that was granted and isn't ended.
     pub const GRANTED: u64 = 2;
+    /// The state of a wait that was lost as the victim of a deadlock and isn't ended.
+    pub const VICTIM: u64 = 3;
+    /// The state of a wait that was lost by its timeout and isn't ended.
+    pub const TIMEOUT: u64 = 4;
+    /// The state of a wait that was lost since a session killed it, and isn't ended.
+    pub const KILLED: u64 = 5;
 
     /// The number of the session's last wait, or 0 before the first.
     pub fn number(self) -> u64
-        ensures { result ≡ self.0 / 8 }
+        ensures { result ≡ wait_number self.0 }
     {
         self.0 / 8
     }
 
-    /// The state: one of the above, or how the wait was lost, as [`Loss::state`] has it.
+    /// The state: one of the above.
     pub fn state(self) -> u64
-        ensures { result ≡ self.0 % 8 }
+        ensures { result ≡ wait_state self.0 }
     {
         self.0 % 8
     }
@@ -47,9 +52,9 @@ impl Loss {
         ensures { result ≡ lost_state self }
     {
         match self {
-            Loss::Victim => 3,
-            Loss::Timeout => 4,
-            Loss::Killed => 5,
+            Loss::Victim => WaitWord::VICTIM,
+            Loss::Timeout => WaitWord::TIMEOUT,
+            Loss::Killed => WaitWord::KILLED,
         }
     }
 }

@@ -3,12 +3,12 @@ ghost use Rattle.std.specs.Prelude.{◌≡◌, ◌≢◌, ℕ, ◌+◌, ◌*◌,
 ghost use Rattle.mdl_book.specs.declared.book_view.BookView.{BookView};
 ghost use Rattle.mdl_steps.specs.declared.view.Ask.{Ask};
 ghost use Rattle.mdl_steps.specs.declared.view.Held.{Held};
-ghost use Rattle.mdl_steps.specs.Layout.{wait_word};
 ghost use Rattle.mdl_steps.specs.Seats.{IsSized, IsPlace, Holds, elsewhere};
-ghost use Rattle.mdl_steps.specs.WaitPlays.{wait_in, met_wait, missed_wait, opened, settled_lost, settled_granted, ended_granted, ended_lost, asked_ticket, with_waiting, with_admitted, with_cancelled, TellsOwn};
+ghost use Rattle.mdl_steps.specs.WaitPlays.{met_wait, missed_wait, opened, settled_lost, settled_granted, ended_granted, ended_lost, asked_ticket, with_waiting, with_admitted, with_cancelled, TellsOwn};
 ghost use Rattle.mdl_steps.specs.WaitSeats.{IsSession, MayOpen, MayGrant, MayCancel};
-ghost use Rattle.mdl_steps.specs.WaitStates.{lost_state};
+ghost use Rattle.mdl_steps.specs.WaitStates.{granted_state, lost_state, unsettled_state, wait_in};
 
+use crate::layout::wait_word;
 use crate::plays::{
     EndGranted, EndLost, GrantWait, Granting, OpenWait, ReadWait, SettleLost, Wishing,
 };
@@ -77,7 +77,7 @@ impl Worker {
         WaitWord(top.load::<ReadWait>(&mut self.seat, wait_word(slots, session)))
     }
 
-    /// Settles a wait of a session as lost, if it is the session's last one and unsettled, and answers the word that was met. No latch
+    /// Settles a wait of a session as lost, if it is the session's last one and unsettled, and returns the word that was met. No latch
     /// is needed: the ticket waits on until its session ends the wait.
     pub fn settle_wait(
         &mut self,
@@ -91,8 +91,8 @@ impl Worker {
         requires session { (slots ≡ top.now.table_id.slots) × IsSession top.now.table_id session }
         requires wait { wait < 2 ^ 61 }
         ensures seat { (self.new.seat.table_id ≡ self.old.seat.table_id) × (self.new.number ≡ self.old.number) }
-        ensures settled { result.0 ≡ wait_in wait 1 → self.new.seat.me ≡ settled_lost slots session wait (lost_state how) self.old.seat.me }
-        ensures missed { result.0 ≢ wait_in wait 1 → self.new.seat.me ≡ missed_wait slots session result.0 self.old.seat.me }
+        ensures settled { result.0 ≡ wait_in wait unsettled_state → self.new.seat.me ≡ settled_lost slots session wait (lost_state how) self.old.seat.me }
+        ensures missed { result.0 ≢ wait_in wait unsettled_state → self.new.seat.me ≡ missed_wait slots session result.0 self.old.seat.me }
         ensures own { TellsOwn slots session result.0 self.old.seat.me.0 }
     {
         let open = word_in(wait, WaitWord::UNSETTLED);
@@ -105,7 +105,7 @@ impl Worker {
         ))
     }
 
-    /// Grants a wait of a session, whose ticket waits at the place, if the wait is unsettled, and answers the word that was met.
+    /// Grants a wait of a session, whose ticket waits at the place, if the wait is unsettled, and returns the word that was met.
     pub fn grant_wait(
         &mut self,
         top: &LockTable,
@@ -121,10 +121,10 @@ impl Worker {
         requires granted { (h : Held) × MayGrant latch.now.place session ticket h self.old.seat.me }
         requires wait { wait < 2 ^ 61 }
         ensures seat { (self.new.seat.table_id ≡ self.old.seat.table_id) × (self.new.number ≡ self.old.number) }
-        ensures granted { result.0 ≡ wait_in wait 1 → self.new.seat.me ≡ settled_granted slots latch.now.place session ticket wait self.old.seat.me }
-        ensures keeps { result.0 ≡ wait_in wait 1 → (h : Held) (book : BookView) → Holds latch.now.place h book self.old.seat.me
+        ensures granted { result.0 ≡ wait_in wait unsettled_state → self.new.seat.me ≡ settled_granted slots latch.now.place session ticket wait self.old.seat.me }
+        ensures keeps { result.0 ≡ wait_in wait unsettled_state → (h : Held) (book : BookView) → Holds latch.now.place h book self.old.seat.me
             → Holds latch.now.place (with_admitted session ticket h) book self.new.seat.me }
-        ensures missed { result.0 ≢ wait_in wait 1 → self.new.seat.me ≡ missed_wait slots session result.0 self.old.seat.me }
+        ensures missed { result.0 ≢ wait_in wait unsettled_state → self.new.seat.me ≡ missed_wait slots session result.0 self.old.seat.me }
         ensures own { TellsOwn slots session result.0 self.old.seat.me.0 }
         ensures apart { elsewhere latch.now.place self.new.seat.me ≡ elsewhere latch.now.place self.old.seat.me }
     {
@@ -147,10 +147,10 @@ impl Worker {
         requires wait { wait < 2 ^ 61 }
         requires picked { (latch.now.place ≡ J.place) × (ticket ≡ J.ticket) }
         ensures seat { (self.new.seat.table_id ≡ self.old.seat.table_id) × (self.new.number ≡ self.old.number) }
-        ensures granted { result.0 ≡ wait_in wait 1 → self.new.seat.me ≡ settled_granted slots latch.now.place session ticket wait self.old.seat.me }
-        ensures keeps { result.0 ≡ wait_in wait 1 → (h : Held) (book : BookView) → Holds latch.now.place h book self.old.seat.me
+        ensures granted { result.0 ≡ wait_in wait unsettled_state → self.new.seat.me ≡ settled_granted slots latch.now.place session ticket wait self.old.seat.me }
+        ensures keeps { result.0 ≡ wait_in wait unsettled_state → (h : Held) (book : BookView) → Holds latch.now.place h book self.old.seat.me
             → Holds latch.now.place (with_admitted session ticket h) book self.new.seat.me }
-        ensures missed { result.0 ≢ wait_in wait 1 → self.new.seat.me ≡ missed_wait slots session result.0 self.old.seat.me }
+        ensures missed { result.0 ≢ wait_in wait unsettled_state → self.new.seat.me ≡ missed_wait slots session result.0 self.old.seat.me }
         ensures own { TellsOwn slots session result.0 self.old.seat.me.0 }
         ensures apart { elsewhere latch.now.place self.new.seat.me ≡ elsewhere latch.now.place self.old.seat.me }
     {
@@ -168,7 +168,7 @@ impl Worker {
     pub fn end_granted(&mut self, top: &LockTable, slots: usize, wait: u64)
         requires table { (self.old.seat.table_id ≡ top.now.table_id) × IsSized top.now.table_id }
         requires session { (slots ≡ top.now.table_id.slots) × IsSession top.now.table_id self.old.number }
-        requires told { self.old.seat.me.0.told ≡ Some 2 }
+        requires told { self.old.seat.me.0.told ≡ Some granted_state }
         requires wait { (wait ≡ self.old.seat.me.0.waits) × (wait < 2 ^ 60) }
         ensures seat { (self.new.seat.table_id ≡ self.old.seat.table_id) × (self.new.number ≡ self.old.number) }
         ensures made { self.new.seat.me ≡ ended_granted slots self.old.seat.me }
@@ -194,12 +194,4 @@ impl Worker {
         let word = word_in(wait, WaitWord::IDLE);
         top.store::<EndLost>(&mut self.seat, wait_word(slots, self.number), word);
     }
-}
-
-// The word of a session's wait.
-fn wait_word(slots: usize, session: u16) -> usize
-    requires { slots < 2 ^ 32 }
-    ensures { result ≡ wait_word slots session }
-{
-    8 * slots + 8 + 8 * (session as usize)
 }

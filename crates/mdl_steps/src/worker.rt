@@ -5,10 +5,10 @@ ghost use Rattle.mdl_steps.specs.declared.slot.Slot.TheVariants as slot;
 ghost use Rattle.mdl_steps.specs.declared.step_kind.StepKind.TheVariants as step;
 ghost use Rattle.mdl_steps.specs.declared.view.Held.{Held};
 ghost use Rattle.mdl_steps.specs.Cells.{held_at};
-ghost use Rattle.mdl_steps.specs.Layout.{latch_word, lock_word, version_word};
 ghost use Rattle.mdl_steps.specs.Plays.{IsFresh, latched, unlatched, missed_latch, stepped, settled, raised, noting, lowered, redefined, restood, read_and_put};
 ghost use Rattle.mdl_steps.specs.Seats.{IsSized, IsPlace, IsRising, Holds, MayPut, MayLower, MayWriteVersion, rest, elsewhere};
 
+use crate::layout::{latch_word, lock_word, version_word};
 use crate::plays::{
     Doing, LowerFlags, Order, PutLatch, PutReading, RaiseFlags, ReadWord, TakeLatch, WriteVersion,
 };
@@ -17,7 +17,19 @@ use atomic_table::{Seat, Shared};
 use mdl_word::Word;
 use std::marker::Brand;
 
-/// The table as its sessions see it.
+/// The table as its sessions see it: its words, and a slot for each place. Slot 0 has the directory, each other the book of its place.
+///
+/// Eight words make a line, as long as a cache line. With `n` slots the words are:
+///
+/// | index                 | name           | what it holds |
+/// |-----------------------|----------------|---------------|
+/// | `8 * place`           | `latch_word`   | the number of the session that holds the latch of the place, or 0. Place 0 is the directory's |
+/// | `8 * place + 1`       | `lock_word`    | the word of the lock at the place: a [`Word`](mdl_word::Word) |
+/// | `8 * place + 2`       | `version_word` | the version of what is defined under the key of the place |
+/// | `8 * n`               | `enrol_word`   | the number that the next session gets |
+/// | `8 * n + 8 + 8 * s`   | [`wait_word`]  | the last wait of session `s`, from 1 on, and its state: a [`WaitWord`](crate::WaitWord) |
+///
+/// No step touches the words between.
 pub type LockTable = Shared<Slot, View, usize, Order>;
 
 /// A session's seat at the table, and its number.
@@ -104,8 +116,8 @@ impl Worker {
         Word(top.load::<ReadWord>(&mut self.seat, lock_word(latch.place)))
     }
 
-    /// Writes the version of the book in hand, in which the session has changed what stands under the key. From then on it knows that
-    /// version, under each ticket that it has there, and has read what stands.
+    /// Writes the version of the book in hand, in which the session has changed the definition. From then on it has noted that version
+    /// under each ticket that it has there, and has read the definition.
     pub fn write_version(&mut self, top: &LockTable, latch: &Latched)
         requires table { (self.old.seat.table_id ≡ top.now.table_id) × IsSized top.now.table_id }
         requires place { IsPlace top.now.table_id latch.now.place }
@@ -120,7 +132,7 @@ impl Worker {
         top.store::<WriteVersion>(&mut self.seat, version_word(latch.place), version);
     }
 
-    /// Leaves just these flags of the place's word up, after some deeds that stand in the book in hand.
+    /// Leaves just these flags of the place's word up, after some deeds that are in the book in hand.
     pub fn lower_flags(
         &mut self,
         top: &LockTable,
@@ -166,7 +178,7 @@ impl Worker {
         );
     }
 
-    /// Gives the latch back, after some deeds that stand in the book in hand.
+    /// Gives the latch back, after some deeds that are in the book in hand.
     pub fn put_latch(&mut self, top: &LockTable, latch: Latched, deeds: &[Deed])
         requires table { (self.old.seat.table_id ≡ top.now.table_id) × IsSized top.now.table_id }
         requires place { IsPlace top.now.table_id latch.place }
@@ -178,7 +190,7 @@ impl Worker {
         self.put_latch_after::<Brand>(top, place, deeds);
     }
 
-    /// Gives the latch back with nothing changed. The session has read what stands by the book in hand, and notes its version under each
+    /// Gives the latch back with nothing changed. The session has read the definition in the book in hand, and notes its version under each
     /// ticket that it has there.
     pub fn put_latch_reading(&mut self, top: &LockTable, latch: Latched)
         requires table { (self.old.seat.table_id ≡ top.now.table_id) × IsSized top.now.table_id }
@@ -202,28 +214,4 @@ impl Worker {
     {
         top.store::<PutLatch<J>>(&mut self.seat, latch_word(place), 0);
     }
-}
-
-// The word of a place's latch.
-pub(crate) fn latch_word(place: usize) -> usize
-    requires { place < 2 ^ 32 }
-    ensures { result ≡ latch_word place }
-{
-    8 * place
-}
-
-// The word of a place's lock.
-pub(crate) fn lock_word(place: usize) -> usize
-    requires { place < 2 ^ 32 }
-    ensures { result ≡ lock_word place }
-{
-    8 * place + 1
-}
-
-// The word of a place's version.
-fn version_word(place: usize) -> usize
-    requires { place < 2 ^ 32 }
-    ensures { result ≡ version_word place }
-{
-    8 * place + 2
 }

@@ -22,7 +22,8 @@ use Rattle.mdl_system.proofs.BookLemmas.{changes-by_lists, grantable-by_lists}
 use Rattle.mdl_system.proofs.Deciding.{key_told}
 use Rattle.mdl_system.proofs.MemberLemmas.{push-gains}
 use Rattle.mdl_steps_laws.specs.Locks.{Lock, Tells, granted_of, versioned}
-use Rattle.mdl_steps_laws.specs.DeedLaws.{Does, IsOnly, MayBeJoined, MayTake, LosingReleases, GainingGrants, GainingClones, AlteringDowngrades, AlteringUpgrades}
+use Rattle.mdl_steps_laws.specs.TableLaws.{IsOnly}
+use Rattle.mdl_steps_laws.proofs.DeedLaws.{Does, MayBeJoined, MayTake, LosingReleases, GainingGrants, GainingClones, AlteringDowngrades, AlteringUpgrades}
 use Rattle.mdl_steps_laws.proofs.TicketMembers.{loses-behind, replaces-behind, found-passes, found-apart, without-loses, with_mode-replaces}
 
 -- deeds leave what stands

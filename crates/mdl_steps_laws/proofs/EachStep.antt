@@ -44,8 +44,7 @@ use Rattle.mdl_steps_laws.specs.FastLaws.{after_word, word_at}
 use Rattle.mdl_steps_laws.specs.Headline.{HasPlace}
 use Rattle.mdl_steps_laws.specs.RestLaws.{IsRest, after_giving, after_step, after_taking}
 use Rattle.mdl_steps_laws.specs.SessionSteps.{Makes, Turn}
-use Rattle.mdl_steps_laws.specs.StepEvents.{BringsDeeds, IsOf}
-use Rattle.mdl_steps_laws.specs.StepLaws.{after_lowering, after_put, after_writing}
+use Rattle.mdl_steps_laws.specs.StepEvents.{BringsDeeds, IsOf, after_lowering, after_put, after_writing}
 use Rattle.mdl_steps_laws.specs.WaitLaws.{Brings, Rests, after_wait, lost_as}
 use Rattle.mdl_steps_laws.specs.WaitsTold.{code_of}
 use Rattle.mdl_steps_laws.proofs.FastEvents.{granting_fast_grants, only_passes, releasing_fast_releases}

@@ -1,3 +1,6 @@
+pub mod DeedLaws
+pub mod StepLaws
+pub mod ToldLaws
 pub mod DeedEvents
 pub mod Merging
 pub mod OneLock

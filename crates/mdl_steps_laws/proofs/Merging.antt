@@ -13,7 +13,8 @@ use Rattle.mdl_system.specs.Events.{Loses, Replaces}
 use Rattle.mdl_system.specs.Systems.{Holding, System, HasNoWait, Held}
 use Rattle.mdl_system.proofs.Deciding.{key_told}
 use Rattle.mdl_steps_laws.specs.Locks.{Lock, granted_of}
-use Rattle.mdl_steps_laws.specs.DeedLaws.{Does, IsOnly, MovingMerges}
+use Rattle.mdl_steps_laws.proofs.DeedLaws.{Does, MovingMerges}
+use Rattle.mdl_steps_laws.specs.TableLaws.{IsOnly}
 use Rattle.mdl_steps_laws.proofs.DeedEvents.{held_by_own, granted_after, rest}
 use Rattle.mdl_steps_laws.proofs.TicketMembers.{loses-behind, replaces-behind, found-passes, found-apart, without-loses, with_mode-replaces}
 

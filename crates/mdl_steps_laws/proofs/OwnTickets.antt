@@ -24,9 +24,8 @@ use Rattle.mdl_steps.proofs.Views.{at_unmap, by_bool}
 use Rattle.mdl_system.specs.BookLaws.{in_book, of_lock}
 use Rattle.mdl_system.proofs.MemberLemmas.{Contains-none, Contains-map, Contains-map_from}
 use Rattle.mdl_system.proofs.OrderLemmas.{Contains-cons_cases, Contains-here, Contains-later}
-use Rattle.mdl_steps_laws.specs.DeedLaws.{IsOnly}
 use Rattle.mdl_steps_laws.specs.Locks.{Lock, granted_of}
-use Rattle.mdl_steps_laws.specs.TableLaws.{NextNumbersAreNew, OwnTicketsAreHeld}
+use Rattle.mdl_steps_laws.specs.TableLaws.{IsOnly, NextNumbersAreNew, OwnTicketsAreHeld}
 use Rattle.mdl_steps_laws.proofs.Keeping.{filter_among, filter_passes}
 use Rattle.mdl_steps_laws.proofs.TableLocks.{find_key, into_rule, is_placed, placed}
 use Rattle.mdl_steps_laws.proofs.TicketMembers.{found-passes, none-passes}

@@ -10,7 +10,7 @@ use Rattle.mdl_system.specs.Systems.{System, Versioned}
 use Rattle.mdl_system.proofs.Deciding.{key_told}
 use Rattle.std.specs.Prelude.{Contains}
 use Rattle.mdl_steps_laws.specs.Locks.{Lock, granted_of, versioned}
-use Rattle.mdl_steps_laws.specs.DeedLaws.{Turns, RedefiningChanges}
+use Rattle.mdl_steps_laws.proofs.DeedLaws.{Turns, RedefiningChanges}
 use Rattle.mdl_steps_laws.proofs.DeedEvents.{held_by_own}
 
 -- where the granted tickets of a lock stay, those of the system do

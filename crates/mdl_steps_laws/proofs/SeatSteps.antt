@@ -26,7 +26,8 @@ use Rattle.mdl_steps.proofs.Books.{all_done_fast}
 use Rattle.mdl_steps.proofs.Views.{at_inside, by_bool, held_at-changed, held_at-unchanged, held_at-undropped}
 use Rattle.mdl_system.specs.Events.{SameElsewhere}
 use Rattle.mdl_steps_laws.specs.Locks.{Lock, AreKeysOf, AreLocksOf, IsBookAt}
-use Rattle.mdl_steps_laws.specs.StepLaws.{LoweringDoes, PuttingDoes, WritingRedefines, after_put}
+use Rattle.mdl_steps_laws.proofs.StepLaws.{LoweringDoes, PuttingDoes, WritingRedefines}
+use Rattle.mdl_steps_laws.specs.StepEvents.{after_put}
 use Rattle.mdl_steps_laws.proofs.OneLock.{one_lock}
 use Rattle.mdl_steps_laws.proofs.TableLocks.{first_place, into_rule, last_place, ruled_book}
 

@@ -31,10 +31,10 @@ use Rattle.mdl_system.specs.BookLaws.{of_lock}
 use Rattle.mdl_system.specs.Events.{IsNewNumber}
 use Rattle.mdl_system.specs.Systems.{System, Held as IsHeld, lock_kind}
 use Rattle.mdl_system.proofs.Deciding.{key_told}
-use Rattle.mdl_steps_laws.specs.DeedLaws.{Does, IsOnly, MayTake}
+use Rattle.mdl_steps_laws.proofs.DeedLaws.{Does, MayTake}
 use Rattle.mdl_steps_laws.specs.Locks.{Lock, AreKeysOf, IsOfNoWait, granted_of}
-use Rattle.mdl_steps_laws.specs.StepEvents.{BringsDeeds, IsOf, LoweringBrings, PuttingBrings, WritingBrings}
-use Rattle.mdl_steps_laws.specs.StepLaws.{after_lowering, after_put}
+use Rattle.mdl_steps_laws.specs.StepEvents.{BringsDeeds, IsOf, LoweringBrings, PuttingBrings, WritingBrings, after_lowering, after_put}
+use Rattle.mdl_steps_laws.specs.TableLaws.{IsOnly}
 use Rattle.mdl_steps_laws.specs.WaitLaws.{IsTold, Rests}
 use Rattle.mdl_steps_laws.proofs.DeedEvents.{altering_downgrades, altering_upgrades, gaining_clones, gaining_grants, losing_releases}
 use Rattle.mdl_steps_laws.proofs.FastEvents.{no_wait}

@@ -27,9 +27,9 @@ use Rattle.mdl_system.specs.Systems.{Holding, System, Unsettled, Waiter, lock_ki
 use Rattle.mdl_system.proofs.BookLemmas.{lawful-by_lists}
 use Rattle.mdl_system.proofs.Deciding.{key_told, nat_told}
 use Rattle.mdl_system.proofs.MemberLemmas.{Contains-none, Contains-map, Contains-map_from, Contains-flat_map, Contains-flat_map_from}
-use Rattle.mdl_steps_laws.specs.DeedLaws.{MayBeJoined}
+use Rattle.mdl_steps_laws.proofs.DeedLaws.{MayBeJoined, HoldersMayJoin}
 use Rattle.mdl_steps_laws.specs.Locks.{Lock, IsBookAt, AreKeysOf, AreLocksOf, granted_of, empty_lock, versioned}
-use Rattle.mdl_steps_laws.specs.TableLaws.{RunningTablesTellASystem, RunningTablesAreLawful, HoldersMayJoin}
+use Rattle.mdl_steps_laws.specs.TableLaws.{RunningTablesTellASystem, RunningTablesAreLawful}
 
 -- ---- keys in a list
 

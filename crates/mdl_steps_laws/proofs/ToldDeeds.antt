@@ -19,10 +19,10 @@ use Rattle.mdl_steps.specs.Plays.{redefined, settled, unlatched}
 use Rattle.mdl_steps.specs.Rule.{Rule}
 use Rattle.mdl_system.specs.Events.{SameElsewhere}
 use Rattle.mdl_system.proofs.Deciding.{key_told}
-use Rattle.mdl_steps_laws.specs.DeedLaws.{lock_after, lock_redefined}
+use Rattle.mdl_steps_laws.proofs.DeedLaws.{lock_after, lock_redefined}
 use Rattle.mdl_steps_laws.specs.Locks.{Lock, AreLocksOf}
-use Rattle.mdl_steps_laws.specs.StepLaws.{after_lowering, after_put, after_writing}
-use Rattle.mdl_steps_laws.specs.ToldDeeds.{LoweringIsDone, PuttingIsDone, WritingIsDone}
+use Rattle.mdl_steps_laws.specs.StepEvents.{after_lowering, after_put, after_writing}
+use Rattle.mdl_steps_laws.proofs.ToldLaws.{LoweringIsDone, PuttingIsDone, WritingIsDone}
 use Rattle.mdl_steps_laws.proofs.SeatSteps.{lowering_does, putting_does, writing_redefines}
 use Rattle.mdl_steps_laws.proofs.TableLocks.{find_key, first_place, into_rule, last_place, same_book, same_keys}
 use Rattle.mdl_steps_laws.proofs.WaitEvents.{in_locks, inside}

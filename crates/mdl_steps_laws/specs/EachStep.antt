@@ -1,5 +1,5 @@
--- Whatever step is made, by whichever session, is one event of the system that the table tells, or does nothing there: which event, by the kind of
--- step. Where the step is at a place, the event is one of the place's key.
+-- Whatever step is made, by whichever session, is one event of the table's system, or does nothing there: which event, by the kind of step. If the
+-- step is at a place, the event is one of the place's key.
 use Rattle.std.specs.Prelude.{◌≡◌, ◌≢◌, ◌⊎◌, ℕ, suc, ◌+◌, ◌-◌, ◌%◌, ◌^◌, ◌<◌, false, List, [], length, Some}
 use mathlib.Core.Option.{some}
 use lib.ListN.{get_elem?}
@@ -21,9 +21,9 @@ use Rattle.mdl_steps.specs.Layout.{enrol_word}
 use Rattle.mdl_steps.specs.Plays.{Mine}
 use Rattle.mdl_steps.specs.Rule.{Rule}
 use Rattle.mdl_steps.specs.Seats.{MayInform}
-use Rattle.mdl_steps.specs.WaitPlays.{asked_ticket, wait_in}
+use Rattle.mdl_steps.specs.WaitPlays.{asked_ticket}
 use Rattle.mdl_steps.specs.WaitSeats.{MayCancel, MayGrant, MayOpen}
-use Rattle.mdl_steps.specs.WaitStates.{lost_state}
+use Rattle.mdl_steps.specs.WaitStates.{granted_state, idle_state, lost_state, unsettled_state, wait_in}
 use Rattle.mdl_system.specs.BookLaws.{of_lock}
 use Rattle.mdl_system.specs.Events.{BeginWait, ChangeDefinition, EndGrantedWait, EndLostWait, Grant, GrantWaiter, Release, SameSystem, SettleLost, Step as SystemStep}
 use Rattle.mdl_system.specs.Systems.{System, Unsettled, WaitState}
@@ -76,15 +76,15 @@ IsWhole s left act (Makes.LowersFlags place _ _ _ _ _ _ _) = HasPlace s place ×
 IsWhole s left act {st} {m} {found} (Makes.ReadsWord place _ _) = HasPlace s place × HasLatch place m × Meets found left act
 IsWhole s left act (Makes.WritesVersion place may _ _) = HasPlace s place × Writes (standing_after may.1 may.0.book.standing).version left act
 IsWhole s left act {st} {m} (Makes.OpensWait place mode _ _ _) =
-    HasPlace s place × ((h : Held) × MayOpen place mode h m) × Writes (wait_in (m.0.waits + 1) 1) left act
+    HasPlace s place × ((h : Held) × MayOpen place mode h m) × Writes (wait_in (m.0.waits + 1) unsettled_state) left act
 IsWhole s left act {st} {m} {found} (Makes.ReadsWait _ _ _) = Meets found left act
 IsWhole s left act {st} {m} {found} (Makes.SettlesLost session number state _ _ _ _) =
-    (0 < session) × ((how : Loss) × (state ≡ lost_state how)) × Swaps (wait_in number 1) (wait_in number state) found left act
+    (0 < session) × ((how : Loss) × (state ≡ lost_state how)) × Swaps (wait_in number unsettled_state) (wait_in number state) found left act
 IsWhole s left act {st} {m} {found} (Makes.SettlesGranted place ticket session number _ _ _) =
-    HasPlace s place × (0 < session) × ((h : Held) × MayGrant place session ticket h m) × Swaps (wait_in number 1) (wait_in number 2) found left act
-IsWhole s left act {st} {m} (Makes.EndsGranted _ _) = (0 < m.0.number) × (m.0.told ≡ Some 2) × Writes (wait_in m.0.waits 0) left act
+    HasPlace s place × (0 < session) × ((h : Held) × MayGrant place session ticket h m) × Swaps (wait_in number unsettled_state) (wait_in number granted_state) found left act
+IsWhole s left act {st} {m} (Makes.EndsGranted _ _) = (0 < m.0.number) × (m.0.told ≡ Some granted_state) × Writes (wait_in m.0.waits idle_state) left act
 IsWhole s left act {st} {m} (Makes.EndsLost a state _ _ _ _) =
-    HasPlace s a.place × ((h : Held) × MayCancel a.place h m) × Writes (wait_in m.0.waits 0) left act
+    HasPlace s a.place × ((h : Held) × MayCancel a.place h m) × Writes (wait_in m.0.waits idle_state) left act
 IsWhole s left act {st} {m} {found} (Makes.ReadsWordUnlatched place _ _) = HasPlace s place × Meets found left act
 IsWhole s left act {st} {m} {found} (Makes.GrantsFast place mode noted _ _) =
     HasPlace s place × (0 < m.0.number) × (obtrusive_flag st.first ≡ false)
@@ -94,7 +94,7 @@ IsWhole s left act {st} {m} {found} (Makes.ReleasesFast place number _ _) =
 IsWhole s left act {st} {m} {found} (Makes.Materialises place _ weight _ _ _ _) =
     HasPlace s place × Writes ((found + (2 ^ 64 - weight)) % 2 ^ 64) left act
 
--- and of what happens to the table: what a seat has in hand after a step tells which slot it took or gave back
+-- and of what happens to the table: what a seat has in hand after a step shows which slot it took or gave back
 abbrev pub IsWholeTurn : {s t : State Slot View} → Turn s t → Type 0
 IsWholeTurn {s} (Turn.Steps id m m′ st left act _ made _) =
     (st.slots ≡ length s.homes) × Valid s.homes m.1 act × (m′.1 ≡ carried_after m.1 act) × IsWhole s left act made
@@ -127,11 +127,11 @@ BringsOrRests s t {st} {m} (Makes.WritesVersion place may _ _) =
     Under s place (λ key. (x : Ticket) × (x.session ≡ m.0.number) × Brings (ChangeDefinition (of_lock key x) may.1) s t)
 BringsOrRests s t {st} {m} (Makes.OpensWait place mode _ _ _) =
     Under s place (λ key. Brings (BeginWait key (record { ticket = asked_ticket mode m.0; wait = m.0.waits + 1; state = Unsettled })) s t)
-BringsOrRests s t {st} {m} {found} (Makes.SettlesLost session number state _ _ _ _) = IfMet (wait_in number 1) found (
+BringsOrRests s t {st} {m} {found} (Makes.SettlesLost session number state _ _ _ _) = IfMet (wait_in number unsettled_state) found (
     (key : KeyName) × (x : Ticket) × (how : Loss) × (x.session ≡ session) × (state ≡ lost_state how)
     × Brings (SettleLost key (record { ticket = x; wait = number; state = Unsettled }) (lost_as how)) s t
     ) s t
-BringsOrRests s t {st} {m} {found} (Makes.SettlesGranted place ticket session number _ _ _) = IfMet (wait_in number 1) found (Under s place (λ key.
+BringsOrRests s t {st} {m} {found} (Makes.SettlesGranted place ticket session number _ _ _) = IfMet (wait_in number unsettled_state) found (Under s place (λ key.
     (x : Ticket) × IsOf session ticket x × Brings (GrantWaiter key (record { ticket = x; wait = number; state = Unsettled })) s t)) s t
 BringsOrRests s t {st} {m} (Makes.EndsGranted _ _) =
     (a : Ask) × (m.0.asks ≡ Some a) × Brings (EndGrantedWait (record { session = m.0.number; wait = m.0.waits; ticket = a.number })) s t
@@ -154,7 +154,7 @@ TurnBrings {s} {t} (Turn.Splits _ _ _ _ _ _ _ _) = Rests s t
 abbrev pub EachStepIsOneEvent : Type 0
 EachStepIsOneEvent = (s t : State Slot View) → Rule s → Rule t → (turn : Turn s t) → IsWholeTurn turn → TurnBrings turn
 
--- in short, whichever systems are told before and after: one event leads from one to the other, or they are the same
+-- in short, of whichever systems the table has before and after: one event leads from one to the other, or they are the same
 abbrev pub EachStepHappensOrRests : Type 0
 EachStepHappensOrRests =
     (s t : State Slot View) → Rule s → Rule t → (turn : Turn s t) → IsWholeTurn turn → (a b : System Definition) → IsTold s a → IsTold t b →

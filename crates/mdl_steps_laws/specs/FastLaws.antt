@@ -1,4 +1,4 @@
--- The steps of a lock word's fast path, as events of the system that the table tells. Each changes the word of one place and the view of one
+-- The steps of a lock word's fast path, as events of the table's system. Each changes the word of one place and the view of one
 -- session; a materialisation changes the record of the latch, too.
 use Rattle.std.specs.Prelude.{◌≡◌, ℕ, suc, ◌+◌, ◌-◌, ◌%◌, ◌^◌, ◌<◌, false, List, length, Option, Contains, slice_index, slice_set}
 use mathlib.Core.Option.{some}

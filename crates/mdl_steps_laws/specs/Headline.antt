@@ -1,4 +1,4 @@
--- The headline of the table that threads share. Whenever a lock's latch is free, its word counts exactly the fast tickets held, its two flags tell
+-- The headline of the table that threads share. Whenever a lock's latch is free, its word counts exactly the fast tickets held, its two flags show
 -- whether its lists hold an obtrusive ticket or any ticket, and granted tickets of different sessions are compatible by the matrix; every atomic
 -- step in every interleaving keeps this, so the definition a session reads under a ticket stays the same until it gives the ticket up or changes
 -- the definition itself.
@@ -35,7 +35,7 @@ HasPlace s place = (0 < place) × (place < length s.homes)
 abbrev pub IsFree : State Slot View → ℕ → Type 0
 IsFree s place = slice_index s.words (latch_word place) ≡ 0
 
--- its book is at home; its word counts exactly the fast tickets held, and its two flags tell whether its lists hold any ticket, and an obtrusive
+-- its book is at home; its word counts exactly the fast tickets held, and its two flags show whether its lists hold any ticket, and an obtrusive
 -- one; and granted tickets of different sessions are compatible by the matrix, fast and slow ones together
 pub record IsInOrder (s : State Slot View) (place : ℕ) : Type 0 where
   pub book : BookView
@@ -49,7 +49,7 @@ FreeLocksAreInOrder = (s : State Slot View) → Rule s → (place : ℕ) → Has
 
 -- ---- definitions
 
--- what stands under the lock's key: the word of the version has its version; while the latch is free the book at home has it, and while a
+-- this is defined under the lock's key: the word of the version has its version; while the latch is free the book at home has it, and while a
 -- session holds the latch the book in that one's record
 pub record Stands (s : State Slot View) (place : ℕ) (standing : Standing) : Type 0 where
   pub version : slice_index s.words (version_word place) ≡ standing.version
@@ -70,7 +70,7 @@ pub record HasNoted (place number version : ℕ) (v : View) : Type 0 where
 abbrev pub HasRead : ℕ → Standing → View → Type 0
 HasRead place standing v = Contains v.reads (record { place = place; standing = standing })
 
--- at two times a session has a ticket and has noted the same version under it. What it has read in that version stands at both
+-- at two times a session has a ticket and has noted the same version under it. What it has read in that version is defined at both
 abbrev pub ReadsStand : Type 0
 ReadsStand =
     (s t : State Slot View) → Rule s → Rule t → (place : ℕ) → HasPlace s place → HasPlace t place →
@@ -91,7 +91,7 @@ NotesStay =
     (w : View) × (get_elem? t.views seat ≡ some w) × HasNoted place number version w
     × ((standing : Standing) → HasRead place standing v → HasRead place standing w)
 
--- by a reading a session learns what stands, and notes its version under each ticket that it has there, whatever it had noted before
+-- by a reading a session learns the definition, and notes its version under each ticket that it has there, whatever it had noted before
 abbrev pub ReadingsNote : Type 0
 ReadingsNote =
     (s : State Slot View) → Rule s → (place : ℕ) → HasPlace s place → (seat : ℕ) (m m′ : Mine) → get_elem? s.views seat ≡ some m.0 →
@@ -104,7 +104,7 @@ abbrev pub Follow : ℕ → ℕ → ℕ → State Slot View → List (State Slot
 Follow seat place number s [] t = s ≡ t
 Follow seat place number s (x ∷ xs) t = Rule x × ((turn : Turn s x) × Spares seat place number turn) × Follow seat place number x xs t
 
--- what a session has read in the version that it noted under a ticket stands, whatever all sessions do, until it gives the ticket up or changes
+-- what a session has read in the version that it noted under a ticket stays defined, whatever all sessions do, until it gives the ticket up or changes
 -- the definition itself
 abbrev pub DefinitionsStay : Type 0
 DefinitionsStay =

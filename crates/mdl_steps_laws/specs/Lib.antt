@@ -1,4 +1,3 @@
-pub mod DeedLaws
 pub mod EachStep
 pub mod FastLaws
 pub mod Headline
@@ -6,8 +5,6 @@ pub mod Locks
 pub mod RestLaws
 pub mod SessionSteps
 pub mod StepEvents
-pub mod StepLaws
 pub mod TableLaws
-pub mod ToldDeeds
 pub mod WaitLaws
 pub mod WaitsTold

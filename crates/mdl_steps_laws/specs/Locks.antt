@@ -1,6 +1,6 @@
--- The locks that the running table tells, and the system of locks that these tell.
+-- The locks of the running table, and the system that they make.
 --
--- A lock is what a key has: the fast tickets of all sessions, which stand in no list, and the book. The table keeps both under the key's
+-- A lock is what a key has: the fast tickets of all sessions, which are in no list, and the book. The table keeps both under the key's
 -- place: the fast tickets are in the sessions' views, and the book is in the place's slot, or with the session that holds its latch. A
 -- reader of the system needs to know of no place, latch or view.
 use Rattle.std.specs.Prelude.{◌≡◌, ◌≢◌, ℕ, suc, List, [], ◌++◌, map, slice_index, Some, Contains}
@@ -43,8 +43,7 @@ pub record IsBookAt (s : State Slot View) (place : ℕ) (book : BookView) : Type
   pub free : slice_index s.words (latch_word place) ≡ 0 → get_elem? s.homes place ≡ some (some (slot.Place book))
   pub taken : (i : ℕ) (v : View) → get_elem? s.views i ≡ some v → (h : Held) → held_at place v.latches ≡ Some h → h.book ≡ book
 
--- the keys that have places, in order of these from 1 on: so the directory tells, which stands in the slot 0 or with the session that holds
--- that latch
+-- the keys that have places, in order of these from 1 on: those of the directory, which is in slot 0 or with the session that holds its latch
 pub record AreKeysOf (s : State Slot View) (keys : List KeyName) : Type 0 where
   pub free : slice_index s.words (latch_word 0) ≡ 0 → get_elem? s.homes 0 ≡ some (some (slot.Directory (record { keys = keys })))
   pub taken : (i : ℕ) (v : View) → get_elem? s.views i ≡ some v → (k : Keys) → v.directory ≡ Some k → k.keys ≡ keys
@@ -57,14 +56,14 @@ pub record AreLocksOf (s : State Slot View) (locks : KeyName → Lock) : Type 0 
   pub book_is : (i : ℕ) (key : KeyName) → get_elem? keys i ≡ some key → IsBookAt s (suc i) (locks key).book
   pub without_place : (key : KeyName) → ((i : ℕ) → get_elem? keys i ≢ some key) → locks key ≡ empty_lock key
 
--- ---- the system that locks tell
+-- ---- the system of the locks
 
--- what stands in a book, as the system has it
+-- the definition in a book, as the system has it
 abbrev pub versioned : Standing → Versioned Definition
 versioned standing = record { version = standing.version; definition = standing.definition }
 
 -- a ticket is granted in the system where it is among the granted tickets of its key's lock; the tickets of those who wait are the waiting
--- ones of the book, in their order; and what is defined is what stands in the book. How waits stand, the books don't tell
+-- ones of the book, in their order; and so is the definition. The states of waits are in no book
 pub record Tells (locks : KeyName → Lock) (system : System Definition) : Type 0 where
   pub keyed : (key : KeyName) → (locks key).book.key ≡ key
   pub granted : IsGrantedByLists system (λ key. granted_of (locks key))

@@ -1,5 +1,4 @@
--- The steps by which nothing is done in the system that the table tells, a law for each kind: whichever systems the table tells before and after
--- are one. (For three kinds more see `WaitLaws` and `FastLaws`.) The rule holds after each step, as it does between any two.
+-- The steps by which nothing is done in the table's system, a law for each kind: whichever systems the table has before and after are one. (For three kinds more see `WaitLaws` and `FastLaws`.) The rule holds after each step, as it does between any two.
 use Rattle.std.specs.Prelude.{◌≡◌, ◌≢◌, ℕ, ◌<◌, Bool, List, [], ◌∷◌, ◌++◌, length, slice_index, slice_set, Some}
 use mathlib.Core.Option.{some, none}
 use lib.ListN.{get_elem?}

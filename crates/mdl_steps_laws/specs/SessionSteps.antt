@@ -19,7 +19,8 @@ use Rattle.mdl_steps.specs.FastPlays.{MayMaterialise, grants_fast, materialises,
 use Rattle.mdl_steps.specs.Layout.{latch_word, lock_word, version_word, wait_word}
 use Rattle.mdl_steps.specs.Plays.{Mine, enrols, lowers_flags, puts_directory, puts_key, puts_latch, puts_reading, raises_flags, reads_word, takes_directory, takes_latch, writes_version}
 use Rattle.mdl_steps.specs.Seats.{MayLower, MayName, MayPut, MayWriteVersion}
-use Rattle.mdl_steps.specs.WaitPlays.{ends_granted, ends_lost, opens_wait, reads_wait, settles_granted, settles_lost, wait_in}
+use Rattle.mdl_steps.specs.WaitPlays.{ends_granted, ends_lost, opens_wait, reads_wait, settles_granted, settles_lost}
+use Rattle.mdl_steps.specs.WaitStates.{unsettled_state, wait_in}
 
 -- the step `st` of a seat, which found its word to be `found`, makes m′ of what the seat was: by its kind, the word that it is on, what the session
 -- has to know to make it, and the play
@@ -40,13 +41,13 @@ pub data Makes (st : Step Slot) (m : Mine) (found : ℕ) (m′ : Mine) : Type 0 
   ReadsWord : (place : ℕ) → st.word ≡ lock_word place → reads_word st m found m′ → Makes st m found m′
   WritesVersion : (place : ℕ) → MayWriteVersion place m → st.word ≡ version_word place → writes_version st m found m′ → Makes st m found m′
   OpensWait : (place : ℕ) (mode : Mode) →
-      st.word ≡ wait_word st.slots m.0.number → st.first ≡ wait_in (m.0.waits + 1) 1 → opens_wait place mode st m found m′ → Makes st m found m′
+      st.word ≡ wait_word st.slots m.0.number → st.first ≡ wait_in (m.0.waits + 1) unsettled_state → opens_wait place mode st m found m′ → Makes st m found m′
   ReadsWait : (session : ℕ) → st.word ≡ wait_word st.slots session → reads_wait st m found m′ → Makes st m found m′
   SettlesLost : (session number state : ℕ) →
-      st.word ≡ wait_word st.slots session → st.first ≡ wait_in number 1 → st.second ≡ wait_in number state → settles_lost st m found m′ →
+      st.word ≡ wait_word st.slots session → st.first ≡ wait_in number unsettled_state → st.second ≡ wait_in number state → settles_lost st m found m′ →
       Makes st m found m′
   SettlesGranted : (place ticket session number : ℕ) →
-      st.word ≡ wait_word st.slots session → st.first ≡ wait_in number 1 → settles_granted place ticket st m found m′ → Makes st m found m′
+      st.word ≡ wait_word st.slots session → st.first ≡ wait_in number unsettled_state → settles_granted place ticket st m found m′ → Makes st m found m′
   EndsGranted : st.word ≡ wait_word st.slots m.0.number → ends_granted st m found m′ → Makes st m found m′
   EndsLost : (a : Ask) (state : ℕ) → m.0.asks ≡ Some a → m.0.told ≡ Some state →
       st.word ≡ wait_word st.slots m.0.number → ends_lost st m found m′ → Makes st m found m′

@@ -1,27 +1,58 @@
--- Each step by which a latch is put, flags are lowered or a version is written is one event of the system that the table tells, or does nothing
--- there. The laws ask only that the session may make the step, and the rule.
-use Rattle.std.specs.Prelude.{◌≡◌, ◌⊎◌, ℕ, suc, Bool, List, [], ◌∷◌}
+-- Each step by which a latch is put, flags are lowered or a version is written is one event of the table's system, or does nothing there. The laws
+-- ask only that the session may make the step, and the rule.
+use Rattle.std.specs.Prelude.{◌≡◌, ◌⊎◌, ℕ, suc, Bool, List, [], ◌∷◌, slice_set}
 use mathlib.Core.Option.{some}
 use lib.ListN.{get_elem?}
 use Rattle.atomic_table.specs.Table.{State}
 use Rattle.mdl_key.specs.Words.{KeyName}
 use Rattle.mdl_defs.specs.declared.change.Change.{Change}
+use Rattle.mdl_defs.specs.declared.standing.Standing.{Standing}
 use Rattle.mdl_defs.specs.Standings.{standing_after}
+use Rattle.mdl_book.specs.declared.book_view.BookView.{BookView}
 use Rattle.mdl_book.specs.declared.ticket.Ticket.{Ticket}
 use Rattle.mdl_steps.specs.declared.deed.Deed.{Deed}
 use Rattle.mdl_steps.specs.declared.deed.Deed.TheVariants.{Gain, Alter, Lose}
 use Rattle.mdl_steps.specs.declared.slot.Slot.{Slot}
+use Rattle.mdl_steps.specs.declared.slot.Slot.TheVariants as slot
 use Rattle.mdl_steps.specs.declared.view.Held.{Held}
 use Rattle.mdl_steps.specs.declared.view.View.{View}
 use Rattle.mdl_steps.specs.Deeds.{all_booked}
-use Rattle.mdl_steps.specs.Plays.{Mine}
+use Rattle.mdl_steps.specs.Layout.{latch_word, lock_word, version_word}
+use Rattle.mdl_steps.specs.Plays.{Mine, redefined, settled, unlatched}
 use Rattle.mdl_steps.specs.Rule.{Rule}
 use Rattle.mdl_steps.specs.Seats.{HasDone, HasRedefined}
 use Rattle.mdl_system.specs.BookLaws.{of_lock}
 use Rattle.mdl_system.specs.Events.{ChangeDefinition, Clone, Downgrade, Grant, Merge, Release, Upgrade}
 use Rattle.mdl_steps_laws.specs.Locks.{AreKeysOf}
-use Rattle.mdl_steps_laws.specs.StepLaws.{after_lowering, after_put, after_writing}
 use Rattle.mdl_steps_laws.specs.WaitLaws.{Brings, Rests}
+
+-- ---- the table after a step
+
+-- a seat has put the latch of a place, with a book, after deeds (the play `unlatched`)
+abbrev pub after_put : State Slot View → ℕ → List Deed → BookView → ℕ → Mine → State Slot View
+after_put s place ds book id me = record {
+  words = slice_set s.words (latch_word place) 0;
+  homes = slice_set s.homes place (some (slot.Place book));
+  views = slice_set s.views id (unlatched place ds me).0;
+}
+
+-- a seat has lowered flags of a place, whose word was `found` and is `left` then, after deeds (the play `settled`)
+abbrev pub after_lowering : State Slot View → ℕ → List Deed → ℕ → ℕ → BookView → Bool → Bool → ℕ → Mine → State Slot View
+after_lowering s place ds found left book slow obtrusive id me = record {
+  words = slice_set s.words (lock_word place) left;
+  homes = s.homes;
+  views = slice_set s.views id (settled place ds found book slow obtrusive me).0;
+}
+
+-- a seat has written the version of a place, with the definition that it has from then on (the play `redefined`)
+abbrev pub after_writing : State Slot View → ℕ → Standing → ℕ → Mine → State Slot View
+after_writing s place standing id me = record {
+  words = slice_set s.words (version_word place) standing.version;
+  homes = s.homes;
+  views = slice_set s.views id (redefined place standing me).0;
+}
+
+-- ---- what the step brings
 
 -- a ticket is the session's, and has this number
 abbrev pub IsOf : ℕ → ℕ → Ticket → Type 0

@@ -1,5 +1,5 @@
 -- What the rule of the running table comes to in the system of locks.
-use Rattle.std.specs.Prelude.{◌≡◌, ◌≢◌, ℕ, suc, ◌<◌, map, Some}
+use Rattle.std.specs.Prelude.{◌≡◌, ◌≢◌, ℕ, suc, ◌<◌, map, Some, None}
 use mathlib.Core.Option.{some}
 use lib.ListN.{get_elem?}
 use Rattle.atomic_table.specs.Table.{State}
@@ -8,43 +8,40 @@ use Rattle.mdl_defs.specs.declared.definition.Definition.{Definition}
 use Rattle.mdl_book.specs.declared.ticket.Ticket.{Ticket}
 use Rattle.mdl_book.specs.Tickets.{ticket_of}
 use Rattle.mdl_steps.specs.declared.slot.Slot.{Slot}
-use Rattle.mdl_steps.specs.declared.view.Held.{Held}
 use Rattle.mdl_steps.specs.declared.view.View.{View}
-use Rattle.mdl_steps.specs.Cells.{cell, held_at, own_at, ticket_by}
+use Rattle.mdl_steps.specs.Cells.{cell, own_at, ticket_by}
 use Rattle.mdl_steps.specs.Deeds.{NotWaited}
+use Rattle.mdl_steps.specs.Lists.{Once}
 use Rattle.mdl_steps.specs.Rule.{Rule}
 use Rattle.mdl_steps.specs.RuleLaws.{fast_at}
 use Rattle.mdl_system.specs.BookLaws.{of_lock}
 use Rattle.mdl_system.specs.Events.{IsNewNumber, SameElsewhere}
 use Rattle.mdl_system.specs.Systems.{System, Held as IsHeld, IsLawful}
-use Rattle.mdl_steps_laws.specs.DeedLaws.{IsOnly, MayBeJoined}
 use Rattle.mdl_steps_laws.specs.Locks.{Lock, AreKeysOf, AreLocksOf, IsBookAt, IsOfNoWait, Tells}
 
--- at any time the table tells the lock of each key, and these tell a system
+-- at any time the table has a lock for each key, and these make a system
 abbrev pub RunningTablesTellASystem : Type 0
 RunningTablesTellASystem =
     (s : State Slot View) → Rule s →
     (locks : KeyName → Lock) × AreLocksOf s locks × (system : System Definition) × Tells locks system
 
--- each system that they tell is lawful: no two sessions hold clashing tickets of one key, fast and slow ones together
+-- each such system is lawful: no two sessions hold clashing tickets of one key, fast and slow ones together
 abbrev pub RunningTablesAreLawful : Type 0
 RunningTablesAreLawful =
     (s : State Slot View) → Rule s → (locks : KeyName → Lock) → AreLocksOf s locks →
     (system : System Definition) → Tells locks system → IsLawful system
-
--- a session that holds the latch of a key's place, and has noted a word or none, has there what deeds ask for
-abbrev pub HoldersMayJoin : Type 0
-HoldersMayJoin =
-    (s : State Slot View) → Rule s → (locks : KeyName → Lock) → (are : AreLocksOf s locks) →
-    (i : ℕ) (key : KeyName) → get_elem? are.keys i ≡ some key →
-    (j : ℕ) (v : View) → get_elem? s.views j ≡ some v → (h : Held) → held_at (suc i) v.latches ≡ Some h →
-    MayBeJoined h.noted (locks key)
 
 -- the number of a session's next ticket is new
 abbrev pub NextNumbersAreNew : Type 0
 NextNumbersAreNew =
     (s : State Slot View) → Rule s → (locks : KeyName → Lock) → AreLocksOf s locks → (system : System Definition) → Tells locks system →
     (j : ℕ) (v : View) → get_elem? s.views j ≡ some v → 0 < v.number → IsNewNumber system v.number v.next
+
+-- the session's one ticket of this number there, which is in the granted list
+pub record IsOnly (session number : ℕ) (lock : Lock) (t : Ticket) : Type 0 where
+  pub found : ticket_of session number lock.book.granted ≡ Some t
+  pub once : Once lock.book.granted
+  pub not_fast : ticket_of session number lock.fast ≡ None
 
 -- the slow ticket that a session has by its view is its only one in the lock of that number; and the session holds it, but where it is that
 -- of a wait

@@ -1,5 +1,5 @@
--- The steps on the words of waits are events of the system that the table tells. Each is one step, which changes the word, and the record of
--- a latch with it: what its session writes into the book in hand before that or after it, no table tells.
+-- The steps on the words of waits are events of the table's system. Each is one step, which changes the word, and the record of a latch with it:
+-- what its session writes into the book in hand before that or after it is no part of the system.
 use Rattle.std.specs.Prelude.{◌≡◌, ℕ, suc, ◌+◌, ◌<◌, true, length, List, Some, slice_set}
 use Rattle.std.specs.FinSet as set
 use Rattle.std.specs.Ordering.{nat_cmp}
@@ -24,9 +24,9 @@ use Rattle.mdl_steps.specs.Cells.{held_at, waits}
 use Rattle.mdl_steps.specs.Layout.{wait_word}
 use Rattle.mdl_steps.specs.Plays.{Mine}
 use Rattle.mdl_steps.specs.Rule.{Rule}
-use Rattle.mdl_steps.specs.WaitPlays.{asked_ticket, ended_granted, ended_lost, met_wait_by, opened, settled_granted, settled_lost, wait_in}
+use Rattle.mdl_steps.specs.WaitPlays.{asked_ticket, ended_granted, ended_lost, met_wait_by, opened, settled_granted, settled_lost}
 use Rattle.mdl_steps.specs.WaitSeats.{MayCancel, MayGrant, MayOpen}
-use Rattle.mdl_steps.specs.WaitStates.{lost_state}
+use Rattle.mdl_steps.specs.WaitStates.{granted_state, idle_state, lost_state, unsettled_state, wait_in}
 use Rattle.mdl_system.specs.Events.{BeginWait, EndGrantedWait, EndLostWait, Event, GrantWaiter, Happens, SameSystem, SettleLost}
 use Rattle.mdl_system.specs.Systems.{System, WaitState, Unsettled, Victim, TimedOut, Killed}
 use Rattle.mdl_steps_laws.specs.Locks.{Lock, AreKeysOf, AreLocksOf, Tells}
@@ -34,16 +34,16 @@ use Rattle.mdl_steps_laws.specs.WaitsTold.{TellsWaits, code_of}
 
 -- ---- what is done
 
--- the table tells this system, with its waits
+-- the table has this system, with its waits
 abbrev pub IsTold : State Slot View → System Definition → Type 0
 IsTold s system = (locks : KeyName → Lock) × AreLocksOf s locks × Tells locks system × TellsWaits s system
 
--- an event leads from one table to another: the rule holds of that, and the event happens, whichever systems they tell
+-- an event leads from one table to another: the rule holds of that, and the event happens, whichever systems they have
 abbrev pub Brings : Event Change → State Slot View → State Slot View → Type 0
 Brings event s s′ =
     Rule s′ × ((a b : System Definition) → IsTold s a → IsTold s′ b → Happens (λ (at : KeyName). applied at.namespace) event a b)
 
--- nothing is done from one table to another: the rule holds of that, and whichever systems they tell are one
+-- nothing is done from one table to another: the rule holds of that, and whichever systems they have are one
 abbrev pub Rests : State Slot View → State Slot View → Type 0
 Rests s s′ = Rule s′ × ((a b : System Definition) → IsTold s a → IsTold s′ b → SameSystem a b)
 
@@ -55,7 +55,7 @@ after_wait s session word id me = record {
   views = slice_set s.views id me.0;
 }
 
--- how a wait stands that was lost so
+-- the state of a wait that was lost so
 abbrev pub lost_as : Loss → WaitState
 lost_as loss.Victim = Victim
 lost_as loss.Timeout = TimedOut
@@ -69,13 +69,13 @@ OpeningBegins =
     (s : State Slot View) → Rule s → (keys : List KeyName) → AreKeysOf s keys → (i : ℕ) (key : KeyName) → get_elem? keys i ≡ some key →
     (id : ℕ) (me : Mine) → get_elem? s.views id ≡ some me.0 → (mode : Mode) (h : Held) → MayOpen (suc i) mode h me →
     Brings (BeginWait key (record { ticket = asked_ticket mode me.0; wait = me.0.waits + 1; state = Unsettled }))
-    s (after_wait s me.0.number (wait_in (me.0.waits + 1) 1) id (opened (length s.homes) (suc i) mode me))
+    s (after_wait s me.0.number (wait_in (me.0.waits + 1) unsettled_state) id (opened (length s.homes) (suc i) mode me))
 
 -- to settle an unsettled wait as lost, which no latch is needed for, is to lose it: its ticket waits on, at some key
 abbrev pub SettlingLoses : Type 0
 SettlingLoses =
     (s : State Slot View) → Rule s → (id : ℕ) (me : Mine) → get_elem? s.views id ≡ some me.0 →
-    (session number : ℕ) → 0 < session → waits s session ≡ wait_in number 1 → (how : Loss) →
+    (session number : ℕ) → 0 < session → waits s session ≡ wait_in number unsettled_state → (how : Loss) →
     (key : KeyName) × (ticket : Ticket) × (ticket.session ≡ session)
     × Brings (SettleLost key (record { ticket = ticket; wait = number; state = Unsettled }) (lost_as how))
     s (after_wait s session (wait_in number (lost_state how)) id (settled_lost (length s.homes) session number (lost_state how) me))
@@ -85,9 +85,9 @@ abbrev pub GrantingGrantsWaiters : Type 0
 GrantingGrantsWaiters =
     (s : State Slot View) → Rule s → (keys : List KeyName) → AreKeysOf s keys → (i : ℕ) (key : KeyName) → get_elem? keys i ≡ some key →
     (id : ℕ) (me : Mine) → get_elem? s.views id ≡ some me.0 →
-    (session ticket number : ℕ) (h : Held) → (may : MayGrant (suc i) session ticket h me) → 0 < session → waits s session ≡ wait_in number 1 →
+    (session ticket number : ℕ) (h : Held) → (may : MayGrant (suc i) session ticket h me) → 0 < session → waits s session ≡ wait_in number unsettled_state →
     Brings (GrantWaiter key (record { ticket = may.wish; wait = number; state = Unsettled }))
-    s (after_wait s session (wait_in number 2) id (settled_granted (length s.homes) (suc i) session ticket number me))
+    s (after_wait s session (wait_in number granted_state) id (settled_granted (length s.homes) (suc i) session ticket number me))
 
 -- the ticket that the book finds next may be granted, by the word that was noted while the flag OBTRUSIVE is up
 abbrev pub NextMayBeGranted : Type 0
@@ -101,10 +101,10 @@ NextMayBeGranted =
 -- to end a wait that was met granted is to end a granted wait: from then on its session holds the ticket that it asked for
 abbrev pub EndingHolds : Type 0
 EndingHolds =
-    (s : State Slot View) → Rule s → (id : ℕ) (me : Mine) → get_elem? s.views id ≡ some me.0 → 0 < me.0.number → me.0.told ≡ Some 2 →
+    (s : State Slot View) → Rule s → (id : ℕ) (me : Mine) → get_elem? s.views id ≡ some me.0 → 0 < me.0.number → me.0.told ≡ Some granted_state →
     (a : Ask) × (me.0.asks ≡ Some a)
     × Brings (EndGrantedWait (record { session = me.0.number; wait = me.0.waits; ticket = a.number }))
-    s (after_wait s me.0.number (wait_in me.0.waits 0) id (ended_granted (length s.homes) me))
+    s (after_wait s me.0.number (wait_in me.0.waits idle_state) id (ended_granted (length s.homes) me))
 
 -- to end a wait that was met lost, under the latch of its place, is to end a lost wait, as it was lost: its ticket goes
 abbrev pub EndingLeaves : Type 0
@@ -116,7 +116,7 @@ EndingLeaves =
       ticket = record { session = me.0.number; number = may.ask.number; mode = may.ask.mode };
       wait = me.0.waits;
       state = how;
-    })) s (after_wait s me.0.number (wait_in me.0.waits 0) id (ended_lost (length s.homes) (suc i) may.ask.number may.state me))
+    })) s (after_wait s me.0.number (wait_in me.0.waits idle_state) id (ended_lost (length s.homes) (suc i) may.ask.number may.state me))
 
 -- to read a wait word, or to meet there another than the one that was to be settled, is to do nothing
 abbrev pub MeetingRests : Type 0

@@ -1,4 +1,4 @@
--- How the waits stand that the running table tells: each session's wait word says how its own does.
+-- The waits of the running table, with their states: each session's wait word has that of its own.
 use Rattle.std.specs.Prelude.{◌≡◌, ◌↔◌, ℕ, Some, Contains}
 use mathlib.Core.Option.{some}
 use lib.ListN.{get_elem?}
@@ -8,32 +8,33 @@ use Rattle.mdl_defs.specs.declared.definition.Definition.{Definition}
 use Rattle.mdl_steps.specs.declared.slot.Slot.{Slot}
 use Rattle.mdl_steps.specs.declared.view.Ask.{Ask}
 use Rattle.mdl_steps.specs.declared.view.View.{View}
+use Rattle.mdl_steps.specs.declared.wait_word.Loss.TheVariants as loss
 use Rattle.mdl_steps.specs.Cells.{waits}
 use Rattle.mdl_steps.specs.Rule.{Rule}
-use Rattle.mdl_steps.specs.WaitPlays.{wait_in}
+use Rattle.mdl_steps.specs.WaitStates.{granted_state, lost_state, unsettled_state, wait_in}
 use Rattle.mdl_system.specs.Systems.{GrantedWait, System, Waiter, WaitState, Unsettled, Victim, TimedOut, Killed}
 use Rattle.mdl_steps_laws.specs.Locks.{Lock, AreLocksOf, Tells}
 
--- the state of a waiter, as it stands in a wait's word
+-- the state of a waiter, as a wait's word has it
 abbrev pub code_of : WaitState → ℕ
-code_of Unsettled = 1
-code_of Victim = 3
-code_of TimedOut = 4
-code_of Killed = 5
+code_of Unsettled = unsettled_state
+code_of Victim = lost_state loss.Victim
+code_of TimedOut = lost_state loss.Timeout
+code_of Killed = lost_state loss.Killed
 
--- a session asks for this ticket, and its wait's word tells that this wait of it is granted
+-- a session asks for this ticket, and by its wait's word this wait of it is granted
 abbrev pub IsGrantedWait : State Slot View → GrantedWait → Type 0
 IsGrantedWait s wait =
     (i : ℕ) × (v : View) × (a : Ask) × (get_elem? s.views i ≡ some v) × (v.number ≡ wait.session) × (v.asks ≡ Some a) × (a.number ≡ wait.ticket)
-    × (waits s wait.session ≡ wait_in wait.wait 2)
+    × (waits s wait.session ≡ wait_in wait.wait granted_state)
 
--- who waits does so with the number and in the state that its session's wait word tells; and the waits that are granted and not ended are
--- those of which the words tell so
+-- who waits does so with the number and in the state of its session's wait word; and the waits that are granted and not ended are those that are so
+-- by the words
 pub record TellsWaits (s : State Slot View) (system : System Definition) : Type 0 where
   pub waiting : (key : KeyName) (w : Waiter) → Contains (system.waiting key) w → waits s w.ticket.session ≡ wait_in w.wait (code_of w.state)
   pub unended : (wait : GrantedWait) → Contains system.unended wait ↔ IsGrantedWait s wait
 
--- at any time the table tells a system with its waits
+-- at any time the table has a system with its waits
 abbrev pub RunningTablesTellWaits : Type 0
 RunningTablesTellWaits =
     (s : State Slot View) → Rule s →

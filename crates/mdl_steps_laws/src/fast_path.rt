@@ -1,4 +1,4 @@
-//! The steps of a lock word's fast path, in the system that the table tells. Each law is proved as the contract of a function that does
+//! The steps of a lock word's fast path, in the table's system. Each law is proved as the contract of a function that does
 //! nothing.
 ghost use Rattle.mdl_steps_laws.specs.FastLaws.{GrantingFastGrants, ReleasingFastReleases, MaterialisingRests, ReadingUnlatchedRests, WaitersHaveNoFastTickets};
 

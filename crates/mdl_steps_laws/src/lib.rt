@@ -1,4 +1,4 @@
-//! The running table is tied to the system of locks that a reader believes: which locks, and which system, a state of the table tells
+//! The running table is tied to the system of locks that a reader believes: which locks, and which system, a state of the table has
 //! (`specs/Locks`), that this system is lawful, and that each step of a session is one event of it or does nothing there
 //! (`specs/EachStep`), whether it is made under a latch (`specs/StepEvents`), on the words of waits (`specs/WaitLaws`) or by a lock word's
 //! fast path (`specs/FastLaws`).
@@ -6,7 +6,6 @@
 //! There is no code here: each law is the contract of a function that does nothing.
 #![tactic(auto)]
 
-mod deeds;
 mod each_step;
 mod fast_path;
 mod headline;
@@ -15,10 +14,6 @@ mod steps;
 mod tables;
 mod waits;
 
-pub use deeds::{
-    altering_downgrades, altering_upgrades, gaining_clones, gaining_grants, losing_releases,
-    moving_merges, redefining_changes,
-};
 pub use each_step::each_step_is_one_event;
 pub use fast_path::{
     granting_fast_grants, materialising_rests, reading_unlatched_rests, releasing_fast_releases,
@@ -30,13 +25,10 @@ pub use rests::{
     missing_rests, naming_rests, putting_reading_rests, putting_rests, raising_rests,
     reading_rests, splitting_rests, taking_rests,
 };
-pub use steps::{
-    lowering_brings, lowering_does, lowering_is_done, putting_brings, putting_does,
-    putting_is_done, writing_brings, writing_is_done, writing_redefines,
-};
+pub use steps::{lowering_brings, putting_brings, writing_brings};
 pub use tables::{
-    holders_may_join, next_numbers_are_new, one_place_is_one_lock, own_tickets_are_held,
-    running_tables_are_lawful, running_tables_tell_a_system, running_tables_tell_waits,
+    next_numbers_are_new, one_place_is_one_lock, own_tickets_are_held, running_tables_are_lawful,
+    running_tables_tell_a_system, running_tables_tell_waits,
 };
 pub use waits::{
     ending_holds, ending_leaves, granting_grants_waiters, meeting_rests, next_may_be_granted,

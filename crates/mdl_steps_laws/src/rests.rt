@@ -1,4 +1,4 @@
-//! The steps by which nothing is done in the system that the table tells. Each law is proved as the contract of a function that does
+//! The steps by which nothing is done in the table's system. Each law is proved as the contract of a function that does
 //! nothing.
 ghost use Rattle.mdl_steps_laws.specs.RestLaws.{DrawingRests, SplittingRests, ConsultingRests, MissingDirectoryRests, InformingRests, TakingRests, MissingRests, PuttingRests, PuttingReadingRests, NamingRests, RaisingRests, ReadingRests, LoweringRests};
 

@@ -1,38 +1,6 @@
-//! The steps by which deeds and changes of definitions come to be of the table do them in the locks that it tells, and each is one event of
-//! the system. Each law is proved as the contract of a function that does nothing.
-ghost use Rattle.mdl_steps_laws.specs.StepLaws.{PuttingDoes, LoweringDoes, WritingRedefines};
-ghost use Rattle.mdl_steps_laws.specs.ToldDeeds.{PuttingIsDone, LoweringIsDone, WritingIsDone};
+//! Each step by which deeds or a change of a definition come to be of the table is one event of the system. Each law is proved as the contract of a
+//! function that does nothing.
 ghost use Rattle.mdl_steps_laws.specs.StepEvents.{PuttingBrings, LoweringBrings, WritingBrings};
-
-/// As a latch is put after deeds, they are done to the lock of its key, and nothing is to any other.
-pub fn putting_does()
-    ensures { PuttingDoes }
-{}
-
-/// So they are as flags are lowered after deeds, under the latch.
-pub fn lowering_does()
-    ensures { LoweringDoes }
-{}
-
-/// As a version is written under the latch, what stands in the lock of its key is changed, and nothing is in any other.
-pub fn writing_redefines()
-    ensures { WritingRedefines }
-{}
-
-/// So the deeds are done in the system, whichever the table tells, as a latch is put after them: all waits stay as they are.
-pub fn putting_is_done()
-    ensures { PuttingIsDone }
-{}
-
-/// So they are as flags are lowered after them.
-pub fn lowering_is_done()
-    ensures { LoweringIsDone }
-{}
-
-/// And a change of a definition is made in the system as the version is written.
-pub fn writing_is_done()
-    ensures { WritingIsDone }
-{}
 
 /// What a session does by the step that puts a latch is one event: a grant, a clone, an upgrade, a downgrade, a merge or a release. Or it did
 /// nothing.

@@ -1,25 +1,20 @@
 //! What the rule of the running table comes to in the system of locks. Each law is proved as the contract of a function that does nothing.
-ghost use Rattle.mdl_steps_laws.specs.TableLaws.{RunningTablesTellASystem, RunningTablesAreLawful, HoldersMayJoin, NextNumbersAreNew, OwnTicketsAreHeld, OnePlaceIsOneLock};
+ghost use Rattle.mdl_steps_laws.specs.TableLaws.{RunningTablesTellASystem, RunningTablesAreLawful, NextNumbersAreNew, OwnTicketsAreHeld, OnePlaceIsOneLock};
 ghost use Rattle.mdl_steps_laws.specs.WaitsTold.{RunningTablesTellWaits};
 
-/// Between any two steps of all sessions the table tells the lock of each key, its fast tickets and its book, and with them a system.
+/// Between any two steps of all sessions the table has a lock for each key, its fast tickets and its book, and with them a system.
 pub fn running_tables_tell_a_system()
     ensures { RunningTablesTellASystem }
 {}
 
-/// And it tells how the waits stand: each as its session's wait word says.
+/// And it has the waits, each in the state of its session's wait word.
 pub fn running_tables_tell_waits()
     ensures { RunningTablesTellWaits }
 {}
 
-/// The system that the table tells is lawful, whatever the interleaving: no two sessions hold clashing tickets of one key.
+/// The table's system is lawful, whatever the interleaving: no two sessions hold clashing tickets of one key.
 pub fn running_tables_are_lawful()
     ensures { RunningTablesAreLawful }
-{}
-
-/// What the laws of deeds ask of a lock is so for the session that holds its latch.
-pub fn holders_may_join()
-    ensures { HoldersMayJoin }
 {}
 
 /// A session's next ticket has a number that none of its tickets has, whatever the key.
@@ -27,7 +22,7 @@ pub fn next_numbers_are_new()
     ensures { NextNumbersAreNew }
 {}
 
-/// A slow ticket that a session has by its view stands in the book, and the session holds it, but where it is that of a wait.
+/// A slow ticket that a session has by its view is in the book, and the session holds it, but where it is that of a wait.
 pub fn own_tickets_are_held()
     ensures { OwnTicketsAreHeld }
 {}

@@ -1,4 +1,4 @@
-//! The steps on the words of waits are events of the system that the table tells. Each law is proved as the contract of a function that does
+//! The steps on the words of waits are events of the table's system. Each law is proved as the contract of a function that does
 //! nothing.
 ghost use Rattle.mdl_steps_laws.specs.WaitLaws.{OpeningBegins, SettlingLoses, GrantingGrantsWaiters, NextMayBeGranted, EndingHolds, EndingLeaves, MeetingRests};
 
@@ -7,7 +7,7 @@ pub fn opening_begins()
     ensures { OpeningBegins }
 {}
 
-/// As anybody settles a wait as lost, it is lost, and its ticket goes on to stand among those that wait.
+/// As anybody settles a wait as lost, it is lost, and its ticket waits on.
 pub fn settling_loses()
     ensures { SettlingLoses }
 {}

@@ -1,6 +1,6 @@
 -- A visit to read what stands at a place.
 use Rattle.std.proofs.Common.{◌≡◌, ℕ, [], ◌∷◌, ◌++◌, Ok, Err, Some, ap, ◌∙◌, refl, sym, subst, append_assoc}
-use Rattle.std.specs.Prelude.{IfOk, Result}
+use Rattle.std.specs.Prelude.{IfOk, Result, is_some}
 use Rattle.mdl_key.specs.Words.{KeyName}
 use Rattle.mdl_defs.specs.Standings.{MayStand}
 use Rattle.mdl_defs.specs.declared.standing.Standing.{Standing}
@@ -11,8 +11,9 @@ use Rattle.mdl_steps.specs.Cells.{held_at}
 use Rattle.mdl_steps.specs.Layout.{latch_word}
 use Rattle.mdl_steps.specs.Plays.{Mine, IsFresh, read_and_put}
 use Rattle.mdl_visits.specs.Leavings.{Learns, MeetsStanding, knowing}
-use Rattle.mdl_visits.specs.Readings.{Follows}
+use Rattle.mdl_visits.specs.Readings.{Follows, WasHeld, WereHeld}
 use Rattle.mdl_visits.specs.Visits.{IsInside, IsStepOf}
+use Rattle.mdl_visits.proofs.Leaving.{own_found}
 use Rattle.mdl_visits.proofs.Steps.{none_then}
 
 -- what is told of a result tells what follows from it
@@ -26,6 +27,7 @@ follows {place} {h} {m} fresh = record {
   reads = fresh.reads;
   fits = λ i k at here. subst (λ (key : KeyName). MayStand key.namespace h.book.standing) (fresh.named i k at here) fresh.stands;
   noted = fresh.noted;
+  fast_noted = fresh.fast_noted;
 }
 
 -- ---- a visit to read
@@ -43,10 +45,10 @@ module _ (place : ℕ) (standing : Standing) (m m′ m″ : Mine) (inside : IsIn
     none_then inside.made (puts ∷ []) [] inside.did refl,
   )
 
-  pub meets_standing : (h : Held) (who : ℕ) → m.0.number ≡ who → held_at place m′.0.latches ≡ Some h → standing ≡ h.book.standing
-      → (e : Met) × IsStepOf m m″ e × MeetsStanding place who standing e
+  pub meets_standing : (h : Held) (who : ℕ) → m.0.number ≡ who → IsFresh place h m → held_at place m′.0.latches ≡ Some h → standing ≡ h.book.standing
+      → (e : Met) × IsStepOf m m″ e × MeetsStanding place who standing e × WereHeld place who m e
   unfolding puts
-  meets_standing h who mine recorded stands = (
+  meets_standing h who mine fresh recorded stands = let held : held_at place inside.latches ≡ Some h = ap (λ (x : Mine). held_at place x.0.latches) (sym inside.now) ∙ recorded in (
     puts,
     (inside.made, [], ap (λ (x : Mine). x.0.log) (read ∙ ap (read_and_put place standing) inside.now)),
     record {
@@ -54,7 +56,8 @@ module _ (place : ℕ) (standing : Standing) (m m′ m″ : Mine) (inside : IsIn
       word = refl;
       freed = mine;
       latch = h;
-      held = ap (λ (x : Mine). held_at place x.0.latches) (sym inside.now) ∙ recorded;
+      held = held;
       stands = sym stands;
     },
+    λ number there unwaited. subst (λ (n : ℕ). WasHeld place n number puts) mine (h, held, ap is_some (fresh.own number unwaited) ∙ own_found m.0.number place number m.0.slow there),
   )

@@ -1,5 +1,5 @@
 -- How a session makes way at a place whose latch it holds: it grants the waits there that can be granted, the first in order of arrival first.
-use Rattle.std.specs.Prelude.{◌≡◌, ◌≢◌, ℕ, ◌/◌, ◌==◌, not, Bool, true, false, List, [], ◌∷◌, ◌++◌, Contains, filter, is_some, Option, Some, None, ◌⊎◌}
+use Rattle.std.specs.Prelude.{◌≡◌, ◌≢◌, ℕ, ◌==◌, not, Bool, true, false, List, [], ◌∷◌, ◌++◌, Contains, filter, is_some, Option, Some, None, ◌⊎◌}
 use Rattle.std.specs.List.{before_first}
 use Rattle.std.specs.FinSet as set
 use Rattle.std.specs.Ordering.{nat_cmp}
@@ -26,6 +26,7 @@ use Rattle.mdl_steps.specs.Plays.{Mine, settled}
 use Rattle.mdl_steps.specs.Rule.{Lawful, NotedCounts, TellsLists}
 use Rattle.mdl_steps.specs.Seats.{Holds, elsewhere, rest}
 use Rattle.mdl_steps.specs.WaitPlays.{wait_in, with_admitted}
+use Rattle.mdl_steps.specs.WaitStates.{granted_state, unsettled_state, wait_number}
 use Rattle.mdl_steps.specs.WaitSeats.{IsSession}
 use Rattle.mdl_visits.specs.Visits.{IsStepAfter, IsStepOf, LeavesBy, StaysThere, deeds_of}
 
@@ -53,7 +54,7 @@ pub record WasSettled (slots place session number : ℕ) (m m′ : Mine) : Type 
   pub met : Met
   pub met_then : IsStepOf m m′ met
   pub of_same : MeetsWaiter slots place session number met
-  pub settled : met.found ≢ wait_in (read.found / 8) 1
+  pub settled : met.found ≢ wait_in (wait_number read.found) unsettled_state
 
 -- these tickets, which wait by the record of a latch, are passed over: each one of a session of the table can't be granted with this word of the
 -- lock, or a step met its wait settled
@@ -89,10 +90,10 @@ HasJustMet slots place session h m =
 -- might stand beside all that was granted, and waited behind no other; those that arrived before it were passed over, as the steps between the
 -- two tell, the last of which read the wait's word; just after it the ticket is granted
 pub record MeetsGranted (id : TableId) (place : ℕ) (m m′ : Mine) (g : Settlement) (e : Met) : Type 0 where
-  pub state : g.state ≡ 2
+  pub state : g.state ≡ granted_state
   pub kind : e.kind ≡ GrantWait
   pub word : e.word ≡ wait_word id.slots g.session
-  pub unsettled : e.found ≡ wait_in g.wait 1
+  pub unsettled : e.found ≡ wait_in g.wait unsettled_state
   pub before : Held
   pub just : HasJustMet id.slots place g.session before m′
   pub wish : Ticket

@@ -1,18 +1,19 @@
 -- What a session meets in the words of waits, its own and those of others.
-use Rattle.std.specs.Prelude.{◌≡◌, ◌≢◌, ℕ, ◌/◌, ◌%◌, ◌==◌, [], ◌∷◌, ◌++◌, Option, Some, None, if◌then◌else◌}
+use Rattle.std.specs.Prelude.{◌≡◌, ◌≢◌, ℕ, ◌==◌, [], ◌∷◌, ◌++◌, Option, Some, None, if◌then◌else◌}
 use Rattle.mdl_calls.specs.declared.answers.Settled.{Settled}
 use Rattle.mdl_calls.specs.declared.answers.Settled.TheVariants.{Granted, Victim, Timeout, Killed}
 use Rattle.mdl_steps.specs.declared.view.Met.{Met}
+use Rattle.mdl_steps.specs.declared.wait_word.Loss.TheVariants as loss
 use Rattle.mdl_steps.specs.Layout.{wait_word}
 use Rattle.mdl_steps.specs.Plays.{Mine}
-use Rattle.mdl_steps.specs.WaitPlays.{wait_in}
+use Rattle.mdl_steps.specs.WaitStates.{granted_state, idle_state, lost_state, wait_in, wait_number, wait_state}
 
 -- the state of a wait that is settled so
 abbrev pub state_of : Settled → ℕ
-state_of Granted = 2
-state_of Victim = 3
-state_of Timeout = 4
-state_of Killed = 5
+state_of Granted = granted_state
+state_of Victim = lost_state loss.Victim
+state_of Timeout = lost_state loss.Timeout
+state_of Killed = lost_state loss.Killed
 
 -- a step that met the word of a session's wait: it was the session's last wait, of this number, in this state
 pub record MeetsWait (slots session number state : ℕ) (e : Met) : Type 0 where
@@ -21,7 +22,7 @@ pub record MeetsWait (slots session number state : ℕ) (e : Met) : Type 0 where
 
 -- the number of a session's wait, where it has one, by its word
 abbrev pub number_in : ℕ → Option ℕ
-number_in word = if word % 8 == 0 then None else Some (word / 8)
+number_in word = if wait_state word == idle_state then None else Some (wait_number word)
 
 -- a step that met this in the word of a session's wait
 pub record MeetsWord (slots session word : ℕ) (e : Met) : Type 0 where

@@ -17,6 +17,7 @@ use Rattle.mdl_steps.specs.Copies.{Queues, queues_of}
 use Rattle.mdl_steps.specs.Layout.{wait_word}
 use Rattle.mdl_steps.specs.Plays.{Mine}
 use Rattle.mdl_steps.specs.WaitSeats.{IsSession}
+use Rattle.mdl_steps.specs.WaitStates.{unsettled_state, wait_state}
 use Rattle.mdl_visits.specs.declared.audited.Audited.{Audited}
 use Rattle.mdl_visits.specs.declared.hearing.Heard.{Heard}
 use Rattle.mdl_visits.specs.Audits.{AreRecorded, Gathers}
@@ -50,9 +51,9 @@ WasHeard slots latches m m′ h = (e : Met) × IsStepOf m m′ e × (e.word ≡ 
 abbrev pub heard_of : ℕ → List Heard → Option Heard
 heard_of session words = find (λ (h : Heard). h.session == session) words
 
--- a session's wait wasn't open by this word of it, or one of the steps between the two met another one
+-- by this word a session's wait wasn't open, or one of the steps between the two met another word
 abbrev pub WasOther : ℕ → Mine → Mine → Heard → Type 0
-WasOther slots m m′ h = (h.word.0 % 8 ≢ 1) ⊎ ((e : Met) × IsStepOf m m′ e × MeetsOther slots h.session h.word.0 e)
+WasOther slots m m′ h = (wait_state h.word.0 ≢ unsettled_state) ⊎ ((e : Met) × IsStepOf m m′ e × MeetsOther slots h.session h.word.0 e)
 
 -- ---- what is found
 

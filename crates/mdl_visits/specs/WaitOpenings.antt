@@ -1,5 +1,5 @@
 -- How a session begins to wait at a place.
-use Rattle.std.specs.Prelude.{◌≡◌, ℕ, ◌+◌, ◌*◌, true, List, [], ◌∷◌, ◌++◌, Some, None}
+use Rattle.std.specs.Prelude.{◌≡◌, ℕ, ◌+◌, true, List, [], ◌∷◌, ◌++◌, Some, None}
 use Rattle.mdl_key.specs.declared.mode.Mode.{Mode}
 use Rattle.mdl_book.specs.declared.ticket.Ticket.{Ticket}
 use Rattle.mdl_book.specs.Books.{enqueueing}
@@ -14,6 +14,7 @@ use Rattle.mdl_steps.specs.Rule.{Flagged, TellsLists}
 use Rattle.mdl_steps.specs.Seats.{Holds}
 use Rattle.mdl_steps.specs.WaitPlays.{asked_ticket, asking}
 use Rattle.mdl_steps.specs.WaitSeats.{MayOpen}
+use Rattle.mdl_steps.specs.WaitStates.{idle_state, wait_in}
 use Rattle.mdl_visits.specs.Visits.{and_made, deeds_of}
 
 -- a session that waits from then on for a mode at a place, and has yet to search for a deadlock
@@ -31,7 +32,7 @@ pub record Opens (place : ℕ) (mode : Mode) (m m′ : Mine) : Type 0 where
 pub record MeetsOpening (slots place session waits number : ℕ) (mode : Mode) (e : Met) : Type 0 where
   pub kind : e.kind ≡ OpenWait
   pub word : e.word ≡ wait_word slots session
-  pub idle : e.found ≡ 8 * waits
+  pub idle : e.found ≡ wait_in waits idle_state
   pub latch : Held
   pub held : held_at place e.held ≡ Some latch
   pub before : List Ticket

@@ -6,7 +6,7 @@ ghost use Rattle.mdl_steps.specs.Plays.{read_and_put};
 ghost use Rattle.mdl_steps.specs.Rule.{TellsLists};
 ghost use Rattle.mdl_steps.specs.Seats.{IsSized, IsPlace, IsRising, Holds};
 ghost use Rattle.mdl_visits.specs.Leavings.{Learns, Leaves, MeetsStanding};
-ghost use Rattle.mdl_visits.specs.Readings.{Follows};
+ghost use Rattle.mdl_visits.specs.Readings.{Follows, WereHeld};
 ghost use Rattle.mdl_visits.specs.Visits.{IsStepOf, StaysQuiet, Visits};
 
 use crate::latches::await_latch;
@@ -27,7 +27,8 @@ pub fn read_at<R: Wait>(
     requires rising { IsRising place worker.old.seat.me }
     ensures seat { (worker.new.seat.table_id ≡ worker.old.seat.table_id) × (worker.new.number ≡ worker.old.number) }
     ensures learnt { IfOk result (λ standing. Learns place standing worker.old.seat.me worker.new.seat.me
-        × ((e : Met) × IsStepOf worker.old.seat.me worker.new.seat.me e × MeetsStanding place worker.old.number standing e)) }
+        × ((e : Met) × IsStepOf worker.old.seat.me worker.new.seat.me e × MeetsStanding place worker.old.number standing e
+        × WereHeld place worker.old.number worker.old.seat.me e)) }
     ensures follows { IfOk result (λ standing. Follows place standing worker.old.seat.me) }
     ensures unchanged { OnErr result (Visits place [] worker.old.seat.me worker.new.seat.me) }
     ensures quiet { StaysQuiet worker.old.seat.me worker.new.seat.me }

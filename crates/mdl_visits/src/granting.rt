@@ -1,12 +1,14 @@
 //! Waits are granted at a place, under its latch.
-ghost use Rattle.std.specs.Prelude.{◌≡◌, nat_lt, ◌&&◌, ◌%◌};
+ghost use Rattle.std.specs.Prelude.{◌≡◌, nat_lt, ◌&&◌};
 ghost use Rattle.mdl_steps.specs.declared.view.Held.{Held};
 ghost use Rattle.mdl_steps.specs.Layout.{wait_word};
 ghost use Rattle.mdl_steps.specs.Seats.{IsSized, IsPlace, Holds};
 ghost use Rattle.mdl_steps.specs.WaitSeats.{IsSession};
+ghost use Rattle.mdl_steps.specs.WaitStates.{unsettled_state, wait_state};
 ghost use Rattle.mdl_visits.specs.Grantings.{ForgetsNobody, HasJustMet, IsGrantedFrom, IsOrderly, IsReady, IsServed, MakesWay, MakesWayInTurn};
 
 use mdl_book::Sessions;
+use mdl_steps::layout::wait_word;
 use mdl_steps::{Latched, OwnedTable, WaitWord, Worker};
 
 /// Reads the lock's word, and grants the waits of tickets at the latched place, the first in order of arrival first, as long as there is one
@@ -53,7 +55,7 @@ pub(crate) fn has_session(table: &OwnedTable, session: u16) -> bool
     requires { IsSized table.now.shared.table_id }
     ensures { result ≡ (nat_lt 0 session && nat_lt (wait_word table.now.shared.table_id.slots session) table.now.shared.table_id.words) }
 {
-    session > 0 && 8 * table.slot_count() + 8 + 8 * (session as usize) < table.word_count()
+    session > 0 && wait_word(table.slot_count(), session) < table.word_count()
 }
 
 // The same for a session of the table.
@@ -93,7 +95,7 @@ fn grant(
     requires session { IsSession table.now.shared.table_id session }
     requires ready { (h : Held) × Holds latch.now.place h h.book worker.old.seat.me × IsReady session number h
         × HasJustMet table.now.shared.table_id.slots latch.now.place session h worker.old.seat.me }
-    requires unsettled { wait.0 % 8 ≡ 1 }
+    requires unsettled { wait_state wait.0 ≡ unsettled_state }
     ensures seat { (worker.new.seat.table_id ≡ worker.old.seat.table_id) × (worker.new.number ≡ worker.old.number) }
     ensures granted { (h : Held) → Holds latch.now.place h h.book worker.old.seat.me
         → IsGrantedFrom table.now.shared.table_id.slots latch.now.place session number wait.0 h worker.old.seat.me worker.new.seat.me }

@@ -1,5 +1,5 @@
 //! The words of all sessions' waits are read.
-ghost use Rattle.std.specs.Prelude.{◌≡◌, ℕ, ◌+◌, ◌-◌, ◌/◌, ◌≤◌, ◌<◌, ◌++◌, ◌∷◌, [], true, false, All, OnOk};
+ghost use Rattle.std.specs.Prelude.{◌≡◌, ℕ, ◌+◌, ◌≤◌, ◌<◌, ◌++◌, ◌∷◌, [], true, false, All, OnOk};
 ghost use Rattle.mdl_book.specs.SessionSets.{is_session};
 ghost use Rattle.mdl_steps.specs.Seats.{IsSized};
 ghost use Rattle.mdl_steps.specs.WaitSeats.{IsSession};
@@ -7,6 +7,7 @@ ghost use Rattle.mdl_visits.specs.Polls.{SettlesNothing};
 ghost use Rattle.mdl_visits.specs.Searches.{AreOfAll, Hears, WasHeard};
 
 use crate::granting::has_session;
+use mdl_steps::layout::session_count;
 use mdl_steps::{OwnedTable, WaitWord, Worker};
 use std::alloc::AllocError;
 
@@ -36,7 +37,8 @@ pub(crate) fn hear_all(
     ensures all { OnOk result (AreOfAll table.now.shared.table_id words.new.items) }
     ensures heard { OnOk result (All (WasHeard table.now.shared.table_id.slots worker.old.seat.me.0.latches worker.old.seat.me worker.new.seat.me) words.new.items) }
 {
-    words.reserve(usize::from(MOST_SESSIONS).min(session_room(table)))?;
+    let sessions = session_count(table.slot_count(), table.word_count());
+    words.reserve(usize::from(MOST_SESSIONS).min(sessions))?;
     for before in 0..MOST_SESSIONS {
         let session = before + 1;
         if !has_session(table, session) {
@@ -45,14 +47,6 @@ pub(crate) fn hear_all(
         hear(worker, table, session, words)?;
     }
     Ok(())
-}
-
-// So many sessions' words there are at most: the words of the directory and of the places come before them.
-fn session_room(table: &OwnedTable) -> usize
-    requires { IsSized table.now.shared.table_id }
-    ensures { result ≡ table.now.shared.table_id.words / 8 - (table.now.shared.table_id.slots + 1) }
-{
-    (table.word_count() / 8).saturating_sub(table.slot_count() + 1)
 }
 
 // Reads the word of a session's wait.

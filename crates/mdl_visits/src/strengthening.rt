@@ -15,7 +15,8 @@ use mdl_steps::{Deed, LockTable, Worker};
 use std::sync::Wait;
 
 /// Lets the ticket of this number at a place have an obtrusive mode, where that can be granted now, beside all that others hold and
-/// before none that waits. Otherwise all stays as it was. The session waits for nothing. It takes no memory.
+/// before none that waits. Otherwise all stays as it was. The session waits for nothing, and a fast ticket of its own
+/// there counts as another session's. It takes no memory.
 pub fn try_strengthen<R: Wait>(
     rt: &R,
     worker: &mut Worker,

@@ -60,7 +60,7 @@ pub(crate) fn leave(worker: &mut Worker, top: &LockTable, latch: Latched)
 }
 
 /// Grants the session, which waits for nothing, a ticket of this number in this mode, where that can be done now, beside all that
-/// others hold and before none that waits. Otherwise all stays as it was.
+/// others hold and before none that waits. Otherwise all stays as it was. A fast ticket of its own there counts as another session's.
 pub fn try_grant<R: Wait>(
     rt: &R,
     worker: &mut Worker,

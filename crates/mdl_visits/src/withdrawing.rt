@@ -3,6 +3,7 @@ ghost use Rattle.std.specs.Prelude.{◌≡◌, ℕ, ◌^◌, ◌<◌, Some};
 ghost use Rattle.mdl_steps.specs.declared.view.Held.{Held};
 ghost use Rattle.mdl_steps.specs.Seats.{IsSized, IsPlace, IsRising};
 ghost use Rattle.mdl_steps.specs.WaitSeats.{IsSession};
+ghost use Rattle.mdl_steps.specs.WaitStates.{IsLost};
 ghost use Rattle.mdl_visits.specs.WaitEndings.{EndsLost, EndsThere, MayEnd};
 ghost use Rattle.mdl_visits.specs.Grantings.{WaitsOnce};
 
@@ -19,7 +20,7 @@ pub fn withdraw<R: Wait>(rt: &R, worker: &mut Worker, table: &OwnedTable, ask: A
     requires rising { IsRising ask.place worker.old.seat.me }
     requires session { IsSession table.now.shared.table_id worker.old.number }
     requires asks { worker.old.seat.me.0.asks ≡ Some ask }
-    requires lost { (state : ℕ) × (worker.old.seat.me.0.told ≡ Some state) × (2 < state) }
+    requires lost { (state : ℕ) × (worker.old.seat.me.0.told ≡ Some state) × IsLost state }
     requires wait { (wait ≡ worker.old.seat.me.0.waits) × (wait < 2 ^ 60) }
     ensures seat { (worker.new.seat.table_id ≡ worker.old.seat.table_id) × (worker.new.number ≡ worker.old.number) }
     ensures ended { EndsLost table.now.shared.table_id ask.place worker.old.seat.me worker.new.seat.me }

@@ -24,7 +24,7 @@ returns-clause-learnt g c =
     ok_told c.read.result (λ standing e.
     let read : went ≡ read_and_put place standing came = e.1 ∙ ap (λ (q : ℕ). read_and_put q standing came) latch.ensures.place in (
       learns place standing worker.seat.me came went latch.ensures.inside read,
-      meets_standing place standing worker.seat.me came went latch.ensures.inside read h worker.number worker.numbered.0 taken.2.recorded e.0,
+      meets_standing place standing worker.seat.me came went latch.ensures.inside read h worker.number worker.numbered.0 taken.1 taken.2.recorded e.0,
     )) (c.read.ensures.told h has)
 
 pub returns-clause-unchanged : goal.returns-clause-unchanged

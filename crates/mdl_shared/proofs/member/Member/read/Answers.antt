@@ -6,8 +6,9 @@ use Rattle.mdl_steps.specs.Plays.{Mine, noting_version}
 use Rattle.mdl_visits.specs.Idle.{IsIdle}
 use Rattle.mdl_shared.specs.Members.{are_placed}
 use Rattle.mdl_shared.specs.Waitings.{are_below, are_rising, is_ask_told}
-use Rattle.mdl_visits.specs.Numbers.{is_ask_apart}
-use Rattle.mdl_shared.proofs.Awaiting.{noted as still_below, apart_noted}
+use Rattle.mdl_visits.specs.Leavings.{HasTicket}
+use Rattle.mdl_visits.specs.Numbers.{is_ask_apart, numbered}
+use Rattle.mdl_shared.proofs.Awaiting.{noted as still_below, apart_noted, some_there, waits_apart}
 use Rattle.mdl_shared.proofs.Membership.{has_numbered, known_within, placed_at, noted_placed, none_noted}
 use Rattle.mdl_shared.proofs.Rising.{rising_noted}
 use Rattle.mdl_shared.specs.Rememberings.{Remembers}
@@ -60,3 +61,17 @@ invariant_of-self-2 g c =
       enrolled = subst (λ (n : ℕ). n ≤ self.sessions) (sym c.read_at.ensures.seat.1) self.enrolled;
       words = self.words;
     }
+
+pub returns-clause-read : goal.returns-clause-read
+returns-clause-read g c =
+    let self = c.args.self.now in
+    let place = c.args.place in
+    let id = c.args._id in
+    let learnt = c.in_ok-standing.ensures.learnt in
+    let has = subst (λ (ts : List Own). HasTicket place id ts) self.listed (has_numbered place id self.tickets.items c.requires.held) in
+    let unwaited = waits_apart self.worker.seat.me.0 self.next id self.tickets.items self.asks self.next_is self.listed self.asks_is self.apart
+    (some_there (λ (t : Own). t.place) (numbered id self.tickets.items) place c.requires.held) in (
+      c.note_all.ensures.noted,
+      ap (λ (m : Mine). m.0.reads) learnt.0.1,
+      (learnt.1.0, learnt.1.1, (learnt.1.2, learnt.1.3 id has unwaited)),
+    )

@@ -1,9 +1,10 @@
 -- A number is drawn, and a seat that has it may be split off.
-use Rattle.std.proofs.Common.{◌≡◌, ℕ, ◌+◌, ◌*◌, ◌%◌, ◌^◌, ◌<◌, [], sym, ◌∙◌, subst, arith}
+use Rattle.std.proofs.Common.{◌≡◌, ℕ, ◌+◌, ◌%◌, ◌^◌, ◌<◌, [], sym, ap, ◌∙◌, subst, arith}
 use mathlib.Core.Option.{none}
 use Rattle.atomic_table.specs.Table.{Allows, Splits, step}
 use Rattle.mdl_steps.specs.declared.step_kind.StepKind.TheVariants as step_kind
 use Rattle.mdl_steps.specs.Cells.{blank, numbers_for, no_numbers}
+use Rattle.mdl_steps.specs.Layout.{enrol_word}
 use Rattle.mdl_steps.specs.Plays.{Mine, enrols, logged}
 use Rattle.mdl_steps.specs.Rule.{Rule}
 use Rattle.mdl_steps.proofs.Enrol.{splits, draws}
@@ -15,12 +16,14 @@ fetch_add-number-requires c =
     let slots = c.args.top.now.table_id.slots in
     let few = maker.few in
     let some_left : maker.given < maker.most = omega arith in
-    let at : ℕ → ℕ → Mine → Type 0 = λ id k m. Allows Rule slots id m (8 * k) (λ n. (n + 1) % 2 ^ 64) (enrols (step slots (8 * k) 1 0 none) m) in (
+    let word = c.enrol_word.result in
+    let word_is : word ≡ enrol_word slots = c.enrol_word.ensures ∙ ap enrol_word c.requires.slots in
+    let at : ℕ → ℕ → Mine → Type 0 = λ id w m. Allows Rule slots id m w (λ n. (n + 1) % 2 ^ 64) (enrols (step slots w 1 0 none) m) in (
       c.requires.table.0,
-      c.requires.words,
-      subst (at maker.seat.id c.args.slots) (sym maker.idle)
-          (subst (λ (id : ℕ). at id c.args.slots (blank 0 (numbers_for maker.most maker.given maker.given), [])) (sym maker.first)
-          (subst (λ (k : ℕ). at 0 k (blank 0 (numbers_for maker.most maker.given maker.given), [])) (sym c.requires.slots) (draws slots maker.most maker.given some_left))),
+      subst (λ (w : ℕ). w < c.args.top.now.table_id.words) (sym c.enrol_word.ensures) c.requires.words,
+      subst (at maker.seat.id word) (sym maker.idle)
+          (subst (λ (id : ℕ). at id word (blank 0 (numbers_for maker.most maker.given maker.given), [])) (sym maker.first)
+          (subst (λ (w : ℕ). at 0 w (blank 0 (numbers_for maker.most maker.given maker.given), [])) (sym word_is) (draws slots maker.most maker.given some_left))),
     )
 
 -- the seat, with a number drawn, may be split so
@@ -43,8 +46,8 @@ split_seat-seat-requires c =
     let number = c.fetch_add-number.result in
     let seat = c.fetch_add-number.new.seat in
     let words = c.requires.words in
-    let told = subst (λ (m : Mine). enrols (step c.args.top.now.table_id.slots (8 * c.args.slots) 1 0 none) m number seat.me) maker.idle made.2 in (
+    let told = subst (λ (m : Mine). enrols (step c.args.top.now.table_id.slots c.enrol_word.result 1 0 none) m number seat.me) maker.idle made.2 in (
       made.0 ∙ c.requires.table.0,
       omega arith,
-      may_split maker.most maker.given (8 * c.args.slots) number seat.id seat.me (made.1 ∙ maker.first) told.0 told.1,
+      may_split maker.most maker.given c.enrol_word.result number seat.id seat.me (made.1 ∙ maker.first) told.0 told.1,
     )

@@ -1,5 +1,5 @@
--- The steps by which deeds and changes of definitions come to be of the table do them in the system, whichever locks and systems the
--- table tells before and after, and leave all waits as they are: what the laws of deeds ask for is so.
+-- The steps by which deeds and changes of definitions come to be of the table do them in the system, whichever locks and systems the table has
+-- before and after, and leave all waits as they are: what the laws of deeds ask for is so.
 use Rattle.std.specs.Prelude.{◌≡◌, ℕ, suc, Bool, List, Some}
 use mathlib.Core.Option.{some}
 use lib.ListN.{get_elem?}
@@ -17,9 +17,9 @@ use Rattle.mdl_steps.specs.Deeds.{all_booked}
 use Rattle.mdl_steps.specs.Plays.{Mine}
 use Rattle.mdl_steps.specs.Rule.{Rule}
 use Rattle.mdl_system.specs.Systems.{System}
-use Rattle.mdl_steps_laws.specs.DeedLaws.{Does, Redefines}
+use Rattle.mdl_steps_laws.proofs.DeedLaws.{Does, Redefines}
 use Rattle.mdl_steps_laws.specs.Locks.{AreKeysOf}
-use Rattle.mdl_steps_laws.specs.StepLaws.{after_lowering, after_put, after_writing}
+use Rattle.mdl_steps_laws.specs.StepEvents.{after_lowering, after_put, after_writing}
 use Rattle.mdl_steps_laws.specs.WaitLaws.{IsTold}
 
 -- the latch of a key's place is put after deeds: they are done

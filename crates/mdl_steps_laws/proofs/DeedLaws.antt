@@ -1,5 +1,8 @@
 -- What a session does under a latch is an event of the system of locks. Each law says what the session has to know for that.
-use Rattle.std.specs.Prelude.{◌≡◌, ◌≢◌, ℕ, Bool, true, List, [], ◌∷◌, Option, Some, None, Contains}
+use Rattle.std.specs.Prelude.{◌≡◌, ◌≢◌, ℕ, suc, Bool, true, List, [], ◌∷◌, Option, Some, None, Contains}
+use mathlib.Core.Option.{some}
+use lib.ListN.{get_elem?}
+use Rattle.atomic_table.specs.Table.{State}
 use Rattle.mdl_key.specs.declared.mode.Mode.{Mode}
 use Rattle.mdl_key.specs.declared.mode.Mode.TheVariants.{X}
 use Rattle.mdl_key.specs.Words.{KeyName, IsAtLeast}
@@ -9,21 +12,25 @@ use Rattle.mdl_defs.specs.Standings.{applied, standing_fault}
 use Rattle.mdl_book.specs.declared.ticket.Ticket.{Ticket}
 use Rattle.mdl_book.specs.Books as books
 use Rattle.mdl_book.specs.Granting.{goes_first}
-use Rattle.mdl_book.specs.Tickets.{ticket_of}
 use Rattle.mdl_steps.specs.declared.deed.Deed.{Deed}
 use Rattle.mdl_steps.specs.declared.deed.Deed.TheVariants.{Gain, Alter, Lose}
+use Rattle.mdl_steps.specs.declared.slot.Slot.{Slot}
+use Rattle.mdl_steps.specs.declared.view.Held.{Held as Record}
+use Rattle.mdl_steps.specs.declared.view.View.{View}
+use Rattle.mdl_steps.specs.Cells.{held_at}
 use Rattle.mdl_steps.specs.Deeds.{MayJoin, all_booked}
 use Rattle.mdl_steps.specs.Lists.{Once}
-use Rattle.mdl_steps.specs.Rule.{Lawful, NotedCounts}
+use Rattle.mdl_steps.specs.Rule.{Lawful, NotedCounts, Rule}
 use Rattle.mdl_system.specs.BookLaws.{of_lock}
 use Rattle.mdl_system.specs.Events.{SameElsewhere, SameWaits, IsNewNumber, GrantsNew, ClonesTicket, Releases, Upgrades, Merges, Downgrades, ChangesDefinition}
 use Rattle.mdl_system.specs.Strength.{downgrades}
 use Rattle.mdl_system.specs.Systems.{System, Held, HasNoWait, lock_kind}
-use Rattle.mdl_steps_laws.specs.Locks.{Lock, Tells}
+use Rattle.mdl_steps_laws.specs.Locks.{Lock, AreLocksOf, Tells}
+use Rattle.mdl_steps_laws.specs.TableLaws.{IsOnly}
 
 -- ---- what is done
 
--- one lock comes to be another, and the locks of other keys and all waits stay; the system `a` is told before, and `b` after it
+-- one lock comes to be another, and the locks of other keys and all waits stay; the system is `a` before, and `b` after it
 pub record Turns (key : KeyName) (lock : Lock) (old new : KeyName → Lock) (a b : System Definition) : Type 0 where
   pub before : Tells old a
   pub after : Tells new b
@@ -39,7 +46,7 @@ lock_after session deeds lock = record { fast = lock.fast; book = all_booked ses
 abbrev pub Does : ℕ → List Deed → KeyName → (KeyName → Lock) → (KeyName → Lock) → System Definition → System Definition → Type 0
 Does session deeds key old new a b = Turns key (lock_after session deeds (old key)) old new a b
 
--- and after a change of what stands
+-- and after a change of its definition
 abbrev pub lock_redefined : Change → Lock → Lock
 lock_redefined change lock = record { fast = lock.fast; book = books.redefining change lock.book }
 
@@ -56,13 +63,7 @@ pub record MayBeJoined (noted : Option ℕ) (lock : Lock) : Type 0 where
   pub obtrusive : Bool
   pub noted_counts : NotedCounts (books.lock_kind lock.book) lock.fast obtrusive noted
 
--- the session's one ticket of this number there, which stands in the granted list
-pub record IsOnly (session number : ℕ) (lock : Lock) (t : Ticket) : Type 0 where
-  pub found : ticket_of session number lock.book.granted ≡ Some t
-  pub once : Once lock.book.granted
-  pub not_fast : ticket_of session number lock.fast ≡ None
-
--- a session has no wait, and its wish may stand beside all that is granted and overtake all that waits
+-- a session has no wait, and its wish is compatible with all that is granted and may overtake all that waits
 pub record MayTake {D : Type 0} (session : ℕ) (mode : Mode) (lock : Lock) (a : System D) : Type 0 where
   pub free : HasNoWait a session
   pub noted : Option ℕ
@@ -71,6 +72,14 @@ pub record MayTake {D : Type 0} (session : ℕ) (mode : Mode) (lock : Lock) (a :
   pub first : goes_first (books.lock_kind lock.book) lock.book.waiting session mode ≡ true
 
 -- ---- the laws
+
+-- a session that holds the latch of a key's place, and has noted a word or none, has there what deeds ask for
+abbrev pub HoldersMayJoin : Type 0
+HoldersMayJoin =
+    (s : State Slot View) → Rule s → (locks : KeyName → Lock) → (are : AreLocksOf s locks) →
+    (i : ℕ) (key : KeyName) → get_elem? are.keys i ≡ some key →
+    (j : ℕ) (v : View) → get_elem? s.views j ≡ some v → (h : Record) → held_at (suc i) v.latches ≡ Some h →
+    MayBeJoined h.noted (locks key)
 
 -- to lose a ticket is to release it
 abbrev pub LosingReleases : Type 0

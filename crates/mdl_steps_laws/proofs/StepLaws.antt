@@ -1,42 +1,23 @@
--- The steps by which deeds and changes of definitions come to be of the table do them in the locks that it tells.
-use Rattle.std.specs.Prelude.{◌≡◌, ℕ, suc, Bool, List, Some, slice_set}
+-- The steps by which deeds and changes of definitions come to be of the table do them in its locks.
+use Rattle.std.specs.Prelude.{◌≡◌, ℕ, suc, Bool, List, Some}
 use mathlib.Core.Option.{some}
 use lib.ListN.{get_elem?}
 use Rattle.atomic_table.specs.Table.{State}
 use Rattle.mdl_key.specs.Words.{KeyName}
 use Rattle.mdl_defs.specs.declared.change.Change.{Change}
-use Rattle.mdl_defs.specs.declared.standing.Standing.{Standing}
 use Rattle.mdl_defs.specs.Standings.{standing_after}
-use Rattle.mdl_book.specs.declared.book_view.BookView.{BookView}
 use Rattle.mdl_steps.specs.declared.deed.Deed.{Deed}
 use Rattle.mdl_steps.specs.declared.slot.Slot.{Slot}
-use Rattle.mdl_steps.specs.declared.slot.Slot.TheVariants as slot
 use Rattle.mdl_steps.specs.declared.view.Held.{Held}
 use Rattle.mdl_steps.specs.declared.view.View.{View}
 use Rattle.mdl_steps.specs.Cells.{held_at}
 use Rattle.mdl_steps.specs.Deeds.{all_booked}
-use Rattle.mdl_steps.specs.Layout.{latch_word, lock_word, version_word}
-use Rattle.mdl_steps.specs.Plays.{Mine, redefined, settled, unlatched}
+use Rattle.mdl_steps.specs.Plays.{Mine}
 use Rattle.mdl_steps.specs.Rule.{Rule}
 use Rattle.mdl_system.specs.Events.{SameElsewhere}
-use Rattle.mdl_steps_laws.specs.DeedLaws.{lock_after, lock_redefined}
+use Rattle.mdl_steps_laws.proofs.DeedLaws.{lock_after, lock_redefined}
 use Rattle.mdl_steps_laws.specs.Locks.{Lock, AreLocksOf}
-
--- the table after a seat has put the latch of a place, with a book, after deeds (the play `unlatched`)
-abbrev pub after_put : State Slot View → ℕ → List Deed → BookView → ℕ → Mine → State Slot View
-after_put s place ds book id me = record {
-  words = slice_set s.words (latch_word place) 0;
-  homes = slice_set s.homes place (some (slot.Place book));
-  views = slice_set s.views id (unlatched place ds me).0;
-}
-
--- the table after a seat has lowered flags of a place, whose word was `found` and is `left` then, after deeds (the play `settled`)
-abbrev pub after_lowering : State Slot View → ℕ → List Deed → ℕ → ℕ → BookView → Bool → Bool → ℕ → Mine → State Slot View
-after_lowering s place ds found left book slow obtrusive id me = record {
-  words = slice_set s.words (lock_word place) left;
-  homes = s.homes;
-  views = slice_set s.views id (settled place ds found book slow obtrusive me).0;
-}
+use Rattle.mdl_steps_laws.specs.StepEvents.{after_lowering, after_put, after_writing}
 
 -- the locks after deeds of a session under one key
 abbrev pub AreAfter : ℕ → List Deed → KeyName → (KeyName → Lock) → (KeyName → Lock) → Type 0
@@ -62,14 +43,6 @@ LoweringDoes =
     Rule (after_lowering s (suc i) ds found left (all_booked me.0.number ds h.book) slow obtrusive id me) →
     AreAfter me.0.number ds key old new →
     AreLocksOf (after_lowering s (suc i) ds found left (all_booked me.0.number ds h.book) slow obtrusive id me) new
-
--- the table after a seat has written the version of a place, with what stands there from then on (the play `redefined`)
-abbrev pub after_writing : State Slot View → ℕ → Standing → ℕ → Mine → State Slot View
-after_writing s place standing id me = record {
-  words = slice_set s.words (version_word place) standing.version;
-  homes = s.homes;
-  views = slice_set s.views id (redefined place standing me).0;
-}
 
 -- and so the definition in the lock of a key is changed as its version is written
 abbrev pub WritingRedefines : Type 0
