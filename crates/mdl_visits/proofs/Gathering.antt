@@ -17,7 +17,7 @@ use Rattle.mdl_visits.specs.declared.audited.Audited.{Audited}
 use Rattle.mdl_visits.specs.Audits.{AreKeyed, AreRecorded, Audits, Gathers, HadLatches}
 use Rattle.mdl_visits.specs.Idle.{IsIdle}
 use Rattle.mdl_visits.specs.Lookups.{HadEither, TookDirectory, given_back, relisted}
-use Rattle.mdl_visits.specs.Visits.{AllHad, IsInside, IsStepOf, KeepsDirectory, MakesSteps, and_made, deeds_of}
+use Rattle.mdl_visits.specs.Visits.{AllQuiet, IsInside, IsQuiet, IsStepOf, MakesSteps, StaysQuiet, and_made, deeds_of}
 use Rattle.mdl_visits.proofs.Lookups.{had_none, put_after, knows_nothing, no_latches}
 use Rattle.mdl_visits.proofs.Steps.{each_map, none_then}
 use Rattle.mdl_visits.proofs.Visiting.{inside_at, visits_put, makes_none}
@@ -200,7 +200,7 @@ module _ (slots : ℕ) (k : Keys) (made : List Met) (m m′ m″ : Mine) (taken 
     log_first : m′.0.log ≡ m.0.log ++ (made ++ first ∷ [])
     log_first = ap (λ (x : Mine). x.0.log) taken ∙ append_assoc m.0.log made (first ∷ [])
 
-    pub took_first : AllHad m.0.directory made → KeepsDirectory m′ m″ → TookDirectory slots k k m m‴
+    pub took_first : AllQuiet m.0.directory made → StaysQuiet m′ m″ → TookDirectory slots k k m m‴
     took_first lingered keeps =
         let then : Mine = consulted k (and_made made m) in
         let same : then.0.log ++ steps.0 ≡ then.0.log ++ keeps.0 =
@@ -212,7 +212,7 @@ module _ (slots : ℕ) (k : Keys) (made : List Met) (m m′ m″ : Mine) (taken 
           recorded = is;
           listed = ap (λ (x : Mine). x.0.log) all_put ∙ ap (λ (log : List Met). log ++ given_back k m ∷ []) same ∙ append_assoc then.0.log keeps.0 (given_back k m ∷ []);
           none_before = had_none m idle made lingered;
-          either_within = each_map (λ (e : Met). e.directory ≡ m′.0.directory) (HadEither k k) (λ e had. inl (had ∙ ap (λ (x : Mine). x.0.directory) taken)) keeps.0 keeps.2;
+          either_within = each_map (IsQuiet m′.0.directory) (HadEither k k) (λ e had. inl (had.0 ∙ ap (λ (x : Mine). x.0.directory) taken, had.1)) keeps.0 keeps.2;
           none_after = tt;
         }
 

@@ -17,10 +17,10 @@ use Rattle.mdl_visits.specs.Audits.{AreRecorded, Gathers, HadLatches}
 use Rattle.mdl_visits.specs.Idle.{IsIdle}
 use Rattle.mdl_visits.specs.Lookups.{TookDirectory}
 use Rattle.mdl_visits.specs.Searches.{Hears, Listens, Judges, Searched, Searches, hearing, if_waited}
-use Rattle.mdl_visits.specs.Visits.{AllHad, GoesOn, IsInside, KeepsDirectory, MakesSteps, and_made, deeds_of}
+use Rattle.mdl_visits.specs.Visits.{AllQuiet, GoesOn, IsInside, MakesSteps, StaysQuiet, and_made, deeds_of}
 use Rattle.mdl_visits.proofs.Gathering.{gathers_more, keys_from, makes_all, moment_of, more_latches, there_and_back, took_first}
 use Rattle.mdl_visits.proofs.Outcomes.{judges_if_waited, judges_within}
-use Rattle.mdl_visits.proofs.Steps.{keeps_there}
+use Rattle.mdl_visits.proofs.Steps.{quiet_there}
 
 -- ---- of steps alone
 
@@ -67,12 +67,12 @@ may_put_heard place h m m′ tells holds hears = subst (MayPut place []) (sym he
   tells,
 )
 
-pub back_heard : (place : ℕ) (h : Held) (made : List Met) (m m′ m″ m‴ : Mine) → IsInside place m m′ → AllHad m.0.directory made → m′ ≡ latched place h (and_made made m) → Hears m′ m″
+pub back_heard : (place : ℕ) (h : Held) (made : List Met) (m m′ m″ m‴ : Mine) → IsInside place m m′ → AllQuiet m.0.directory made → m′ ≡ latched place h (and_made made m) → Hears m′ m″
     → m‴ ≡ unlatched place [] m″ → Hears m m‴
 back_heard place h made m m′ m″ m‴ inside had taken hears put =
     let stepped : Mine = and_made hears.made m′ in
     let visit : MakesSteps m (unlatched place [] stepped) = there_and_back place m m′ stepped (unlatched place [] stepped) inside (hears.made, refl, hears.did) refl in
-    let keeps : KeepsDirectory m (unlatched place [] stepped) = keeps_there place h made m m′ stepped (unlatched place [] stepped) had taken (hears.made, refl, hears.had) refl refl in
+    let keeps : StaysQuiet m (unlatched place [] stepped) = quiet_there place h made m m′ stepped (unlatched place [] stepped) had taken (hears.made, refl, hears.had) refl refl in
     let log : m.0.log ++ visit.0 ≡ m.0.log ++ keeps.0 = sym (ap (λ (x : Mine). x.0.log) visit.1) ∙ keeps.1 in
     let same : visit.0 ≡ keeps.0 = append_cancel_left m.0.log visit.0 keeps.0 log in
     record {
@@ -179,7 +179,7 @@ module _ (id : TableId) (k : Keys) (made : List Met) (m m′ m″ : Mine) (taken
     same_log : m‴.0.log ≡ over.0.log
     same_log = ap (λ (x : Mine). x.0.log) as_over
 
-    pub took_heard : AllHad m.0.directory made → TookDirectory id.slots k k m m‴
+    pub took_heard : AllQuiet m.0.directory made → TookDirectory id.slots k k m m‴
     unfolding met over
     took_heard lingered =
         let took = took_first id.slots k made m m′ met taken (hears.made, refl, hears.did) over refl idle is lingered (hears.made, refl, hears.had) in

@@ -13,7 +13,7 @@ use Rattle.mdl_steps.specs.Schemas.{StandThere, unknown}
 use Rattle.mdl_visits.specs.Idle.{IsIdle}
 use Rattle.mdl_visits.specs.Lookups.{TookDirectory, given_back}
 use Rattle.mdl_visits.specs.Tables.{AreTables, AreWithin, knowing_all}
-use Rattle.mdl_visits.specs.Visits.{AllHad, KeepsDirectory, MakesSteps, and_made, deeds_of}
+use Rattle.mdl_visits.specs.Visits.{AllQuiet, IsQuiet, MakesSteps, StaysQuiet, and_made, deeds_of}
 use Rattle.mdl_visits.proofs.Lookups.{had_none, no_record, some_there}
 use Rattle.mdl_visits.proofs.Steps.{each_append, none_then}
 
@@ -49,7 +49,7 @@ module _ (slots : ℕ) (k : Keys) (made : List Met) (old : Mine) (idle : IsIdle 
       ∙ ap (λ (log : List Met). (record old.0 { log = log; directory = None; known = old.0.known ++ more }, old.1)) joined
       ∙ ap (λ (d : Option Keys). (record old.0 { log = old.0.log ++ all; directory = d; known = old.0.known ++ more }, old.1)) (no_record old.0.directory idle.1)
 
-  pub took_directory : AllHad old.0.directory made → TookDirectory slots k k old new
+  pub took_directory : AllQuiet old.0.directory made → TookDirectory slots k k old new
   took_directory lingered = record {
     before = made;
     within = [];
@@ -84,7 +84,7 @@ pub told_after : (k : Keys) (made : List Met) (tables : List Known) (old taken l
 told_after k made tables old taken listed new first second third = third ∙ ap (λ (m : Mine). informed (unknown m.0.known tables) m) (second ∙ first)
 
 -- the directory was asked in a call that went on, without it
-pub took_earlier : (slots : ℕ) (k left : Keys) (old mid new : Mine) → TookDirectory slots k left old mid → KeepsDirectory mid new → mid.0.directory ≡ None → TookDirectory slots k left old new
+pub took_earlier : (slots : ℕ) (k left : Keys) (old mid new : Mine) → TookDirectory slots k left old mid → StaysQuiet mid new → mid.0.directory ≡ None → TookDirectory slots k left old new
 took_earlier slots k left old mid new took goes none =
     let first : List Met = (consulted k (and_made took.before old)).0.log in
     let later : List Met = given_back left old ∷ took.after in
@@ -96,5 +96,5 @@ took_earlier slots k left old mid new took goes none =
       listed = goes.1 ∙ ap (λ (log : List Met). log ++ goes.0) took.listed ∙ append_assoc first (took.within ++ later) goes.0 ∙ ap (λ (log : List Met). first ++ log) (append_assoc took.within later goes.0);
       none_before = took.none_before;
       either_within = took.either_within;
-      none_after = each_append (λ (e : Met). e.directory ≡ None) took.after goes.0 took.none_after (subst (λ (d : Option Keys). AllHad d goes.0) none goes.2);
+      none_after = each_append (IsQuiet None) took.after goes.0 took.none_after (subst (λ (d : Option Keys). AllQuiet d goes.0) none goes.2);
     }

@@ -19,7 +19,7 @@ use Rattle.mdl_steps.proofs.Looking.{there}
 use Rattle.mdl_visits.specs.declared.resolve_error.ResolveError.{ResolveError}
 use Rattle.mdl_visits.specs.Idle.{IsIdle}
 use Rattle.mdl_visits.specs.Lookups.{TookDirectory, HadEither, HasLooked, HasNamed, IsAnswer, knowing, relisted}
-use Rattle.mdl_visits.specs.Visits.{AllHad, and_made, deeds_of, MakesSteps}
+use Rattle.mdl_visits.specs.Visits.{AllQuiet, and_made, deeds_of, MakesSteps}
 use Rattle.mdl_visits.proofs.Steps.{none_then}
 use Rattle.mdl_steps.proofs.NewKeys.{key_last}
 
@@ -29,8 +29,8 @@ pub no_record : (d : Option Keys) → is_some d ≡ false → None ≡ d
 no_record None e = refl
 no_record (Some k) e = absurd (cc)
 
-pub had_none : (m : Mine) → IsIdle m → (made : List Met) → AllHad m.0.directory made → AllHad None made
-had_none m idle made had = subst (λ (d : Option Keys). AllHad d made) (sym (no_record m.0.directory idle.1)) had
+pub had_none : (m : Mine) → IsIdle m → (made : List Met) → AllQuiet m.0.directory made → AllQuiet None made
+had_none m idle made had = subst (λ (d : Option Keys). AllQuiet d made) (sym (no_record m.0.directory idle.1)) had
 
 pub no_latches : (m : Mine) → IsIdle m → m.0.latches ≡ []
 no_latches m idle = nil_from_length m.0.latches idle.0
@@ -130,7 +130,7 @@ module _ (slots : ℕ) (k : Keys) (made : List Met) (old : Mine) (idle : IsIdle 
   pub idle_then : IsIdle new
   idle_then = subst IsIdle (sym put_is) idle
 
-  pub took_directory : AllHad old.0.directory made → Each (HadEither k after) more → TookDirectory slots k after old new
+  pub took_directory : AllQuiet old.0.directory made → Each (HadEither k after) more → TookDirectory slots k after old new
   took_directory lingered had = record {
     before = made;
     within = more;

@@ -19,7 +19,7 @@ use Rattle.mdl_steps.specs.Seats.{HasDirectory, Holds, MayName, place_among, res
 use Rattle.mdl_steps.proofs.Hands.{elsewhere-taken, holds_taken, holds_written}
 use Rattle.mdl_visits.specs.Lookups.{HadEither, HasNamed, IsListed}
 use Rattle.mdl_steps.proofs.NewKeys.{none_after}
-use Rattle.mdl_visits.specs.Visits.{AllHad, and_made, deeds_of}
+use Rattle.mdl_visits.specs.Visits.{AllQuiet, IsQuiet, and_made, deeds_of}
 use Rattle.mdl_visits.proofs.Steps.{each_append, each_map, none_then}
 
 -- a book that nobody uses has nothing to tell
@@ -47,7 +47,7 @@ may_name place key k h m fresh is =
 
 -- once it was given back, the key stands in the directory's record, too
 pub named_is : (place : ℕ) (key : KeyName) (k : Keys) (h : Held) (made : List Met) (old new : Mine) → h.place ≡ place → old.0.latches ≡ [] → IsListed place key k old
-    → AllHad old.0.directory made → deeds_of made ≡ [] → new ≡ named place key (written place (empty_book key) (latched place h (and_made made old)))
+    → AllQuiet old.0.directory made → deeds_of made ≡ [] → new ≡ named place key (written place (empty_book key) (latched place h (and_made made old)))
     → HasNamed key k old new
 named_is place key k h made old new here alone is lingered did e =
     let took : Met = record { kind = TakeLatch; deeds = []; word = latch_word place; found = 0; held = h ∷ old.0.latches; directory = old.0.directory } in
@@ -67,8 +67,8 @@ named_is place key k h made old new here alone is lingered did e =
           ∙ ap (λ (d : Option Keys). (record old.0 { log = old.0.log ++ all; directory = d }, old.1)) directory
           ∙ ap (λ (hand : List (ℕ × Slot)). (record old.0 { log = old.0.log ++ all; directory = Some (listing key k) }, hand)) is.carried,
       each_append either (made ++ took ∷ []) (gave ∷ [])
-          (each_append either made (took ∷ []) (each_map (λ (m : Met). m.directory ≡ old.0.directory) either (λ m had. inl (had ∙ is.recorded)) made lingered) (inl is.recorded, tt))
-          (inr directory, tt),
+          (each_append either made (took ∷ []) (each_map (IsQuiet old.0.directory) either (λ m had. inl (had.0 ∙ is.recorded, had.1)) made lingered) (inl (is.recorded, refl), tt))
+          (inr (directory, refl), tt),
       none_then (made ++ took ∷ []) (gave ∷ []) [] (none_then made (took ∷ []) [] did refl) refl,
     )
 
@@ -102,7 +102,7 @@ module _ (place here : ℕ) (key : KeyName) (k : Keys) (h : Held) (made : List M
       let listed : IsListed place key k (and_made made old) = record { recorded = is.recorded; carried = is.carried; new = is.new; next = is.next } in
       subst (λ (p : ℕ). MayName p key k h next) (sym at) (subst (λ (m : Mine). MayName place key k h m) (sym next_is) (may_name place key k h (and_made made old) (fresh_then place h made old fresh) listed))
 
-  pub named_at : (new : Mine) → old.0.latches ≡ [] → AllHad old.0.directory made → deeds_of made ≡ [] → new ≡ named here key next → HasNamed key k old new
+  pub named_at : (new : Mine) → old.0.latches ≡ [] → AllQuiet old.0.directory made → deeds_of made ≡ [] → new ≡ named here key next → HasNamed key k old new
   named_at new alone lingered did e =
       named_is place key k h made old new fresh.here alone is lingered did
       (e ∙ ap (λ (x : Mine). named here key x) next_is ∙ ap (λ (p : ℕ). named p key (written place (empty_book key) (latched place h (and_made made old)))) at)

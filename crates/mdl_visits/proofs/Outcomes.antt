@@ -1,14 +1,16 @@
 -- What a search comes to: nobody waits in a cycle, or the victim's wait was settled.
-use Rattle.std.proofs.Common.{◌≡◌, ◌≢◌, ℕ, ◌+◌, ◌*◌, ◌<◌, ◌==◌, ◌&&◌, nat_lt, List, [], ◌∷◌, ◌++◌, Some, refl, sym, ap, ◌∙◌, arith, append-nil}
-use Rattle.std.specs.Prelude.{◌%◌}
-use Rattle.std.specs.Option.{option_map}
+use Rattle.std.proofs.Common.{◌≡◌, ◌≢◌, ℕ, ◌+◌, ◌*◌, ◌<◌, ◌==◌, ◌&&◌, nat_lt, List, [], ◌∷◌, ◌++◌, length, take, drop, get_or, Some, None, inl, inr, refl, sym, ap, ◌∙◌, arith, append-nil}
+use Rattle.std.specs.Prelude.{◌%◌, All, IfSome, Option}
+use Rattle.std.specs.Option.{option_map, option_or}
 use Rattle.std.proofs.lemmas.Bool.{and_parts, eq-eqb, eqb-true, false≢true}
+use Rattle.std.proofs.lemmas.List.{take-append-drop, take_more}
+use Rattle.std.proofs.lemmas.List.Folds.{find-append}
 use Rattle.atomic_table.specs.Seated.{TableId}
 use Rattle.mdl_calls.specs.declared.answers.Search.{Search}
 use Rattle.mdl_calls.specs.declared.answers.Search.TheVariants.{NoCycle, Victim}
-use Rattle.mdl_graph.specs.Graphs.{deadlock_in}
+use Rattle.mdl_graph.specs.Graphs.{deadlock_in, victim_in}
 use Rattle.mdl_graph.specs.Victims.{victim_of}
-use Rattle.mdl_steps.specs.declared.step_kind.StepKind.TheVariants.{SettleWait}
+use Rattle.mdl_steps.specs.declared.step_kind.StepKind.TheVariants.{MissWait, SettleWait}
 use Rattle.mdl_steps.specs.declared.view.Held.{Held}
 use Rattle.mdl_steps.specs.declared.view.Met.{Met}
 use Rattle.mdl_steps.specs.declared.view.Settlement.{Settlement}
@@ -16,14 +18,16 @@ use Rattle.mdl_steps.specs.declared.view.View.{View}
 use Rattle.mdl_steps.specs.Layout.{wait_word}
 use Rattle.mdl_steps.specs.Plays.{Mine}
 use Rattle.mdl_steps.specs.WaitPlays.{TellsOwn, meeting, missed_wait, settled_lost, wait_in}
-use Rattle.mdl_steps.proofs.Views.{by_bool}
+use Rattle.mdl_steps.proofs.Views.{by_bool, other}
 use Rattle.mdl_visits.specs.declared.audited.Audited.{Audited}
 use Rattle.mdl_visits.specs.declared.hearing.Heard.{Heard}
 use Rattle.mdl_visits.specs.Grantings.{StaysTold}
-use Rattle.mdl_visits.specs.Searches.{Fells, Hears, IsOutcome, Judges, KnowsFall, books_of, if_waited, settled_by}
+use Rattle.mdl_visits.specs.Polls.{SettlesNothing}
+use Rattle.mdl_visits.specs.Searches.{AreOfAll, Fells, Hears, IsOutcome, Judges, KnowsFall, Misses, WasHeard, WasOther, books_of, heard_of, if_waited, settled_by}
 use Rattle.mdl_visits.specs.Visits.{GoesOn}
 use Rattle.mdl_visits.proofs.Asking.{step_within}
 use Rattle.mdl_visits.proofs.Deadlocks.{same_if_waited}
+use Rattle.mdl_visits.proofs.Steps.{step_after}
 use Rattle.mdl_visits.proofs.Words.{all_within, hears_missed}
 
 -- ---- a wait is settled as the victim's
@@ -49,7 +53,7 @@ module _ (slots session number : ℕ) (m m′ : Mine) (lost : m′ ≡ settled_l
     now = lost;
     did = refl;
     stays = stays_lost slots session number m.0 own;
-    had = (refl, tt);
+    had = ((refl, refl), tt);
   }
 
   pub fells_one : Fells slots session m.0.latches m m′
@@ -85,6 +89,45 @@ hears_settling slots session number found m m′ own settled missed =
     let is = eqb-true found (wait_in number 1) same in
     hears_lost slots session number m m′ (settled is) (rw (sym is) own))
     (λ differ. hears_missed slots session found m m′ own (missed (λ is. false≢true (sym differ ∙ eq-eqb found (wait_in number 1) is))))
+
+-- ---- another word was met
+
+pub other_met : (slots found : ℕ) (h : Heard) (m m′ : Mine) → m′ ≡ missed_wait slots h.session found m → found ≢ h.word.0 → SettlesNothing m m′ × WasOther slots m m′ h
+other_met slots found h m m′ missed differs =
+    let e : Met = record { kind = MissWait; deeds = []; word = wait_word slots h.session; found = found; held = m.0.latches; directory = m.0.directory } in (
+      ap (λ (x : Mine). x.0.settles) missed,
+      inr (e, ([], [], ap (λ (x : Mine). x.0.log) missed ∙ ap (λ (log : List Met). log ++ e ∷ []) (sym (append-nil m.0.log))), record { word_is = refl; differs = differs }),
+    )
+
+-- of a session of which no word was heard before the next one
+module _ (session : ℕ) (words : List Heard) (i : ℕ) (d : Heard) (inside : i < length words) (none : heard_of session (take i words) ≡ None) where
+  with_next : (o : Option Heard) → heard_of session (get_or words i d ∷ []) ≡ o → heard_of session (take (i + 1) words) ≡ o
+  with_next o next =
+      ap (heard_of session) (take_more words i d inside)
+      ∙ find-append (λ (x : Heard). x.session == session) (take i words) (get_or words i d ∷ [])
+      ∙ ap (λ (before : Option Heard). option_or before (heard_of session (get_or words i d ∷ []))) none
+      ∙ next
+
+  pub none_still : (get_or words i d).session ≢ session → heard_of session (take (i + 1) words) ≡ None
+  none_still differs = with_next None (rw (other (get_or words i d).session session differs) refl)
+
+  pub heard_first : (get_or words i d).session ≡ session → heard_of session words ≡ Some (get_or words i d)
+  heard_first same =
+      let next : heard_of session (take (i + 1) words) ≡ Some (get_or words i d) = with_next (Some (get_or words i d)) (rw (eq-eqb (get_or words i d).session session same) refl) in
+      ap (heard_of session) (sym (take-append-drop (i + 1) words))
+      ∙ find-append (λ (x : Heard). x.session == session) (take (i + 1) words) (drop (i + 1) words)
+      ∙ ap (λ (before : Option Heard). option_or before (heard_of session (drop (i + 1) words))) next
+
+-- what is met otherwise is so of a call that did something before
+other_after : (slots : ℕ) (a b c : Mine) (o : Option Heard) → GoesOn a b → IfSome o (WasOther slots b c) → IfSome o (WasOther slots a c)
+other_after slots a b c None before none = tt
+other_after slots a b c (Some h) before (inl settled) = inl settled
+other_after slots a b c (Some h) before (inr met) = inr (met.0, step_after a b c before met.0 met.1, met.2)
+
+pub misses : (id : TableId) (who victim : ℕ) (latches : List Held) (audited : List Audited) (words : List Heard) (a b c : Mine) → AreOfAll id words → All (WasHeard id.slots latches a c) words
+    → victim_in (settled_by words) (books_of audited) who ≡ Some victim → GoesOn a b → IfSome (heard_of victim words) (WasOther id.slots b c) → Misses id who latches audited a c
+misses id who victim latches audited words a b c all heard found before met =
+    record { words = words; all = all; heard = heard; victim = victim; found = found; other = other_after id.slots a b c (heard_of victim words) before met }
 
 -- ---- of a call that did something before and after
 

@@ -29,7 +29,7 @@ use Rattle.mdl_visits.specs.Visits.{GoesOn, IsStepOf}
 use Rattle.mdl_visits.proofs.Losing.{taken_out}
 use Rattle.mdl_visits.proofs.Steps.{goes_by, step_after, step_before}
 use Rattle.mdl_visits.proofs.Waiting.{found_number, gone, nobody_next, none_ahead, not_ready, only_one, serves_on, waits_ahead, waits_still}
-use Rattle.mdl_visits.proofs.Way.{looked_before, settled_after, settled_before, way_granted, way_met, way_then, way_written}
+use Rattle.mdl_visits.proofs.Way.{looked_within, settled_within, way_granted, way_met, way_then, way_written}
 
 -- a seat has one record of a place's latch
 pub one_record : (place : ℕ) (h g : Held) (m : Mine) → Holds place h h.book m → Holds place g g.book m → h ≡ g
@@ -90,7 +90,7 @@ module _ (kind : StepKind) (only : OnlyMeets kind) (id : TableId) (place session
 
   -- a step that met the word makes way
   pub way_missed : TellsOwn id.slots session word m.0 → MakesWayInTurn id place session number m a
-  way_missed own start g mine looked = way_met id place start kind session word g.book m a mine.carried own is
+  way_missed own start g mine looked = way_met id place start kind only session word g.book m a mine.carried own is
 
   -- ---- the read before it
 
@@ -143,7 +143,7 @@ module _ (kind : StepKind) (only : OnlyMeets kind) (id : TableId) (place session
   pub way_tried : (b : Mine) → TellsOwn id.slots session word m.0 → MakesWayInTurn id place session number a b → MakesWayInTurn id place session number m b
   way_tried b own way start g mine looked =
       way_then id place start m a b (way_missed own start g mine looked)
-      (way start g (holds_met kind id.slots place session word g m a is mine) (looked_before start m a id place g (ahead_of session number g.book.waiting) goes looked))
+      (way start g (holds_met kind id.slots place session word g m a is mine) (looked_within start m start a (step_before start m a goes) id place g (ahead_of session number g.book.waiting) looked))
 
 -- ---- turn by turn
 
@@ -169,11 +169,11 @@ module _ (id : TableId) (place session number word : ℕ) (h : Held) (m a b : Mi
   -- who was tried before was tried
   still : (who its : ℕ) → IsTried id place who its m a → IsTried id place who its m b
   still who its (inl none) = inl none
-  still who its (inr settled) = inr (settled_before m a b id.slots place who its more settled)
+  still who its (inr settled) = inr (settled_within m a m b (step_before m a b more) id.slots place who its settled)
 
   it : IsTried id place session number a b → IsTried id place session number m b
   it (inl none) = inl none
-  it (inr settled) = inr (settled_after m a b id.slots place session number before settled)
+  it (inr settled) = inr (settled_within a b m b (step_after m a b before) id.slots place session number settled)
 
   pub turn_done : (h′ : Held) × Holds place h′ h′.book b × MayServe word h′ × AreTried id place (set.remove untried session) h′ m b
   turn_done = elim served [

@@ -9,7 +9,20 @@ use Rattle.mdl_steps.specs.declared.view.Met.{Met}
 use Rattle.mdl_steps.specs.Layout.{latch_word}
 use Rattle.mdl_steps.specs.Lists.{Each}
 use Rattle.mdl_steps.specs.Plays.{Mine, latched, unlatched}
-use Rattle.mdl_visits.specs.Visits.{AllHad, Does, GoesOn, IsLastStepOf, IsStepOf, KeepsDirectory, and_made, deeds_of}
+use Rattle.mdl_visits.specs.Visits.{AllQuiet, Does, GoesOn, IsQuiet, IsStepOf, LeavesBy, StaysOn, StaysQuiet, StaysThere, and_made, deeds_of}
+
+-- ---- what each element of a list is
+
+module _ {X : Type 0} where
+  pub each_append : (P : X → Type 0) (xs ys : List X) → Each P xs → Each P ys → Each P (xs ++ ys)
+  each_append P [] ys all more = more
+  each_append P (x ∷ xs) ys all more = (all.0, each_append P xs ys all.1 more)
+
+  pub each_map : (P Q : X → Type 0) → ((x : X) → P x → Q x) → (xs : List X) → Each P xs → Each Q xs
+  each_map P Q so [] all = tt
+  each_map P Q so (x ∷ xs) all = (so x all.0, each_map P Q so xs all.1)
+
+-- ---- steps
 
 -- the list grew by a step and those beside it
 pub goes_by : (a b : Mine) (e : Met) → IsStepOf a b e → GoesOn a b
@@ -33,14 +46,19 @@ module _ (a b c : Mine) where
   )
 
   -- the last one stays the last
-  pub last_after : GoesOn a b → (e : Met) → IsLastStepOf b c e → IsLastStepOf a c e
-  last_after more e step = (
+  pub leaves_after : StaysOn a b → (e : Met) → LeavesBy b c e → LeavesBy a c e
+  leaves_after more e step = (
     more.0 ++ step.0,
     step.1 ∙ ap (λ (log : List Met). (log ++ step.0) ++ e ∷ []) more.1 ∙ ap (λ (log : List Met). log ++ e ∷ []) (append_assoc a.0.log more.0 step.0),
+    each_append StaysThere more.0 step.0 more.2 step.2,
   )
 
   pub goes_on : GoesOn a b → GoesOn b c → GoesOn a c
   goes_on first more = (first.0 ++ more.0, more.1 ∙ ap (λ (log : List Met). log ++ more.0) first.1 ∙ append_assoc a.0.log first.0 more.0)
+
+-- who stays on goes on
+pub goes_staying : (a b : Mine) → StaysOn a b → GoesOn a b
+goes_staying a b more = (more.0, more.1)
 
 -- ---- deeds
 
@@ -65,40 +83,36 @@ does_then ds more a b c first later = (
   deeds_then first.0 later.0 ds more first.2 later.2,
 )
 
--- ---- what each element of a list is
-
-module _ {X : Type 0} where
-  pub each_append : (P : X → Type 0) (xs ys : List X) → Each P xs → Each P ys → Each P (xs ++ ys)
-  each_append P [] ys all more = more
-  each_append P (x ∷ xs) ys all more = (all.0, each_append P xs ys all.1 more)
-
-  pub each_map : (P Q : X → Type 0) → ((x : X) → P x → Q x) → (xs : List X) → Each P xs → Each Q xs
-  each_map P Q so [] all = tt
-  each_map P Q so (x ∷ xs) all = (so x all.0, each_map P Q so xs all.1)
-
 -- ---- what the session has of the directory meanwhile
 
-pub keeps_none : (m m′ : Mine) → m′ ≡ m → KeepsDirectory m m′
-keeps_none m m′ same = ([], ap (λ (x : Mine). x.0.log) same ∙ sym (append-nil m.0.log), tt)
+pub quiet_none : (m m′ : Mine) → m′ ≡ m → StaysQuiet m m′
+quiet_none m m′ same = ([], ap (λ (x : Mine). x.0.log) same ∙ sym (append-nil m.0.log), tt)
 
-pub keeps_on : (a b c : Mine) → KeepsDirectory a b → b.0.directory ≡ a.0.directory → KeepsDirectory b c → KeepsDirectory a c
-keeps_on a b c first same more = (
+pub quiet_on : (a b c : Mine) → StaysQuiet a b → b.0.directory ≡ a.0.directory → StaysQuiet b c → StaysQuiet a c
+quiet_on a b c first same more = (
   first.0 ++ more.0,
   more.1 ∙ ap (λ (log : List Met). log ++ more.0) first.1 ∙ append_assoc a.0.log first.0 more.0,
-  each_append (λ (e : Met). e.directory ≡ a.0.directory) first.0 more.0 first.2 (subst (λ (d : Option Keys). AllHad d more.0) same more.2),
+  each_append (IsQuiet a.0.directory) first.0 more.0 first.2 (subst (λ (d : Option Keys). AllQuiet d more.0) same more.2),
 )
 
--- the latch of a place is taken, something is done, and it is given back
-pub keeps_there : (place : ℕ) (h : Held) (made : List Met) (a b c d : Mine) → AllHad a.0.directory made → b ≡ latched place h (and_made made a) → KeepsDirectory b c
-    → c.0.directory ≡ b.0.directory → d ≡ unlatched place [] c → KeepsDirectory a d
-keeps_there place h made a b c d had taken inside same put =
-    let took : Met = record { kind = TakeLatch; deeds = []; word = latch_word place; found = 0; held = h ∷ a.0.latches; directory = a.0.directory } in
-    let gave : Met = record { kind = PutLatch; deeds = []; word = latch_word place; found = c.0.number; held = c.0.latches; directory = c.0.directory } in
-    let first : KeepsDirectory a b = (
+-- one step was made
+pub quiet_one : (e : Met) (m m′ : Mine) → m′.0.log ≡ m.0.log ++ e ∷ [] → IsQuiet m.0.directory e → StaysQuiet m m′
+quiet_one e m m′ log quiet = (e ∷ [], log, (quiet, tt))
+
+-- the latch of a place is taken
+pub quiet_taken : (place : ℕ) (h : Held) (made : List Met) (a b : Mine) → AllQuiet a.0.directory made → b ≡ latched place h (and_made made a) → StaysQuiet a b
+quiet_taken place h made a b had taken =
+    let took : Met = record { kind = TakeLatch; deeds = []; word = latch_word place; found = 0; held = h ∷ a.0.latches; directory = a.0.directory } in (
       made ++ took ∷ [],
       ap (λ (x : Mine). x.0.log) taken ∙ append_assoc a.0.log made (took ∷ []),
-      each_append (λ (e : Met). e.directory ≡ a.0.directory) made (took ∷ []) had (refl, tt),
-    ) in
-    let last : KeepsDirectory c d = (gave ∷ [], ap (λ (x : Mine). x.0.log) put, (refl, tt)) in
+      each_append (IsQuiet a.0.directory) made (took ∷ []) had ((refl, refl), tt),
+    )
+
+-- it is taken, something is done, and it is given back
+pub quiet_there : (place : ℕ) (h : Held) (made : List Met) (a b c d : Mine) → AllQuiet a.0.directory made → b ≡ latched place h (and_made made a) → StaysQuiet b c
+    → c.0.directory ≡ b.0.directory → d ≡ unlatched place [] c → StaysQuiet a d
+quiet_there place h made a b c d had taken inside same put =
+    let gave : Met = record { kind = PutLatch; deeds = []; word = latch_word place; found = c.0.number; held = c.0.latches; directory = c.0.directory } in
+    let last : StaysQuiet c d = quiet_one gave c d (ap (λ (x : Mine). x.0.log) put) (refl, refl) in
     let had_still : b.0.directory ≡ a.0.directory = ap (λ (x : Mine). x.0.directory) taken in
-    keeps_on a c d (keeps_on a b c first had_still inside) (same ∙ had_still) last
+    quiet_on a c d (quiet_on a b c (quiet_taken place h made a b had taken) had_still inside) (same ∙ had_still) last

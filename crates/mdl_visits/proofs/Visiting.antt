@@ -10,10 +10,11 @@ use Rattle.mdl_steps.specs.declared.view.Held.{Held}
 use Rattle.mdl_steps.specs.declared.view.Met.{Met}
 use Rattle.mdl_steps.specs.Deeds.{all_done}
 use Rattle.mdl_steps.specs.Layout.{latch_word, lock_word}
+use Rattle.mdl_steps.specs.Lists.{Each}
 use Rattle.mdl_steps.specs.Plays.{Mine, IsFresh, latched, unlatched, missed_latch, stepped, raised, noting, changed}
 use Rattle.mdl_steps.specs.Seats.{Holds, IsRising, written}
 use Rattle.mdl_steps.proofs.Hands.{elsewhere-stepped, elsewhere-rising}
-use Rattle.mdl_visits.specs.Visits.{and_made, deeds_of, MakesSteps, Lingers, IsInside, Visits, Enters}
+use Rattle.mdl_visits.specs.Visits.{and_made, deeds_of, MakesSteps, Lingers, IsInside, IsQuiet, StaysOn, StaysThere, Visits, Enters}
 use Rattle.mdl_visits.proofs.Steps.{each_append, none_then}
 
 -- ---- steps
@@ -25,7 +26,7 @@ makes_none m = ([], (λ i. and_log (sym (append-nil m.0.log) i)), refl)
     and_log log = (record m.0 { log = log }, m.1)
 
 pub lingers_none : (m : Mine) → Lingers m m
-lingers_none m = ([], (λ i. (record m.0 { log = sym (append-nil m.0.log) i }, m.1)), tt, refl)
+lingers_none m = ([], (λ i. (record m.0 { log = sym (append-nil m.0.log) i }, m.1)), tt, refl, tt)
 
 -- one that only met something
 pub lingers_one : (place found : ℕ) (m m′ m″ : Mine) → Lingers m m′ → m″ ≡ missed_latch place found m′ → Lingers m m″
@@ -34,8 +35,9 @@ lingers_one place found m m′ m″ steps met =
       steps.0 ++ e ∷ [],
       met ∙ ap (missed_latch place found) steps.1
           ∙ (λ i. (record m.0 { log = append_assoc m.0.log steps.0 (e ∷ []) i }, m.1)),
-      each_append (λ (x : Met). x.directory ≡ m.0.directory) steps.0 (e ∷ []) steps.2 (refl, tt),
+      each_append (IsQuiet m.0.directory) steps.0 (e ∷ []) steps.2 ((refl, refl), tt),
       none_then steps.0 (e ∷ []) [] steps.3 refl,
+      each_append StaysThere steps.0 (e ∷ []) steps.4 ((refl, refl), tt),
     )
 
 -- ---- inside
@@ -61,6 +63,12 @@ inside_taken place h m m′ made rising here taken did =
       others = rw (eq-eqb h.place place here) (elsewhere-rising place m.0.latches rising);
       did = none_then made (e ∷ []) [] did refl;
     }
+
+-- at none of these steps a latch was given back or a flag raised
+pub stays_taken : (place : ℕ) (h : Held) (m m′ : Mine) (made : List Met) → m′ ≡ latched place h (and_made made m) → Each StaysThere made → StaysOn m m′
+stays_taken place h m m′ made taken stayed =
+    let e : Met = record { kind = TakeLatch; deeds = []; word = latch_word place; found = 0; held = h ∷ m.0.latches; directory = m.0.directory } in
+    (made ++ e ∷ [], ap (λ (x : Mine). x.0.log) taken ∙ append_assoc m.0.log made (e ∷ []), each_append StaysThere made (e ∷ []) stayed ((refl, refl), tt))
 
 pub inside_stepped : (kind : StepKind) (place found : ℕ) (f : Held → Held) (m m′ m″ : Mine) → ((h : Held) → (f h).place ≡ h.place) → IsInside place m m′ → m″ ≡ stepped kind place found f m′ → IsInside place m m″
 inside_stepped kind place found f m m′ m″ stays inside made =

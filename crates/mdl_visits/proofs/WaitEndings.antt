@@ -26,7 +26,7 @@ use Rattle.mdl_steps.proofs.Tickets.{once-without, without-miss}
 use Rattle.mdl_steps.proofs.Views.{by_bool}
 use Rattle.mdl_visits.specs.WaitEndings.{EndsLost, EndsThere, MayEnd, idle, without_wait}
 use Rattle.mdl_visits.specs.Grantings.{LeavesWay, StandsOnce, WaitsOnce}
-use Rattle.mdl_visits.specs.Visits.{IsInside}
+use Rattle.mdl_visits.specs.Visits.{IsInside, StaysOn}
 use Rattle.mdl_visits.proofs.Losing.{any_before, no_longer}
 use Rattle.mdl_visits.proofs.Waiting.{found_before}
 use Rattle.mdl_visits.proofs.WayOut.{visits_for_way, waits_once, way_after}
@@ -126,7 +126,7 @@ module _ (place : ℕ) (h : Held) (m m₁ m₂ : Mine) (may : MayEnd place h m) 
             ∙ ap (λ (x : Mine). (record x.0 { latches = elsewhere place m₂; told = left.told; settles = left.settles; log = x.0.log ++ left.made }, rest x.1)) same
             ∙ (λ i. (record (idle m.0) { latches = others i; told = left.told; settles = left.settles; log = append_assoc m.0.log (e ∷ []) left.made i }, rest m.1));
         did = left.did;
-        way = way_after id place (without_wait m) m₂ m₃ (e ∷ [], ap (λ (x : Mine). x.0.log) same) (ap (λ (x : Mine). x.0.settles) same) (ap (λ (x : Mine). x.0.told) same)
+        way = way_after id place (without_wait m) m₂ m₃ (e ∷ [], ap (λ (x : Mine). x.0.log) same, ((refl, refl), tt)) (ap (λ (x : Mine). x.0.settles) same) (ap (λ (x : Mine). x.0.told) same)
             (ap (λ (x : Mine). x.0.number) same) (ap (λ (x : Mine). x.0.asks) same) left.way;
       }
 
@@ -152,8 +152,8 @@ module _ (place : ℕ) (m m′ : Mine) (inside : IsInside place m m′) where
     refl,
   )
 
-  pub ends : (id : TableId) (m″ : Mine) → EndsThere id place m′ m″ → EndsLost id place m m″
-  ends id m″ ended =
+  pub ends : (id : TableId) (m″ : Mine) → StaysOn m m′ → EndsThere id place m′ m″ → EndsLost id place m m″
+  ends id m″ stays ended =
       visits_for_way id place [] (without_wait m) (without_wait m′) m″
       (record { latches = inside.latches; made = inside.made; book = inside.book; now = ap without_wait inside.now; others = inside.others; did = inside.did })
-      ended
+      stays ended

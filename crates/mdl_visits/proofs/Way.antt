@@ -1,5 +1,5 @@
 -- Way is made step by step.
-use Rattle.std.proofs.Common.{◌≡◌, ℕ, ◌+◌, ◌*◌, ◌%◌, ◌<◌, ◌==◌, ◌&&◌, nat_lt, List, [], ◌∷◌, ◌++◌, Some, None, refl, sym, ap, ◌∙◌, subst, append_assoc, append-nil, inl, inr, arith}
+use Rattle.std.proofs.Common.{◌≡◌, ℕ, ◌+◌, ◌*◌, ◌%◌, ◌<◌, ◌==◌, ◌&&◌, nat_lt, false, List, [], ◌∷◌, ◌++◌, Some, None, refl, sym, ap, ◌∙◌, subst, append_assoc, append-nil, inl, inr, arith}
 use Rattle.std.proofs.lemmas.Bool.{and_parts, eqb-true, ltb-true}
 use Rattle.atomic_table.specs.Seated.{TableId}
 use Rattle.mdl_book.specs.declared.book_view.BookView.{BookView}
@@ -18,9 +18,9 @@ use Rattle.mdl_steps.specs.Seats.{Holds, elsewhere, rest, written}
 use Rattle.mdl_steps.specs.WaitPlays.{wait_in, met_wait_by, meeting, settled_granted, with_admitted, TellsOwn}
 use Rattle.mdl_steps.proofs.Hands.{elsewhere-stepped}
 use Rattle.mdl_steps.proofs.Views.{by_bool, held_at-changed}
-use Rattle.mdl_visits.specs.Grantings.{AreGranted, ArePassedOver, HasJustMet, IsLookedThrough, IsReady, MakesWay, MeetsGranted, StaysTold, WasSettled, ahead_of}
-use Rattle.mdl_visits.specs.Visits.{GoesOn, IsStepAfter}
-use Rattle.mdl_visits.proofs.Steps.{each_append, each_map, goes_on, none_then, step_after, step_before}
+use Rattle.mdl_visits.specs.Grantings.{AreGranted, ArePassedOver, HasJustMet, IsLookedThrough, IsReady, MakesWay, MeetsGranted, OnlyMeets, StaysTold, WasSettled, ahead_of}
+use Rattle.mdl_visits.specs.Visits.{GoesOn, IsStepAfter, IsStepOf, StaysOn, StaysThere, gives_back, raises_flags}
+use Rattle.mdl_visits.proofs.Steps.{each_append, each_map, goes_on, none_then, step_after}
 
 -- ---- what is told of one's own wait
 
@@ -67,60 +67,33 @@ unasked_granted slots session number v own none =
 
 -- ---- what was met between two was met between any two that are farther apart
 
-module _ (a b c : Mine) where
-  pub settled_before : (slots place session number : ℕ) → GoesOn b c → WasSettled slots place session number a b → WasSettled slots place session number a c
-  settled_before slots place session number more was = record {
+module _ (a b c d : Mine) (wider : (e : Met) → IsStepOf a b e → IsStepOf c d e) where
+  pub settled_within : (slots place session number : ℕ) → WasSettled slots place session number a b → WasSettled slots place session number c d
+  settled_within slots place session number was = record {
     read = was.read;
-    read_then = step_before a b c more was.read was.read_then;
+    read_then = wider was.read was.read_then;
     of_wait = was.of_wait;
     met = was.met;
-    met_then = step_before a b c more was.met was.met_then;
-    of_same = was.of_same;
-    settled = was.settled;
-  }
-
-  pub settled_after : (slots place session number : ℕ) → GoesOn a b → WasSettled slots place session number b c → WasSettled slots place session number a c
-  settled_after slots place session number more was = record {
-    read = was.read;
-    read_then = step_after a b c more was.read was.read_then;
-    of_wait = was.of_wait;
-    met = was.met;
-    met_then = step_after a b c more was.met was.met_then;
+    met_then = wider was.met was.met_then;
     of_same = was.of_same;
     settled = was.settled;
   }
 
   module _ (id : TableId) (place : ℕ) (h : Held) (tickets : List Ticket) where
-    passed_before : (word : ℕ) → GoesOn b c → ArePassedOver id place word h tickets a b → ArePassedOver id place word h tickets a c
-    passed_before word more passed t among known is = elim (passed t among known is) [
-      | inl settled ↦ inl (settled_before id.slots place t.session t.number more settled)
+    passed_within : (word : ℕ) → ArePassedOver id place word h tickets a b → ArePassedOver id place word h tickets c d
+    passed_within word passed t among known is = elim (passed t among known is) [
+      | inl settled ↦ inl (settled_within id.slots place t.session t.number settled)
       | inr cannot ↦ inr cannot
     ]
 
-    passed_after : (word : ℕ) → GoesOn a b → ArePassedOver id place word h tickets b c → ArePassedOver id place word h tickets a c
-    passed_after word more passed t among known is = elim (passed t among known is) [
-      | inl settled ↦ inl (settled_after id.slots place t.session t.number more settled)
-      | inr cannot ↦ inr cannot
-    ]
-
-    pub looked_before : GoesOn b c → IsLookedThrough id place h tickets a b → IsLookedThrough id place h tickets a c
-    looked_before more looked = record {
+    pub looked_within : IsLookedThrough id place h tickets a b → IsLookedThrough id place h tickets c d
+    looked_within looked = record {
       read = looked.read;
-      read_then = step_before a b c more looked.read looked.read_then;
+      read_then = wider looked.read looked.read_then;
       kind = looked.kind;
       of_lock = looked.of_lock;
       noted = looked.noted;
-      passed = passed_before looked.read.found more looked.passed;
-    }
-
-    pub looked_after : GoesOn a b → IsLookedThrough id place h tickets b c → IsLookedThrough id place h tickets a c
-    looked_after more looked = record {
-      read = looked.read;
-      read_then = step_after a b c more looked.read looked.read_then;
-      kind = looked.kind;
-      of_lock = looked.of_lock;
-      noted = looked.noted;
-      passed = passed_after looked.read.found more looked.passed;
+      passed = passed_within looked.read.found looked.passed;
     }
 
 -- ---- and what was granted
@@ -158,7 +131,7 @@ meets_since id place first start x g e more met = record {
   waits = met.waits;
   beside = met.beside;
   first = met.first;
-  earliest = looked_after first start x id place met.before (ahead_of g.session met.wish.number met.before.book.waiting) more met.earliest;
+  earliest = looked_within start x first x (step_after first start x more) id place met.before (ahead_of g.session met.wish.number met.before.book.waiting) met.earliest;
 }
 
 pub granted_since : (id : TableId) (place : ℕ) (grants : List Settlement) (first start a b : Mine) → GoesOn first start → AreGranted id place grants start a b → AreGranted id place grants first a b
@@ -167,6 +140,11 @@ granted_since id place grants first start a b more =
     (λ g met. (met.0, met.1, met.2, meets_since id place first start met.1 g met.0 more met.3)) grants
 
 -- ---- way is made
+
+-- who only meets something stays
+only_stays : (kind : StepKind) → OnlyMeets kind → (gives_back kind ≡ false) × (raises_flags kind ≡ false)
+only_stays kind (inl read) = rw read (refl, refl)
+only_stays kind (inr missed) = rw missed (refl, refl)
 
 module _ (id : TableId) (place : ℕ) (start : Mine) where
   -- ---- nothing yet
@@ -184,13 +162,14 @@ module _ (id : TableId) (place : ℕ) (start : Mine) where
     unasked = λ none. refl;
     granted = tt;
     did = refl;
+    kept = tt;
   }
 
   -- ---- one step
 
-  pub way_met : (kind : StepKind) (session found : ℕ) (book : BookView) (m m′ : Mine) → m.1 ≡ (place, slot.Place book) ∷ rest m.1 → TellsOwn id.slots session found m.0
+  pub way_met : (kind : StepKind) → OnlyMeets kind → (session found : ℕ) (book : BookView) (m m′ : Mine) → m.1 ≡ (place, slot.Place book) ∷ rest m.1 → TellsOwn id.slots session found m.0
       → m′ ≡ met_wait_by kind id.slots session found m → MakesWay id place start m m′
-  way_met kind session found book m m′ carried own is = record {
+  way_met kind only session found book m m′ carried own is = record {
     latches = m.0.latches;
     told = (meeting session found m.0).told;
     grants = [];
@@ -202,6 +181,7 @@ module _ (id : TableId) (place : ℕ) (start : Mine) where
     unasked = unasked_met id.slots session found m.0 own;
     granted = tt;
     did = refl;
+    kept = (only_stays kind only, tt);
   }
 
   -- the lock's word was read
@@ -218,6 +198,7 @@ module _ (id : TableId) (place : ℕ) (start : Mine) where
     unasked = λ none. refl;
     granted = tt;
     did = refl;
+    kept = ((refl, refl), tt);
   }
 
   module _ (session ticket number : ℕ) (h : Held) (book : BookView) (m m′ : Mine) (has : Holds place h book m) (ready : IsReady session ticket h) (just : HasJustMet id.slots place session h m)
@@ -263,6 +244,7 @@ module _ (id : TableId) (place : ℕ) (start : Mine) where
         tt,
       );
       did = refl;
+      kept = ((refl, refl), tt);
     }
 
   -- the book in hand was written
@@ -279,12 +261,16 @@ module _ (id : TableId) (place : ℕ) (start : Mine) where
     unasked = λ none. refl;
     granted = tt;
     did = refl;
+    kept = tt;
   }
 
   -- ---- one after another
 
   pub steps_of : (m m′ : Mine) → MakesWay id place start m m′ → GoesOn m m′
   steps_of m m′ way = (way.made, ap (λ (x : Mine). x.0.log) way.now)
+
+  pub stays_of : (m m′ : Mine) → MakesWay id place start m m′ → StaysOn m m′
+  stays_of m m′ way = (way.made, ap (λ (x : Mine). x.0.log) way.now, way.kept)
 
   pub way_then : (a b c : Mine) → MakesWay id place start a b → MakesWay id place start b c → MakesWay id place start a c
   way_then a b c x y = record {
@@ -302,4 +288,5 @@ module _ (id : TableId) (place : ℕ) (start : Mine) where
     granted = each_append (λ (g : Settlement). (e : Met) × (s : Mine) × IsStepAfter a s c e × MeetsGranted id place start s g e) x.grants y.grants
         (granted_before id place x.grants start a b c (steps_of b c y) x.granted) (granted_after id place y.grants start a b c (steps_of a b x) y.granted);
     did = none_then x.made y.made [] x.did y.did;
+    kept = each_append StaysThere x.made y.made x.kept y.kept;
   }

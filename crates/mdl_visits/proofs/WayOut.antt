@@ -18,16 +18,19 @@ use Rattle.mdl_steps.specs.Plays.{Mine, unlatched}
 use Rattle.mdl_steps.specs.Seats.{Holds, elsewhere, rest, written}
 use Rattle.mdl_steps.proofs.Hands.{elsewhere-settled}
 use Rattle.mdl_visits.specs.Grantings.{ForgetsNobody, IsLowered, LeavesWay, MadeWay, MakesWay, StandsOnce, VisitsForWay, WaitsOnce}
-use Rattle.mdl_visits.specs.Visits.{GoesOn, IsInside, IsStepOf}
-use Rattle.mdl_visits.proofs.Steps.{last_after, none_then, step_before}
-use Rattle.mdl_visits.proofs.Way.{granted_after, granted_before, granted_since, looked_after, looked_before, steps_of}
+use Rattle.mdl_visits.specs.Visits.{GoesOn, IsInside, IsStepOf, StaysOn, StaysThere}
+use Rattle.mdl_visits.proofs.Steps.{each_append, goes_staying, leaves_after, none_then, step_after, step_before}
+use Rattle.mdl_visits.proofs.Way.{granted_after, granted_before, granted_since, looked_within, stays_of}
 
 -- ---- of what went before
 
-module _ (id : TableId) (place : ℕ) (a b c : Mine) (more : GoesOn a b) where
+module _ (id : TableId) (place : ℕ) (a b c : Mine) (stays : StaysOn a b) where
+  more : GoesOn a b
+  more = goes_staying a b stays
+
   served_after : (latch : Held) → (latch.book.waiting ≡ []) ⊎ ForgetsNobody id place latch b c → (latch.book.waiting ≡ []) ⊎ ForgetsNobody id place latch a c
   served_after latch (inl none) = inl none
-  served_after latch (inr looked) = inr (looked_after a b c id place latch latch.book.waiting more looked)
+  served_after latch (inr looked) = inr (looked_within b c a c (step_after a b c more) id place latch latch.book.waiting looked)
 
   -- where nothing of waits changed before, way was made from there on
   pub way_after : b.0.settles ≡ a.0.settles → b.0.told ≡ a.0.told → b.0.number ≡ a.0.number → b.0.asks ≡ a.0.asks → MadeWay id place b c → MadeWay id place a c
@@ -38,7 +41,7 @@ module _ (id : TableId) (place : ℕ) (a b c : Mine) (more : GoesOn a b) where
         grants = way.grants;
         settles = way.settles ∙ ap (λ (xs : List Settlement). xs ++ way.grants) settles;
         granted = granted_since id place way.grants a b a c more (granted_after id place way.grants b a b c more way.granted);
-        served = (s.0, last_after a b c more s.0 s.1, record { kind = m.kind; did = m.did; word = m.word; freed = m.freed ∙ number; latch = m.latch; held = m.held; served = served_after m.latch m.served });
+        served = (s.0, leaves_after a b c stays s.0 s.1, record { kind = m.kind; did = m.did; word = m.word; freed = m.freed ∙ number; latch = m.latch; held = m.held; served = served_after m.latch m.served });
         stays = λ state e. way.stays state (told ∙ e);
         unasked = λ none. way.unasked (asks ∙ none) ∙ told;
       }
@@ -62,7 +65,7 @@ module _ (id : TableId) (place : ℕ) (h : Held) (m c : Mine) (has : Holds place
       granted = tt;
       served = (
         puts,
-        ([], ap (λ (x : Mine). x.0.log) put ∙ ap (λ (log : List Met). log ++ puts ∷ []) (sym (append-nil m.0.log))),
+        ([], ap (λ (x : Mine). x.0.log) put ∙ ap (λ (log : List Met). log ++ puts ∷ []) (sym (append-nil m.0.log)), tt),
         record { kind = refl; did = refl; word = refl; freed = refl; latch = h; held = has.recorded; served = inl nobody },
       );
       stays = λ state e. ap (λ (x : Mine). x.0.told) put ∙ e;
@@ -80,8 +83,8 @@ module _ (id : TableId) (place : ℕ) (g : Held) (m b c : Mine) (way : MakesWay 
   b_c : GoesOn b c
   b_c = (frees ∷ [], ap (λ (x : Mine). x.0.log) put)
 
-  m_b : GoesOn m b
-  m_b = steps_of id place m m b way
+  m_b : StaysOn m b
+  m_b = stays_of id place m m b way
 
   abbrev last : Met
   last = record { kind = PutLatch; deeds = []; word = latch_word place; found = m.0.number; held = way.latches; directory = m.0.directory }
@@ -100,7 +103,7 @@ module _ (id : TableId) (place : ℕ) (g : Held) (m b c : Mine) (way : MakesWay 
       granted = granted_before id place way.grants m m b c b_c way.granted;
       served = (
         frees,
-        last_after m b c m_b frees ([], ap (λ (x : Mine). x.0.log) put ∙ ap (λ (log : List Met). log ++ frees ∷ []) (sym (append-nil b.0.log))),
+        leaves_after m b c m_b frees ([], ap (λ (x : Mine). x.0.log) put ∙ ap (λ (log : List Met). log ++ frees ∷ []) (sym (append-nil b.0.log)), tt),
         record {
           kind = refl;
           did = refl;
@@ -108,7 +111,7 @@ module _ (id : TableId) (place : ℕ) (g : Held) (m b c : Mine) (way : MakesWay 
           freed = ap (λ (x : Mine). x.0.number) way.now;
           latch = g;
           held = has.recorded;
-          served = inr (looked_before m b c id place g g.book.waiting b_c none);
+          served = inr (looked_within m b m c (step_before m b c b_c) id place g g.book.waiting none);
         },
       );
       stays = λ state e. ap (λ (x : Mine). x.0.told) put ∙ ap (λ (x : Mine). x.0.told) way.now ∙ way.stays state e;
@@ -122,8 +125,8 @@ module _ (id : TableId) (place : ℕ) (ds : List Deed) (m b c : Mine) (low : IsL
   abbrev lowers : Met
   lowers = record { kind = LowerFlags low.2 low.3; deeds = ds; word = lock_word place; found = low.0; held = m.0.latches; directory = m.0.directory }
 
-  m_low : GoesOn m b
-  m_low = (lowers ∷ [], ap (λ (x : Mine). x.0.log) low.4)
+  m_low : StaysOn m b
+  m_low = (lowers ∷ [], ap (λ (x : Mine). x.0.log) low.4, ((refl, refl), tt))
 
   pub leaves_lowered : LeavesWay id place ds m c
   leaves_lowered = record {
@@ -163,8 +166,8 @@ waiting_same session (Lose number ∷ ds) book = waiting_same session ds _
 
 -- ---- of a session that came to the place before
 
-pub visits_for_way : (id : TableId) (place : ℕ) (ds : List Deed) (m a c : Mine) → IsInside place m a → LeavesWay id place ds a c → VisitsForWay id place ds m c
-visits_for_way id place ds m a c inside left = record {
+pub visits_for_way : (id : TableId) (place : ℕ) (ds : List Deed) (m a c : Mine) → IsInside place m a → StaysOn m a → LeavesWay id place ds a c → VisitsForWay id place ds m c
+visits_for_way id place ds m a c inside stays left = record {
   told = left.told;
   settles = left.settles;
   made = inside.made ++ left.made;
@@ -172,7 +175,7 @@ visits_for_way id place ds m a c inside left = record {
       ∙ ap (λ (x : Mine). (record (all_done place ds x.0) { latches = elsewhere place x; told = left.told; settles = left.settles; log = x.0.log ++ left.made }, rest x.1)) inside.now
       ∙ (λ i. (record (all_done place ds m.0) { latches = inside.others i; told = left.told; settles = left.settles; log = append_assoc m.0.log inside.made left.made i }, m.1));
   did = none_then inside.made left.made ds inside.did left.did;
-  way = way_after id place m a c (inside.made, ap (λ (x : Mine). x.0.log) inside.now) (ap (λ (x : Mine). x.0.settles) inside.now) (ap (λ (x : Mine). x.0.told) inside.now)
+  way = way_after id place m a c stays (ap (λ (x : Mine). x.0.settles) inside.now) (ap (λ (x : Mine). x.0.told) inside.now)
       (ap (λ (x : Mine). x.0.number) inside.now) (ap (λ (x : Mine). x.0.asks) inside.now) left.way;
 }
 
@@ -181,7 +184,7 @@ pub way_before_write : (id : TableId) (place : ℕ) (ds : List Deed) (book : Boo
 way_before_write id place ds book m b c is left = shown (subst (λ (x : Mine). LeavesWay id place ds x c) is left)
   where
     shown : LeavesWay id place ds (written place book m) c → LeavesWay id place ds m c
-    shown l = record { told = l.told; settles = l.settles; made = l.made; now = l.now; did = l.did; way = way_after id place m (written place book m) c ([], sym (append-nil m.0.log)) refl refl refl refl l.way }
+    shown l = record { told = l.told; settles = l.settles; made = l.made; now = l.now; did = l.did; way = way_after id place m (written place book m) c ([], sym (append-nil m.0.log), tt) refl refl refl refl l.way }
 
 -- a list with no element
 pub nobody_waits : (ts : List Ticket) → nat_lt 0 (length ts) ≡ false → ts ≡ []

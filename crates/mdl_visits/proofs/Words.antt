@@ -1,5 +1,5 @@
 -- The words of waits are read, or settled, while latches are held.
-use Rattle.std.proofs.Common.{◌≡◌, ℕ, suc, ◌+◌, true, List, [], ◌∷◌, ◌++◌, map, refl, sym, ap, ◌∙◌, subst, arith, append_assoc, append-nil}
+use Rattle.std.proofs.Common.{◌≡◌, ℕ, suc, ◌+◌, true, false, List, [], ◌∷◌, ◌++◌, map, refl, sym, ap, ◌∙◌, subst, arith, append_assoc, append-nil}
 use Rattle.std.specs.Prelude.{All, Option}
 use Rattle.std.proofs.lemmas.List.{map-append}
 use Rattle.std.proofs.lemmas.List.Elements.{All-nil, All-push, All-weaker}
@@ -16,7 +16,7 @@ use Rattle.mdl_steps.specs.WaitPlays.{TellsOwn, meeting, met_wait_by, met_wait, 
 use Rattle.mdl_steps.specs.WaitSeats.{IsSession}
 use Rattle.mdl_visits.specs.declared.hearing.Heard.{Heard}
 use Rattle.mdl_visits.specs.Searches.{Hears, WasHeard, hearing, sessions_to}
-use Rattle.mdl_visits.specs.Visits.{AllHad, GoesOn}
+use Rattle.mdl_visits.specs.Visits.{AllQuiet, GoesOn, IsQuiet, raises_flags}
 use Rattle.mdl_visits.proofs.Asking.{goes_nowhere, step_within}
 use Rattle.mdl_visits.proofs.Steps.{each_append, none_then}
 use Rattle.mdl_visits.proofs.Way.{stays_met}
@@ -46,8 +46,8 @@ hears_then a b c one two = record {
       ∙ (λ i. (record a.0 { log = append_assoc a.0.log one.made two.made i; told = two.told; settles = two.settles }, a.1));
   did = none_then one.made two.made [] one.did two.did;
   stays = λ state told. two.stays state (ap (λ (x : Mine). x.0.told) one.now ∙ one.stays state told);
-  had = each_append (λ (e : Met). e.directory ≡ a.0.directory) one.made two.made one.had
-      (subst (λ (d : Option Keys). AllHad d two.made) (ap (λ (x : Mine). x.0.directory) one.now) two.had);
+  had = each_append (IsQuiet a.0.directory) one.made two.made one.had
+      (subst (λ (d : Option Keys). AllQuiet d two.made) (ap (λ (x : Mine). x.0.directory) one.now) two.had);
 }
 
 pub goes_hearing : (m m′ : Mine) → Hears m m′ → GoesOn m m′
@@ -58,22 +58,22 @@ pub same_latches : (m m′ : Mine) → Hears m m′ → m′.0.latches ≡ m.0.l
 same_latches m m′ hears = ap (λ (x : Mine). x.0.latches) hears.now
 
 -- a word was met
-hears_word : (kind : StepKind) (slots session found : ℕ) (m m′ : Mine) → TellsOwn slots session found m.0 → m′ ≡ met_wait_by kind slots session found m → Hears m m′
-hears_word kind slots session found m m′ own met = record {
+hears_word : (kind : StepKind) → raises_flags kind ≡ false → (slots session found : ℕ) (m m′ : Mine) → TellsOwn slots session found m.0 → m′ ≡ met_wait_by kind slots session found m → Hears m m′
+hears_word kind none slots session found m m′ own met = record {
   made = record { kind = kind; deeds = []; word = wait_word slots session; found = found; held = m.0.latches; directory = m.0.directory } ∷ [];
   told = (meeting session found m.0).told;
   settles = m.0.settles;
   now = met;
   did = refl;
   stays = stays_met slots session found m.0 own;
-  had = (refl, tt);
+  had = ((refl, none), tt);
 }
 
 pub hears_met : (slots session found : ℕ) (m m′ : Mine) → TellsOwn slots session found m.0 → m′ ≡ met_wait slots session found m → Hears m m′
-hears_met = hears_word ReadWait
+hears_met = hears_word ReadWait refl
 
 pub hears_missed : (slots session found : ℕ) (m m′ : Mine) → TellsOwn slots session found m.0 → m′ ≡ missed_wait slots session found m → Hears m m′
-hears_missed = hears_word MissWait
+hears_missed = hears_word MissWait refl
 
 -- ---- one word more
 

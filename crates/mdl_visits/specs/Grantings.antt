@@ -28,7 +28,7 @@ use Rattle.mdl_steps.specs.Seats.{Holds, elsewhere, rest}
 use Rattle.mdl_steps.specs.WaitPlays.{wait_in, with_admitted}
 use Rattle.mdl_steps.specs.WaitStates.{granted_state, unsettled_state, wait_number}
 use Rattle.mdl_steps.specs.WaitSeats.{IsSession}
-use Rattle.mdl_visits.specs.Visits.{IsLastStepOf, IsStepAfter, IsStepOf, deeds_of}
+use Rattle.mdl_visits.specs.Visits.{IsStepAfter, IsStepOf, LeavesBy, StaysThere, deeds_of}
 
 -- ---- what a step met
 
@@ -163,7 +163,8 @@ AreGranted id place grants start m m′ =
     Each (λ g. (e : Met) × (a : Mine) × IsStepAfter m a m′ e × MeetsGranted id place start a g e) grants
 
 -- waits were granted under the latch of a place, which the session holds: nothing else changed but the record of the latch, the book in hand,
--- what was told of its own wait and its steps, which are without deeds. Those that were passed over were met so from a start on
+-- what was told of its own wait and its steps, which are without deeds, and at which the session stayed. Those that were passed over were met so
+-- from a start on
 pub record MakesWay (id : TableId) (place : ℕ) (start m m′ : Mine) : Type 0 where
   pub latches : List Held
   pub told : Option ℕ
@@ -176,6 +177,7 @@ pub record MakesWay (id : TableId) (place : ℕ) (start m m′ : Mine) : Type 0 
   pub unasked : m.0.asks ≡ None → told ≡ m.0.told
   pub granted : AreGranted id place grants start m m′
   pub did : deeds_of made ≡ []
+  pub kept : Each StaysThere made
 
 -- way is made for a ticket in its turn: from each start, if those that arrived before it were passed over since
 abbrev pub MakesWayInTurn : TableId → ℕ → ℕ → ℕ → Mine → Mine → Type 0
@@ -196,12 +198,13 @@ pub record MeetsServed (id : TableId) (place who : ℕ) (m m′ : Mine) (e : Met
   pub served : (latch.book.waiting ≡ []) ⊎ ForgetsNobody id place latch m m′
 
 -- way was made at a place between the two: waits were granted by steps between them, nobody was forgotten at the last of them, as the latch was
--- given back, and what was told of the session's own wait stays so. A session without a wait is told of none
+-- given back, and what was told of the session's own wait stays so. No step before gave a latch back, so all was done under that latch. A session
+-- without a wait is told of none
 pub record MadeWay (id : TableId) (place : ℕ) (m m′ : Mine) : Type 0 where
   pub grants : List Settlement
   pub settles : m′.0.settles ≡ m.0.settles ++ grants
   pub granted : AreGranted id place grants m m m′
-  pub served : (e : Met) × IsLastStepOf m m′ e × MeetsServed id place m.0.number m m′ e
+  pub served : (e : Met) × LeavesBy m m′ e × MeetsServed id place m.0.number m m′ e
   pub stays : StaysTold m.0.told m′.0.told
   pub unasked : m.0.asks ≡ None → m′.0.told ≡ m.0.told
 

@@ -13,7 +13,7 @@ use Rattle.mdl_steps.specs.Rule.{key_at}
 use Rattle.mdl_steps.specs.Seats.{place_among, rest}
 use Rattle.mdl_visits.specs.declared.resolve_error.ResolveError.{ResolveError}
 use Rattle.mdl_visits.specs.declared.resolve_error.ResolveError.TheVariants.{NoPlace, OutOfMemory}
-use Rattle.mdl_visits.specs.Visits.{AllHad, and_made, deeds_of}
+use Rattle.mdl_visits.specs.Visits.{AllQuiet, IsQuiet, and_made, deeds_of}
 
 -- the seat whose session knows one key more
 abbrev pub knowing : Known → Mine → Mine
@@ -23,21 +23,21 @@ knowing known m = (record m.0 { known = m.0.known ++ known ∷ [] }, m.1)
 abbrev pub given_back : Keys → Mine → Met
 given_back k m = record { kind = PutLatch; deeds = []; word = latch_word 0; found = m.0.number; held = m.0.latches; directory = Some k }
 
--- at the step the session had one of these two records of the directory
+-- a step that raised no flag, at which the session had one of these two records of the directory
 abbrev pub HadEither : Keys → Keys → Met → Type 0
-HadEither k left e = (e.directory ≡ Some k) ⊎ (e.directory ≡ Some left)
+HadEither k left e = IsQuiet (Some k) e ⊎ IsQuiet (Some left) e
 
 -- of the steps between the two one took the directory's latch, and this is the record that was made of it; a later one gave it back, with the record
--- that is left then. Between these the session had one of the two records at each step, and at none of the others it had any
+-- that is left then. Between these the session had one of the two records at each step, and at none of the others it had any. No step raised a flag
 pub record TookDirectory (slots : ℕ) (k left : Keys) (old new : Mine) : Type 0 where
   pub before : List Met
   pub within : List Met
   pub after : List Met
   pub recorded : IsDirectory slots k (and_made before old)
   pub listed : new.0.log ≡ (consulted k (and_made before old)).0.log ++ (within ++ given_back left old ∷ after)
-  pub none_before : AllHad None before
+  pub none_before : AllQuiet None before
   pub either_within : Each (HadEither k left) within
-  pub none_after : AllHad None after
+  pub none_after : AllQuiet None after
 
 -- what is answered by the directory's record, and the record that is left: a key that has a place keeps it, and that takes no memory; a new one gets
 -- the place after all others, if there is one, and nothing else changes

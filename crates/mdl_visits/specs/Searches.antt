@@ -1,5 +1,5 @@
 -- A search for a deadlock: what a session meets and does while it has the latches of all places that have a key.
-use Rattle.std.specs.Prelude.{◌≡◌, ℕ, zero, suc, ◌≤◌, ◌%◌, ◌==◌, ◌&&◌, nat_lt, not, true, if◌then◌else◌, List, [], ◌∷◌, ◌++◌, length, map, All, Option, Some, None}
+use Rattle.std.specs.Prelude.{◌≡◌, ◌≢◌, ◌⊎◌, ℕ, zero, suc, ◌≤◌, ◌%◌, ◌==◌, ◌&&◌, nat_lt, not, true, if◌then◌else◌, List, [], ◌∷◌, ◌++◌, length, map, find, All, Option, Some, None, IfSome}
 use Rattle.std.specs.List.{list_any}
 use Rattle.atomic_table.specs.Seated.{TableId}
 use Rattle.mdl_book.specs.declared.book_view.BookView.{BookView}
@@ -17,12 +17,13 @@ use Rattle.mdl_steps.specs.Copies.{Queues, queues_of}
 use Rattle.mdl_steps.specs.Layout.{wait_word}
 use Rattle.mdl_steps.specs.Plays.{Mine}
 use Rattle.mdl_steps.specs.WaitSeats.{IsSession}
+use Rattle.mdl_steps.specs.WaitStates.{unsettled_state, wait_state}
 use Rattle.mdl_visits.specs.declared.audited.Audited.{Audited}
 use Rattle.mdl_visits.specs.declared.hearing.Heard.{Heard}
 use Rattle.mdl_visits.specs.Audits.{AreRecorded, Gathers}
 use Rattle.mdl_visits.specs.Grantings.{StaysTold}
-use Rattle.mdl_visits.specs.Polls.{MeetsWait, Settles, SettlesNothing}
-use Rattle.mdl_visits.specs.Visits.{AllHad, IsStepOf, deeds_of}
+use Rattle.mdl_visits.specs.Polls.{MeetsOther, MeetsWait, Settles, SettlesNothing}
+use Rattle.mdl_visits.specs.Visits.{AllQuiet, IsStepOf, deeds_of}
 
 -- ---- the words of waits
 
@@ -45,6 +46,14 @@ pub record AreOfAll (id : TableId) (words : List Heard) : Type 0 where
 -- one of the steps between the two met this word, while the session had just these latches
 abbrev pub WasHeard : ℕ → List Held → Mine → Mine → Heard → Type 0
 WasHeard slots latches m m′ h = (e : Met) × IsStepOf m m′ e × (e.word ≡ wait_word slots h.session) × (e.found ≡ h.word.0) × (e.held ≡ latches)
+
+-- the word that was heard of a session's wait, if any
+abbrev pub heard_of : ℕ → List Heard → Option Heard
+heard_of session words = find (λ (h : Heard). h.session == session) words
+
+-- by this word a session's wait wasn't open, or one of the steps between the two met another word
+abbrev pub WasOther : ℕ → Mine → Mine → Heard → Type 0
+WasOther slots m m′ h = (wait_state h.word.0 ≢ unsettled_state) ⊎ ((e : Met) × IsStepOf m m′ e × MeetsOther slots h.session h.word.0 e)
 
 -- ---- what is found
 
@@ -87,6 +96,15 @@ pub record Judges (id : TableId) (who : ℕ) (latches : List Held) (audited : Li
   pub heard : All (WasHeard id.slots latches m m′) words
   pub outcome : IsOutcome id.slots who latches audited words m m′ found
 
+-- of the words of all sessions, as steps between the two met them, and of these books a victim came, whose word was another one by then
+pub record Misses (id : TableId) (who : ℕ) (latches : List Held) (audited : List Audited) (m m′ : Mine) : Type 0 where
+  pub words : List Heard
+  pub all : AreOfAll id words
+  pub heard : All (WasHeard id.slots latches m m′) words
+  pub victim : ℕ
+  pub found : victim_in (settled_by words) (books_of audited) who ≡ Some victim
+  pub other : IfSome (heard_of victim words) (WasOther id.slots m m′)
+
 -- a place's book, if somebody waits there
 abbrev pub if_waited : Audited → List Audited
 if_waited a = if nat_lt 0 (length a.book.waiting) then a ∷ [] else []
@@ -125,7 +143,7 @@ pub record Listens (m m′ : Mine) : Type 0 where
   pub did : deeds_of made ≡ []
   pub stays : StaysTold m.0.told told
 
--- likewise, and at each step the session had of the directory what it had before
+-- likewise, and at each step the session had of the directory what it had before, and raised no flag
 pub record Hears (m m′ : Mine) : Type 0 where
   pub made : List Met
   pub told : Option ℕ
@@ -133,4 +151,4 @@ pub record Hears (m m′ : Mine) : Type 0 where
   pub now : m′ ≡ hearing made told settles m
   pub did : deeds_of made ≡ []
   pub stays : StaysTold m.0.told told
-  pub had : AllHad m.0.directory made
+  pub had : AllQuiet m.0.directory made

@@ -13,7 +13,8 @@ use Rattle.mdl_book.specs.FastTickets.{AreOfOthers, CountsFastTickets, can_be_gr
 use Rattle.mdl_book.specs.Granting.{goes_first, is_grantable}
 use Rattle.mdl_steps.specs.declared.deed.Deed.{Deed}
 use Rattle.mdl_steps.specs.declared.slot.Slot.TheVariants as slot
-use Rattle.mdl_steps.specs.declared.step_kind.StepKind.TheVariants.{PutLatch, ReadWord}
+use Rattle.mdl_steps.specs.declared.step_kind.StepKind.{StepKind}
+use Rattle.mdl_steps.specs.declared.step_kind.StepKind.TheVariants.{PutLatch, RaiseFlags, ReadWord}
 use Rattle.mdl_steps.specs.declared.view.Held.{Held}
 use Rattle.mdl_steps.specs.declared.view.Keys.{Keys}
 use Rattle.mdl_steps.specs.declared.view.Known.{Known}
@@ -46,21 +47,42 @@ Does ds m m′ = (made : List Met) × (m′.0.log ≡ m.0.log ++ made) × (deeds
 abbrev pub MakesSteps : Mine → Mine → Type 0
 MakesSteps m m′ = (made : List Met) × (m′ ≡ and_made made m) × (deeds_of made ≡ [])
 
--- at each of these steps the session had this of the directory: the record of its latch, or nothing
-abbrev pub AllHad : Option Keys → List Met → Type 0
-AllHad directory made = Each (λ (e : Met). e.directory ≡ directory) made
+-- whether a step of this kind gave a latch back, or raised flags
+abbrev pub gives_back : StepKind → Bool
+gives_back PutLatch = true
+gives_back _ = false
+
+abbrev pub raises_flags : StepKind → Bool
+raises_flags (RaiseFlags slow obtrusive) = true
+raises_flags _ = false
+
+-- a step that raised no flag, at which the session had this of the directory: the record of its latch, or nothing
+abbrev pub IsQuiet : Option Keys → Met → Type 0
+IsQuiet directory e = (e.directory ≡ directory) × (raises_flags e.kind ≡ false)
+
+-- so were all of these
+abbrev pub AllQuiet : Option Keys → List Met → Type 0
+AllQuiet directory made = Each (IsQuiet directory) made
+
+-- a step at which the session stayed: it gave no latch back and raised no flag
+abbrev pub StaysThere : Met → Type 0
+StaysThere e = (gives_back e.kind ≡ false) × (raises_flags e.kind ≡ false)
 
 -- steps were made between the two that only met something
 abbrev pub Lingers : Mine → Mine → Type 0
-Lingers m m′ = (made : List Met) × (m′ ≡ and_made made m) × AllHad m.0.directory made × (deeds_of made ≡ [])
+Lingers m m′ = (made : List Met) × (m′ ≡ and_made made m) × AllQuiet m.0.directory made × (deeds_of made ≡ []) × Each StaysThere made
 
--- at each step that was made between the two the session had of the directory what it had before
-abbrev pub KeepsDirectory : Mine → Mine → Type 0
-KeepsDirectory m m′ = (made : List Met) × (m′.0.log ≡ m.0.log ++ made) × AllHad m.0.directory made
+-- at each step that was made between the two the session had of the directory what it had before, and it raised no flag
+abbrev pub StaysQuiet : Mine → Mine → Type 0
+StaysQuiet m m′ = (made : List Met) × (m′.0.log ≡ m.0.log ++ made) × AllQuiet m.0.directory made
 
 -- the list of steps grew between the two
 abbrev pub GoesOn : Mine → Mine → Type 0
 GoesOn m m′ = (made : List Met) × (m′.0.log ≡ m.0.log ++ made)
+
+-- it grew by steps at which the session stayed
+abbrev pub StaysOn : Mine → Mine → Type 0
+StaysOn m m′ = (made : List Met) × (m′.0.log ≡ m.0.log ++ made) × Each StaysThere made
 
 -- a step that was made between the two
 abbrev pub IsStepOf : Mine → Mine → Met → Type 0
@@ -70,9 +92,9 @@ IsStepOf m m′ e = (before : List Met) × (after : List Met) × (m′.0.log ≡
 abbrev pub IsStepAfter : Mine → Mine → Mine → Met → Type 0
 IsStepAfter m a m′ e = GoesOn m a × (after : List Met) × (m′.0.log ≡ a.0.log ++ e ∷ after)
 
--- the last of those that were made
-abbrev pub IsLastStepOf : Mine → Mine → Met → Type 0
-IsLastStepOf m m′ e = (before : List Met) × (m′.0.log ≡ (m.0.log ++ before) ++ e ∷ [])
+-- the last of those that were made, before which the session stayed
+abbrev pub LeavesBy : Mine → Mine → Met → Type 0
+LeavesBy m m′ e = (before : List Met) × (m′.0.log ≡ (m.0.log ++ before) ++ e ∷ []) × Each StaysThere before
 
 -- two steps, the second right after the first, that were made between the two
 abbrev pub AreStepsOf : Mine → Mine → Met → Met → Type 0

@@ -8,7 +8,7 @@ ghost use Rattle.mdl_steps.specs.Rule.{TellsLists};
 ghost use Rattle.mdl_steps.specs.Seats.{IsSized, IsPlace, IsRising, Holds};
 ghost use Rattle.mdl_visits.specs.Idle.{IsIdle};
 ghost use Rattle.mdl_visits.specs.Tables.{AreWithin, HasAsked, MeetsDefinition, WasAsked};
-ghost use Rattle.mdl_visits.specs.Visits.{IsStepOf, KeepsDirectory, MakesSteps};
+ghost use Rattle.mdl_visits.specs.Visits.{IsStepOf, MakesSteps, StaysQuiet};
 
 use crate::latches::await_latch;
 use mdl_calls::Place;
@@ -22,7 +22,7 @@ fn is_defined<R: Wait>(rt: &R, worker: &mut Worker, top: &LockTable, place: usiz
     requires rising { IsRising place worker.old.seat.me }
     ensures seat { (worker.new.seat.table_id ≡ worker.old.seat.table_id) × (worker.new.number ≡ worker.old.number) }
     ensures steps { MakesSteps worker.old.seat.me worker.new.seat.me }
-    ensures directory { KeepsDirectory worker.old.seat.me worker.new.seat.me }
+    ensures directory { StaysQuiet worker.old.seat.me worker.new.seat.me }
     ensures met { (e : Met) × IsStepOf worker.old.seat.me worker.new.seat.me e × MeetsDefinition place worker.old.number result e }
 {
     let latch = await_latch(rt, worker, top, place);
@@ -58,7 +58,7 @@ fn ask<R: Wait>(
     ensures seat { (worker.new.seat.table_id ≡ worker.old.seat.table_id) × (worker.new.number ≡ worker.old.number) }
     ensures idle { IsIdle worker.new.seat.me }
     ensures steps { MakesSteps worker.old.seat.me worker.new.seat.me }
-    ensures directory { KeepsDirectory worker.old.seat.me worker.new.seat.me }
+    ensures directory { StaysQuiet worker.old.seat.me worker.new.seat.me }
     ensures asked { (defined : Bool) × WasAsked worker.old.number worker.old.seat.me worker.new.seat.me (record { table = table.now; defined = defined })
         × (places.new.items ≡ places.old.items ++ (if defined then table.now.place ∷ [] else [])) }
     ensures room { (vec_capacity places.new ≡ vec_capacity places.old) × (vec_len places.new ≤ vec_len places.old + 1) }
@@ -83,7 +83,7 @@ pub fn ask_all<R: Wait>(
     requires room { vec_len places.old + length tables.now ≤ vec_capacity places.old }
     ensures seat { (worker.new.seat.table_id ≡ worker.old.seat.table_id) × (worker.new.number ≡ worker.old.number) }
     ensures steps { MakesSteps worker.old.seat.me worker.new.seat.me }
-    ensures directory { KeepsDirectory worker.old.seat.me worker.new.seat.me }
+    ensures directory { StaysQuiet worker.old.seat.me worker.new.seat.me }
     ensures asked { HasAsked worker.old.number tables.now places.new.items worker.old.seat.me worker.new.seat.me }
 {
     for table in tables {

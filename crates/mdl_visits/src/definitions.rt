@@ -7,7 +7,7 @@ ghost use Rattle.mdl_steps.specs.Rule.{TellsLists};
 ghost use Rattle.mdl_steps.specs.Seats.{IsSized, IsPlace, IsRising, Holds};
 ghost use Rattle.mdl_visits.specs.Leavings.{Learns, Leaves, MeetsStanding};
 ghost use Rattle.mdl_visits.specs.Readings.{Follows, WereHeld};
-ghost use Rattle.mdl_visits.specs.Visits.{IsStepOf, Visits};
+ghost use Rattle.mdl_visits.specs.Visits.{IsStepOf, StaysQuiet, Visits};
 
 use crate::latches::await_latch;
 use mdl_defs::Standing;
@@ -31,6 +31,7 @@ pub fn read_at<R: Wait>(
         × WereHeld place worker.old.number worker.old.seat.me e)) }
     ensures follows { IfOk result (λ standing. Follows place standing worker.old.seat.me) }
     ensures unchanged { OnErr result (Visits place [] worker.old.seat.me worker.new.seat.me) }
+    ensures quiet { StaysQuiet worker.old.seat.me worker.new.seat.me }
 {
     let latch = await_latch(rt, worker, top, place);
     read(worker, top, latch)
@@ -45,6 +46,7 @@ fn read(worker: &mut Worker, top: &LockTable, latch: Latched) -> Result<Standing
     ensures told { (h : Held) → Holds latch.place h h.book worker.old.seat.me → IfOk result (λ standing. (standing ≡ h.book.standing)
         × (worker.new.seat.me ≡ read_and_put latch.place standing worker.old.seat.me)) }
     ensures unchanged { OnErr result (Leaves latch.place [] worker.old.seat.me worker.new.seat.me) }
+    ensures quiet { StaysQuiet worker.old.seat.me worker.new.seat.me }
 {
     match worker.standing(top, &latch) {
         Ok(standing) => {

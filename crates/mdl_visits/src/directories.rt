@@ -6,7 +6,7 @@ ghost use Rattle.mdl_steps.specs.Plays.{IsDirectory, consulted};
 ghost use Rattle.mdl_steps.specs.Seats.{IsSized, IsPlace, HasDirectory, place_among};
 ghost use Rattle.mdl_visits.specs.Idle.{IsIdle};
 ghost use Rattle.mdl_visits.specs.Lookups.{TookDirectory, IsAnswer, IsListed, HasLooked, HasNamed, knowing};
-ghost use Rattle.mdl_visits.specs.Visits.{AllHad, MakesSteps, and_made, deeds_of};
+ghost use Rattle.mdl_visits.specs.Visits.{AllQuiet, MakesSteps, and_made, deeds_of};
 
 use crate::latches::await_latch;
 use crate::resolve_error::ResolveError;
@@ -26,7 +26,7 @@ pub(crate) fn await_directory<R: Wait>(
     requires first { length worker.old.seat.me.0.latches ≡ 0 }
     ensures seat { (worker.new.seat.table_id ≡ worker.old.seat.table_id) × (worker.new.number ≡ worker.old.number) }
     ensures taken { (made : List Met) × (k : Keys) × IsDirectory top.now.table_id.slots k (and_made made worker.old.seat.me)
-        × (worker.new.seat.me ≡ consulted k (and_made made worker.old.seat.me)) × AllHad worker.old.seat.me.0.directory made × (deeds_of made ≡ []) }
+        × (worker.new.seat.me ≡ consulted k (and_made made worker.old.seat.me)) × AllQuiet worker.old.seat.me.0.directory made × (deeds_of made ≡ []) }
 {
     for _ in rt.forever() {
         if let Some(latch) = worker.take_directory(top) {

@@ -1,12 +1,12 @@
 //! A session that has all latches looks for a deadlock that it waits in, and settles the victim's wait.
-ghost use Rattle.std.specs.Prelude.{◌≡◌, List, Some, true, false, All, IfOk, IfSome, OnErr, MatchOption};
+ghost use Rattle.std.specs.Prelude.{◌≡◌, List, Some, None, Ok, true, false, All, IfOk, IfSome, OnErr, MatchOption};
 ghost use Rattle.mdl_book.specs.SessionSets.{is_session};
 ghost use Rattle.mdl_steps.specs.Seats.{IsSized};
 ghost use Rattle.mdl_steps.specs.WaitSeats.{IsSession};
 ghost use Rattle.mdl_visits.specs.declared.audited.Audited.{Audited};
 ghost use Rattle.mdl_visits.specs.declared.hearing.Heard.{Heard};
 ghost use Rattle.mdl_visits.specs.Polls.{SettlesNothing};
-ghost use Rattle.mdl_visits.specs.Searches.{AreQueuesOf, Fells, Hears, Judges, KnowsFall};
+ghost use Rattle.mdl_visits.specs.Searches.{AreQueuesOf, Fells, Hears, Judges, KnowsFall, Misses, WasOther, heard_of};
 
 use crate::hearing::{Heard, hear_all};
 use crate::victims::find_victim;
@@ -40,7 +40,7 @@ pub(crate) fn judge<R: Wait>(
     unreachable!()
 }
 
-// The same, once: nothing is found where another session settled the victim's wait first.
+// The same, once: nothing is found where the victim's wait had another word than was heard, since another session settled it first.
 fn judge_once(
     worker: &mut Worker,
     table: &OwnedTable,
@@ -53,6 +53,8 @@ fn judge_once(
     ensures judged { IfOk result (λ tried. MatchOption tried (SettlesNothing worker.old.seat.me worker.new.seat.me)
         (λ found. (audited : List Audited) → AreQueuesOf audited lists.now
         → Judges table.now.shared.table_id worker.old.number worker.old.seat.me.0.latches audited found worker.old.seat.me worker.new.seat.me)) }
+    ensures missed { result ≡ Ok None → (audited : List Audited) → AreQueuesOf audited lists.now
+        → Misses table.now.shared.table_id worker.old.number worker.old.seat.me.0.latches audited worker.old.seat.me worker.new.seat.me }
     ensures own { IfOk result (λ tried. IfSome tried (λ found. KnowsFall worker.old.number found worker.new.seat.me)) }
     ensures nothing { OnErr result (SettlesNothing worker.old.seat.me worker.new.seat.me) }
 {
@@ -73,7 +75,8 @@ fn fell(worker: &mut Worker, table: &OwnedTable, victim: u16, words: &[Heard]) -
     ensures hears { Hears worker.old.seat.me worker.new.seat.me }
     ensures own { result ≡ true → victim ≡ worker.old.number → worker.new.seat.me.0.told ≡ Some 3 }
     ensures felled { result ≡ true → Fells table.now.shared.table_id.slots victim worker.old.seat.me.0.latches worker.old.seat.me worker.new.seat.me }
-    ensures missed { result ≡ false → SettlesNothing worker.old.seat.me worker.new.seat.me }
+    ensures missed { result ≡ false → SettlesNothing worker.old.seat.me worker.new.seat.me
+        × IfSome (heard_of victim words.now) (WasOther table.now.shared.table_id.slots worker.old.seat.me worker.new.seat.me) }
 {
     for heard in words {
         if heard.session == victim {
@@ -91,7 +94,8 @@ fn settle(worker: &mut Worker, table: &OwnedTable, heard: Heard) -> bool
     ensures hears { Hears worker.old.seat.me worker.new.seat.me }
     ensures own { result ≡ true → heard.session ≡ worker.old.number → worker.new.seat.me.0.told ≡ Some 3 }
     ensures felled { result ≡ true → Fells table.now.shared.table_id.slots heard.session worker.old.seat.me.0.latches worker.old.seat.me worker.new.seat.me }
-    ensures missed { result ≡ false → SettlesNothing worker.old.seat.me worker.new.seat.me }
+    ensures missed { result ≡ false → SettlesNothing worker.old.seat.me worker.new.seat.me
+        × WasOther table.now.shared.table_id.slots worker.old.seat.me worker.new.seat.me heard }
 {
     let word = heard.word;
     if word.state() != WaitWord::UNSETTLED {

@@ -7,7 +7,7 @@ ghost use Rattle.mdl_steps.specs.Seats.{IsSized, IsRising, rest};
 ghost use Rattle.mdl_visits.specs.Audits.{Audits, Gathers};
 ghost use Rattle.mdl_visits.specs.Idle.{IsIdle};
 ghost use Rattle.mdl_visits.specs.Lookups.{TookDirectory};
-ghost use Rattle.mdl_visits.specs.Visits.{KeepsDirectory, MakesSteps};
+ghost use Rattle.mdl_visits.specs.Visits.{MakesSteps, StaysQuiet};
 
 use crate::Audited;
 use crate::directories::await_directory;
@@ -55,7 +55,7 @@ fn gather<R: Wait>(
     requires rising { IsRising place worker.old.seat.me }
     ensures seat { (worker.new.seat.table_id ≡ worker.old.seat.table_id) × (worker.new.number ≡ worker.old.number) }
     ensures steps { MakesSteps worker.old.seat.me worker.new.seat.me }
-    ensures directory { KeepsDirectory worker.old.seat.me worker.new.seat.me }
+    ensures directory { StaysQuiet worker.old.seat.me worker.new.seat.me }
     ensures gathered { OnOk result (Gathers place last audited.old.items audited.new.items worker.old.seat.me worker.new.seat.me) }
 {
     if place > last {

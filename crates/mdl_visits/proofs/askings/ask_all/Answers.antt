@@ -5,7 +5,7 @@ use Rattle.mdl_steps.specs.declared.view.Known.{Known}
 use Rattle.mdl_steps.specs.Plays.{Mine}
 use Rattle.mdl_visits.specs.Tables.{Asked, HasAsked, WasAsked}
 use Rattle.mdl_visits.proofs.Asking.{asked_more, steps_then}
-use Rattle.mdl_visits.proofs.Steps.{keeps_on}
+use Rattle.mdl_visits.proofs.Steps.{quiet_on}
 use Rattle.mdl_visits.proofs.askings.ask_all.Goals as goal
 
 pub loop-table-preserved : goal.loop-table-preserved
@@ -29,7 +29,7 @@ loop-table-preserved g c =
       seat = (c.ask.ensures.seat.0 ∙ inv.seat.0, c.ask.ensures.seat.1 ∙ inv.seat.1);
       idle = c.ask.ensures.idle;
       steps = steps_then first came went inv.steps c.ask.ensures.steps;
-      directory = keeps_on first came went inv.directory (ap (λ (m : Mine). m.0.directory) inv.steps.1) c.ask.ensures.directory;
+      directory = quiet_on first came went inv.directory (ap (λ (m : Mine). m.0.directory) inv.steps.1) c.ask.ensures.directory;
       asked = subst (λ (ts : List Known). HasAsked who ts c.ask.new.places.items first went) more
           (asked_more who (take i tables) table c.loop-table.places.items c.ask.new.places.items asked.0 first came went inv.asked inv.steps c.ask.ensures.steps was asked.2);
       room = omega (arith, inside, room, before);

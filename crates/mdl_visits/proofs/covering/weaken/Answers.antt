@@ -37,7 +37,7 @@ returns-clause-weakened g c =
     let went : Mine = c.rewrite.new.worker.seat.me in
     let id = c.args.table.now.shared.table_id in
     let left = subst (λ (q : ℕ). LeavesWay id q (Alter c.args.held.number c.args.mode ∷ []) came went) c.await_latch-latch.ensures.place c.rewrite.ensures.left in
-    visits_for_way id c.args.held.place (Alter c.args.held.number c.args.mode ∷ []) c.args.worker.now.seat.me came went c.await_latch-latch.ensures.inside left
+    visits_for_way id c.args.held.place (Alter c.args.held.number c.args.mode ∷ []) c.args.worker.now.seat.me came went c.await_latch-latch.ensures.inside c.await_latch-latch.ensures.stays left
 
 pub returns-clause-step : goal.returns-clause-step
 returns-clause-step g c =

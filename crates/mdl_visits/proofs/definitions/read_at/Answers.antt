@@ -7,6 +7,7 @@ use Rattle.mdl_steps.specs.Seats.{Holds}
 use Rattle.mdl_visits.specs.Leavings.{Leaves}
 use Rattle.mdl_visits.proofs.Leaving.{visits_left}
 use Rattle.mdl_visits.specs.Readings.{Follows}
+use Rattle.mdl_visits.proofs.Steps.{quiet_on, quiet_taken}
 use Rattle.mdl_visits.proofs.Reading.{follows, learns, meets_standing, ok_told}
 use Rattle.mdl_visits.proofs.definitions.read_at.Goals as goal
 
@@ -41,3 +42,12 @@ returns-clause-follows g c =
     let came : Mine = latch.new.worker.seat.me in
     let has = subst (λ (q : ℕ). Holds q h h.book came) (sym latch.ensures.place) taken.2 in
     ok_told c.read.result (λ standing e. subst (λ (s : Standing). Follows c.args.place s c.args.worker.now.seat.me) (sym e.0) (follows taken.1)) (c.read.ensures.told h has)
+
+pub returns-clause-quiet : goal.returns-clause-quiet
+returns-clause-quiet g c =
+    let m : Mine = c.args.worker.now.seat.me in
+    let latch = c.await_latch-latch in
+    let taken = latch.ensures.taken in
+    let came : Mine = latch.new.worker.seat.me in
+    let went : Mine = c.read.new.worker.seat.me in
+    quiet_on m came went (quiet_taken c.args.place taken.0 taken.3.0 m came taken.3.2 taken.3.1) (ap (λ (x : Mine). x.0.directory) taken.3.1) c.read.ensures.quiet

@@ -1,12 +1,13 @@
 -- The words that were heard say what came of it.
 use Rattle.std.proofs.Common.{◌≡◌, ℕ, List, Some, refl, sym, ap, ◌∙◌, subst}
+use Rattle.std.specs.Prelude.{IfSome}
 use Rattle.mdl_steps.specs.declared.view.Held.{Held}
 use Rattle.mdl_steps.specs.Plays.{Mine}
 use Rattle.mdl_graph.specs.Graphs.{victim_in}
 use Rattle.mdl_visits.specs.declared.hearing.Heard.{Heard}
-use Rattle.mdl_visits.specs.Searches.{Fells, books_of, settled_by}
+use Rattle.mdl_visits.specs.Searches.{Fells, WasOther, books_of, heard_of, settled_by}
 use Rattle.mdl_visits.proofs.Asking.{goes_nowhere}
-use Rattle.mdl_visits.proofs.Outcomes.{fells_within}
+use Rattle.mdl_visits.proofs.Outcomes.{fells_within, misses}
 use Rattle.mdl_visits.proofs.Words.{all_within, goes_hearing, hears_then, same_latches}
 use Rattle.mdl_visits.proofs.judging.judge_once.Goals as goal
 
@@ -46,3 +47,22 @@ returns-in-Some-clause-own c = λ own. c.fell.ensures.own c.if-fell.true (own �
 pub returns-clause-hears : goal.returns-clause-hears
 returns-clause-hears c =
     hears_then c.args.worker.now.seat.me c.hear_all.new.worker.seat.me c.fell.new.worker.seat.me c.in_ok-hear_all.ensures.hears c.if-fell.ensures.hears
+
+pub returns-clause-missed : goal.returns-clause-missed
+returns-clause-missed c = λ none audited are.
+    let id = c.args.table.now.shared.table_id in
+    let victim = c.in-Some.victim in
+    let words : List Heard = c.hear_all.new.words.items in
+    let heard = c.in_ok-hear_all.ensures in
+    let m : Mine = c.args.worker.now.seat.me in
+    let m′ : Mine = c.hear_all.new.worker.seat.me in
+    let m″ : Mine = c.fell.new.worker.seat.me in
+    let who = c.args.worker.now.number in
+    let found : victim_in (settled_by words) (books_of audited) who ≡ Some victim =
+    ap (λ (ws : List Heard). victim_in (settled_by ws) (books_of audited) who) (sym c.deref.ensures.value)
+    ∙ ap (λ (n : ℕ). victim_in (settled_by c.deref.result.now) (books_of audited) n) (sym (c.number.ensures ∙ heard.seat.1))
+    ∙ sym (c.in_ok-find_victim.ensures audited are)
+    ∙ c.in-Some.is in
+    let other = subst (λ (ws : List Heard). IfSome (heard_of victim ws) (WasOther id.slots m′ m″)) c.deref-in-Some-1.ensures.value (c.fell.ensures.missed c.if-fell.false).1 in
+    misses id who victim m.0.latches audited words m m′ m″ heard.all
+    (all_within id.slots m.0.latches m m m′ m″ words (goes_nowhere m) (goes_hearing m′ m″ c.fell.ensures.hears) heard.heard) found (goes_hearing m m′ heard.hears) other

@@ -1,11 +1,11 @@
 -- The wait was open by its word, and was met so.
-use Rattle.std.proofs.Common.{◌≡◌, ℕ, ◌+◌, ◌*◌, ap, sym, ◌∙◌, arith}
+use Rattle.std.proofs.Common.{◌≡◌, ◌≢◌, ℕ, ◌+◌, ◌*◌, ap, inl, refl, sym, ◌∙◌, arith}
 use Rattle.std.specs.Prelude.{◌%◌, ◌/◌}
-use Rattle.std.proofs.lemmas.Bool.{eqb-true}
+use Rattle.std.proofs.lemmas.Bool.{eq-eqb, eqb-true, false≢true}
 use Rattle.std.proofs.lemmas.Bool.Decides.{nat_tests}
 use Rattle.mdl_steps.specs.Plays.{Mine}
-use Rattle.mdl_steps.specs.WaitPlays.{settled_lost}
-use Rattle.mdl_visits.proofs.Outcomes.{fells_one, knows_lost}
+use Rattle.mdl_steps.specs.WaitPlays.{missed_wait, settled_lost}
+use Rattle.mdl_visits.proofs.Outcomes.{fells_one, knows_lost, other_met}
 use Rattle.mdl_visits.proofs.Words.{hears_none}
 use Rattle.mdl_visits.proofs.judging.settle.Goals as goal
 
@@ -39,3 +39,19 @@ returns-clause-own c = λ hit own.
     let whole : number ≡ word / 8 = c.number.ensures in
     let at : found ≡ 8 * number + 1 = omega arith in
     knows_lost c.slot_count-slots.result session number m c.settle_wait.new.self.seat.me (c.settle_wait.ensures.settled at) (own ∙ sym worker.numbered.0)
+
+pub returns-then-state-ne-UNSETTLED-clause-missed : goal.returns-then-state-ne-UNSETTLED-clause-missed
+returns-then-state-ne-UNSETTLED-clause-missed c = λ no. let so = c.state.ensures in (refl, inl (grind (arith, nat_tests)))
+
+pub returns-clause-missed : goal.returns-clause-missed
+returns-clause-missed c = λ no.
+    let m : Mine = c.args.worker.now.seat.me in
+    let word = c.args.heard.word.0 in
+    let found = c.settle_wait.result.0 in
+    let number = c.number.result in
+    let unsettled : word % 8 ≡ 1 = grind (arith, nat_tests) in
+    let whole : number ≡ word / 8 = c.number.ensures in
+    let differs : found ≢ word = λ same. false≢true (sym (sym c.eq.ensures ∙ no) ∙ eq-eqb found word same) in
+    let other : found ≢ 8 * number + 1 = λ same. differs (omega arith) in
+    other_met c.args.table.now.shared.table_id.slots found c.args.heard m c.settle_wait.new.self.seat.me
+    (c.settle_wait.ensures.missed other ∙ ap (λ (n : ℕ). missed_wait n c.args.heard.session found m) c.slot_count-slots.ensures) differs

@@ -1,7 +1,7 @@
 -- The latch was taken after some steps that only met it.
 use Rattle.std.proofs.Common.{ap, ◌∙◌}
 use Rattle.mdl_steps.specs.Plays.{Mine, latched}
-use Rattle.mdl_visits.proofs.Visiting.{fresh_before, inside_taken, lingers_one}
+use Rattle.mdl_visits.proofs.Visiting.{fresh_before, inside_taken, lingers_one, stays_taken}
 use Rattle.mdl_visits.proofs.latches.await_latch.Goals as goal
 
 pub returns-in-Some-take_latch-clause-inside : goal.returns-in-Some-take_latch-clause-inside
@@ -17,6 +17,13 @@ returns-in-Some-take_latch-clause-taken g c =
     let told = c.in-Some-take_latch.ensures.taken.1 in
     let steps = c.loop.invariant.steps in
     (told.0, fresh_before place told.0 c.args.worker.now.seat.me _ (steps.0, steps.1, steps.3) told.1, told.2, (steps.0, ◌∙◌ {A = Mine} told.3 (ap (latched place told.0) steps.1), steps.2, steps.3))
+
+pub returns-in-Some-take_latch-clause-stays : goal.returns-in-Some-take_latch-clause-stays
+returns-in-Some-take_latch-clause-stays g c =
+    let place = c.args.place in
+    let told = c.in-Some-take_latch.ensures.taken.1 in
+    let steps = c.loop.invariant.steps in
+    stays_taken place told.0 c.args.worker.now.seat.me c.take_latch.new.self.seat.me steps.0 (◌∙◌ {A = Mine} told.3 (ap (latched place told.0) steps.1)) steps.4
 
 pub loop-preserved : goal.loop-preserved
 loop-preserved g c =

@@ -36,7 +36,7 @@ returns-clause-released g c =
     let went : Mine = c.give_up.new.worker.seat.me in
     let id = c.args.table.now.shared.table_id in
     let left = subst (λ (q : ℕ). LeavesWay id q (Lose c.args.number ∷ []) came went) c.await_latch-latch.ensures.place c.give_up.ensures.left in
-    visits_for_way id c.args.place (Lose c.args.number ∷ []) c.args.worker.now.seat.me came went c.await_latch-latch.ensures.inside left
+    visits_for_way id c.args.place (Lose c.args.number ∷ []) c.args.worker.now.seat.me came went c.await_latch-latch.ensures.inside c.await_latch-latch.ensures.stays left
 
 pub returns-clause-step : goal.returns-clause-step
 returns-clause-step g c =

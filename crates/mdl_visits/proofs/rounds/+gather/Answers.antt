@@ -6,7 +6,7 @@ use Rattle.mdl_steps.specs.Seats.{Holds, MayPut}
 use Rattle.mdl_steps.specs.Cells.{held_at}
 use Rattle.mdl_visits.specs.Visits.{IsInside}
 use Rattle.mdl_visits.proofs.Gathering.{gathers_more, gathers_none, makes_same, may_put, rising_next, there_and_back, unlatched_at}
-use Rattle.mdl_visits.proofs.Steps.{keeps_none, keeps_there}
+use Rattle.mdl_visits.proofs.Steps.{quiet_none, quiet_there}
 use Rattle.mdl_visits.proofs.rounds.+gather.Goals as goal
 
 pub add_book-requires-clause-carried : goal.add_book-requires-clause-carried
@@ -39,8 +39,8 @@ returns-in-Err-clause-directory g t c =
     let taken = latch.ensures.taken in
     let copied = c.add_book.new.worker.seat.me in
     let went = c.put_latch.new.self.seat.me in
-    keeps_there c.args.place taken.0 taken.3.0 c.args.worker.now.seat.me copied copied went taken.3.2 (◌∙◌ {A = Mine} c.add_book.ensures.same taken.3.1)
-    (keeps_none copied copied refl) refl (unlatched_at c.args.place latch.result.place copied went latch.ensures.place c.put_latch.ensures.made)
+    quiet_there c.args.place taken.0 taken.3.0 c.args.worker.now.seat.me copied copied went taken.3.2 (◌∙◌ {A = Mine} c.add_book.ensures.same taken.3.1)
+    (quiet_none copied copied refl) refl (unlatched_at c.args.place latch.result.place copied went latch.ensures.place c.put_latch.ensures.made)
 
 pub gather-outcome-requires : goal.gather-outcome-requires
 gather-outcome-requires g t c =
@@ -82,7 +82,7 @@ returns-clause-directory g t c =
     let copied = c.add_book.new.worker.seat.me in
     let gathered = c.gather-outcome.new.worker.seat.me in
     let went = c.put_latch-2.new.self.seat.me in
-    keeps_there c.args.place taken.0 taken.3.0 c.args.worker.now.seat.me copied gathered went taken.3.2 (◌∙◌ {A = Mine} c.add_book.ensures.same taken.3.1)
+    quiet_there c.args.place taken.0 taken.3.0 c.args.worker.now.seat.me copied gathered went taken.3.2 (◌∙◌ {A = Mine} c.add_book.ensures.same taken.3.1)
     c.gather-outcome.ensures.directory (ap (λ (m : Mine). m.0.directory) c.gather-outcome.ensures.steps.1)
     (unlatched_at c.args.place latch.result.place gathered went latch.ensures.place c.put_latch-2.ensures.made)
 

@@ -27,7 +27,7 @@ returns-clause-ended g c =
     let came : Mine = latch.new.worker.seat.me in
     let went : Mine = c.end_there.new.worker.seat.me in
     let id = c.args.table.now.shared.table_id in
-    ends place c.args.worker.now.seat.me came latch.ensures.inside id went (subst (λ (p : ℕ). EndsThere id p came went) latch.ensures.place c.end_there.ensures.ended)
+    ends place c.args.worker.now.seat.me came latch.ensures.inside id went latch.ensures.stays (subst (λ (p : ℕ). EndsThere id p came went) latch.ensures.place c.end_there.ensures.ended)
 
 pub end_there-requires-clause-once : goal.end_there-requires-clause-once
 end_there-requires-clause-once g c =
