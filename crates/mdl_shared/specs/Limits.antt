@@ -1,5 +1,6 @@
 -- How many places and sessions a space may have.
 use Rattle.std.specs.Prelude.{ℕ, Bool, ◌&&◌, nat_le, not, Option, Some, None, if◌then◌else◌}
+use Rattle.mdl_key.specs.Words.{most_places, most_sessions}
 use Rattle.mdl_shared.specs.declared.new_error.NewError.{NewError}
 use Rattle.mdl_shared.specs.declared.new_error.NewError.TheVariants.{BadPlaces, BadSessions}
 
@@ -10,5 +11,5 @@ is_within most n = nat_le 1 n && nat_le n most
 -- why there can't be such a space
 abbrev pub new_fault : ℕ → ℕ → Option NewError
 new_fault places sessions =
-    if not (is_within 256 places) then Some BadPlaces
-    else (if not (is_within 64 sessions) then Some BadSessions else None)
+    if not (is_within most_places places) then Some BadPlaces
+    else (if not (is_within most_sessions sessions) then Some BadSessions else None)
