@@ -1,20 +1,17 @@
 //! The space, and the passes of its sessions.
 ghost use Rattle.std.specs.Prelude.{◌≡◌, ℕ, ◌+◌, ◌<◌, ◌≤◌, length, IfOk};
 ghost use Rattle.std.specs.Arc.{arc_value};
-ghost use Rattle.mdl_key.specs.Refusals.{Refuses};
+ghost use Rattle.mdl_key.specs.Words.{Refuses, most_places, most_sessions};
 ghost use Rattle.mdl_calls.specs.Limits.{new_fault};
 ghost use Rattle.mdl_steps.specs.Layout.{word_count};
 ghost use Rattle.mdl_steps.specs.Seats.{IsSized};
 
 use crate::member::Member;
 use crate::{NewError, Pass};
+use mdl_key::{MOST_PLACES, MOST_SESSIONS};
 use mdl_steps::{Maker, OwnedTable};
 use std::alloc::{AllocError, Global};
 use std::sync::Arc;
-
-const MOST_PLACES: u16 = 256;
-
-const MOST_SESSIONS: u16 = 64;
 
 /// A lock space that threads share.
 #[derive(Drop)]
@@ -26,7 +23,7 @@ impl Manager {
     ghost use Rattle.mdl_shared.specs.Passes.{ArePasses, table_of};
 
     /// A space of so many places and sessions, where nobody has asked for anything, and the passes of the sessions, which have the
-    /// numbers from 1 on, in order. There are 1 to 256 places, and 1 to 64 sessions.
+    /// numbers from 1 on, in order. There are 1 to [`MOST_PLACES`] places, and 1 to [`MOST_SESSIONS`] sessions.
     pub fn new(alloc: Global, places: u16, sessions: u16) -> Result<(Manager, Vec<Pass>), NewError>
         ensures made { IfOk result (λ made. ((table_of made.0).slots ≡ places + 1) × ((table_of made.0).words ≡ word_count (places + 1) sessions) × (length made.1.items ≡ sessions)
             × ArePasses (table_of made.0) made.1.items) }
@@ -46,8 +43,8 @@ impl Manager {
 
     // The same, where there can be such a space.
     fn of(alloc: Global, places: usize, sessions: usize) -> Result<(Manager, Vec<Pass>), AllocError>
-        requires places { places ≤ 256 }
-        requires sessions { sessions ≤ 64 }
+        requires places { places ≤ most_places }
+        requires sessions { sessions ≤ most_sessions }
         ensures { IfOk result (λ made. ((table_of made.0).slots ≡ places + 1) × ((table_of made.0).words ≡ word_count (places + 1) sessions) × (length made.1.items ≡ sessions)
             × ArePasses (table_of made.0) made.1.items) }
     {
