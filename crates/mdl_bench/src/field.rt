@@ -3,14 +3,10 @@ ghost use Rattle.std.specs.Prelude.{ℕ, ◌≤◌};
 
 use crate::failure::Failure;
 use crate::figure::{Work, empty};
-use mdl_key::{Key, Mode};
+use mdl_key::{Key, MOST_PLACES, MOST_SESSIONS, Mode};
 use mdl_space::{Attempt, Begun, CoreSpace, Ended, LockSpace, Place, SpaceError, TicketId};
 use std::alloc::Global;
 use std::marker::Model;
-
-const PLACES: u16 = 256;
-
-const SESSIONS: u16 = 64;
 
 /// What is done in a field.
 #[derive(Clone, Copy)]
@@ -30,19 +26,20 @@ pub struct Field {
 
 impl Model for Field {
     ghost use Rattle.std.specs.Prelude.{ℕ, ◌≤◌};
+    ghost use Rattle.mdl_key.specs.Words.{most_sessions};
     ghost use Rattle.mdl_core.specs.CoreJoins.{SpeaksFor};
 
     ghost Value = { Unit };
 
     ghost view = { λ _. tt };
 
-    ghost invariant = { λ field. (who : ℕ) → 1 ≤ who → who ≤ 64 → SpeaksFor field.space who };
+    ghost invariant = { λ field. (who : ℕ) → 1 ≤ who → who ≤ most_sessions → SpeaksFor field.space who };
 }
 
 impl Field {
     /// So many tickets of the first session, and as many of the others, spread over the places.
     pub fn new(alloc: Global, job: Job, tickets: u16) -> Result<Field, Failure> {
-        match CoreSpace::new(alloc, PLACES, SESSIONS) {
+        match CoreSpace::new(alloc, MOST_PLACES, MOST_SESSIONS) {
             Ok(space) => Field { space, job }.filled(alloc, tickets),
             Err(_) => Err(Failure::Unmade),
         }
@@ -58,13 +55,13 @@ impl Field {
 
     // Likewise.
     fn prepare(&mut self, alloc: Global, tickets: u16) -> Result<(), Failure> {
-        for index in 0..PLACES {
+        for index in 0..MOST_PLACES {
             self.open(alloc, index)?;
         }
         for index in 0..tickets {
-            let place = index % PLACES + 1;
+            let place = index % MOST_PLACES + 1;
             self.call(1, Call::Take(place, Mode::SR))?;
-            self.call(index % (SESSIONS - 1) + 2, Call::Take(place, Mode::SR))?;
+            self.call(index % (MOST_SESSIONS - 1) + 2, Call::Take(place, Mode::SR))?;
         }
         Ok(())
     }
@@ -85,7 +82,7 @@ impl Field {
 
     // Makes a call for a session.
     fn call(&mut self, who: u16, call: Call) -> Result<TicketId, Failure> {
-        if who == 0 || who > SESSIONS {
+        if who == 0 || who > MOST_SESSIONS {
             return Err(Failure::Unexpected);
         }
         make(&mut self.space, who, call)
@@ -110,7 +107,7 @@ impl Field {
     // All sessions but the first wait for a lock in X, which the first has by this ticket.
     fn queue_all(&mut self) -> Result<TicketId, Failure> {
         let first = self.call(1, Call::Take(1, Mode::X))?;
-        for who in 2..SESSIONS + 1 {
+        for who in 2..MOST_SESSIONS + 1 {
             self.call(who, Call::Queue(1, Mode::X))?;
         }
         Ok(first)
@@ -119,7 +116,7 @@ impl Field {
     // The first gives it up, and each of the others has it in turn.
     fn serve_all(&mut self, first: TicketId) -> Result<(), Failure> {
         self.call(1, Call::GiveUp(first))?;
-        for who in 2..SESSIONS + 1 {
+        for who in 2..MOST_SESSIONS + 1 {
             let id = self.call(who, Call::ComeBy)?;
             self.call(who, Call::GiveUp(id))?;
         }

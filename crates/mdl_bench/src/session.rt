@@ -4,12 +4,10 @@ ghost use Rattle.mdl_context.specs.Contexts.{Attends};
 use crate::failure::Failure;
 use crate::figure::Work;
 use mdl_context::{Acquire, Context, Request};
-use mdl_key::{Duration, Key, Mode};
+use mdl_key::{Duration, Key, MOST_PLACES, Mode};
 use mdl_space::{CoreSpace, LockSpace, TicketId};
 use std::alloc::Global;
 use std::marker::Model;
-
-const PLACES: u16 = 256;
 
 // The tables that are locked one after another, and then given up at once.
 const LOCKED: u16 = 100;
@@ -54,7 +52,7 @@ impl Session {
 
     // Likewise, of these tables.
     fn open(alloc: Global, keys: Vec<Key>, job: Job, tickets: u16) -> Result<Session, Failure> {
-        match CoreSpace::new(alloc, PLACES, 1) {
+        match CoreSpace::new(alloc, MOST_PLACES, 1) {
             Ok(space) => Session {
                 keys,
                 space,
@@ -77,7 +75,7 @@ impl Session {
     // Likewise.
     fn fill(&mut self, tickets: u16) -> Result<(), Failure> {
         for index in 0..tickets {
-            self.acquire(index % (PLACES - 1), Duration::Explicit)?;
+            self.acquire(index % (MOST_PLACES - 1), Duration::Explicit)?;
         }
         Ok(())
     }
@@ -92,7 +90,7 @@ impl Session {
 
     // Locks the last table and gives it up.
     fn take_and_release(&mut self) -> Result<(), Failure> {
-        let id = self.acquire(PLACES - 1, Duration::Transaction)?;
+        let id = self.acquire(MOST_PLACES - 1, Duration::Transaction)?;
         self.context.release(&mut self.space, id)?;
         Ok(())
     }
@@ -132,7 +130,10 @@ impl Session {
         let mut found = 0u64;
         for _turn in 0..turns {
             for table in 0..tables {
-                match self.keys.get(usize::from(PLACES - 1 - table % PLACES)) {
+                match self
+                    .keys
+                    .get(usize::from(MOST_PLACES - 1 - table % MOST_PLACES))
+                {
                     Some(key) => found = found.wrapping_add(u64::from(
                         key.kind().has_mode(Mode::SR),
                     )),
@@ -147,7 +148,7 @@ impl Session {
 // The keys of as many tables as a space has places.
 fn tables(alloc: Global) -> Result<Vec<Key>, Failure> {
     let mut keys = Vec::new(alloc);
-    for index in 0..PLACES {
+    for index in 0..MOST_PLACES {
         let name = format!(in alloc; "t{index}")?;
         let key = Key::table(alloc, "test", name.as_str())?;
         if keys.push(key).is_err() {

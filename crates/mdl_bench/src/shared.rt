@@ -8,7 +8,7 @@ ghost use Rattle.mdl_shared.specs.Passes.{table_of, pass_table};
 use crate::atomics::{Words, steps, steps_of_four};
 use crate::failure::Failure;
 use crate::figure::tenths;
-use mdl_key::Key;
+use mdl_key::{Key, MOST_PLACES, MOST_SESSIONS};
 use mdl_shared::{Manager, Pass};
 use mdl_shared_trials::{takings, takings_of_two};
 use std::alloc::Global;
@@ -16,10 +16,6 @@ use std::sync::Wait;
 use std::thread;
 use std::thread::Threads;
 use std::time::{Clock, CpuClock, Duration, Instant};
-
-const PLACES: u16 = 256;
-
-const SESSIONS: u16 = 64;
 
 // The places whose words there are for the atomic steps: those that four threads make are at the last four.
 const STEPPED: usize = 5;
@@ -126,7 +122,7 @@ fn round_alone<R: Wait + Clock + CpuClock>(
     alloc: Global,
     turns: u32,
 ) -> Result<Costs, Failure> {
-    let (manager, mut passes) = Manager::new(alloc, PLACES, SESSIONS)?;
+    let (manager, mut passes) = Manager::new(alloc, MOST_PLACES, MOST_SESSIONS)?;
     let key = Key::table(alloc, "shop", "sales")?;
     let pass = passes.remove(0);
     let start = Start::now(rt)?;
@@ -149,7 +145,7 @@ fn round_of_four<R: Threads + Wait + Sync + Clock + CpuClock>(
     alloc: Global,
     turns: u32,
 ) -> Result<Costs, Failure> {
-    let (manager, mut passes) = Manager::new(alloc, PLACES, SESSIONS)?;
+    let (manager, mut passes) = Manager::new(alloc, MOST_PLACES, MOST_SESSIONS)?;
     let four = passes.remove(3);
     let three = passes.remove(2);
     let two = passes.remove(1);

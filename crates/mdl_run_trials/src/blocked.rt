@@ -7,7 +7,7 @@ ghost use Rattle.mdl_script.specs.Turns.{has_pass};
 use crate::playing::lines;
 use mdl_calls::{Attempt, SpaceError, TicketId};
 use mdl_defs::{Definition, Standing};
-use mdl_key::{Key, Mode};
+use mdl_key::{Key, MOST_PLACES, MOST_SESSIONS, Mode};
 use mdl_script::{OpenGate, run_on};
 use mdl_shared::{HoldsTickets, Manager, Pass, Session};
 use mdl_syntax::{Script, parse};
@@ -16,10 +16,6 @@ use std::process::Abort;
 use std::sync::Wait;
 use std::test::Fail;
 use std::thread::Threads;
-
-const PLACES: u16 = 256;
-
-const SESSIONS: u16 = 64;
 
 const SCRIPT: &str = "1 CREATE TABLE t x / 1 CREATE TABLE u x";
 
@@ -125,7 +121,7 @@ fn close<R: Drop>(rt: &impl Abort, session: Session<R>) {
 #[test]
 fn a_table_that_is_not_free_is_missed(rt: HostRuntime) -> Result<(), Fail> {
     let alloc = rt.alloc();
-    let (manager, mut passes) = Manager::new(alloc, PLACES, SESSIONS)?;
+    let (manager, mut passes) = Manager::new(alloc, MOST_PLACES, MOST_SESSIONS)?;
     let Some(last) = passes.pop() else {
         return Err(Fail::from("there is no session"));
     };

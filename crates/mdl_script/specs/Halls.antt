@@ -1,6 +1,7 @@
 -- A lock space and the sessions of a script as the code keeps them, and the world that they are.
 use Rattle.std.specs.Prelude.{◌≡◌, ℕ, ◌+◌, List, [], ◌∷◌, length, map, nat_lt, None}
 use Rattle.std.specs.List.{position_or_len}
+use Rattle.mdl_key.specs.Words.{most_sessions}
 use Rattle.mdl_core.specs.CoreJoins.{SpeaksFor, own_at, Knows}
 use Rattle.mdl_core.specs.Cores.{Core}
 use Rattle.mdl_context.specs.Contexts.{Attends}
@@ -33,6 +34,6 @@ place_of who others = position_or_len (λ other. nat_lt who other) others
 
 -- all sessions are there, and it is noted which of them wait
 pub record IsManned (hall : Hall) : Type 0 where
-  pub all : length hall.players.items ≡ 64
+  pub all : length hall.players.items ≡ most_sessions
   pub seated : AreSeated hall.space 1 hall.players.items
   pub waiting : hall.waiting.items ≡ waiting_in (world_of hall)

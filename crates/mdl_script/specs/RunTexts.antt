@@ -1,6 +1,7 @@
 -- What a run of a script on threads prints: what its sessions were answered, and what is defined at the end. The wording is this project's own.
 use Rattle.std.specs.Prelude.{◌≡◌, ℕ, Bool, ◌==◌, List, ◌++◌, flat_map, filter, map}
 use Rattle.std.specs.List.{list_any, range_with_len}
+use Rattle.mdl_key.specs.Words.{most_sessions}
 use Rattle.mdl_rows.specs.declared.reply.Reply.{Reply}
 use Rattle.mdl_syntax.specs.declared.script.Line.{Line}
 use Rattle.mdl_visits.specs.declared.audited.Audited.{Audited}
@@ -12,9 +13,9 @@ use Rattle.mdl_script.specs.Texts.{told_line}
 abbrev pub is_named : List Line → ℕ → Bool
 is_named lines who = list_any (λ line. line.session == who) lines
 
--- the sessions that a script names, of 1 to 64, in rising order
+-- the sessions that a script names, in rising order
 unfoldable pub named_sessions : List Line → List ℕ
-named_sessions lines = filter (is_named lines) (range_with_len 1 64)
+named_sessions lines = filter (is_named lines) (range_with_len 1 most_sessions)
 
 -- the line of an answer to a session: the number of the line that asked, the session, and the reply
 abbrev pub answer_line : ℕ → ℕ × Reply → List ℕ

@@ -1,9 +1,10 @@
 -- How a script is played in one thread: its lines one after the other, and after each line what has come to its turn. The order is
 -- this project's own.
-use Rattle.std.specs.Prelude.{ℕ, zero, suc, ◌+◌, ◌-◌, ◌*◌, Bool, List, [], ◌∷◌, ◌++◌, codes, map, filter, find, slice_index_or, slice_set, Option, Some, None, is_some, if◌then◌else◌}
+use Rattle.std.specs.Prelude.{ℕ, zero, suc, ◌-◌, ◌*◌, Bool, List, [], ◌∷◌, ◌++◌, codes, map, filter, find, slice_index_or, slice_set, Option, Some, None, is_some, if◌then◌else◌}
 use Rattle.std.specs.List.{range_with_len}
 use Rattle.mdl_key.specs.declared.mode.Mode.TheVariants.{X}
 use Rattle.mdl_key.specs.Keys.{KeyName, schema_key}
+use Rattle.mdl_key.specs.Words.{most_places, most_sessions}
 use Rattle.mdl_defs.specs.declared.change.Change.TheVariants.{Create}
 use Rattle.mdl_defs.specs.declared.definition.Definition.TheVariants.{Schema}
 use Rattle.mdl_calls.specs.Words.{Answer, At_place, Granted, Resolve, Try_now, Change_definition, Release, Settle_timeout, Program, Give, Ask, outcome_of}
@@ -19,6 +20,7 @@ use Rattle.mdl_rows.specs.MemoryLaws.{session_at}
 use Rattle.mdl_rows.specs.Playing.{going_on, starting}
 use Rattle.mdl_rows.specs.Sessions.{Session}
 use Rattle.mdl_rows.specs.States.{at_first}
+pub use Rattle.mdl_work.specs.Works.{most_waits}
 use Rattle.mdl_script.specs.declared.told.News.TheVariants.{Ends, Waits, Busy}
 use Rattle.mdl_script.specs.declared.told.Told.{Told}
 
@@ -50,7 +52,7 @@ scene and_then next = record { told = scene.told ++ (next scene.world).told; wor
 
 -- all sessions
 unfoldable pub sessions : List ℕ
-sessions = range_with_len 1 64
+sessions = range_with_len 1 most_sessions
 
 -- a session that was asked for nothing yet
 abbrev pub newcomer : ℕ → Player
@@ -69,9 +71,9 @@ create_at _ = Give tt
 abbrev pub creating : KeyName → Program (Unit {0})
 creating schema = Ask (Resolve 1 schema) create_at
 
--- a space of 256 places, in which the schema test was created and nothing else was done
+-- a space of as many places and sessions as there can be, in which the schema test was created and nothing else was done
 abbrev pub first_core : Core
-first_core = (outcome_of outcome (creating (schema_key (codes "test"))) (empty_core 256 64)).1
+first_core = (outcome_of outcome (creating (schema_key (codes "test"))) (empty_core most_places most_sessions)).1
 
 abbrev pub first_world : World
 first_world = record { core = first_core; players = map newcomer sessions }
@@ -127,14 +129,10 @@ unfoldable pub settling : ℕ → World → Scene
 settling zero world = silent world
 settling (suc turns) world = going_first (first_settled world) (settling turns) world
 
--- as many times as there can be: with each the statement of its session ends, or it has one lock less to wait for, and while no new
--- line is played no other session begins to wait. A statement asks for at most 259 locks, one after the other, as `most_locks` of
--- mdl_script_laws counts them: any bound from there on is enough, and this one is two more
-abbrev pub most_waits : ℕ
-most_waits = 1 + 4 + 256
-
+-- as many times as there can be, 16,704: with each the statement of its session ends, or it has one lock less to wait for, and while
+-- no new line is played no other session begins to wait
 abbrev pub most_turns : ℕ
-most_turns = 64 * most_waits
+most_turns = most_sessions * most_waits
 
 -- ---- lines
 

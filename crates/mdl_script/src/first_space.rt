@@ -1,19 +1,15 @@
 //! The lock space as a script finds it.
 ghost use Rattle.std.specs.Prelude.{◌≡◌, ◌≤◌, ℕ, OnOk, IfOk};
+ghost use Rattle.mdl_key.specs.Words.{most_sessions};
 ghost use Rattle.mdl_calls.specs.Words.{outcome_of};
 ghost use Rattle.mdl_core.specs.CoreCalls.{outcome};
 ghost use Rattle.mdl_core.specs.CoreJoins.{SpeaksFor};
 ghost use Rattle.mdl_script.specs.Worlds.{creating, first_core};
 
 use mdl_defs::{Change, Definition};
-use mdl_key::{Key, Mode};
+use mdl_key::{Key, MOST_PLACES, MOST_SESSIONS, Mode};
 use mdl_space::{Attempt, CoreSpace, LockSpace};
 use std::alloc::{AllocError, Global};
-
-// As many places and sessions as there can be.
-const PLACES: u16 = 256;
-
-const SESSIONS: u16 = 64;
 
 // The session that creates the first schema.
 const FIRST: u16 = 1;
@@ -21,9 +17,9 @@ const FIRST: u16 = 1;
 /// A space in which the schema test exists, and nothing else was done.
 pub(crate) fn first_space(alloc: Global) -> Result<CoreSpace, AllocError>
     ensures made { IfOk result (λ space. space ≡ first_core) }
-    ensures speaks { IfOk result (λ space. (who : ℕ) → 1 ≤ who → who ≤ 64 → SpeaksFor space who) }
+    ensures speaks { IfOk result (λ space. (who : ℕ) → 1 ≤ who → who ≤ most_sessions → SpeaksFor space who) }
 {
-    let Ok(mut space) = CoreSpace::new(alloc, PLACES, SESSIONS) else {
+    let Ok(mut space) = CoreSpace::new(alloc, MOST_PLACES, MOST_SESSIONS) else {
         return Err(AllocError);
     };
     let Ok(test) = Key::schema(alloc, "test") else {
@@ -35,9 +31,9 @@ pub(crate) fn first_space(alloc: Global) -> Result<CoreSpace, AllocError>
 
 // Session 1 creates a schema, whose lock nobody else has.
 fn create(space: &mut CoreSpace, schema: &Key) -> Result<(), AllocError>
-    requires { (who : ℕ) → 1 ≤ who → who ≤ 64 → SpeaksFor space.old who }
+    requires { (who : ℕ) → 1 ≤ who → who ≤ most_sessions → SpeaksFor space.old who }
     ensures made { OnOk result (space.new ≡ (outcome_of outcome (creating schema.now) space.old).1) }
-    ensures speaks { OnOk result ((who : ℕ) → 1 ≤ who → who ≤ 64 → SpeaksFor space.new who) }
+    ensures speaks { OnOk result ((who : ℕ) → 1 ≤ who → who ≤ most_sessions → SpeaksFor space.new who) }
 {
     let Ok(place) = space.resolve(FIRST, schema) else {
         return Err(AllocError);

@@ -1,6 +1,7 @@
 //! The sessions of a script over one lock space.
 ghost use Rattle.std.specs.Prelude.{◌≡◌, ◌++◌, ◌≤◌, ℕ, true, false, Some, ◌∷◌, [], ◌==◌, OnOk, IfOk, All, filter, find, flat_map, insert, is_some, length, map, nat_lt, not, position};
 ghost use Rattle.std.specs.String.{string_bytes};
+ghost use Rattle.mdl_key.specs.Words.{most_sessions};
 ghost use Rattle.mdl_core.specs.CoreCalls.{has_settled};
 ghost use Rattle.mdl_core.specs.CoreJoins.{SpeaksFor};
 ghost use Rattle.mdl_lines.specs.Sessions.{IsScriptSession};
@@ -12,15 +13,15 @@ ghost use Rattle.mdl_rows.specs.Sessions.{Session};
 
 use crate::first_space::first_space;
 use crate::told::{News, Told, push_end, push_told};
+use mdl_key::MOST_SESSIONS;
 use mdl_space::{CoreSpace, LockSpace, Poll};
 use mdl_stmt::{Progress, Reply, Runner};
 use mdl_syntax::{Line, Statement};
+use mdl_work::MOST_WAITS;
 use std::alloc::{AllocError, Global};
 
-const SESSIONS: u16 = 64;
-
-// As many turns as there can be after a line.
-const MOST_TURNS: u16 = 16_704;
+// As many turns as there can be after a line: 16,704.
+const MOST_TURNS: u16 = MOST_SESSIONS * MOST_WAITS;
 
 /// A session, and the number of the line of its last statement.
 #[derive(Drop)]
@@ -89,7 +90,7 @@ impl<'s> Hall<'s> {
 
     /// Whether a session waits.
     fn waits(&self, who: u16) -> bool
-        requires all { length self.now.players.items ≡ 64 }
+        requires all { length self.now.players.items ≡ most_sessions }
         requires session { IsScriptSession who }
         ensures { result ≡ is_waiting (world_of self.now) who }
     {
@@ -148,7 +149,7 @@ impl<'s> Hall<'s> {
         ensures told { OnOk result (string_bytes out.new ≡ string_bytes out.old ++ told_text (started line.now (world_of self.old)).told) }
         ensures left { OnOk result (world_of self.new ≡ (started line.now (world_of self.old)).world) }
         ensures seated { OnOk result (AreSeated self.new.space 1 self.new.players.items) }
-        ensures all { length self.new.players.items ≡ 64 }
+        ensures all { length self.new.players.items ≡ most_sessions }
         ensures noted { self.new.waiting.items ≡ self.old.waiting.items }
     {
         let player = &mut self.players[usize::from(line.session) - 1];
@@ -206,7 +207,7 @@ impl<'s> Hall<'s> {
         ensures told { OnOk result (string_bytes out.new ≡ string_bytes out.old ++ told_text (going who (world_of self.old)).told) }
         ensures left { OnOk result (world_of self.new ≡ (going who (world_of self.old)).world) }
         ensures seated { OnOk result (AreSeated self.new.space 1 self.new.players.items) }
-        ensures all { length self.new.players.items ≡ 64 }
+        ensures all { length self.new.players.items ≡ most_sessions }
         ensures noted { self.new.waiting.items ≡ self.old.waiting.items }
     {
         let player = &mut self.players[usize::from(who) - 1];
@@ -263,7 +264,7 @@ fn new_players<'s>(alloc: Global) -> Result<Vec<Player<'s>>, AllocError>
     ensures { IfOk result (λ players. players.items ≡ map new_player sessions) }
 {
     let mut players = Vec::new(alloc);
-    for who in 1..SESSIONS + 1 {
+    for who in 1..MOST_SESSIONS + 1 {
         players.push(Player {
             runner: Runner::new(alloc, who),
             line: 0,

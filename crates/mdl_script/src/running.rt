@@ -14,6 +14,7 @@ use crate::finals::push_finals;
 use crate::on_thread::close;
 use crate::run::Run;
 use crate::turns::{push_turns, start_all, take_first};
+use mdl_key::{MOST_PLACES, MOST_SESSIONS};
 use mdl_shared::{Manager, Pass, Session};
 use mdl_syntax::Script;
 use mdl_work::Gate;
@@ -21,11 +22,6 @@ use std::alloc::{AllocError, Global};
 use std::sync::Wait;
 use std::thread;
 use std::thread::{Scope, Threads};
-
-// As many places and sessions as there can be.
-const PLACES: u16 = 256;
-
-const SESSIONS: u16 = 64;
 
 /// Plays a script over a lock table that is there already: each session that the script names works off its own lines, on a thread of
 /// its own. The answer is what [`run_threads`] says.
@@ -127,7 +123,7 @@ pub fn run_threads<R: Threads + Wait + Sync, G: Gate + Sync>(
 ) -> Result<String, AllocError>
     ensures { IfOk result (λ text. IsRunOf patience script.now (string_bytes text)) }
 {
-    let Ok((manager, passes)) = Manager::new(alloc, PLACES, SESSIONS) else {
+    let Ok((manager, passes)) = Manager::new(alloc, MOST_PLACES, MOST_SESSIONS) else {
         return Err(AllocError);
     };
     run_on(rt, alloc, &manager, passes, script, patience, gate)

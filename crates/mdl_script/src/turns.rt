@@ -10,6 +10,7 @@ ghost use Rattle.mdl_script.specs.Turns.{GainsAnswers, IsAbout, IsTurn, has_pass
 use crate::on_thread::work_pass;
 use crate::run::{Run, is_named};
 use crate::told::push_answers;
+use mdl_key::MOST_SESSIONS;
 use mdl_shared::Pass;
 use mdl_stmt::Reply;
 use mdl_syntax::Script;
@@ -17,8 +18,6 @@ use mdl_work::Gate;
 use std::alloc::AllocError;
 use std::sync::Wait;
 use std::thread::{Promise, PromisedHandle, Scope, Threads};
-
-const SESSIONS: u16 = 64;
 
 /// What a session answers, or that memory ran out.
 pub(crate) type Answered = Result<Vec<(u64, Reply)>, AllocError>;
@@ -131,7 +130,7 @@ pub(crate) fn start_all<'s, E, R: Threads + Wait + Sync, G: Gate + Sync>(
     ensures turns { IfOk result (λ turns. All (IsTurn run.now.patience run.now.script.now mine) turns.items) }
 {
     let mut turns = Vec::new(run.alloc);
-    for who in 1..SESSIONS + 1 {
+    for who in 1..MOST_SESSIONS + 1 {
         if is_named(run.script, who) {
             turns.push(start_turn(scope, run, &mut passes, mine, who)?)?;
         }

@@ -2,7 +2,7 @@
 -- statement waits just where its session has an unsettled wait, and how many waits are told.
 use Rattle.std.specs.Prelude.{◌≡◌, ℕ, suc, ◌+◌, ◌*◌, ◌≤◌, Bool, true, false, ◌&&◌, ◌==◌, List, length, filter, take, None, Ok}
 use Rattle.std.specs.List.{All}
-use Rattle.mdl_key.specs.Keys.{KeyName}
+use Rattle.mdl_key.specs.Words.{KeyName, most_places}
 use Rattle.mdl_core.specs.CoreCalls.{has_settled, wait_at}
 use Rattle.mdl_core.specs.Seats.{is_open}
 use Rattle.mdl_lines.specs.Sessions.{IsScriptSession}
@@ -24,7 +24,7 @@ use Rattle.mdl_script.specs.Worlds.{World, first_settled, is_waiting, script_pla
 
 -- a schema has no more tables than a space has places
 abbrev pub AreFewTables : List ℕ → Type 0
-AreFewTables tables = length tables ≤ 256
+AreFewTables tables = length tables ≤ most_places
 
 -- a statement asks for at most so many locks, one after the other, whatever it is told meanwhile. To make one stronger is to ask for one
 -- more
@@ -59,7 +59,7 @@ locks_of (Write table priority) = 3
 locks_of (CreateTable table columns) = 4
 locks_of (CreateSchema name) = 3
 locks_of (DropTables tables) = 2 + 2 * length tables
-locks_of (DropSchema name) = 3 + 256
+locks_of (DropSchema name) = 3 + most_places
 locks_of (RenameTable from to) = 6
 locks_of FlushTablesWithReadLock = 3
 locks_of (AlterTable alteration) = 6
@@ -68,7 +68,7 @@ locks_of _ = 0
 
 -- that of a DROP SCHEMA is the most that the language has
 abbrev pub most_locks : ℕ
-most_locks = 3 + 256
+most_locks = 3 + most_places
 
 -- no statement asks for more
 abbrev pub StatementsAskForFewLocks : Type 0

@@ -10,15 +10,13 @@ mod server;
 mod telling;
 
 use anyhow::Result;
+use mdl_key::MOST_SESSIONS;
 use mdl_lines::Fault;
 use mdl_syntax::parse;
 use server::Server;
 use std::alloc::Global;
 use std::io::{BufRead, BufReader, Write};
 use telling::tell;
-
-// How many sessions there are: as many as a space can have.
-const SESSIONS: u16 = 64;
 
 fn main(rt: HostRuntime) -> Result<()> {
     let alloc = rt.alloc();
@@ -28,7 +26,7 @@ fn main(rt: HostRuntime) -> Result<()> {
 
 // Serves the requests until the input ends. Then all sessions end.
 fn serve_all<R: BufRead, W: Write>(alloc: Global, input: &mut R, output: &mut W) -> Result<()> {
-    let mut server = Server::new(alloc, SESSIONS)?;
+    let mut server = Server::new(alloc, MOST_SESSIONS)?;
     let mut request = Vec::new(alloc);
     for number in 1..u64::MAX {
         request.clear();
@@ -76,7 +74,7 @@ fn go_on<W: Write>(server: &mut Server, output: &mut W) -> Result<()> {
 // Lets the statement of each session go on once, if its wait is settled. Answers whether one of them did.
 fn each_goes_on<W: Write>(server: &mut Server, output: &mut W) -> Result<bool> {
     let mut is_further = false;
-    for who in 1..SESSIONS + 1 {
+    for who in 1..MOST_SESSIONS + 1 {
         if let Some(answer) = server.go_on(who) {
             tell(output, who, &answer)?;
             is_further = true;

@@ -5,14 +5,12 @@ ghost use Rattle.mdl_core.specs.Words.{SpeaksFor, own_at, Knows};
 ghost use Rattle.mdl_context.specs.Contexts.{Attends, LeavesOthers};
 ghost use Rattle.mdl_server_example.specs.Servers.{AreServed, newcomer};
 
+use mdl_key::MOST_PLACES;
 use mdl_space::{CoreSpace, NewError};
 use mdl_stmt::{OutOfMemory, OwnedRunner, Progress};
 use mdl_syntax::Statement;
 use std::alloc::{AllocError, Global};
 use std::marker::Model;
-
-// How many keys can be locked.
-const PLACES: u16 = 256;
 
 /// What the server answers.
 #[derive(Drop)]
@@ -58,7 +56,7 @@ impl Model for Server {
 impl Server {
     /// A server for the sessions from 1 to this number. None of them holds a lock.
     pub fn new(alloc: Global, sessions: u16) -> Result<Server, NewError> {
-        let space = CoreSpace::new(alloc, PLACES, sessions)?;
+        let space = CoreSpace::new(alloc, MOST_PLACES, sessions)?;
         match new_runners(alloc, sessions) {
             Ok(runners) => Ok(Server { space, runners }),
             Err(AllocError) => Err(NewError::OutOfMemory),

@@ -4,16 +4,12 @@ ghost use Rattle.mdl_shared.specs.Passes.{pass_table, table_of};
 
 use crate::requests::{Request, read_requests, requests_of};
 use crate::session::serve;
+use mdl_key::{MOST_PLACES, MOST_SESSIONS};
 use mdl_shared::{Manager, Pass};
 use std::alloc::{AllocError, Global};
 use std::sync::Wait;
 use std::thread;
 use std::thread::{JoinHandle, Scope, Threads};
-
-// How many keys can be locked, and how many sessions there are.
-const PLACES: u16 = 256;
-
-const SESSIONS: u16 = 64;
 
 /// The errors of lines that are no requests, and then what each session answers, in the order of their numbers.
 ///
@@ -25,7 +21,7 @@ pub fn answers<R: Threads + Wait + Sync>(
 ) -> Result<String, AllocError> {
     let mut text = String::new(alloc);
     let requests = read_requests(alloc, input, &mut text)?;
-    let Ok((manager, passes)) = Manager::new(alloc, PLACES, SESSIONS) else {
+    let Ok((manager, passes)) = Manager::new(alloc, MOST_PLACES, MOST_SESSIONS) else {
         return Err(AllocError);
     };
     push_all(&mut text, rt, alloc, &manager, passes, &requests)?;

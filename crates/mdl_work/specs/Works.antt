@@ -1,8 +1,9 @@
 -- How a session works off its lines of a script, over any lock space: one statement after the other, and then it gives up all. This is
 -- the project's own. Patience with a wait is after MySQL 5.7: `MDL_wait::timed_wait` of sql/mdl.cc, whose lock_wait_timeout is a time;
 -- here it is counted in looks at the wait.
-use Rattle.std.specs.Prelude.{ℕ, zero, suc, ◌==◌, List, [], ◌∷◌, filter, Option, Some, None}
+use Rattle.std.specs.Prelude.{ℕ, zero, suc, ◌+◌, ◌==◌, List, [], ◌∷◌, filter, Option, Some, None}
 use Rattle.std.specs.Option.{option_map}
+use Rattle.mdl_key.specs.Words.{most_places}
 use Rattle.mdl_calls.specs.Words.{Answer, Pending, Poll_wait, Settle_timeout, Program, Give, Ask, Grow, ◌>>=◌, ◌>>◌}
 use Rattle.mdl_syntax.specs.declared.script.Line.{Line}
 use Rattle.mdl_syntax.specs.declared.statement.Statement.{Statement}
@@ -36,10 +37,10 @@ waiting_out who (suc polls) = Ask (Poll_wait who) (while_pending (waiting_out wh
 
 -- ---- statements
 
--- how often a statement can begin to wait: once for each lock that it asks for. In a space of at most 256 places, as all here are, those are at most 259, as
--- `most_locks` of mdl_script_laws counts them: any bound from there on is enough, and this one is two more
+-- how often a statement can begin to wait: once for each lock that it asks for. Those are at most `most_locks` of mdl_script_laws, three more than a space has
+-- places: any bound from there on is enough, and this one is two more
 abbrev pub most_waits : ℕ
-most_waits = 261
+most_waits = 1 + 4 + most_places
 
 -- a session waits its wait out, and goes on with its statement
 abbrev pub going_further : ℕ → Session → Program Pause

@@ -25,4 +25,5 @@ mod worker;
 mod working;
 
 pub use gate::{Gate, OpenGate};
+pub use worker::MOST_WAITS;
 pub use working::{work, work_lines};

@@ -10,13 +10,14 @@ ghost use Rattle.mdl_work.specs.Works.{finishing, going_further, lines_of, makin
 
 use crate::Gate;
 use crate::waiting::wait_out;
+use mdl_key::MOST_PLACES;
 use mdl_space::LockSpace;
 use mdl_stmt::{OutOfMemory, Progress, Reply, Runner};
 use mdl_syntax::{Line, Statement};
 use std::alloc::{AllocError, Global};
 
-// As often as a statement can begin to wait.
-const MOST_WAITS: u16 = 261;
+/// At least as often as a statement can begin to wait: 261 times, once for each place and five times more.
+pub const MOST_WAITS: u16 = 1 + 4 + MOST_PLACES;
 
 /// A session, its number, and its patience with a wait.
 #[derive(Drop)]
