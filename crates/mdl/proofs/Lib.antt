@@ -7,6 +7,7 @@ pub use Rattle.mdl_defs.proofs as mdl_defs
 pub use Rattle.mdl_graph.proofs as mdl_graph
 pub use Rattle.mdl_key.proofs as mdl_key
 pub use Rattle.mdl_lines.proofs as mdl_lines
+pub use Rattle.mdl_rows.proofs as mdl_rows
 pub use Rattle.mdl_script.proofs as mdl_script
 pub use Rattle.mdl_session_laws.proofs as mdl_session_laws
 pub use Rattle.mdl_shared.proofs as mdl_shared

@@ -7,6 +7,7 @@ pub use Rattle.mdl_defs.specs as mdl_defs
 pub use Rattle.mdl_graph.specs as mdl_graph
 pub use Rattle.mdl_key.specs as mdl_key
 pub use Rattle.mdl_lines.specs as mdl_lines
+pub use Rattle.mdl_rows.specs as mdl_rows
 pub use Rattle.mdl_script.specs as mdl_script
 pub use Rattle.mdl_session_laws.specs as mdl_session_laws
 pub use Rattle.mdl_shared.specs as mdl_shared

@@ -22,6 +22,8 @@ mod key;
 #[cfg(test)]
 mod lines;
 #[cfg(test)]
+mod rows;
+#[cfg(test)]
 mod space;
 #[cfg(test)]
 mod stmt;

@@ -14,8 +14,8 @@ use Rattle.mdl_core.proofs.CoreSound.{calls_keep-sound}
 use Rattle.mdl_context.specs.Contexts.{ContextView, Attends, LeavesOthers}
 use Rattle.mdl_context.proofs.AttendLemmas.{attends-same}
 use Rattle.mdl_lines.specs.Sessions.{IsScriptSession}
-use Rattle.mdl_stmt.specs.Endings.{Pause}
-use Rattle.mdl_stmt.specs.Playing.{going_on, starting}
+use Rattle.mdl_rows.specs.Endings.{Pause}
+use Rattle.mdl_rows.specs.Playing.{going_on, starting}
 use Rattle.mdl_syntax.specs.declared.script.Line.{Line}
 use Rattle.mdl_script.specs.declared.hall.Hall.{Hall}
 use Rattle.mdl_script.specs.declared.hall.Player as kept

@@ -29,12 +29,12 @@ use Rattle.mdl_lines.specs.Sessions.{IsScriptSession}
 use Rattle.mdl_syntax.specs.declared.script.Line.{Line}
 use Rattle.mdl_syntax.specs.declared.statement.Statement.{Statement}
 use Rattle.mdl_syntax.specs.declared.statement.Statement.TheVariants.{Timeout}
-use Rattle.mdl_stmt.specs.Endings.{Pause}
-use Rattle.mdl_stmt.specs.MemoryLaws.{KeepsSpaceSound, session_at}
-use Rattle.mdl_stmt.specs.Playing.{going_on, starting}
-use Rattle.mdl_stmt.specs.Sessions.{Session}
-use Rattle.mdl_stmt.proofs.RowCalls.{rows_keep_number}
-use Rattle.mdl_stmt.proofs.RowOutcomes.{rows_keep_sound}
+use Rattle.mdl_rows.specs.Endings.{Pause}
+use Rattle.mdl_rows.specs.MemoryLaws.{KeepsSpaceSound, session_at}
+use Rattle.mdl_rows.specs.Playing.{going_on, starting}
+use Rattle.mdl_rows.specs.Sessions.{Session}
+use Rattle.mdl_rows.proofs.RowCalls.{rows_keep_number}
+use Rattle.mdl_rows.proofs.RowOutcomes.{rows_keep_sound}
 use Rattle.mdl_script.specs.Worlds.{Player, Scene, World, asked, asked_waiting, create_at, create_under, creating, first_core, first_settled, first_world, going, going_first, is_waiting, line_played, lines_played, most_turns, newcomer, played, player_at, script_played, sessions, settling, started, timed_out, waiting_in}
 use Rattle.mdl_script.proofs.HallLemmas.{SpeakForAll, waiting-sessions}
 use Rattle.mdl_script.proofs.ListLemmas.{All-find}

@@ -8,14 +8,15 @@ use Rattle.mdl_core.specs.Words.{Core, SpeaksFor, own_at, Knows}
 use Rattle.mdl_context.specs.Contexts.{Attends, LeavesOthers}
 use Rattle.mdl_context.specs.MemoryLaws.{IsSureUnless}
 use Rattle.mdl_lines.specs.Sessions.{IsScriptSession}
-use Rattle.mdl_stmt.specs.declared.reply.Progress.{Progress}
-use Rattle.mdl_stmt.specs.declared.reply.Progress.TheVariants.{Waiting, Pending, Done}
-use Rattle.mdl_stmt.specs.Endings.{Pause}
+use Rattle.mdl_stmt.specs.declared.progress.Progress.{Progress}
+use Rattle.mdl_stmt.specs.declared.progress.Progress.TheVariants.{Waiting, Pending, Done}
+use Rattle.mdl_rows.specs.Endings.{Pause}
 use Rattle.mdl_stmt.specs.Gets.{paused}
-use Rattle.mdl_stmt.specs.MemoryLaws.{IsFault, session_at}
-use Rattle.mdl_stmt.proofs.RowOutcomes.{sure_rows}
-use Rattle.mdl_stmt.specs.Playing.{going_on}
-use Rattle.mdl_stmt.specs.Sessions.{RunnerView, Session}
+use Rattle.mdl_rows.specs.MemoryLaws.{IsFault, session_at}
+use Rattle.mdl_rows.proofs.RowOutcomes.{sure_rows}
+use Rattle.mdl_rows.specs.Playing.{going_on}
+use Rattle.mdl_rows.specs.Sessions.{Session}
+use Rattle.mdl_stmt.specs.Players.{RunnerView}
 use Rattle.mdl_stmt.specs.Stages.{session_of}
 use Rattle.mdl_script.specs.declared.hall.Hall.{Hall}
 use Rattle.mdl_script.specs.declared.hall.Player as kept

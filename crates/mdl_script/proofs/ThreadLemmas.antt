@@ -3,7 +3,7 @@ use Rattle.std.proofs.Common.{◌≡◌, inl, inr, ap, ℕ, List, map, Vec, Some
 use Rattle.mdl_calls.specs.Words.{Answer, Call, Program, Give, Ask, Grow, Runs}
 use Rattle.mdl_session_laws.specs.SessionJoins.{Joins}
 use Rattle.mdl_session_laws.specs.SessionSpaces.{Space, SpeaksFor}
-use Rattle.mdl_stmt.specs.declared.reply.Reply.{Reply}
+use Rattle.mdl_rows.specs.declared.reply.Reply.{Reply}
 use Rattle.mdl_syntax.specs.declared.script.Line.{Line}
 use Rattle.mdl_work.specs.Works.{lines_of, newcomer, working_off}
 use Rattle.mdl_script.specs.Answers.{AreAnswers, nothing}

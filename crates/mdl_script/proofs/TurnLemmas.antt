@@ -13,7 +13,7 @@ use Rattle.mdl_syntax.specs.declared.script.Line.{Line}
 use Rattle.atomic_table.specs.Seated.{TableId}
 use Rattle.mdl_shared.specs.declared.pass.Pass.{Pass}
 use Rattle.mdl_shared.specs.Passes.{pass_number, pass_table}
-use Rattle.mdl_stmt.specs.declared.reply.Reply.{Reply}
+use Rattle.mdl_rows.specs.declared.reply.Reply.{Reply}
 use Rattle.mdl_script.specs.Answers.{AreAnswers}
 use Rattle.mdl_script.specs.RunTexts.{answers_text, transcripts_text}
 use Rattle.mdl_script.specs.Turns.{GainsAnswers, IsAbout, IsTurn, has_pass}

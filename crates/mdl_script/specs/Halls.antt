@@ -5,7 +5,7 @@ use Rattle.mdl_core.specs.CoreJoins.{SpeaksFor, own_at, Knows}
 use Rattle.mdl_core.specs.Cores.{Core}
 use Rattle.mdl_context.specs.Contexts.{Attends}
 use Rattle.mdl_stmt.specs.Stages.{session_of}
-use Rattle.mdl_stmt.specs.States.{at_first}
+use Rattle.mdl_rows.specs.States.{at_first}
 use Rattle.mdl_script.specs.declared.hall.Hall.{Hall}
 use Rattle.mdl_script.specs.declared.hall.Player as kept
 use Rattle.mdl_script.specs.Worlds.{Player, World, waiting_in}

@@ -1,6 +1,6 @@
 -- What is so of the texts of all runs of scripts on threads.
 use Rattle.std.specs.Prelude.{◌≡◌, ℕ, List, map}
-use Rattle.mdl_stmt.specs.declared.reply.Reply.{Reply}
+use Rattle.mdl_rows.specs.declared.reply.Reply.{Reply}
 use Rattle.mdl_steps.specs.Lists.{Distinct}
 use Rattle.mdl_syntax.specs.declared.script.Line.{Line}
 use Rattle.mdl_visits.specs.declared.audited.Audited.{Audited}

@@ -1,7 +1,7 @@
 -- What a run of a script on threads prints: what its sessions were answered, and what is defined at the end. The wording is this project's own.
 use Rattle.std.specs.Prelude.{◌≡◌, ℕ, Bool, ◌==◌, List, ◌++◌, flat_map, filter, map}
 use Rattle.std.specs.List.{list_any, range_with_len}
-use Rattle.mdl_stmt.specs.declared.reply.Reply.{Reply}
+use Rattle.mdl_rows.specs.declared.reply.Reply.{Reply}
 use Rattle.mdl_syntax.specs.declared.script.Line.{Line}
 use Rattle.mdl_visits.specs.declared.audited.Audited.{Audited}
 use Rattle.mdl_script.specs.declared.told.News.TheVariants.{Ends}

@@ -1,6 +1,6 @@
 -- What a run of a script on threads can have been.
 use Rattle.std.specs.Prelude.{ℕ, List, All}
-use Rattle.mdl_stmt.specs.declared.reply.Reply.{Reply}
+use Rattle.mdl_rows.specs.declared.reply.Reply.{Reply}
 use Rattle.mdl_syntax.specs.declared.script.Line.{Line}
 use Rattle.mdl_visits.specs.declared.audited.Audited.{Audited}
 use Rattle.mdl_script.specs.Answers.{AreAnswers}

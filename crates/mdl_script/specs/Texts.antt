@@ -5,10 +5,10 @@ use Rattle.std.specs.List.{join_by}
 use Rattle.mdl_key.specs.declared.mode.Mode.{Mode}
 use Rattle.mdl_key.specs.Keys.{KeyName, key_text}
 use Rattle.mdl_key.specs.Modes.{mode_name}
-use Rattle.mdl_stmt.specs.declared.reply.Reply.{Reply}
-use Rattle.mdl_stmt.specs.declared.reply.Reply.TheVariants as reply
-use Rattle.mdl_stmt.specs.declared.reply.TableShown.{TableShown}
-use Rattle.mdl_stmt.specs.ErrorNumbers.{number_of}
+use Rattle.mdl_rows.specs.declared.reply.Reply.{Reply}
+use Rattle.mdl_rows.specs.declared.reply.Reply.TheVariants as reply
+use Rattle.mdl_rows.specs.declared.reply.TableShown.{TableShown}
+use Rattle.mdl_rows.specs.ErrorNumbers.{number_of}
 use Rattle.mdl_script.specs.declared.told.News.{News}
 use Rattle.mdl_script.specs.declared.told.News.TheVariants.{Ends, Waits, Busy}
 use Rattle.mdl_script.specs.declared.told.Told.{Told}

@@ -4,7 +4,7 @@ use Rattle.std.specs.List.{list_any}
 use Rattle.mdl_syntax.specs.declared.script.Line.{Line}
 use Rattle.mdl_shared.specs.declared.pass.Pass.{Pass}
 use Rattle.mdl_shared.specs.Passes.{pass_number}
-use Rattle.mdl_stmt.specs.declared.reply.Reply.{Reply}
+use Rattle.mdl_rows.specs.declared.reply.Reply.{Reply}
 use Rattle.mdl_script.specs.declared.turns.AnswersOf.{AnswersOf}
 use Rattle.mdl_script.specs.declared.turns.Turn.{Turn}
 use Rattle.mdl_script.specs.Answers.{AreAnswers}

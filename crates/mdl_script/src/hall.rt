@@ -8,7 +8,7 @@ ghost use Rattle.mdl_script.specs.Halls.{AreSeated, IsManned, new_player, place_
 ghost use Rattle.mdl_script.specs.Texts.{end_line, told_text};
 ghost use Rattle.mdl_script.specs.Worlds.{asked, asked_waiting, first_settled, first_world, going, is_waiting, line_played, most_turns, sessions, settling, started, timed_out, told_of, waiting_in};
 ghost use Rattle.mdl_stmt.specs.Gets.{paused};
-ghost use Rattle.mdl_stmt.specs.Sessions.{Session};
+ghost use Rattle.mdl_rows.specs.Sessions.{Session};
 
 use crate::first_space::first_space;
 use crate::told::{News, Told, push_end, push_told};

@@ -22,20 +22,20 @@ use Rattle.mdl_syntax.specs.declared.statement.Statement.{Statement}
 use Rattle.mdl_syntax.specs.declared.statement.Statement.TheVariants as statement
 use Rattle.mdl_syntax.specs.declared.table_locks.TableLock.{TableLock}
 use Rattle.mdl_syntax.specs.Forms.{tables_of}
-use Rattle.mdl_stmt.specs.declared.error_number.ErrorNumber.{ErrorNumber}
-use Rattle.mdl_stmt.specs.declared.error_number.ErrorNumber.TheVariants.{NoSuchTable, ConflictingReadLock, ActiveLocks, SchemaExists, UnknownDatabase, TableExists, DuplicateColumn, VersionLimit, TableLockedForRead}
-use Rattle.mdl_stmt.specs.declared.explicit.Locked.{Locked}
-use Rattle.mdl_stmt.specs.declared.explicit.ReadLock.{ReadLock}
-use Rattle.mdl_stmt.specs.declared.reply.Reply.{Reply}
-use Rattle.mdl_stmt.specs.declared.reply.Reply.TheVariants as reply
-use Rattle.mdl_stmt.specs.declared.reply.TableShown.{TableShown}
-use Rattle.mdl_stmt.specs.KeyOrder.{in_key_order}
-use Rattle.mdl_stmt.specs.LockLists.{ticket_of}
-use Rattle.mdl_stmt.specs.Rows.{Row, Act, ◌>>=◌, ◌>>◌, check, nothing, acquire_all, for_each}
-use Rattle.mdl_stmt.specs.Rows as row
-use Rattle.mdl_stmt.specs.Statements as stm
-use Rattle.mdl_stmt.specs.Statements.{row_of}
-use Rattle.mdl_stmt.specs.States.{State, has_locked, written, savepoint_mark}
+use Rattle.mdl_rows.specs.declared.error_number.ErrorNumber.{ErrorNumber}
+use Rattle.mdl_rows.specs.declared.error_number.ErrorNumber.TheVariants.{NoSuchTable, ConflictingReadLock, ActiveLocks, SchemaExists, UnknownDatabase, TableExists, DuplicateColumn, VersionLimit, TableLockedForRead}
+use Rattle.mdl_rows.specs.declared.state.Locked.{Locked}
+use Rattle.mdl_rows.specs.declared.state.ReadLock.{ReadLock}
+use Rattle.mdl_rows.specs.declared.reply.Reply.{Reply}
+use Rattle.mdl_rows.specs.declared.reply.Reply.TheVariants as reply
+use Rattle.mdl_rows.specs.declared.reply.TableShown.{TableShown}
+use Rattle.mdl_rows.specs.KeyOrder.{in_key_order}
+use Rattle.mdl_rows.specs.KeyOrder.{ticket_of}
+use Rattle.mdl_rows.specs.Rows.{Row, Act, ◌>>=◌, ◌>>◌, check, nothing, acquire_all, for_each}
+use Rattle.mdl_rows.specs.Rows as row
+use Rattle.mdl_rows.specs.Statements as stm
+use Rattle.mdl_rows.specs.Statements.{row_of}
+use Rattle.mdl_rows.specs.States.{State, has_locked, written, savepoint_mark}
 use Rattle.mdl_script_laws.specs.ChangesLast.{BehindItsChange, ChangesAtMostOnce, ChecksBeforeChanges, OnlyFinishes, OnlyLowers, StatementsCheckBeforeTheyChange}
 use Rattle.mdl_script_laws.specs.Failures.{changes_one}
 

@@ -23,18 +23,18 @@ use Rattle.mdl_context.specs.Releases.{giving_up, releasing}
 use Rattle.mdl_context.specs.Requests.{Outcome}
 use Rattle.mdl_context.specs.Waits.{resuming}
 use Rattle.mdl_context.proofs.BeyondLemmas.{without-none}
-use Rattle.mdl_stmt.specs.declared.ending.Ending.{Ending}
-use Rattle.mdl_stmt.specs.declared.ending.Ending.TheVariants.{Answers, Misses, Falls, Starves}
-use Rattle.mdl_stmt.specs.declared.reply.Reply.{Reply}
-use Rattle.mdl_stmt.specs.declared.reply.Reply.TheVariants as reply
-use Rattle.mdl_stmt.specs.Endings.{Pause, Ends, Begins_to_wait, Waits_on, Faults, closing, ended, ending_of_error, ending_of_loss, ending_of_refusal, gone_at, letting_go, state_after, without_half}
-use Rattle.mdl_stmt.specs.Playing as playing
-use Rattle.mdl_stmt.specs.Playing.{play, with_context}
-use Rattle.mdl_stmt.specs.Rows.{Row}
-use Rattle.mdl_stmt.specs.Rows as row
-use Rattle.mdl_stmt.specs.Sessions.{Left, Session}
-use Rattle.mdl_stmt.specs.States.{half_lock, without_read_lock}
-use Rattle.mdl_stmt.specs.Statements.{row_of}
+use Rattle.mdl_rows.specs.declared.ending.Ending.{Ending}
+use Rattle.mdl_rows.specs.declared.ending.Ending.TheVariants.{Answers, Misses, Falls, Starves}
+use Rattle.mdl_rows.specs.declared.reply.Reply.{Reply}
+use Rattle.mdl_rows.specs.declared.reply.Reply.TheVariants as reply
+use Rattle.mdl_rows.specs.Endings.{Pause, Ends, Begins_to_wait, Waits_on, Faults, closing, ended, ending_of_error, ending_of_loss, ending_of_refusal, gone_at, letting_go, state_after, without_half}
+use Rattle.mdl_rows.specs.Playing as playing
+use Rattle.mdl_rows.specs.Playing.{play, with_context}
+use Rattle.mdl_rows.specs.Rows.{Row}
+use Rattle.mdl_rows.specs.Rows as row
+use Rattle.mdl_rows.specs.Sessions.{Left, Session}
+use Rattle.mdl_rows.specs.States.{half_lock, without_read_lock}
+use Rattle.mdl_rows.specs.Statements.{row_of}
 use Rattle.mdl_syntax.specs.declared.statement.Statement.{Statement}
 use Rattle.mdl_script_laws.specs.RefusalsFirst.{IsTidy, EarlyErrorsChangeNothing, is_early}
 use Rattle.mdl_script_laws.proofs.EarlyRows.{ChecksFirst, FailsLate, IsLate, statements_check}

@@ -9,16 +9,16 @@ use Rattle.mdl_syntax.specs.declared.statement.Priority.{Priority}
 use Rattle.mdl_syntax.specs.declared.statement.Statement.{Statement}
 use Rattle.mdl_syntax.specs.declared.statement.Statement.TheVariants as statement
 use Rattle.mdl_context.specs.declared.request.Mark.{Mark}
-use Rattle.mdl_stmt.specs.declared.error_number.ErrorNumber.{ErrorNumber}
-use Rattle.mdl_stmt.specs.declared.error_number.ErrorNumber.TheVariants.{TableLockedForRead, NoSuchTable, ActiveLocks, ConflictingReadLock}
-use Rattle.mdl_stmt.specs.declared.explicit.Locked.{Locked}
-use Rattle.mdl_stmt.specs.declared.reply.Reply.{Reply}
-use Rattle.mdl_stmt.specs.declared.reply.Reply.TheVariants as reply
-use Rattle.mdl_stmt.specs.declared.reply.TableShown.{TableShown}
-use Rattle.mdl_stmt.specs.Rows.{Row, Act, Give, Fail, Room, Look, Here, Read, ◌>>=◌, ◌>>◌, acquire, check, nothing, room, set}
-use Rattle.mdl_stmt.specs.States.{State, has_locked, savepoint_mark, written}
-use Rattle.mdl_stmt.specs.Statements as rows
-use Rattle.mdl_stmt.specs.Statements.{row_of}
+use Rattle.mdl_rows.specs.declared.error_number.ErrorNumber.{ErrorNumber}
+use Rattle.mdl_rows.specs.declared.error_number.ErrorNumber.TheVariants.{TableLockedForRead, NoSuchTable, ActiveLocks, ConflictingReadLock}
+use Rattle.mdl_rows.specs.declared.state.Locked.{Locked}
+use Rattle.mdl_rows.specs.declared.reply.Reply.{Reply}
+use Rattle.mdl_rows.specs.declared.reply.Reply.TheVariants as reply
+use Rattle.mdl_rows.specs.declared.reply.TableShown.{TableShown}
+use Rattle.mdl_rows.specs.Rows.{Row, Act, Give, Fail, Room, Look, Here, Read, ◌>>=◌, ◌>>◌, acquire, check, nothing, room, set}
+use Rattle.mdl_rows.specs.States.{State, has_locked, savepoint_mark, written}
+use Rattle.mdl_rows.specs.Statements as rows
+use Rattle.mdl_rows.specs.Statements.{row_of}
 use Rattle.mdl_script_laws.specs.RefusalsFirst.{is_early}
 use Rattle.mdl_script_laws.proofs.RowRules.{Any, KeepsTo, keeps-begin, keeps-bind, keeps-commit, keeps-create, keeps-create_schema, keeps-drop, keeps-either, keeps-exists, keeps-rename, keeps-flush, keeps-rollback, keeps-unlock_all, keeps-alter, keeps-lock_tables, keeps-drop_schema}
 

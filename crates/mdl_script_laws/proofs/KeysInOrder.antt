@@ -12,7 +12,7 @@ use Rattle.mdl_key.specs.Keys.{KeyName, key_cmp, key_eq}
 use Rattle.mdl_core.proofs.PairLemmas.{all-from_members, none-in, pairs-head, pairs-tail}
 use Rattle.mdl_system.proofs.Deciding.{key-Decides}
 use Rattle.mdl_system.proofs.OrderLemmas.{Contains-cons_cases, Contains-here, Contains-later}
-use Rattle.mdl_stmt.specs.KeyOrder.{placed, placed_all, put}
+use Rattle.mdl_rows.specs.KeyOrder.{placed, placed_all, put}
 use Rattle.mdl_script_laws.specs.KeysInOrder.{ComesBefore, KeysStandInOrder}
 
 key-total : IsTotalOrder key_cmp

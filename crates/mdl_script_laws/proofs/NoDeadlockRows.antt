@@ -16,19 +16,19 @@ use Rattle.mdl_context.specs.Upgrades.{upgrading, downgrading}
 use Rattle.mdl_context.specs.Waits.{resuming}
 use Rattle.mdl_context.specs.Wishes.{Wish}
 use Rattle.mdl_context.proofs.WhoLemmas.{of_acquiring, of_resuming, of_giving_up, of_releasing, of_upgrading, of_downgrading}
-use Rattle.mdl_stmt.specs.declared.ending.Ending.{Ending}
-use Rattle.mdl_stmt.specs.declared.ending.Ending.TheVariants.{Answers}
-use Rattle.mdl_stmt.specs.declared.reply.Reply.{Reply}
-use Rattle.mdl_stmt.specs.declared.reply.Reply.TheVariants as reply
-use Rattle.mdl_stmt.specs.Endings.{Pause, closing, ended, ending_of_error, ending_of_loss, ending_of_refusal, gone_at, letting_go, state_after, without_half}
-use Rattle.mdl_stmt.specs.MemoryLaws.{EachPlay}
-use Rattle.mdl_stmt.specs.Playing as playing
-use Rattle.mdl_stmt.specs.Playing.{play, with_context}
-use Rattle.mdl_stmt.specs.Rows.{Row}
-use Rattle.mdl_stmt.specs.Rows as row
-use Rattle.mdl_stmt.specs.Sessions.{Left, Session}
-use Rattle.mdl_stmt.specs.States.{half_lock, without_read_lock}
-use Rattle.mdl_stmt.specs.Statements.{row_of}
+use Rattle.mdl_rows.specs.declared.ending.Ending.{Ending}
+use Rattle.mdl_rows.specs.declared.ending.Ending.TheVariants.{Answers}
+use Rattle.mdl_rows.specs.declared.reply.Reply.{Reply}
+use Rattle.mdl_rows.specs.declared.reply.Reply.TheVariants as reply
+use Rattle.mdl_rows.specs.Endings.{Pause, closing, ended, ending_of_error, ending_of_loss, ending_of_refusal, gone_at, letting_go, state_after, without_half}
+use Rattle.mdl_rows.specs.MemoryLaws.{EachPlay}
+use Rattle.mdl_rows.specs.Playing as playing
+use Rattle.mdl_rows.specs.Playing.{play, with_context}
+use Rattle.mdl_rows.specs.Rows.{Row}
+use Rattle.mdl_rows.specs.Rows as row
+use Rattle.mdl_rows.specs.Sessions.{Left, Session}
+use Rattle.mdl_rows.specs.States.{half_lock, without_read_lock}
+use Rattle.mdl_rows.specs.Statements.{row_of}
 use Rattle.mdl_script_laws.proofs.NoDeadlockContexts.{calm-acquiring, calm-ask, calm-downgrading, calm-giving_up, calm-releasing, calm-resuming, calm-upgrading}
 use Rattle.mdl_script_laws.proofs.NoDeadlockPrograms.{LeavesCalm, calm-then}
 

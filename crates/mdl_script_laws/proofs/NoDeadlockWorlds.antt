@@ -11,9 +11,9 @@ use Rattle.mdl_core.specs.RunLaws.{IsMadeFor}
 use Rattle.mdl_core.specs.Seats.{empty_seat}
 use Rattle.mdl_system.specs.Deadlocks.{HasNoDeadlock}
 use Rattle.mdl_lines.specs.Sessions.{IsScriptSession}
-use Rattle.mdl_stmt.specs.Endings.{Pause}
-use Rattle.mdl_stmt.specs.Playing.{going_on, starting}
-use Rattle.mdl_stmt.specs.Sessions.{Session}
+use Rattle.mdl_rows.specs.Endings.{Pause}
+use Rattle.mdl_rows.specs.Playing.{going_on, starting}
+use Rattle.mdl_rows.specs.Sessions.{Session}
 use Rattle.mdl_script.specs.Worlds.{World, create_at, create_under, creating, first_world, played, player_at}
 use Rattle.mdl_script.proofs.HallLemmas.{SpeakForAll}
 use Rattle.mdl_script.proofs.SettleLemmas.{read-sessions}

@@ -10,12 +10,12 @@ use Rattle.mdl_core.specs.CoreJoins.{Joins, SpeaksFor}
 use Rattle.mdl_core.specs.Cores.{Core}
 use Rattle.mdl_lines.specs.Sessions.{IsScriptSession}
 use Rattle.mdl_syntax.specs.declared.script.Line.{Line}
-use Rattle.mdl_stmt.specs.declared.reply.Reply.TheVariants as reply
-use Rattle.mdl_stmt.specs.Endings.{Pause, Ends, Begins_to_wait, Waits_on, Faults}
-use Rattle.mdl_stmt.specs.MemoryLaws.{session_at}
-use Rattle.mdl_stmt.specs.Playing.{going_on, going_on_with, starting}
-use Rattle.mdl_stmt.specs.Sessions.{Session}
-use Rattle.mdl_stmt.proofs.RowOutcomes.{rows_keep_sound}
+use Rattle.mdl_rows.specs.declared.reply.Reply.TheVariants as reply
+use Rattle.mdl_rows.specs.Endings.{Pause, Ends, Begins_to_wait, Waits_on, Faults}
+use Rattle.mdl_rows.specs.MemoryLaws.{session_at}
+use Rattle.mdl_rows.specs.Playing.{going_on, going_on_with, starting}
+use Rattle.mdl_rows.specs.Sessions.{Session}
+use Rattle.mdl_rows.proofs.RowOutcomes.{rows_keep_sound}
 use Rattle.mdl_script.specs.declared.told.News.{News}
 use Rattle.mdl_script.specs.declared.told.News.TheVariants.{Busy, Ends as Has_ended}
 use Rattle.mdl_script.specs.declared.told.Told.{Told}

@@ -19,17 +19,17 @@ use Rattle.mdl_context.specs.Requests.{Outcome, acquiring}
 use Rattle.mdl_context.specs.Upgrades.{upgrading, downgrading}
 use Rattle.mdl_context.specs.Waits.{giving_up_wait}
 use Rattle.mdl_context.specs.Wishes.{Wish}
-use Rattle.mdl_stmt.specs.declared.ending.Ending.{Ending}
-use Rattle.mdl_stmt.specs.declared.ending.Ending.TheVariants.{Answers, Starves}
-use Rattle.mdl_stmt.specs.declared.reply.Reply.{Reply}
-use Rattle.mdl_stmt.specs.declared.reply.Reply.TheVariants as reply
-use Rattle.mdl_stmt.specs.Endings.{Pause, Begins_to_wait, Waits_on, closing, ending_of_error, ending_of_loss, ending_of_refusal}
-use Rattle.mdl_stmt.specs.Playing as playing
-use Rattle.mdl_stmt.specs.Playing.{play, with_context, with_left}
-use Rattle.mdl_stmt.specs.Rows.{Row}
-use Rattle.mdl_stmt.specs.Rows as row
-use Rattle.mdl_stmt.specs.Sessions.{Left, Session}
-use Rattle.mdl_stmt.specs.States.{State}
+use Rattle.mdl_rows.specs.declared.ending.Ending.{Ending}
+use Rattle.mdl_rows.specs.declared.ending.Ending.TheVariants.{Answers, Starves}
+use Rattle.mdl_rows.specs.declared.reply.Reply.{Reply}
+use Rattle.mdl_rows.specs.declared.reply.Reply.TheVariants as reply
+use Rattle.mdl_rows.specs.Endings.{Pause, Begins_to_wait, Waits_on, closing, ending_of_error, ending_of_loss, ending_of_refusal}
+use Rattle.mdl_rows.specs.Playing as playing
+use Rattle.mdl_rows.specs.Playing.{play, with_context, with_left}
+use Rattle.mdl_rows.specs.Rows.{Row}
+use Rattle.mdl_rows.specs.Rows as row
+use Rattle.mdl_rows.specs.Sessions.{Left, Session}
+use Rattle.mdl_rows.specs.States.{State}
 use Rattle.mdl_script_laws.proofs.OutcomeLemmas.{EachBy, by-then, each-by}
 
 -- the tables that a session is told of a schema are these

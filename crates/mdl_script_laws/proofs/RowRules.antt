@@ -20,17 +20,17 @@ use Rattle.mdl_syntax.specs.declared.table_locks.TableLock.{TableLock}
 use Rattle.mdl_syntax.specs.Forms.{tables_of}
 use Rattle.mdl_context.specs.declared.request.Mark.{Mark}
 use Rattle.mdl_context.specs.Wishes.{Wish}
-use Rattle.mdl_stmt.specs.declared.error_number.ErrorNumber.{ErrorNumber}
-use Rattle.mdl_stmt.specs.declared.error_number.ErrorNumber.TheVariants.{SchemaExists, UnknownDatabase, TableExists, DuplicateColumn, CantDropColumn, NoSuchTable, LastColumn, TooManyColumns, VersionLimit}
-use Rattle.mdl_stmt.specs.declared.explicit.Locked.{Locked}
-use Rattle.mdl_stmt.specs.declared.explicit.ReadLock.{ReadLock}
-use Rattle.mdl_stmt.specs.declared.reply.Reply.{Reply}
-use Rattle.mdl_stmt.specs.declared.reply.Reply.TheVariants as reply
-use Rattle.mdl_stmt.specs.KeyOrder.{in_key_order}
-use Rattle.mdl_stmt.specs.Rows.{Row, Act, Give, Fail, Room, Look, Set, Here, Acquire, Give_up, Release, Read, Redefine, Tables_of, Key_of, Kill, ◌>>=◌, ◌>>◌, acquire_all, check, for_each, nothing, redefine, release, room, set, Keep, keep, Upgrade, Downgrade}
-use Rattle.mdl_stmt.specs.LockLists.{ticket_of}
-use Rattle.mdl_stmt.specs.States.{State, has_locked, opened, unlocked, without_read_lock, locking}
-use Rattle.mdl_stmt.specs.Statements as rows
+use Rattle.mdl_rows.specs.declared.error_number.ErrorNumber.{ErrorNumber}
+use Rattle.mdl_rows.specs.declared.error_number.ErrorNumber.TheVariants.{SchemaExists, UnknownDatabase, TableExists, DuplicateColumn, CantDropColumn, NoSuchTable, LastColumn, TooManyColumns, VersionLimit}
+use Rattle.mdl_rows.specs.declared.state.Locked.{Locked}
+use Rattle.mdl_rows.specs.declared.state.ReadLock.{ReadLock}
+use Rattle.mdl_rows.specs.declared.reply.Reply.{Reply}
+use Rattle.mdl_rows.specs.declared.reply.Reply.TheVariants as reply
+use Rattle.mdl_rows.specs.KeyOrder.{in_key_order}
+use Rattle.mdl_rows.specs.Rows.{Row, Act, Give, Fail, Room, Look, Set, Here, Acquire, Give_up, Release, Read, Redefine, Tables_of, Key_of, Kill, ◌>>=◌, ◌>>◌, acquire_all, check, for_each, nothing, redefine, release, room, set, Keep, keep, Upgrade, Downgrade}
+use Rattle.mdl_rows.specs.KeyOrder.{ticket_of}
+use Rattle.mdl_rows.specs.States.{State, has_locked, opened, unlocked, without_read_lock, locking}
+use Rattle.mdl_rows.specs.Statements as rows
 use Rattle.mdl_script_laws.specs.RefusalsFirst.{is_early}
 
 -- a session has locked no tables while its transaction is open

@@ -10,11 +10,11 @@ use Rattle.mdl_core.proofs.CoreGranted.{book_of-at}
 use Rattle.mdl_context.specs.Contexts.{ContextView}
 use Rattle.mdl_lines.specs.Sessions.{IsScriptSession}
 use Rattle.mdl_syntax.specs.declared.script.Line.{Line}
-use Rattle.mdl_stmt.specs.declared.reply.Reply.TheVariants as reply
-use Rattle.mdl_stmt.specs.declared.reply.TableShown.{TableShown}
-use Rattle.mdl_stmt.specs.Endings.{Pause, Ends, Begins_to_wait, Waits_on, Faults}
-use Rattle.mdl_stmt.specs.Sessions.{Session}
-use Rattle.mdl_stmt.specs.Statements.{columns_of}
+use Rattle.mdl_rows.specs.declared.reply.Reply.TheVariants as reply
+use Rattle.mdl_rows.specs.declared.reply.TableShown.{TableShown}
+use Rattle.mdl_rows.specs.Endings.{Pause, Ends, Begins_to_wait, Waits_on, Faults}
+use Rattle.mdl_rows.specs.Sessions.{Session}
+use Rattle.mdl_rows.specs.Statements.{columns_of}
 use Rattle.mdl_script.specs.declared.told.News.TheVariants.{Ends as Has_ended, Waits as Has_waits}
 use Rattle.mdl_script.specs.declared.told.Told.{Told}
 use Rattle.mdl_script.specs.Worlds.{Scene, World, asked, first_settled, first_world, going, going_first, line_played, lines_played, most_turns, player_at, script_played, settling, told_of}

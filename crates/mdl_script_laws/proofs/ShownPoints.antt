@@ -14,8 +14,8 @@ use Rattle.mdl_core.specs.Cores.{Core, key_at, standing_at}
 use Rattle.mdl_context.specs.declared.kept.Kept.{Kept}
 use Rattle.mdl_context.specs.declared.request.Mark.{Mark}
 use Rattle.mdl_context.specs.Contexts.{ContextView, beyond, duration_rank, has_number, held_for, lasts, mark_of, without}
-use Rattle.mdl_stmt.specs.declared.reply.TableShown.{TableShown}
-use Rattle.mdl_stmt.specs.Statements.{columns_of}
+use Rattle.mdl_rows.specs.declared.reply.TableShown.{TableShown}
+use Rattle.mdl_rows.specs.Statements.{columns_of}
 use Rattle.mdl_script_laws.proofs.ListLemmas.{among-filter, only-one}
 use Rattle.mdl_script_laws.proofs.ShownCalls.{Spares, key-held, none}
 use Rattle.mdl_script_laws.proofs.ShownContexts.{Fits, Followed, Grown}

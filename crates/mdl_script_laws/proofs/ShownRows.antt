@@ -13,15 +13,15 @@ use Rattle.mdl_syntax.specs.declared.statement.Priority.{Priority}
 use Rattle.mdl_syntax.specs.declared.statement.Statement.{Statement}
 use Rattle.mdl_syntax.specs.declared.statement.Statement.TheVariants as statement
 use Rattle.mdl_context.specs.declared.request.Mark.{Mark}
-use Rattle.mdl_stmt.specs.declared.error_number.ErrorNumber.TheVariants.{NoSuchTable, TableLockedForRead, ActiveLocks, ConflictingReadLock}
-use Rattle.mdl_stmt.specs.declared.explicit.Locked.{Locked}
-use Rattle.mdl_stmt.specs.declared.reply.Reply.{Reply}
-use Rattle.mdl_stmt.specs.declared.reply.Reply.TheVariants as reply
-use Rattle.mdl_stmt.specs.declared.reply.TableShown.{TableShown}
-use Rattle.mdl_stmt.specs.Rows.{Row, Act, nothing, set, check, acquire_all, for_each, ◌>>=◌, ◌>>◌}
-use Rattle.mdl_stmt.specs.Rows as row
-use Rattle.mdl_stmt.specs.States.{State, has_locked, savepoint_mark, written}
-use Rattle.mdl_stmt.specs.Statements as does
+use Rattle.mdl_rows.specs.declared.error_number.ErrorNumber.TheVariants.{NoSuchTable, TableLockedForRead, ActiveLocks, ConflictingReadLock}
+use Rattle.mdl_rows.specs.declared.state.Locked.{Locked}
+use Rattle.mdl_rows.specs.declared.reply.Reply.{Reply}
+use Rattle.mdl_rows.specs.declared.reply.Reply.TheVariants as reply
+use Rattle.mdl_rows.specs.declared.reply.TableShown.{TableShown}
+use Rattle.mdl_rows.specs.Rows.{Row, Act, nothing, set, check, acquire_all, for_each, ◌>>=◌, ◌>>◌}
+use Rattle.mdl_rows.specs.Rows as row
+use Rattle.mdl_rows.specs.States.{State, has_locked, savepoint_mark, written}
+use Rattle.mdl_rows.specs.Statements as does
 use Rattle.mdl_script_laws.specs.Shown.{leaves_transaction}
 use Rattle.mdl_script_laws.proofs.ListLemmas.{filter-among, only-one}
 use Rattle.mdl_script_laws.proofs.RowRules.{Any, KeepsTo, keeps-begin, keeps-check, keeps-commit, keeps-create, keeps-create_schema, keeps-drop, keeps-rename, keeps-flush, keeps-rollback, keeps-then, keeps-unlock_all, keeps-alter, keeps-either, IsUnlocked, keeps-lock_tables, keeps-drop_schema}

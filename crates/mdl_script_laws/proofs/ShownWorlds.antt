@@ -15,15 +15,15 @@ use Rattle.mdl_context.specs.Contexts.{mark_of}
 use Rattle.mdl_lines.specs.Sessions.{IsScriptSession}
 use Rattle.mdl_syntax.specs.declared.script.Line.{Line}
 use Rattle.mdl_syntax.specs.declared.statement.Statement.{Statement}
-use Rattle.mdl_stmt.specs.declared.reply.Reply.{Reply}
-use Rattle.mdl_stmt.specs.declared.reply.Reply.TheVariants as reply
-use Rattle.mdl_stmt.specs.declared.reply.TableShown.{TableShown}
-use Rattle.mdl_stmt.specs.Endings.{Pause, Ends, Begins_to_wait, Waits_on, Faults}
-use Rattle.mdl_stmt.specs.MemoryLaws.{session_at}
-use Rattle.mdl_stmt.specs.Playing.{going_on, starting}
-use Rattle.mdl_stmt.specs.Sessions.{Session}
-use Rattle.mdl_stmt.specs.Statements.{row_of}
-use Rattle.mdl_stmt.proofs.RowCalls.{rows_call}
+use Rattle.mdl_rows.specs.declared.reply.Reply.{Reply}
+use Rattle.mdl_rows.specs.declared.reply.Reply.TheVariants as reply
+use Rattle.mdl_rows.specs.declared.reply.TableShown.{TableShown}
+use Rattle.mdl_rows.specs.Endings.{Pause, Ends, Begins_to_wait, Waits_on, Faults}
+use Rattle.mdl_rows.specs.MemoryLaws.{session_at}
+use Rattle.mdl_rows.specs.Playing.{going_on, starting}
+use Rattle.mdl_rows.specs.Sessions.{Session}
+use Rattle.mdl_rows.specs.Statements.{row_of}
+use Rattle.mdl_rows.proofs.RowCalls.{rows_call}
 use Rattle.mdl_script.specs.declared.told.News.{News}
 use Rattle.mdl_script.specs.declared.told.News.TheVariants.{Busy, Ends as Has_ended, Waits as Has_waits}
 use Rattle.mdl_script.specs.declared.told.Told.{Told}

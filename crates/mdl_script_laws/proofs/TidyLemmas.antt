@@ -7,11 +7,11 @@ use Rattle.mdl_key.specs.declared.mode.Duration.TheVariants.{Statement, Transact
 use Rattle.mdl_context.specs.declared.kept.Kept.{Kept}
 use Rattle.mdl_context.specs.declared.request.Mark.{Mark}
 use Rattle.mdl_context.specs.Contexts.{beyond, beyond_mark, has_number, held_for, lasts, of_transaction, without}
-use Rattle.mdl_stmt.specs.declared.ending.Ending.{Ending}
-use Rattle.mdl_stmt.specs.declared.ending.Ending.TheVariants.{Answers, Misses, Falls, Starves}
-use Rattle.mdl_stmt.specs.declared.reply.Reply.{Reply}
-use Rattle.mdl_stmt.specs.Endings.{gone_at, state_after}
-use Rattle.mdl_stmt.specs.States.{State}
+use Rattle.mdl_rows.specs.declared.ending.Ending.{Ending}
+use Rattle.mdl_rows.specs.declared.ending.Ending.TheVariants.{Answers, Misses, Falls, Starves}
+use Rattle.mdl_rows.specs.declared.reply.Reply.{Reply}
+use Rattle.mdl_rows.specs.Endings.{gone_at, state_after}
+use Rattle.mdl_rows.specs.States.{State}
 
 -- each of the tickets that passes the test has the number of one that goes
 abbrev Covers : (Kept → Bool) → List Kept → List Kept → Type 0

@@ -18,11 +18,11 @@ use Rattle.mdl_syntax.specs.Laws.{IsWithinLimits}
 use Rattle.mdl_syntax.specs.Scripts.{parsed}
 use Rattle.mdl_syntax.proofs.LawLemmas.{lines_say-limited}
 use Rattle.mdl_context.specs.Contexts.{mark_of}
-use Rattle.mdl_stmt.specs.Endings.{Pause}
-use Rattle.mdl_stmt.specs.MemoryLaws.{session_at}
-use Rattle.mdl_stmt.specs.Playing.{going_on, starting}
-use Rattle.mdl_stmt.specs.Sessions.{Left}
-use Rattle.mdl_stmt.specs.Statements.{row_of}
+use Rattle.mdl_rows.specs.Endings.{Pause}
+use Rattle.mdl_rows.specs.MemoryLaws.{session_at}
+use Rattle.mdl_rows.specs.Playing.{going_on, starting}
+use Rattle.mdl_rows.specs.Sessions.{Left}
+use Rattle.mdl_rows.specs.Statements.{row_of}
 use Rattle.mdl_script.specs.Worlds.{Player, Scene, World, asked, creating, first_settled, first_world, going, is_waiting, line_played, most_turns, most_waits, played, player_at, script_played, settling, started, timed_out, waiting_in}
 use Rattle.mdl_script.proofs.HallLemmas.{waiting-sessions}
 use Rattle.mdl_script.proofs.ListLemmas.{All-find}

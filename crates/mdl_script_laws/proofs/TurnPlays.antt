@@ -21,17 +21,17 @@ use Rattle.mdl_context.specs.Requests.{Outcome}
 use Rattle.mdl_context.specs.Upgrades as upgrades
 use Rattle.mdl_context.specs.Waits as waits
 use Rattle.mdl_context.specs.Waits.{giving_up_wait, resuming}
-use Rattle.mdl_stmt.specs.declared.ending.Ending.{Ending}
-use Rattle.mdl_stmt.specs.declared.ending.Ending.TheVariants.{Answers, Misses, Falls, Starves}
-use Rattle.mdl_stmt.specs.declared.reply.Reply.{Reply}
-use Rattle.mdl_stmt.specs.Endings.{Pause, Ends, Begins_to_wait, Waits_on, Faults, closing, ended, ending_of_error, ending_of_loss, gone_at, letting_go, state_after, without_half}
-use Rattle.mdl_stmt.specs.MemoryLaws.{session_at}
-use Rattle.mdl_stmt.specs.Playing as playing
-use Rattle.mdl_stmt.specs.Playing.{going_on, play, with_context}
-use Rattle.mdl_stmt.specs.Rows.{Row}
-use Rattle.mdl_stmt.specs.Rows as row
-use Rattle.mdl_stmt.specs.Sessions.{Left, Session}
-use Rattle.mdl_stmt.specs.States.{State, half_lock, without_read_lock}
+use Rattle.mdl_rows.specs.declared.ending.Ending.{Ending}
+use Rattle.mdl_rows.specs.declared.ending.Ending.TheVariants.{Answers, Misses, Falls, Starves}
+use Rattle.mdl_rows.specs.declared.reply.Reply.{Reply}
+use Rattle.mdl_rows.specs.Endings.{Pause, Ends, Begins_to_wait, Waits_on, Faults, closing, ended, ending_of_error, ending_of_loss, gone_at, letting_go, state_after, without_half}
+use Rattle.mdl_rows.specs.MemoryLaws.{session_at}
+use Rattle.mdl_rows.specs.Playing as playing
+use Rattle.mdl_rows.specs.Playing.{going_on, play, with_context}
+use Rattle.mdl_rows.specs.Rows.{Row}
+use Rattle.mdl_rows.specs.Rows as row
+use Rattle.mdl_rows.specs.Sessions.{Left, Session}
+use Rattle.mdl_rows.specs.States.{State, half_lock, without_read_lock}
 use Rattle.mdl_script_laws.specs.Turns.{AsksForAtMost, AreFewTables}
 use Rattle.mdl_script_laws.proofs.OutcomeLemmas.{outcome-then, each-outcome, EachBy, each-by}
 use Rattle.mdl_script_laws.proofs.RowPauses.{AnyEnding, Follows, Rules, any-endings, so-play, Told}

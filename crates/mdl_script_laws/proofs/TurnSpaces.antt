@@ -35,13 +35,13 @@ use Rattle.mdl_context.specs.Upgrades as upgrades
 use Rattle.mdl_context.specs.Waits as waits
 use Rattle.mdl_context.specs.Waits.{resuming}
 use Rattle.mdl_context.proofs.OwnCallLemmas.{calls_weaker, own_made, own_won}
-use Rattle.mdl_stmt.specs.Endings.{Pause, closing, ending_of_error, ending_of_loss}
-use Rattle.mdl_stmt.specs.MemoryLaws.{session_at}
-use Rattle.mdl_stmt.specs.Playing as playing
-use Rattle.mdl_stmt.specs.Playing.{going_on, play, starting, with_context}
-use Rattle.mdl_stmt.specs.Sessions.{Left, Session}
-use Rattle.mdl_stmt.specs.Statements.{row_of}
-use Rattle.mdl_stmt.proofs.RowCalls.{rows_call}
+use Rattle.mdl_rows.specs.Endings.{Pause, closing, ending_of_error, ending_of_loss}
+use Rattle.mdl_rows.specs.MemoryLaws.{session_at}
+use Rattle.mdl_rows.specs.Playing as playing
+use Rattle.mdl_rows.specs.Playing.{going_on, play, starting, with_context}
+use Rattle.mdl_rows.specs.Sessions.{Left, Session}
+use Rattle.mdl_rows.specs.Statements.{row_of}
+use Rattle.mdl_rows.proofs.RowCalls.{rows_call}
 use Rattle.mdl_script.specs.Worlds.{Player, World, create_at, create_under, creating, first_core, first_settled, first_world, going, is_waiting, played, player_at, script_played, sessions, started, timed_out, waiting_in}
 use Rattle.mdl_script.proofs.SettleLemmas.{read-sessions}
 use Rattle.mdl_script.proofs.SoundLemmas.{IsStaffed, first-session, made-creating, speak-empty, staffed-first}

@@ -13,8 +13,8 @@ use Rattle.mdl_lines.specs.Lines.{lines_of}
 use Rattle.mdl_syntax.specs.declared.script.Line.{Line}
 use Rattle.mdl_syntax.specs.Laws.{RiseFrom}
 use Rattle.mdl_syntax.proofs.LawLemmas.{lines_say-rise}
-use Rattle.mdl_stmt.specs.declared.reply.Reply.TheVariants as reply
-use Rattle.mdl_stmt.specs.Endings.{Pause, Ends, Begins_to_wait, Waits_on, Faults}
+use Rattle.mdl_rows.specs.declared.reply.Reply.TheVariants as reply
+use Rattle.mdl_rows.specs.Endings.{Pause, Ends, Begins_to_wait, Waits_on, Faults}
 use Rattle.mdl_script.specs.declared.told.News.{News}
 use Rattle.mdl_script.specs.declared.told.News.TheVariants.{Busy, Ends as Has_ended}
 use Rattle.mdl_script.specs.declared.told.Told.{Told}

@@ -5,12 +5,12 @@ use Rattle.mdl_context.specs.declared.request.Mark.{Mark}
 use Rattle.mdl_defs.specs.declared.change.Change.TheVariants as change
 use Rattle.mdl_defs.specs.declared.standing.Standing.{Standing}
 use Rattle.mdl_syntax.specs.declared.statement.Statement.{Statement}
-use Rattle.mdl_stmt.specs.declared.reply.Reply.{Reply}
-use Rattle.mdl_stmt.specs.declared.reply.Reply.TheVariants as reply
-use Rattle.mdl_stmt.specs.Rows.{Row}
-use Rattle.mdl_stmt.specs.Rows as row
-use Rattle.mdl_stmt.specs.States.{State}
-use Rattle.mdl_stmt.specs.Statements.{row_of}
+use Rattle.mdl_rows.specs.declared.reply.Reply.{Reply}
+use Rattle.mdl_rows.specs.declared.reply.Reply.TheVariants as reply
+use Rattle.mdl_rows.specs.Rows.{Row}
+use Rattle.mdl_rows.specs.Rows as row
+use Rattle.mdl_rows.specs.States.{State}
+use Rattle.mdl_rows.specs.Statements.{row_of}
 
 -- a statement only lowers locks, and tells that it is done
 abbrev pub OnlyLowers : Row Reply → Type 0

@@ -9,11 +9,11 @@ use Rattle.mdl_system.specs.Words.{SameAt}
 use Rattle.mdl_calls.specs.Words.{Each, Runs}
 use Rattle.mdl_syntax.specs.declared.statement.Statement.{Statement}
 use Rattle.mdl_syntax.specs.declared.statement.Statement.TheVariants.{DropTables, DropSchema, RenameTable}
-use Rattle.mdl_stmt.specs.declared.reply.Reply.TheVariants as reply
-use Rattle.mdl_stmt.specs.Endings.{Pause, Ends, Faults}
-use Rattle.mdl_stmt.specs.MemoryLaws.{session_at}
-use Rattle.mdl_stmt.specs.Playing.{starting, going_on}
-use Rattle.mdl_stmt.specs.Sessions.{Left, Session}
+use Rattle.mdl_rows.specs.declared.reply.Reply.TheVariants as reply
+use Rattle.mdl_rows.specs.Endings.{Pause, Ends, Faults}
+use Rattle.mdl_rows.specs.MemoryLaws.{session_at}
+use Rattle.mdl_rows.specs.Playing.{starting, going_on}
+use Rattle.mdl_rows.specs.Sessions.{Left, Session}
 use Rattle.mdl_script_laws.specs.ChangesLast.{ChangesAtMostOnce}
 
 -- a statement has ended with an error, or for want of memory

@@ -2,7 +2,7 @@
 use Rattle.std.specs.Prelude.{◌≡◌, ◌↔◌, List, AllPairs, Contains}
 use Rattle.std.specs.declared.cmp.Ordering.TheVariants.{Less}
 use Rattle.mdl_key.specs.Keys.{KeyName, key_cmp}
-use Rattle.mdl_stmt.specs.KeyOrder.{in_key_order}
+use Rattle.mdl_rows.specs.KeyOrder.{in_key_order}
 
 -- one key comes before another
 abbrev pub ComesBefore : KeyName → KeyName → Type 0

@@ -7,9 +7,9 @@ use Rattle.mdl_lines.specs.Sessions.{IsScriptSession}
 use Rattle.mdl_syntax.specs.declared.script.Line.{Line}
 use Rattle.mdl_syntax.specs.declared.statement.Statement.{Statement}
 use Rattle.mdl_syntax.specs.declared.statement.Statement.TheVariants as statement
-use Rattle.mdl_stmt.specs.declared.reply.Reply.TheVariants.{Columns}
-use Rattle.mdl_stmt.specs.declared.reply.TableShown.{TableShown}
-use Rattle.mdl_stmt.specs.Statements.{columns_of}
+use Rattle.mdl_rows.specs.declared.reply.Reply.TheVariants.{Columns}
+use Rattle.mdl_rows.specs.declared.reply.TableShown.{TableShown}
+use Rattle.mdl_rows.specs.Statements.{columns_of}
 use Rattle.mdl_script.specs.declared.told.News.TheVariants.{Ends}
 use Rattle.mdl_script.specs.declared.told.Told.{Told}
 use Rattle.mdl_script.specs.Worlds.{World, line_played, lines_played, player_at, script_played}

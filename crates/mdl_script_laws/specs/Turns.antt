@@ -13,10 +13,10 @@ use Rattle.mdl_syntax.specs.declared.statement.Statement.{Statement}
 use Rattle.mdl_syntax.specs.declared.statement.Statement.TheVariants.{Begin, Commit, Select, Write, CreateTable, CreateSchema, DropTables, RenameTable, FlushTablesWithReadLock, AlterTable, LockTables, DropSchema}
 use Rattle.mdl_syntax.specs.Laws.{IsWithinLimits}
 use Rattle.mdl_syntax.specs.Scripts.{parsed}
-use Rattle.mdl_stmt.specs.Rows.{Row}
-use Rattle.mdl_stmt.specs.Rows as row
-use Rattle.mdl_stmt.specs.States.{State}
-use Rattle.mdl_stmt.specs.Statements.{row_of}
+use Rattle.mdl_rows.specs.Rows.{Row}
+use Rattle.mdl_rows.specs.Rows as row
+use Rattle.mdl_rows.specs.States.{State}
+use Rattle.mdl_rows.specs.Statements.{row_of}
 use Rattle.mdl_script.specs.declared.told.News.{News}
 use Rattle.mdl_script.specs.declared.told.News.TheVariants.{Waits}
 use Rattle.mdl_script.specs.declared.told.Told.{Told}

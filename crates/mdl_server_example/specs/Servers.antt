@@ -3,7 +3,7 @@ use Rattle.std.specs.Prelude.{◌≡◌, ℕ, ◌+◌, List, [], ◌∷◌, None
 use Rattle.mdl_core.specs.Words.{Core, SpeaksFor, own_at, Knows}
 use Rattle.mdl_context.specs.Contexts.{Attends}
 use Rattle.mdl_stmt.specs.KeptStages.{OwnedView}
-use Rattle.mdl_stmt.specs.States.{at_first}
+use Rattle.mdl_rows.specs.States.{at_first}
 
 -- a session that has done nothing
 abbrev pub newcomer : ℕ → OwnedView

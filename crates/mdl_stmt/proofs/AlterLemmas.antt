@@ -6,19 +6,19 @@ use Rattle.mdl_defs.specs.declared.def_error.DefError.{DefError}
 use Rattle.mdl_calls.specs.Words.{Answer, Call, Runs}
 use Rattle.mdl_syntax.specs.declared.statement.Alteration.{Alteration}
 use Rattle.mdl_context.specs.declared.request.Mark.{Mark}
-use Rattle.mdl_stmt.specs.declared.ending.Ending.{Ending}
-use Rattle.mdl_stmt.specs.declared.ending.Ending.TheVariants.{Answers, Starves}
-use Rattle.mdl_stmt.specs.declared.error_number.ErrorNumber.TheVariants.{TableLockedForRead, VersionLimit}
-use Rattle.mdl_stmt.specs.declared.explicit.Locked.{Locked}
-use Rattle.mdl_stmt.specs.declared.reply.Reply.{Reply}
-use Rattle.mdl_stmt.specs.declared.reply.Reply.TheVariants as reply
-use Rattle.mdl_stmt.specs.Endings.{closing}
+use Rattle.mdl_rows.specs.declared.ending.Ending.{Ending}
+use Rattle.mdl_rows.specs.declared.ending.Ending.TheVariants.{Answers, Starves}
+use Rattle.mdl_rows.specs.declared.error_number.ErrorNumber.TheVariants.{TableLockedForRead, VersionLimit}
+use Rattle.mdl_rows.specs.declared.state.Locked.{Locked}
+use Rattle.mdl_rows.specs.declared.reply.Reply.{Reply}
+use Rattle.mdl_rows.specs.declared.reply.Reply.TheVariants as reply
+use Rattle.mdl_rows.specs.Endings.{closing}
 use Rattle.mdl_stmt.specs.Gets.{Comes, at_rest}
-use Rattle.mdl_stmt.specs.Playing.{play}
-use Rattle.mdl_stmt.specs.Rows.{Row, check, look, room, ◌>>=◌, ◌>>◌}
-use Rattle.mdl_stmt.specs.Sessions.{PlayerView}
-use Rattle.mdl_stmt.specs.States.{State, has_locked}
-use Rattle.mdl_stmt.specs.Statements.{alter_among_locked, alter_first, alter_in_schema, alter_locked, alter_unlocked, among_locked, commit_first, fault_number, unless_fault}
+use Rattle.mdl_rows.specs.Playing.{play}
+use Rattle.mdl_rows.specs.Rows.{Row, check, look, room, ◌>>=◌, ◌>>◌}
+use Rattle.mdl_stmt.specs.Players.{PlayerView}
+use Rattle.mdl_rows.specs.States.{State, has_locked}
+use Rattle.mdl_rows.specs.Statements.{alter_among_locked, alter_first, alter_in_schema, alter_locked, alter_unlocked, among_locked, commit_first, fault_number, unless_fault}
 use Rattle.mdl_stmt.proofs.RowLemmas.{read_lock-so}
 
 -- ---- locked tables

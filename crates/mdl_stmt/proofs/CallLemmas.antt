@@ -2,12 +2,12 @@
 use Rattle.std.specs.Prelude.{List, [], ◌∷◌, ◌++◌, MatchResult}
 use Rattle.mdl_defs.specs.declared.definition.Definition.{Definition}
 use Rattle.mdl_defs.specs.declared.standing.Standing.{Standing}
-use Rattle.mdl_stmt.specs.declared.ending.Ending.TheVariants.{Answers, Starves}
-use Rattle.mdl_stmt.specs.declared.error_number.ErrorNumber.TheVariants.{NoSuchTable}
-use Rattle.mdl_stmt.specs.declared.reply.Reply.TheVariants as reply
-use Rattle.mdl_stmt.specs.declared.reply.TableShown.{TableShown}
-use Rattle.mdl_stmt.specs.Endings.{closing}
-use Rattle.mdl_stmt.specs.Statements.{columns_of, definition_under, exists, has_definition, show}
+use Rattle.mdl_rows.specs.declared.ending.Ending.TheVariants.{Answers, Starves}
+use Rattle.mdl_rows.specs.declared.error_number.ErrorNumber.TheVariants.{NoSuchTable}
+use Rattle.mdl_rows.specs.declared.reply.Reply.TheVariants as reply
+use Rattle.mdl_rows.specs.declared.reply.TableShown.{TableShown}
+use Rattle.mdl_rows.specs.Endings.{closing}
+use Rattle.mdl_rows.specs.Statements.{columns_of, definition_under, exists, has_definition, show}
 use Rattle.mdl_stmt.proofs.RowLemmas.{bind-assoc}
 use Rattle.mdl_stmt.proofs.RunLemmas.{comes-then}
 use Rattle.std.proofs.Common.{◌≡◌, ℕ, Some, None, Result, Ok, Err, ap, sym, subst, inl, inr}
@@ -16,13 +16,13 @@ use Rattle.mdl_key.specs.declared.mode.Mode.{Mode}
 use Rattle.mdl_calls.specs.Words.{Answer, Done, Call, Unpin, caller, Own, Runs}
 use Rattle.mdl_context.specs.Contexts.{ContextView, Attends}
 use Rattle.mdl_context.proofs.AttendLemmas.{attends-same}
-use Rattle.mdl_stmt.specs.declared.ending.Ending.{Ending}
-use Rattle.mdl_stmt.specs.declared.reply.Reply.{Reply}
+use Rattle.mdl_rows.specs.declared.ending.Ending.{Ending}
+use Rattle.mdl_rows.specs.declared.reply.Reply.{Reply}
 use Rattle.mdl_stmt.specs.Gets.{Comes, Waits, IsStep, at_rest}
-use Rattle.mdl_stmt.specs.Playing.{play}
-use Rattle.mdl_stmt.specs.Rows.{Row, Act, Give, room, ◌>>=◌, ◌>>◌}
-use Rattle.mdl_stmt.specs.Rows as row
-use Rattle.mdl_stmt.specs.Sessions.{PlayerView}
+use Rattle.mdl_rows.specs.Playing.{play}
+use Rattle.mdl_rows.specs.Rows.{Row, Act, Give, room, ◌>>=◌, ◌>>◌}
+use Rattle.mdl_rows.specs.Rows as row
+use Rattle.mdl_stmt.specs.Players.{PlayerView}
 
 -- a call gives no place up
 abbrev pub KeepsPlaces : Call → Type 0

@@ -10,13 +10,13 @@ use Rattle.mdl_calls.specs.declared.answers.Settled.{Settled}
 use Rattle.mdl_context.specs.Contexts.{ContextView}
 use Rattle.mdl_context.specs.Releases.{giving_up}
 use Rattle.mdl_context.specs.Waits.{resuming}
-use Rattle.mdl_stmt.specs.declared.ending.Ending.{Ending}
+use Rattle.mdl_rows.specs.declared.ending.Ending.{Ending}
 use Rattle.mdl_stmt.specs.declared.runner.Work.{Work}
-use Rattle.mdl_stmt.specs.Endings.{Pause, Waits_on, closing, ended, ending_of_error, ending_of_loss, gone_at, letting_go, state_after}
-use Rattle.mdl_stmt.specs.Playing.{going_on, play, resumed}
-use Rattle.mdl_stmt.specs.Sessions.{PlayerView, RunnerView}
+use Rattle.mdl_rows.specs.Endings.{Pause, Waits_on, closing, ended, ending_of_error, ending_of_loss, gone_at, letting_go, state_after}
+use Rattle.mdl_rows.specs.Playing.{going_on, play, resumed}
+use Rattle.mdl_stmt.specs.Players.{PlayerView, RunnerView}
 use Rattle.mdl_stmt.specs.Stages.{left_of, rest_of, session_of}
-use Rattle.mdl_stmt.specs.States.{State}
+use Rattle.mdl_rows.specs.States.{State}
 use Rattle.mdl_stmt.specs.Gets.{at_rest}
 
 module _ {S : Type 0} (joins : S → Call → Answer → S → Type 0) where

@@ -9,21 +9,22 @@ use Rattle.mdl_context.specs.declared.request.Mark.{Mark}
 use Rattle.mdl_context.specs.declared.request.Resume.{Resume}
 use Rattle.mdl_context.specs.Contexts.{ContextView}
 use Rattle.mdl_context.specs.Waits.{resuming}
-use Rattle.mdl_stmt.specs.declared.ending.Ending.{Ending}
-use Rattle.mdl_stmt.specs.declared.ending.Played.{Played}
-use Rattle.mdl_stmt.specs.declared.ending.Played.TheVariants as played
+use Rattle.mdl_rows.specs.declared.ending.Ending.{Ending}
+use Rattle.mdl_stmt.specs.declared.got.Played.{Played}
+use Rattle.mdl_stmt.specs.declared.got.Played.TheVariants as played
 use Rattle.mdl_stmt.specs.declared.keeping.Turn.{Turn}
 use Rattle.mdl_stmt.specs.declared.kept_stage.KeptWork.{KeptWork}
-use Rattle.mdl_stmt.specs.declared.reply.Progress.{Progress}
-use Rattle.mdl_stmt.specs.declared.reply.Progress.TheVariants.{Waiting, Pending, Done}
-use Rattle.mdl_stmt.specs.declared.reply.Reply.{Reply}
-use Rattle.mdl_stmt.specs.Endings.{Pause, closing}
+use Rattle.mdl_stmt.specs.declared.progress.Progress.{Progress}
+use Rattle.mdl_stmt.specs.declared.progress.Progress.TheVariants.{Waiting, Pending, Done}
+use Rattle.mdl_rows.specs.declared.reply.Reply.{Reply}
+use Rattle.mdl_rows.specs.Endings.{Pause, closing}
 use Rattle.mdl_stmt.specs.Gets.{IsPlayed, at_rest, ran}
-use Rattle.mdl_stmt.specs.Keepings.{IsSettled, going_on_kept, keeping}
+use Rattle.mdl_rows.specs.Keepings.{going_on_kept, keeping}
+use Rattle.mdl_stmt.specs.Gets.{IsSettled}
 use Rattle.mdl_stmt.specs.KeptStages.{left_of_kept, session_with}
-use Rattle.mdl_stmt.specs.Playing.{play, resumed}
-use Rattle.mdl_stmt.specs.Rows.{Row}
-use Rattle.mdl_stmt.specs.Sessions.{PlayerView}
+use Rattle.mdl_rows.specs.Playing.{play, resumed}
+use Rattle.mdl_rows.specs.Rows.{Row}
+use Rattle.mdl_stmt.specs.Players.{PlayerView}
 
 module _ {S : Type 0} (joins : S → Call → Answer → S → Type 0) where
   -- three programs one after the other

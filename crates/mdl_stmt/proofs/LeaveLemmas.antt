@@ -9,7 +9,7 @@ use Rattle.mdl_context.specs.declared.request.Resume.{Resume}
 use Rattle.mdl_context.specs.Contexts.{ContextView}
 use Rattle.mdl_context.specs.Releases.{giving_up_all}
 use Rattle.mdl_context.specs.Waits.{giving_up_wait}
-use Rattle.mdl_stmt.specs.Leavings.{leaving_from}
+use Rattle.mdl_rows.specs.Leavings.{leaving_from}
 
 module _ {S : Type 0} (joins : S → Call → Answer → S → Type 0) where
   -- all is given up, and nothing is told

@@ -8,10 +8,7 @@ pub mod ListLemmas
 pub mod LockListLemmas
 pub mod LockTableLemmas
 pub mod OrderLemmas
-pub mod RowCalls
 pub mod RowLemmas
-pub mod RowMemory
-pub mod RowOutcomes
 pub mod RunLemmas
 pub mod SavepointLemmas
 pub mod ToldKeyLemmas

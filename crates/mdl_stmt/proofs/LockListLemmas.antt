@@ -13,20 +13,20 @@ use Rattle.mdl_key.specs.declared.namespace.Namespace.TheVariants as of
 use Rattle.mdl_key.specs.Keys.{KeyName}
 use Rattle.mdl_calls.specs.Words.{Answer, Call}
 use Rattle.mdl_context.specs.Wishes.{Wish}
-use Rattle.mdl_stmt.specs.declared.ending.Ending.{Ending}
-use Rattle.mdl_stmt.specs.declared.ending.Got.TheVariants.{Had}
-use Rattle.mdl_stmt.specs.declared.ending.Got.TheVariants as got
-use Rattle.mdl_stmt.specs.declared.ending.Listed.TheVariants as listed
-use Rattle.mdl_stmt.specs.declared.reply.Reply.{Reply}
+use Rattle.mdl_rows.specs.declared.ending.Ending.{Ending}
+use Rattle.mdl_stmt.specs.declared.got.Got.TheVariants.{Had}
+use Rattle.mdl_stmt.specs.declared.got.Got.TheVariants as got
+use Rattle.mdl_stmt.specs.declared.got.Listed.TheVariants as listed
+use Rattle.mdl_rows.specs.declared.reply.Reply.{Reply}
 use Rattle.mdl_stmt.specs.declared.lock_list.Locking.{Locking}
 use Rattle.mdl_stmt.specs.declared.lock_list.Locking.TheVariants.{Ddl, Tables}
 use Rattle.mdl_stmt.specs.Gets.{Comes, IsGot, IsListedBy}
 use Rattle.mdl_stmt.specs.LockLists.{LockList, with_ticket}
-use Rattle.mdl_stmt.specs.Playing.{play}
-use Rattle.mdl_stmt.specs.Rows.{Row, Give, Acquire, acquire_all, ◌>>=◌}
-use Rattle.mdl_stmt.specs.Sessions.{PlayerView}
+use Rattle.mdl_rows.specs.Playing.{play}
+use Rattle.mdl_rows.specs.Rows.{Row, Give, Acquire, acquire_all, ◌>>=◌}
+use Rattle.mdl_stmt.specs.Players.{PlayerView}
 use Rattle.mdl_stmt.specs.Stages.{lock_rest_by, wish_by}
-use Rattle.mdl_stmt.specs.Statements.{ddl_lock, table_lock}
+use Rattle.mdl_rows.specs.Statements.{ddl_lock, table_lock}
 use Rattle.mdl_stmt.proofs.CallLemmas.{comes-row}
 use Rattle.mdl_stmt.proofs.OrderLemmas.{from-element, slice-past}
 use Rattle.mdl_stmt.proofs.RowLemmas.{bind-assoc}

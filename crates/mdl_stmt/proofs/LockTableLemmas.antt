@@ -11,19 +11,19 @@ use Rattle.mdl_context.specs.declared.request.Mark.{Mark}
 use Rattle.mdl_context.specs.Contexts.{ContextView}
 use Rattle.mdl_context.specs.Holdings.{kept_for}
 use Rattle.mdl_context.specs.Releases.{waiting_fault}
-use Rattle.mdl_stmt.specs.declared.ending.Ending.TheVariants.{Answers, Starves}
-use Rattle.mdl_stmt.specs.declared.error_number.ErrorNumber.TheVariants.{ConflictingReadLock}
-use Rattle.mdl_stmt.specs.declared.explicit.Locked.{Locked}
-use Rattle.mdl_stmt.specs.declared.reply.Reply.{Reply}
-use Rattle.mdl_stmt.specs.declared.reply.Reply.TheVariants as reply
-use Rattle.mdl_stmt.specs.Endings.{closing}
+use Rattle.mdl_rows.specs.declared.ending.Ending.TheVariants.{Answers, Starves}
+use Rattle.mdl_rows.specs.declared.error_number.ErrorNumber.TheVariants.{ConflictingReadLock}
+use Rattle.mdl_rows.specs.declared.state.Locked.{Locked}
+use Rattle.mdl_rows.specs.declared.reply.Reply.{Reply}
+use Rattle.mdl_rows.specs.declared.reply.Reply.TheVariants as reply
+use Rattle.mdl_rows.specs.Endings.{closing}
 use Rattle.mdl_stmt.specs.Gets.{Comes, at_rest}
-use Rattle.mdl_stmt.specs.Playing.{play}
-use Rattle.mdl_stmt.specs.Rows.{Row, Give, check, ◌>>◌}
-use Rattle.mdl_stmt.specs.Rows as row
-use Rattle.mdl_stmt.specs.Sessions.{PlayerView}
-use Rattle.mdl_stmt.specs.States.{locking}
-use Rattle.mdl_stmt.specs.Statements.{check_writes}
+use Rattle.mdl_rows.specs.Playing.{play}
+use Rattle.mdl_rows.specs.Rows.{Row, Give, check, ◌>>◌}
+use Rattle.mdl_rows.specs.Rows as row
+use Rattle.mdl_stmt.specs.Players.{PlayerView}
+use Rattle.mdl_rows.specs.States.{locking}
+use Rattle.mdl_rows.specs.Statements.{check_writes}
 use Rattle.mdl_stmt.proofs.RowLemmas.{read_lock-so}
 
 -- the global read lock is looked at where a table is locked for writing

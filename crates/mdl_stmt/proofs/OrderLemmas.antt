@@ -8,7 +8,7 @@ use Rattle.std.proofs.lemmas.Option.{slice_get_within, slice_get_cases, get_or_f
 use Rattle.std.specs.declared.cmp.Ordering.{Ordering}
 use Rattle.std.specs.declared.cmp.Ordering.TheVariants.{Less, Equal}
 use Rattle.mdl_key.specs.Keys.{KeyName, key_cmp}
-use Rattle.mdl_stmt.specs.KeyOrder.{put, placed}
+use Rattle.mdl_rows.specs.KeyOrder.{put, placed}
 
 -- the list from one of its elements on
 pub from-element : {A : Type 0} (xs : List A) (i : ℕ) (x : A) → slice_get xs i ≡ Some x → drop i xs ≡ x ∷ drop (suc i) xs

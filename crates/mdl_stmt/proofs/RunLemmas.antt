@@ -20,27 +20,28 @@ use Rattle.mdl_context.specs.Requests.{Outcome, acquiring}
 use Rattle.mdl_context.specs.Upgrades.{upgrading, downgrading}
 use Rattle.mdl_context.specs.Waits.{giving_up_wait}
 use Rattle.mdl_context.specs.Wishes.{Wish}
-use Rattle.mdl_stmt.specs.declared.ending.Ending.{Ending}
-use Rattle.mdl_stmt.specs.declared.ending.Got.{Got}
-use Rattle.mdl_stmt.specs.declared.ending.Got.TheVariants.{Had}
-use Rattle.mdl_stmt.specs.declared.ending.Got.TheVariants as got
-use Rattle.mdl_stmt.specs.declared.ending.Played.{Played}
-use Rattle.mdl_stmt.specs.declared.ending.Played.TheVariants as played
-use Rattle.mdl_stmt.specs.declared.reply.Reply.{Reply}
-use Rattle.mdl_stmt.specs.Endings.{Pause, Begins_to_wait, ending_of_error, closing}
+use Rattle.mdl_rows.specs.declared.ending.Ending.{Ending}
+use Rattle.mdl_stmt.specs.declared.got.Got.{Got}
+use Rattle.mdl_stmt.specs.declared.got.Got.TheVariants.{Had}
+use Rattle.mdl_stmt.specs.declared.got.Got.TheVariants as got
+use Rattle.mdl_stmt.specs.declared.got.Played.{Played}
+use Rattle.mdl_stmt.specs.declared.got.Played.TheVariants as played
+use Rattle.mdl_rows.specs.declared.reply.Reply.{Reply}
+use Rattle.mdl_rows.specs.Endings.{Pause, Begins_to_wait, ending_of_error, closing}
 use Rattle.std.specs.Prelude.{[], ◌∷◌, find}
 use Rattle.std.specs.Option.{option_map}
-use Rattle.mdl_stmt.specs.declared.ending.Ending.TheVariants.{Answers, Starves}
-use Rattle.mdl_stmt.specs.declared.error_number.ErrorNumber.TheVariants.{NoSuchSavepoint}
-use Rattle.mdl_stmt.specs.declared.savepoint.Savepoint.{Savepoint}
+use Rattle.mdl_rows.specs.declared.ending.Ending.TheVariants.{Answers, Starves}
+use Rattle.mdl_rows.specs.declared.error_number.ErrorNumber.TheVariants.{NoSuchSavepoint}
+use Rattle.mdl_rows.specs.declared.state.Savepoint.{Savepoint}
 use Rattle.mdl_stmt.specs.Gets.{Comes, Waits, IsDropped, IsGot, IsRaised, IsStep, IsTold, IsCommitted, IsPlayed, at_rest}
-use Rattle.mdl_stmt.specs.Playing.{play, acquired, upgrade_wish, untold, with_context, with_left}
-use Rattle.mdl_stmt.specs.Rows.{Row, Act, Give, ◌>>◌, ◌>>=◌}
-use Rattle.mdl_stmt.specs.Rows as row
-use Rattle.mdl_stmt.specs.Sessions.{PlayerView, Session}
-use Rattle.mdl_stmt.specs.Statements.{end_under, end_transaction, commit, commit_writes, rollback, wrote, rollback_to, go_back}
-use Rattle.mdl_stmt.specs.States.{written, closed, is_named, savepoint_mark, up_to}
-use Rattle.mdl_stmt.specs.declared.reply.Reply.TheVariants as reply
+use Rattle.mdl_rows.specs.Playing.{play, acquired, upgrade_wish, untold, with_context, with_left}
+use Rattle.mdl_rows.specs.Rows.{Row, Act, Give, ◌>>◌, ◌>>=◌}
+use Rattle.mdl_rows.specs.Rows as row
+use Rattle.mdl_rows.specs.Sessions.{Session}
+use Rattle.mdl_stmt.specs.Players.{PlayerView}
+use Rattle.mdl_rows.specs.Statements.{end_under, end_transaction, commit, commit_writes, rollback, wrote, rollback_to, go_back}
+use Rattle.mdl_rows.specs.States.{written, closed, is_named, savepoint_mark, up_to}
+use Rattle.mdl_rows.specs.declared.reply.Reply.TheVariants as reply
 
 -- one thing comes to the next, and that to a third
 pub comes-then : {S : Type 0} {joins : S → Call → Answer → S → Type 0} {a b c : S} {x y z : PlayerView} {here there end : Mark → Session → Program Pause} →

@@ -5,8 +5,8 @@ use Rattle.std.specs.Option.{option_map}
 use Rattle.std.proofs.lemmas.List.{take_all}
 use Rattle.std.proofs.lemmas.List.Folds.{find_at}
 use Rattle.std.proofs.lemmas.Option.{slice_get-get_or, slice_get_cases}
-use Rattle.mdl_stmt.specs.declared.savepoint.Savepoint.{Savepoint}
-use Rattle.mdl_stmt.specs.States.{is_named, savepoint_mark, up_to}
+use Rattle.mdl_rows.specs.declared.state.Savepoint.{Savepoint}
+use Rattle.mdl_rows.specs.States.{is_named, savepoint_mark, up_to}
 use borrow.Author.Tests.{ltb-true, ltb-false}
 
 some_place : (b : Bool) (n i : ℕ) → cond b (Some n) None ≡ Some i → (b ≡ true) × (n ≡ i)

@@ -2,15 +2,15 @@
 use Rattle.std.proofs.Common.{◌≡◌, ℕ, suc, ◌+◌, arith, List, [], ◌∷◌, ◌++◌, drop, Ok, Err, Result, ap, subst, inl}
 use Rattle.mdl_key.specs.Keys.{KeyName}
 use Rattle.mdl_calls.specs.Words.{Answer, Call}
-use Rattle.mdl_stmt.specs.declared.ending.Ending.{Ending}
-use Rattle.mdl_stmt.specs.declared.ending.Ending.TheVariants.{Starves}
-use Rattle.mdl_stmt.specs.declared.reply.Reply.{Reply}
-use Rattle.mdl_stmt.specs.Endings.{closing}
+use Rattle.mdl_rows.specs.declared.ending.Ending.{Ending}
+use Rattle.mdl_rows.specs.declared.ending.Ending.TheVariants.{Starves}
+use Rattle.mdl_rows.specs.declared.reply.Reply.{Reply}
+use Rattle.mdl_rows.specs.Endings.{closing}
 use Rattle.mdl_stmt.specs.Gets.{Comes, IsStep}
-use Rattle.mdl_stmt.specs.Playing.{play}
-use Rattle.mdl_stmt.specs.Rows.{Row, Room, key_of, ◌>>=◌}
-use Rattle.mdl_stmt.specs.Sessions.{PlayerView}
-use Rattle.mdl_stmt.specs.Statements.{keys_of}
+use Rattle.mdl_rows.specs.Playing.{play}
+use Rattle.mdl_rows.specs.Rows.{Row, Room, key_of, ◌>>=◌}
+use Rattle.mdl_stmt.specs.Players.{PlayerView}
+use Rattle.mdl_rows.specs.Statements.{keys_of}
 use Rattle.mdl_stmt.proofs.CallLemmas.{comes-row, room-found}
 use Rattle.mdl_stmt.proofs.RowLemmas.{bind-assoc}
 use Rattle.mdl_stmt.proofs.RunLemmas.{comes-then}

@@ -9,25 +9,29 @@ use Rattle.mdl_calls.specs.Words as call
 use Rattle.mdl_context.specs.declared.request.Mark.{Mark}
 use Rattle.mdl_context.specs.Waits.{giving_up_wait}
 use Rattle.mdl_context.specs.Wishes.{Wish}
-use Rattle.mdl_stmt.specs.declared.ending.Ending.{Ending}
-use Rattle.mdl_stmt.specs.declared.ending.Ending.TheVariants.{Starves}
-use Rattle.mdl_stmt.specs.declared.ending.Got.{Got}
-use Rattle.mdl_stmt.specs.declared.ending.Got.TheVariants.{Had}
-use Rattle.mdl_stmt.specs.declared.ending.Got.TheVariants as got
-use Rattle.mdl_stmt.specs.declared.ending.Listed.{Listed}
-use Rattle.mdl_stmt.specs.declared.ending.Listed.TheVariants as listed
-use Rattle.mdl_stmt.specs.declared.ending.Played.{Played}
-use Rattle.mdl_stmt.specs.declared.ending.Played.TheVariants as played
-use Rattle.mdl_stmt.specs.declared.reply.Progress.{Progress}
-use Rattle.mdl_stmt.specs.declared.reply.Progress.TheVariants.{Waiting, Pending, Done}
-use Rattle.mdl_stmt.specs.declared.reply.Reply.{Reply}
-use Rattle.mdl_stmt.specs.Endings.{Pause, Ends, Begins_to_wait, Waits_on, Faults, closing, letting_go}
+use Rattle.mdl_rows.specs.declared.ending.Ending.{Ending}
+use Rattle.mdl_rows.specs.declared.ending.Ending.TheVariants.{Starves}
+use Rattle.mdl_stmt.specs.declared.got.Got.{Got}
+use Rattle.mdl_stmt.specs.declared.got.Got.TheVariants.{Had}
+use Rattle.mdl_stmt.specs.declared.got.Got.TheVariants as got
+use Rattle.mdl_stmt.specs.declared.got.Listed.{Listed}
+use Rattle.mdl_stmt.specs.declared.got.Listed.TheVariants as listed
+use Rattle.mdl_stmt.specs.declared.got.Played.{Played}
+use Rattle.mdl_stmt.specs.declared.got.Played.TheVariants as played
+use Rattle.mdl_stmt.specs.declared.progress.Progress.{Progress}
+use Rattle.mdl_stmt.specs.declared.progress.Progress.TheVariants.{Waiting, Pending, Done}
+use Rattle.mdl_stmt.specs.declared.keeping.Turn.{Turn}
+use Rattle.mdl_rows.specs.declared.reply.Reply.{Reply}
+use Rattle.mdl_rows.specs.Endings.{Pause, Ends, Begins_to_wait, Waits_on, Faults, closing, letting_go}
+use Rattle.mdl_rows.specs.Keepings.{keeping}
+use Rattle.mdl_stmt.specs.KeptStages.{session_with}
 use Rattle.mdl_stmt.specs.LockLists.{LockList, with_ticket}
-use Rattle.mdl_stmt.specs.Playing.{play, untold, with_left}
-use Rattle.mdl_stmt.specs.Rows.{Row, Act, Acquire, Upgrade, ◌>>=◌, ◌>>◌}
-use Rattle.mdl_stmt.specs.Sessions.{PlayerView, Session}
+use Rattle.mdl_rows.specs.Playing.{play, untold, with_left}
+use Rattle.mdl_rows.specs.Rows.{Row, Act, Acquire, Upgrade, ◌>>=◌, ◌>>◌}
+use Rattle.mdl_rows.specs.Sessions.{Session}
+use Rattle.mdl_stmt.specs.Players.{PlayerView}
 use Rattle.mdl_stmt.specs.Stages.{lock_rest_by, rest_of}
-use Rattle.mdl_stmt.specs.Statements.{ddl_lock, end_under}
+use Rattle.mdl_rows.specs.Statements.{ddl_lock, end_under}
 
 -- how far a statement has come, as its runner tells it
 abbrev pub paused : Progress → Session → Pause
@@ -136,3 +140,10 @@ abbrev pub IdleUnlessListed : Listed → PlayerView → Type 0
 IdleUnlessListed (listed.Had all) player = player.context.wait ≡ None
 IdleUnlessListed (listed.Waits key mode had) player = Unit {0}
 IdleUnlessListed (listed.Ends ending) player = player.context.wait ≡ None
+
+-- a row was played so far, and then the statement was ended, or what is left of it was copied
+abbrev pub IsSettled : {S : Type 0} → (S → Call → Answer → S → Type 0) → Played → Mark → S → PlayerView → Turn → S → PlayerView → Type 0
+IsSettled joins (played.Ends ending) mark a before turn b after =
+    (turn.work ≡ None) × Runs joins a (closing ending mark (at_rest before)) (ran turn.progress (at_rest after)) b
+IsSettled joins (played.Waits key mode stage) mark a before turn b after =
+    Runs joins a (keeping (Begins_to_wait key mode (with_left (at_rest before) (record { rest = rest_of stage; mark = mark })))) (ran turn.progress (session_with after turn.work)) b

@@ -2,8 +2,8 @@
 use Rattle.std.specs.Prelude.{ℕ, List, drop, Option}
 use Rattle.std.specs.Option.{option_map}
 use Rattle.mdl_context.specs.Contexts.{ContextView}
-use Rattle.mdl_stmt.specs.declared.reply.Reply.{Reply}
-use Rattle.mdl_stmt.specs.declared.reply.Reply.TheVariants as reply
+use Rattle.mdl_rows.specs.declared.reply.Reply.{Reply}
+use Rattle.mdl_rows.specs.declared.reply.Reply.TheVariants as reply
 use Rattle.mdl_stmt.specs.declared.kept_stage.KeptWork.{KeptWork}
 use Rattle.mdl_stmt.specs.declared.kept_stage.KeptStage.{KeptStage}
 use Rattle.mdl_stmt.specs.declared.kept_stage.KeptStage.TheVariants.{Commit, Select, Write, Create, CreateSchema, Drop, DropSchema, Rename, Flush, Alter, Lock}
@@ -18,11 +18,12 @@ use Rattle.mdl_stmt.specs.declared.kept_stage.KeptDropping.TheVariants as droppi
 use Rattle.mdl_stmt.specs.declared.kept_stage.KeptDroppingSchema.{KeptDroppingSchema}
 use Rattle.mdl_stmt.specs.declared.kept_stage.KeptDroppingSchema.TheVariants as dropping_schema
 use Rattle.mdl_stmt.specs.LockLists.{with_ticket}
-use Rattle.mdl_stmt.specs.Rows.{Row, Give, ◌>>◌}
-use Rattle.mdl_stmt.specs.Sessions.{Left, PlayerView, Session}
-use Rattle.mdl_stmt.specs.States.{State}
+use Rattle.mdl_rows.specs.Rows.{Row, Give, ◌>>◌}
+use Rattle.mdl_rows.specs.Sessions.{Left, Session}
+use Rattle.mdl_stmt.specs.Players.{PlayerView}
+use Rattle.mdl_rows.specs.States.{State}
 use Rattle.mdl_stmt.specs.Stages.{lock_rest, rest_of_altering, rest_of_flushing, rest_of_locking, rest_of_renaming, show_next}
-use Rattle.mdl_stmt.specs.Statements.{after_commit, create_schema_under, create_under, drop_schema_under, drop_under, drop_with, end_under, lock_and_create, lock_and_create_schema, lock_and_drop, lock_and_drop_schema, lock_and_write, lock_schema_and_create, write_under}
+use Rattle.mdl_rows.specs.Statements.{after_commit, create_schema_under, create_under, drop_schema_under, drop_under, drop_with, end_under, lock_and_create, lock_and_create_schema, lock_and_drop, lock_and_drop_schema, lock_and_write, lock_schema_and_create, write_under}
 
 -- what is left of a write
 abbrev pub rest_of_kept_writing : KeptWriting → ℕ → Row Reply

@@ -1,15 +1,5 @@
-pub mod Endings
-pub mod ErrorNumbers
 pub mod Gets
-pub mod Keepings
 pub mod KeptStages
-pub mod KeyOrder
-pub mod Leavings
 pub mod LockLists
-pub mod MemoryLaws
-pub mod Playing
-pub mod Rows
-pub mod Sessions
+pub mod Players
 pub mod Stages
-pub mod Statements
-pub mod States

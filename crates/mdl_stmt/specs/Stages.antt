@@ -3,9 +3,9 @@ use Rattle.std.specs.Prelude.{ℕ, List, [], ◌∷◌, ◌++◌, length, drop, 
 use Rattle.std.specs.Option.{option_map}
 use Rattle.mdl_key.specs.Keys.{KeyName}
 use Rattle.mdl_context.specs.Wishes.{Wish}
-use Rattle.mdl_stmt.specs.declared.reply.Reply.{Reply}
-use Rattle.mdl_stmt.specs.declared.reply.Reply.TheVariants as reply
-use Rattle.mdl_stmt.specs.declared.reply.TableShown.{TableShown}
+use Rattle.mdl_rows.specs.declared.reply.Reply.{Reply}
+use Rattle.mdl_rows.specs.declared.reply.Reply.TheVariants as reply
+use Rattle.mdl_rows.specs.declared.reply.TableShown.{TableShown}
 use Rattle.mdl_stmt.specs.declared.runner.Work.{Work}
 use Rattle.mdl_stmt.specs.declared.lock_list.Locking.{Locking}
 use Rattle.mdl_stmt.specs.declared.lock_list.Locking.TheVariants.{Ddl, Tables}
@@ -31,10 +31,12 @@ use Rattle.mdl_stmt.specs.declared.stage.Altering.{Altering}
 use Rattle.mdl_stmt.specs.declared.stage.Altering.TheVariants as altering
 use Rattle.mdl_stmt.specs.declared.stage.LockingTables.{LockingTables}
 use Rattle.mdl_stmt.specs.declared.stage.LockingTables.TheVariants as locking
-use Rattle.mdl_stmt.specs.LockLists.{LockList, ticket_of, with_ticket}
-use Rattle.mdl_stmt.specs.Rows.{Row, Give, ◌>>=◌, ◌>>◌, acquire_all}
-use Rattle.mdl_stmt.specs.Sessions.{Left, RunnerView, Session}
-use Rattle.mdl_stmt.specs.Statements.{after_commit, end_under, show, show_all, lock_to_read, lock_and_write, write_under, ddl_lock, lock_schema_and_create, lock_and_create, create_under, lock_and_create_schema, create_schema_under, lock_and_drop, drop_under, lock_and_rename, rename_under, schema_of, lock_commits, read_lock_under, lock_schema_and_alter, alter_in_schema, alter_under, raise_and_change, reopen_and_change, change_table, alter_locked_under, change_and_lower, table_lock, lock_named, keep_locked, lock_and_drop_schema, drop_schema_under, drop_with}
+use Rattle.mdl_rows.specs.KeyOrder.{ticket_of}
+use Rattle.mdl_stmt.specs.LockLists.{LockList, with_ticket}
+use Rattle.mdl_rows.specs.Rows.{Row, Give, ◌>>=◌, ◌>>◌, acquire_all}
+use Rattle.mdl_rows.specs.Sessions.{Left, Session}
+use Rattle.mdl_stmt.specs.Players.{RunnerView}
+use Rattle.mdl_rows.specs.Statements.{after_commit, end_under, show, show_all, lock_to_read, lock_and_write, write_under, ddl_lock, lock_schema_and_create, lock_and_create, create_under, lock_and_create_schema, create_schema_under, lock_and_drop, drop_under, lock_and_rename, rename_under, schema_of, lock_commits, read_lock_under, lock_schema_and_alter, alter_in_schema, alter_under, raise_and_change, reopen_and_change, change_table, alter_locked_under, change_and_lower, table_lock, lock_named, keep_locked, lock_and_drop_schema, drop_schema_under, drop_with}
 
 -- the first of these tables is locked
 abbrev pub show_next : List TableShown → List KeyName → ℕ → Row Reply

@@ -2,15 +2,16 @@
 ghost use Rattle.std.specs.Prelude.{◌≡◌, None};
 ghost use Rattle.mdl_context.specs.Contexts.{Attends, LeavesOthers};
 ghost use Rattle.mdl_stmt.specs.Gets.{IsPlayed, IdleUnlessPlayed};
-ghost use Rattle.mdl_stmt.specs.Statements.{after_commit, alter_among_locked, alter_locked, alter_locked_under, change_and_lower};
+ghost use Rattle.mdl_rows.specs.Statements.{after_commit, alter_among_locked, alter_locked, alter_locked_under, change_and_lower};
 
-use crate::ending::{Ending, Got, Played};
+use crate::got::{Got, Played};
 use crate::player::Player;
 use crate::reading::failing;
 use crate::stage::{Altering, Stage};
 use crate::{ErrorNumber, Reply};
 use mdl_context::Request;
 use mdl_key::{Duration, Key, Mode};
+use mdl_rows::Ending;
 use mdl_space::{LockSpace, TicketId};
 use mdl_syntax::{Alteration, Statement};
 

@@ -5,10 +5,10 @@ ghost use Rattle.mdl_key.specs.Refusals.{Refuses};
 ghost use Rattle.mdl_context.specs.Contexts.{Attends, LeavesOthers};
 ghost use Rattle.mdl_stmt.specs.Gets.{IsPlayed, IsStep, IdleUnlessPlayed};
 ghost use Rattle.mdl_stmt.specs.Stages.{rest_of_creating};
-ghost use Rattle.mdl_stmt.specs.Statements.{create_after_commit, lock_schema_and_create, lock_and_create, create_under, check_schema, check_new, make_table, schema_of};
-ghost use Rattle.mdl_stmt.specs.declared.ending.Played.TheVariants as played;
+ghost use Rattle.mdl_rows.specs.Statements.{create_after_commit, lock_schema_and_create, lock_and_create, create_under, check_schema, check_new, make_table, schema_of};
+ghost use Rattle.mdl_stmt.specs.declared.got.Played.TheVariants as played;
 
-use crate::ending::{Ending, Got, Played};
+use crate::got::{Got, Played};
 use crate::player::Player;
 use crate::reading::failing;
 use crate::stage::{Creating, Stage};
@@ -16,6 +16,7 @@ use crate::{ErrorNumber, Reply};
 use mdl_context::Request;
 use mdl_defs::{Change, Columns, Definition};
 use mdl_key::{Duration, Key, KeyError, Mode};
+use mdl_rows::Ending;
 use mdl_space::{LockSpace, TicketId};
 use std::alloc::Global;
 

@@ -3,10 +3,10 @@ ghost use Rattle.std.specs.Prelude.{◌≡◌, None};
 ghost use Rattle.mdl_context.specs.Contexts.{Attends, LeavesOthers};
 ghost use Rattle.mdl_stmt.specs.Gets.{IsPlayed, IsStep, IdleUnlessPlayed};
 ghost use Rattle.mdl_stmt.specs.Stages.{rest_of_creating_schema};
-ghost use Rattle.mdl_stmt.specs.Statements.{create_schema_after_commit, lock_and_create_schema, create_schema_under, check_new_schema};
+ghost use Rattle.mdl_rows.specs.Statements.{create_schema_after_commit, lock_and_create_schema, create_schema_under, check_new_schema};
 
 use crate::creating::MOST_VERSIONS;
-use crate::ending::{Ending, Got, Played};
+use crate::got::{Got, Played};
 use crate::player::Player;
 use crate::reading::failing;
 use crate::stage::{CreatingSchema, Stage};
@@ -14,6 +14,7 @@ use crate::{ErrorNumber, Reply};
 use mdl_context::Request;
 use mdl_defs::{Change, Definition};
 use mdl_key::{Duration, Key, Mode};
+use mdl_rows::Ending;
 use mdl_space::{LockSpace, TicketId};
 use mdl_syntax::Name;
 

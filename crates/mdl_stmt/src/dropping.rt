@@ -3,12 +3,12 @@ ghost use Rattle.std.specs.Prelude.{◌≡◌, None};
 ghost use Rattle.mdl_context.specs.Contexts.{Attends, LeavesOthers};
 ghost use Rattle.mdl_defs.specs.declared.change.Change.TheVariants as change;
 ghost use Rattle.mdl_stmt.specs.Gets.{IsPlayed, IsStep, IdleUnlessPlayed};
-ghost use Rattle.mdl_stmt.specs.Rows.{for_each, redefine};
+ghost use Rattle.mdl_rows.specs.Rows.{for_each, redefine};
 ghost use Rattle.mdl_stmt.specs.Stages.{lock_rest, rest_of_dropping};
-ghost use Rattle.mdl_stmt.specs.Statements.{drop_after_commit, lock_and_drop, drop_under, can_change, stands};
+ghost use Rattle.mdl_rows.specs.Statements.{drop_after_commit, lock_and_drop, drop_under, can_change, stands};
 
 use crate::creating::MOST_VERSIONS;
-use crate::ending::{Ending, Listed, Played};
+use crate::got::{Listed, Played};
 use crate::key_lists::{in_key_order, scopes_of};
 use crate::lock_list::LockList;
 use crate::player::Player;
@@ -16,6 +16,7 @@ use crate::reading::failing;
 use crate::stage::{Dropping, Stage};
 use crate::{ErrorNumber, Reply};
 use mdl_defs::Change;
+use mdl_rows::Ending;
 use mdl_space::{LockSpace, TicketId};
 use mdl_syntax::Tables;
 

@@ -3,16 +3,17 @@ ghost use Rattle.std.specs.Prelude.{◌≡◌, None, []};
 ghost use Rattle.mdl_context.specs.Contexts.{Attends, LeavesOthers};
 ghost use Rattle.mdl_stmt.specs.Gets.{IsPlayed, IsStep, IdleUnlessPlayed, items_told};
 ghost use Rattle.mdl_stmt.specs.Stages.{lock_rest, rest_of_dropping_schema};
-ghost use Rattle.mdl_stmt.specs.Statements.{drop_schema_after_commit, lock_and_drop_schema, drop_schema_under, drop_with, keys_of, tables_in};
+ghost use Rattle.mdl_rows.specs.Statements.{drop_schema_after_commit, lock_and_drop_schema, drop_schema_under, drop_with, keys_of, tables_in};
 
 use crate::Reply;
-use crate::ending::{Ending, Got, Listed, Played};
+use crate::got::{Got, Listed, Played};
 use crate::lock_list::LockList;
 use crate::player::Player;
 use crate::stage::{DroppingSchema, Stage};
 use mdl_context::Request;
 use mdl_defs::Change;
 use mdl_key::{Duration, Key, Mode};
+use mdl_rows::Ending;
 use mdl_space::{LockSpace, Place, TicketId};
 use mdl_syntax::Name;
 

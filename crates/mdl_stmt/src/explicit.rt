@@ -2,32 +2,13 @@
 ghost use Rattle.std.specs.Prelude.{◌≡◌, [], Some, None, find, is_some};
 ghost use Rattle.std.specs.Option.{option_map};
 ghost use Rattle.mdl_key.specs.Keys.{key_eq};
-ghost use Rattle.mdl_stmt.specs.States.{has_locked, lone_ticket, with_commit};
+ghost use Rattle.mdl_rows.specs.States.{has_locked, lone_ticket, with_commit};
 
 use mdl_key::Key;
+use mdl_rows::{Locked, ReadLock};
 use mdl_space::TicketId;
 use std::alloc::Global;
 use std::marker::Model;
-
-/// A table that LOCK TABLES locked.
-#[derive(Drop)]
-pub struct Locked {
-    /// The table.
-    pub key: Key,
-    /// Whether it is locked for writing, and not for reading alone.
-    pub may_write: bool,
-    /// The ticket by which it is locked.
-    pub ticket: TicketId,
-}
-
-/// The global read lock: no other session writes or changes definitions, and none commits what it wrote.
-#[derive(Clone, Copy)]
-pub struct ReadLock {
-    /// The ticket of the lock of all writes.
-    pub global: TicketId,
-    /// The ticket of the COMMIT lock, once that is had, too.
-    pub commit: Option<TicketId>,
-}
 
 /// Locked tables, the tickets of their scopes, and the global read lock.
 #[derive(Drop)]
@@ -38,7 +19,7 @@ pub struct ExplicitLocks {
 }
 
 impl Model for ExplicitLocks {
-    ghost use Rattle.mdl_stmt.specs.States.{ExplicitLocks};
+    ghost use Rattle.mdl_stmt.specs.Players.{ExplicitLocks};
 
     ghost Value = { ExplicitLocks };
 

@@ -1,20 +1,21 @@
 //! FLUSH TABLES WITH READ LOCK.
 ghost use Rattle.std.specs.Prelude.{◌≡◌, None};
 ghost use Rattle.mdl_context.specs.Contexts.{Attends, LeavesOthers};
-ghost use Rattle.mdl_stmt.specs.Endings.{state_after};
+ghost use Rattle.mdl_rows.specs.Endings.{state_after};
 ghost use Rattle.mdl_stmt.specs.Gets.{IsPlayed, IsWithoutHalf, IdleUnlessPlayed};
-ghost use Rattle.mdl_stmt.specs.States.{half_lock};
+ghost use Rattle.mdl_rows.specs.States.{half_lock};
 ghost use Rattle.mdl_stmt.specs.Stages.{rest_of_flushing};
-ghost use Rattle.mdl_stmt.specs.Statements.{after_commit, flush_after_commit, flush_first, get_read_lock, lock_commits, read_lock_under};
-ghost use Rattle.mdl_stmt.specs.declared.ending.Played.TheVariants as played;
+ghost use Rattle.mdl_rows.specs.Statements.{after_commit, flush_after_commit, flush_first, get_read_lock, lock_commits, read_lock_under};
+ghost use Rattle.mdl_stmt.specs.declared.got.Played.TheVariants as played;
 
-use crate::ending::{Ending, Got, Played};
+use crate::got::{Got, Played};
 use crate::player::Player;
 use crate::reading::failing;
 use crate::stage::{Flushing, Stage};
 use crate::{ErrorNumber, Reply};
 use mdl_context::Request;
 use mdl_key::{Duration, Key, Mode};
+use mdl_rows::Ending;
 use mdl_space::{LockSpace, TicketId};
 use mdl_syntax::Statement;
 

@@ -2,20 +2,22 @@
 ghost use Rattle.std.specs.Prelude.{◌≡◌, None, Some};
 ghost use Rattle.mdl_calls.specs.Words.{Runs};
 ghost use Rattle.mdl_context.specs.Contexts.{Attends, LeavesOthers};
-ghost use Rattle.mdl_stmt.specs.Endings.{Begins_to_wait};
+ghost use Rattle.mdl_rows.specs.Endings.{Begins_to_wait};
 ghost use Rattle.mdl_stmt.specs.Gets.{at_rest, ran, IdleUnlessPlayed};
-ghost use Rattle.mdl_stmt.specs.Keepings.{going_on_kept, keeping, play_kept, starting_kept, IsSettled};
+ghost use Rattle.mdl_rows.specs.Keepings.{going_on_kept, keeping, play_kept, starting_kept};
+ghost use Rattle.mdl_stmt.specs.Gets.{IsSettled};
 ghost use Rattle.mdl_stmt.specs.KeptStages.{rest_of_kept, rest_of_kept_dropping, rest_of_kept_dropping_schema, session_with};
-ghost use Rattle.mdl_stmt.specs.Playing.{with_left};
+ghost use Rattle.mdl_rows.specs.Playing.{with_left};
 ghost use Rattle.mdl_stmt.specs.Stages.{rest_of};
 
-use crate::ending::{Ending, Played};
+use crate::got::Played;
 use crate::kept_stage::{KeptDropping, KeptDroppingSchema, KeptStage, KeptWork};
 use crate::player::{Player, ending_of_error, ending_of_loss};
 use crate::stage::{Dropping, DroppingSchema, Stage};
 use crate::{OutOfMemory, Progress};
 use mdl_context::{Mark, Resume};
 use mdl_key::{Key, Mode};
+use mdl_rows::Ending;
 use mdl_space::{LockSpace, TicketId};
 use mdl_syntax::Statement;
 

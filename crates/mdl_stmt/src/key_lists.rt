@@ -1,9 +1,9 @@
 //! Keys in their order.
 ghost use Rattle.std.specs.Prelude.{◌≡◌, [], ◌∷◌, map, IfOk};
 ghost use Rattle.mdl_key.specs.Keys.{global_key};
-ghost use Rattle.mdl_stmt.specs.KeyOrder.{placed, in_key_order};
+ghost use Rattle.mdl_rows.specs.KeyOrder.{placed, in_key_order};
 ghost use Rattle.mdl_syntax.specs.Forms.{tables_of};
-ghost use Rattle.mdl_stmt.specs.Statements.{schema_of, is_write, written_tables, may_write, scopes_around};
+ghost use Rattle.mdl_rows.specs.Statements.{schema_of, is_write, written_tables, may_write, scopes_around};
 
 use crate::OutOfMemory;
 use crate::creating::schema_of;

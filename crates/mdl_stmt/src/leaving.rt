@@ -2,7 +2,7 @@
 ghost use Rattle.std.specs.Prelude.{◌≡◌, None, []};
 ghost use Rattle.mdl_calls.specs.Words.{Runs};
 ghost use Rattle.mdl_context.specs.Contexts.{Attends, LeavesOthers};
-ghost use Rattle.mdl_stmt.specs.Leavings.{leaving_from};
+ghost use Rattle.mdl_rows.specs.Leavings.{leaving_from};
 
 use mdl_context::Context;
 use mdl_space::LockSpace;

@@ -38,10 +38,9 @@ mod creating;
 mod creating_schemas;
 mod dropping;
 mod dropping_schemas;
-mod ending;
-mod error_number;
 mod explicit;
 mod flushing;
+mod got;
 mod keeping;
 mod kept_stage;
 mod key_lists;
@@ -49,14 +48,13 @@ mod leaving;
 mod lock_list;
 mod lock_loops;
 mod locking;
-mod memory_laws;
 mod out_of_memory;
 mod owned_runner;
 mod performing;
 mod player;
+mod progress;
 mod reading;
 mod renaming;
-mod reply;
 mod rows;
 mod runner;
 mod savepoint;
@@ -64,13 +62,13 @@ mod stage;
 mod transactions;
 mod unlocking;
 
-pub use error_number::ErrorNumber;
-pub use mdl_syntax::Statement;
-pub use memory_laws::{
-    sessions_keep_their_number, statements_call_for_their_session, statements_keep_the_space_sound,
-    statements_tell_of_want, sure_statements,
+pub use mdl_rows::{
+    ErrorNumber, Reply, TableShown, TablesShown, sessions_keep_their_number,
+    statements_call_for_their_session, statements_keep_the_space_sound, statements_tell_of_want,
+    sure_statements,
 };
+pub use mdl_syntax::Statement;
 pub use out_of_memory::OutOfMemory;
 pub use owned_runner::OwnedRunner;
-pub use reply::{Progress, Reply, TableShown, TablesShown};
+pub use progress::Progress;
 pub use runner::Runner;

@@ -2,7 +2,8 @@
 ghost use Rattle.std.specs.Prelude.{◌≡◌, [], length, position, slice_get, IfOk};
 ghost use Rattle.std.specs.Option.{option_map};
 ghost use Rattle.mdl_key.specs.Keys.{key_eq};
-ghost use Rattle.mdl_stmt.specs.LockLists.{ticket_of, with_ticket};
+ghost use Rattle.mdl_rows.specs.KeyOrder.{ticket_of};
+ghost use Rattle.mdl_stmt.specs.LockLists.{with_ticket};
 
 use mdl_key::Key;
 use mdl_space::TicketId;

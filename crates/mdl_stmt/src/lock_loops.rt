@@ -3,9 +3,9 @@ ghost use Rattle.std.specs.Prelude.{◌≡◌, None};
 ghost use Rattle.mdl_context.specs.Contexts.{Attends, LeavesOthers};
 ghost use Rattle.mdl_stmt.specs.Gets.{IsListed, IsListedBy, IdleUnlessListed, KeepsKeys};
 ghost use Rattle.mdl_stmt.specs.Stages.{wish_by};
-ghost use Rattle.mdl_stmt.specs.Statements.{ddl_lock};
+ghost use Rattle.mdl_rows.specs.Statements.{ddl_lock};
 
-use crate::ending::{Got, Listed};
+use crate::got::{Got, Listed};
 use crate::key_lists::may_write;
 use crate::lock_list::{LockList, Locking};
 use crate::player::Player;

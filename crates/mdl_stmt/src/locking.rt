@@ -1,19 +1,19 @@
 //! LOCK TABLES.
 ghost use Rattle.std.specs.Prelude.{◌≡◌, ◌&&◌, None, IfOk, is_some};
 ghost use Rattle.mdl_context.specs.Contexts.{Attends, LeavesOthers};
-ghost use Rattle.mdl_stmt.specs.declared.ending.Played.TheVariants as played;
+ghost use Rattle.mdl_stmt.specs.declared.got.Played.TheVariants as played;
 ghost use Rattle.mdl_stmt.specs.Gets.{IsPlayed, IdleUnlessPlayed};
 ghost use Rattle.mdl_stmt.specs.Stages.{lock_rest, lock_rest_by, rest_of_locking};
-ghost use Rattle.mdl_stmt.specs.Statements.{after_commit, keep_locked, lock_first, lock_named, lock_tables_after_commit, locked_by, table_lock, writes_any};
+ghost use Rattle.mdl_rows.specs.Statements.{after_commit, keep_locked, lock_first, lock_named, lock_tables_after_commit, locked_by, table_lock, writes_any};
 
-use crate::ending::{Ending, Listed, Played};
-use crate::explicit::Locked;
+use crate::got::{Listed, Played};
 use crate::key_lists::{is_write, may_write, named_in_order, scopes_around};
 use crate::lock_list::{LockList, Locking};
 use crate::player::Player;
 use crate::reading::failing;
 use crate::stage::{LockingTables, Stage};
 use crate::{ErrorNumber, OutOfMemory, Reply};
+use mdl_rows::{Ending, Locked};
 use mdl_space::{LockSpace, TicketId};
 use mdl_syntax::{Statement, TableLock, TableLocks};
 use std::alloc::Global;

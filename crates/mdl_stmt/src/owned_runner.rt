@@ -3,10 +3,10 @@ ghost use Rattle.std.specs.Prelude.{◌≡◌, None, IsSome, is_some, []};
 ghost use Rattle.mdl_calls.specs.Words.{Runs};
 ghost use Rattle.mdl_context.specs.Contexts.{Attends, LeavesOthers};
 ghost use Rattle.mdl_stmt.specs.Gets.{ran};
-ghost use Rattle.mdl_stmt.specs.Keepings.{going_on_kept, starting_kept};
+ghost use Rattle.mdl_rows.specs.Keepings.{going_on_kept, starting_kept};
 ghost use Rattle.mdl_stmt.specs.KeptStages.{session_kept};
-ghost use Rattle.mdl_stmt.specs.Leavings.{leaving};
-ghost use Rattle.mdl_stmt.specs.States.{at_first};
+ghost use Rattle.mdl_rows.specs.Leavings.{leaving};
+ghost use Rattle.mdl_rows.specs.States.{at_first};
 
 use crate::kept_stage::KeptWork;
 use crate::leaving::give_all_up;

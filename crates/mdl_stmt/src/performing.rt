@@ -3,17 +3,18 @@ ghost use Rattle.std.specs.Prelude.{◌≡◌, None, Ok};
 ghost use Rattle.mdl_calls.specs.Words.{Runs};
 ghost use Rattle.mdl_context.specs.Contexts.{Attends, LeavesOthers};
 ghost use Rattle.mdl_context.specs.Releases.{giving_up};
-ghost use Rattle.mdl_stmt.specs.Endings.{closing, gone_at};
+ghost use Rattle.mdl_rows.specs.Endings.{closing, gone_at};
 ghost use Rattle.mdl_stmt.specs.Gets.{at_rest, ran, IsPlayed, IdleUnlessPlayed};
 ghost use Rattle.mdl_stmt.specs.Stages.{rest_of};
-ghost use Rattle.mdl_stmt.specs.Statements.{row_of, ddl_first, after_commit};
+ghost use Rattle.mdl_rows.specs.Statements.{row_of, ddl_first, after_commit};
 
-use crate::ending::{Ending, Played};
+use crate::got::Played;
 use crate::player::Player;
 use crate::reading::failing;
 use crate::stage::Stage;
 use crate::{ErrorNumber, OutOfMemory, Progress, Reply};
 use mdl_context::Mark;
+use mdl_rows::Ending;
 use mdl_space::{LockSpace, TicketId};
 use mdl_syntax::Statement;
 

@@ -2,17 +2,18 @@
 ghost use Rattle.std.specs.Prelude.{◌≡◌, None, Ok, []};
 ghost use Rattle.mdl_context.specs.Contexts.{Attends, LeavesOthers};
 ghost use Rattle.mdl_context.specs.Wishes.{Wish, wish_of};
-ghost use Rattle.mdl_stmt.specs.Endings.{closing, ending_of_error, ending_of_refusal, ending_of_loss};
+ghost use Rattle.mdl_rows.specs.Endings.{closing, ending_of_error, ending_of_refusal, ending_of_loss};
 ghost use Rattle.mdl_stmt.specs.Gets.{at_rest, IsDropped, IsGot, IsRaised, IsStep, IsTold, IdleUnlessGot};
-ghost use Rattle.mdl_stmt.specs.Rows.{downgrade};
-ghost use Rattle.mdl_stmt.specs.States.{at_first};
+ghost use Rattle.mdl_rows.specs.Rows.{downgrade};
+ghost use Rattle.mdl_rows.specs.States.{at_first};
 
 use crate::ErrorNumber;
-use crate::ending::{Ending, Got};
 use crate::explicit::ExplicitLocks;
+use crate::got::Got;
 use crate::savepoint::Savepoints;
 use mdl_context::{Acquire, Context, ContextError, Request, Resume};
 use mdl_key::{Key, Mode};
+use mdl_rows::Ending;
 use mdl_space::{LockSpace, Settled, SpaceError, TicketId};
 use std::alloc::Global;
 use std::marker::Model;
@@ -29,7 +30,7 @@ pub(crate) struct Player<S: LockSpace> {
 }
 
 impl<S: LockSpace> Model for Player<S> {
-    ghost use Rattle.mdl_stmt.specs.Sessions.{PlayerView, player_of};
+    ghost use Rattle.mdl_stmt.specs.Players.{PlayerView, player_of};
 
     ghost Value = { PlayerView };
 

@@ -2,16 +2,16 @@
 ghost use Rattle.std.specs.Prelude.{◌≡◌, ◌++◌, ◌∷◌, [], None, Ok, MatchResult};
 ghost use Rattle.mdl_context.specs.Contexts.{Attends, LeavesOthers};
 ghost use Rattle.mdl_stmt.specs.Gets.{IsStep, items_told};
-ghost use Rattle.mdl_stmt.specs.Rows.{read, redefine, tables_within, key_of, kill};
-ghost use Rattle.mdl_stmt.specs.Statements.{columns_of, exists, show};
-ghost use Rattle.mdl_stmt.specs.declared.ending.Ending.TheVariants.{Answers, Starves};
-ghost use Rattle.mdl_stmt.specs.declared.reply.Reply.TheVariants.{Error};
+ghost use Rattle.mdl_rows.specs.Rows.{read, redefine, tables_within, key_of, kill};
+ghost use Rattle.mdl_rows.specs.Statements.{columns_of, exists, show};
+ghost use Rattle.mdl_rows.specs.declared.ending.Ending.TheVariants.{Answers, Starves};
+ghost use Rattle.mdl_rows.specs.declared.reply.Reply.TheVariants.{Error};
 
-use crate::ending::Ending;
 use crate::player::{Player, ending_of_refusal};
 use crate::{ErrorNumber, Reply, TableShown, TablesShown};
 use mdl_defs::{Change, Columns, Definition, Standing};
 use mdl_key::Key;
+use mdl_rows::Ending;
 use mdl_space::{LockSpace, Place, TicketId};
 use std::alloc::Global;
 

@@ -2,15 +2,15 @@
 ghost use Rattle.std.specs.Prelude.{◌≡◌, [], ◌∷◌, Some, None, IfOk, MatchResult};
 ghost use Rattle.mdl_context.specs.Contexts.{Attends, LeavesOthers};
 ghost use Rattle.mdl_stmt.specs.Gets.{IsPlayed, IsStep, IdleUnlessPlayed};
-ghost use Rattle.mdl_stmt.specs.declared.ending.Ending.TheVariants.{Answers};
-ghost use Rattle.mdl_stmt.specs.declared.error_number.ErrorNumber.TheVariants.{NoSuchTable};
-ghost use Rattle.mdl_stmt.specs.declared.reply.Reply.TheVariants.{Error};
-ghost use Rattle.mdl_stmt.specs.LockLists.{ticket_of};
+ghost use Rattle.mdl_rows.specs.declared.ending.Ending.TheVariants.{Answers};
+ghost use Rattle.mdl_rows.specs.declared.error_number.ErrorNumber.TheVariants.{NoSuchTable};
+ghost use Rattle.mdl_rows.specs.declared.reply.Reply.TheVariants.{Error};
+ghost use Rattle.mdl_rows.specs.KeyOrder.{ticket_of};
 ghost use Rattle.mdl_stmt.specs.Stages.{rename_names, rename_scopes, rest_of_renaming};
-ghost use Rattle.mdl_stmt.specs.Statements.{rename_after_commit, lock_and_rename, rename_under, move_definition, is_free, definition_under, schema_of};
+ghost use Rattle.mdl_rows.specs.Statements.{rename_after_commit, lock_and_rename, rename_under, move_definition, is_free, definition_under, schema_of};
 
 use crate::creating::schema_of;
-use crate::ending::{Ending, Listed, Played};
+use crate::got::{Listed, Played};
 use crate::key_lists::{in_key_order, scopes_of};
 use crate::lock_list::LockList;
 use crate::player::Player;
@@ -19,6 +19,7 @@ use crate::stage::{Renaming, Stage};
 use crate::{ErrorNumber, Reply};
 use mdl_defs::{Change, Definition};
 use mdl_key::Key;
+use mdl_rows::Ending;
 use mdl_space::{LockSpace, TicketId};
 use std::alloc::AllocError;
 

@@ -3,16 +3,17 @@ ghost use Rattle.std.specs.Prelude.{◌≡◌, None, [], drop};
 ghost use Rattle.mdl_context.specs.Contexts.{Attends, LeavesOthers};
 ghost use Rattle.mdl_stmt.specs.Gets.{IsPlayed, IsStep, IdleUnlessPlayed};
 ghost use Rattle.mdl_stmt.specs.Stages.{show_next, rest_of_writing};
-ghost use Rattle.mdl_stmt.specs.Statements.{lock_to_read, lock_held, select, show_held, show_all, write, write_locked, lock_writes, write_mode, write_under, wrote, lock_and_write};
-ghost use Rattle.mdl_stmt.specs.declared.ending.Played.TheVariants as played;
+ghost use Rattle.mdl_rows.specs.Statements.{lock_to_read, lock_held, select, show_held, show_all, write, write_locked, lock_writes, write_mode, write_under, wrote, lock_and_write};
+ghost use Rattle.mdl_stmt.specs.declared.got.Played.TheVariants as played;
 
-use crate::ending::{Ending, Got, Played};
+use crate::got::{Got, Played};
 use crate::player::Player;
 use crate::reading::failing;
 use crate::stage::{Stage, Writing};
 use crate::{ErrorNumber, Reply, TablesShown};
 use mdl_context::Request;
 use mdl_key::{Duration, Key, Mode};
+use mdl_rows::Ending;
 use mdl_space::{LockSpace, TicketId};
 use mdl_syntax::Priority;
 

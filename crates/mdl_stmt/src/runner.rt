@@ -2,19 +2,20 @@
 ghost use Rattle.std.specs.Prelude.{◌≡◌, None, IsSome, IfSome, is_some, []};
 ghost use Rattle.mdl_calls.specs.Words.{Runs};
 ghost use Rattle.mdl_context.specs.Contexts.{Attends, LeavesOthers};
-ghost use Rattle.mdl_stmt.specs.Endings.{closing};
+ghost use Rattle.mdl_rows.specs.Endings.{closing};
 ghost use Rattle.mdl_stmt.specs.Gets.{ran};
-ghost use Rattle.mdl_stmt.specs.Leavings.{leaving};
-ghost use Rattle.mdl_stmt.specs.Playing.{play, starting, going_on};
+ghost use Rattle.mdl_rows.specs.Leavings.{leaving};
+ghost use Rattle.mdl_rows.specs.Playing.{play, starting, going_on};
 ghost use Rattle.mdl_stmt.specs.Stages.{session_of, rest_of};
-ghost use Rattle.mdl_stmt.specs.States.{at_first};
+ghost use Rattle.mdl_rows.specs.States.{at_first};
 
-use crate::ending::{Ending, Played};
+use crate::got::Played;
 use crate::leaving::give_all_up;
 use crate::player::{Player, ending_of_error, ending_of_loss};
 use crate::stage::Stage;
 use crate::{OutOfMemory, Progress};
 use mdl_context::{Mark, Resume};
+use mdl_rows::Ending;
 use mdl_space::{LockSpace, TicketId};
 use mdl_syntax::Statement;
 use std::alloc::Global;
@@ -36,7 +37,7 @@ pub struct Runner<'s, S: LockSpace> {
 
 impl<'s, S: LockSpace> Model for Runner<'s, S> {
     ghost use Rattle.std.specs.Prelude.{◌≡◌, None};
-    ghost use Rattle.mdl_stmt.specs.Sessions.{RunnerView};
+    ghost use Rattle.mdl_stmt.specs.Players.{RunnerView};
 
     ghost Value = { RunnerView };
 

@@ -2,21 +2,13 @@
 ghost use Rattle.std.specs.Prelude.{◌≡◌, ◌≤◌, [], not, filter, OnOk, OnErr};
 ghost use Rattle.std.specs.List.{position};
 ghost use Rattle.std.specs.Vec.{vec_len, vec_capacity};
-ghost use Rattle.mdl_stmt.specs.States.{is_named, with_savepoint, savepoint_mark, up_to};
+ghost use Rattle.mdl_rows.specs.States.{is_named, with_savepoint, savepoint_mark, up_to};
 
 use mdl_context::Mark;
+use mdl_rows::Savepoint;
 use mdl_syntax::Name;
 use std::alloc::{AllocError, Global};
 use std::marker::Model;
-
-/// A savepoint of a transaction.
-#[derive(Drop)]
-pub struct Savepoint {
-    /// Its name.
-    pub name: Name,
-    /// Where the session stood.
-    pub mark: Mark,
-}
 
 /// The savepoints of a transaction, in order.
 #[derive(Drop)]
@@ -26,7 +18,7 @@ pub struct Savepoints {
 
 impl Model for Savepoints {
     ghost use Rattle.std.specs.Prelude.{List};
-    ghost use Rattle.mdl_stmt.specs.declared.savepoint.Savepoint.{Savepoint};
+    ghost use Rattle.mdl_rows.specs.declared.state.Savepoint.{Savepoint};
 
     ghost Value = { List Savepoint };
 

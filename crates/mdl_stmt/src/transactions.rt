@@ -2,15 +2,16 @@
 ghost use Rattle.std.specs.Prelude.{◌≡◌, None, Ok};
 ghost use Rattle.mdl_context.specs.Contexts.{Attends, LeavesOthers};
 ghost use Rattle.mdl_stmt.specs.Gets.{IsStep, IsCommitted, IsPlayed, IdleUnlessGot, IdleUnlessPlayed};
-ghost use Rattle.mdl_stmt.specs.declared.ending.Played.TheVariants as played;
-ghost use Rattle.mdl_stmt.specs.Statements.{end_transaction, end_under, commit, commit_writes, rollback, save, rollback_to, after_commit, begin_after_commit, commit_first};
+ghost use Rattle.mdl_stmt.specs.declared.got.Played.TheVariants as played;
+ghost use Rattle.mdl_rows.specs.Statements.{end_transaction, end_under, commit, commit_writes, rollback, save, rollback_to, after_commit, begin_after_commit, commit_first};
 
-use crate::ending::{Ending, Got, Played};
+use crate::got::{Got, Played};
 use crate::player::Player;
 use crate::stage::Stage;
 use crate::{ErrorNumber, Reply};
 use mdl_context::Request;
 use mdl_key::{Duration, Key, Mode};
+use mdl_rows::Ending;
 use mdl_space::{LockSpace, TicketId};
 use mdl_syntax::{Name, Statement};
 

@@ -2,16 +2,15 @@
 ghost use Rattle.std.specs.Prelude.{◌≡◌, [], None, Ok, map};
 ghost use Rattle.mdl_context.specs.Contexts.{Attends, LeavesOthers};
 ghost use Rattle.mdl_stmt.specs.Gets.{IsPlayed, IsStep};
-ghost use Rattle.mdl_stmt.specs.Rows.{for_each, release};
-ghost use Rattle.mdl_stmt.specs.Statements.{give_up_read_lock, release_commits, release_read_lock, unlock, unlock_tables};
-ghost use Rattle.mdl_stmt.specs.States.{State};
-ghost use Rattle.mdl_stmt.specs.declared.ending.Played.TheVariants as played;
+ghost use Rattle.mdl_rows.specs.Rows.{for_each, release};
+ghost use Rattle.mdl_rows.specs.Statements.{give_up_read_lock, release_commits, release_read_lock, unlock, unlock_tables};
+ghost use Rattle.mdl_rows.specs.States.{State};
+ghost use Rattle.mdl_stmt.specs.declared.got.Played.TheVariants as played;
 
 use crate::Reply;
-use crate::ending::Ending;
-use crate::explicit::{Locked, ReadLock};
 use crate::player::Player;
 use mdl_context::Context;
+use mdl_rows::{Ending, Locked, ReadLock};
 use mdl_space::{LockSpace, TicketId};
 
 impl<S: LockSpace> Player<S> {

@@ -18,18 +18,18 @@ use Rattle.mdl_context.specs.Upgrades.{upgrading, downgrading}
 use Rattle.mdl_context.specs.Waits.{giving_up_wait, resuming}
 use Rattle.mdl_context.specs.Wishes.{Wish}
 use Rattle.mdl_syntax.specs.declared.statement.Statement.{Statement}
-use Rattle.mdl_stmt.specs.declared.ending.Ending.{Ending}
-use Rattle.mdl_stmt.specs.declared.ending.Ending.TheVariants.{Answers, Misses, Falls, Starves}
-use Rattle.mdl_stmt.specs.declared.reply.Reply.{Reply}
-use Rattle.mdl_stmt.specs.declared.reply.Reply.TheVariants as reply
-use Rattle.mdl_stmt.specs.Endings.{Pause, ended, gone_at, state_after, letting_go, without_half, closing, ending_of_error, ending_of_loss, ending_of_refusal}
-use Rattle.mdl_stmt.specs.Playing as playing
-use Rattle.mdl_stmt.specs.Playing.{play, starting, going_on, with_context}
-use Rattle.mdl_stmt.specs.Rows.{Row}
-use Rattle.mdl_stmt.specs.Rows as row
-use Rattle.mdl_stmt.specs.Sessions.{Left, Session}
-use Rattle.mdl_stmt.specs.States.{half_lock, without_read_lock}
-use Rattle.mdl_stmt.specs.Statements.{row_of}
+use Rattle.mdl_rows.specs.declared.ending.Ending.{Ending}
+use Rattle.mdl_rows.specs.declared.ending.Ending.TheVariants.{Answers, Misses, Falls, Starves}
+use Rattle.mdl_rows.specs.declared.reply.Reply.{Reply}
+use Rattle.mdl_rows.specs.declared.reply.Reply.TheVariants as reply
+use Rattle.mdl_rows.specs.Endings.{Pause, ended, gone_at, state_after, letting_go, without_half, closing, ending_of_error, ending_of_loss, ending_of_refusal}
+use Rattle.mdl_rows.specs.Playing as playing
+use Rattle.mdl_rows.specs.Playing.{play, starting, going_on, with_context}
+use Rattle.mdl_rows.specs.Rows.{Row}
+use Rattle.mdl_rows.specs.Rows as row
+use Rattle.mdl_rows.specs.Sessions.{Left, Session}
+use Rattle.mdl_rows.specs.States.{half_lock, without_read_lock}
+use Rattle.mdl_rows.specs.Statements.{row_of}
 use Rattle.mdl_work.specs.Paces.{LeftWhileWaiting}
 
 -- however a program pauses, something is left just where the statement waits

@@ -11,13 +11,13 @@ use Rattle.mdl_context.specs.Contexts.{ContextView, Attends}
 use Rattle.mdl_context.proofs.AttendLemmas.{attends-still}
 use Rattle.mdl_context.proofs.OthersLemmas.{IsFor}
 use Rattle.mdl_syntax.specs.declared.script.Line.{Line}
-use Rattle.mdl_stmt.specs.declared.reply.Progress.{Progress}
-use Rattle.mdl_stmt.specs.declared.reply.Progress.TheVariants as came
-use Rattle.mdl_stmt.specs.declared.reply.Reply.{Reply}
-use Rattle.mdl_stmt.specs.Endings.{Pause, Ends, Faults}
+use Rattle.mdl_stmt.specs.declared.progress.Progress.{Progress}
+use Rattle.mdl_stmt.specs.declared.progress.Progress.TheVariants as came
+use Rattle.mdl_rows.specs.declared.reply.Reply.{Reply}
+use Rattle.mdl_rows.specs.Endings.{Pause, Ends, Faults}
 use Rattle.mdl_stmt.specs.Gets.{paused}
-use Rattle.mdl_stmt.specs.Leavings.{leaving}
-use Rattle.mdl_stmt.specs.Sessions.{Session}
+use Rattle.mdl_rows.specs.Leavings.{leaving}
+use Rattle.mdl_rows.specs.Sessions.{Session}
 use Rattle.mdl_work.specs.Paces.{worked_as}
 use Rattle.mdl_work.specs.Works.{Worked, behind, finishing, going_further, lines_of, making, noted, starved, waiting_out, while_pending, working, working_off}
 

@@ -1,8 +1,8 @@
 -- What the code tells of a statement that is brought to its end, and of lines that are worked off.
 use Rattle.std.specs.Prelude.{◌≡◌, ℕ, Some, None, IsSome, Result, Ok, Err, Vec}
-use Rattle.mdl_stmt.specs.declared.reply.Reply.{Reply}
-use Rattle.mdl_stmt.specs.Endings.{Pause, Ends, Begins_to_wait, Waits_on, Faults}
-use Rattle.mdl_stmt.specs.Sessions.{Session}
+use Rattle.mdl_rows.specs.declared.reply.Reply.{Reply}
+use Rattle.mdl_rows.specs.Endings.{Pause, Ends, Begins_to_wait, Waits_on, Faults}
+use Rattle.mdl_rows.specs.Sessions.{Session}
 use Rattle.mdl_work.specs.Works.{Worked, starved}
 
 -- a statement came to its end, unless memory was wanting

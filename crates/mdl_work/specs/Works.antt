@@ -6,13 +6,13 @@ use Rattle.std.specs.Option.{option_map}
 use Rattle.mdl_calls.specs.Words.{Answer, Pending, Poll_wait, Settle_timeout, Program, Give, Ask, Grow, ◌>>=◌, ◌>>◌}
 use Rattle.mdl_syntax.specs.declared.script.Line.{Line}
 use Rattle.mdl_syntax.specs.declared.statement.Statement.{Statement}
-use Rattle.mdl_stmt.specs.declared.reply.Reply.{Reply}
-use Rattle.mdl_stmt.specs.Endings.{Pause, Ends, Begins_to_wait, Waits_on, Faults}
-use Rattle.mdl_stmt.specs.Leavings.{leaving}
-use Rattle.mdl_stmt.specs.MemoryLaws.{session_at}
-use Rattle.mdl_stmt.specs.Playing.{going_on, starting}
-use Rattle.mdl_stmt.specs.Sessions.{Session}
-use Rattle.mdl_stmt.specs.States.{at_first}
+use Rattle.mdl_rows.specs.declared.reply.Reply.{Reply}
+use Rattle.mdl_rows.specs.Endings.{Pause, Ends, Begins_to_wait, Waits_on, Faults}
+use Rattle.mdl_rows.specs.Leavings.{leaving}
+use Rattle.mdl_rows.specs.MemoryLaws.{session_at}
+use Rattle.mdl_rows.specs.Playing.{going_on, starting}
+use Rattle.mdl_rows.specs.Sessions.{Session}
+use Rattle.mdl_rows.specs.States.{at_first}
 
 -- the lines of a session
 abbrev pub lines_of : ℕ → List Line → List Line

@@ -3,7 +3,7 @@ ghost use Rattle.std.specs.Prelude.{◌≡◌, [], map, None, IsSome, IfOk, OnOk
 ghost use Rattle.mdl_calls.specs.Words.{Runs};
 ghost use Rattle.mdl_context.specs.Contexts.{Attends, LeavesOthers};
 ghost use Rattle.mdl_stmt.specs.Gets.{paused, ran};
-ghost use Rattle.mdl_stmt.specs.Leavings.{leaving};
+ghost use Rattle.mdl_rows.specs.Leavings.{leaving};
 ghost use Rattle.mdl_stmt.specs.Stages.{session_of};
 ghost use Rattle.mdl_work.specs.Paces.{LeftWhileWaiting, came_to, worked_as};
 ghost use Rattle.mdl_work.specs.Works.{finishing, going_further, lines_of, making, most_waits, newcomer, working};

@@ -2,7 +2,7 @@
 use Rattle.std.proofs.Common.{◌≡◌, ◌∙◌, ◌++◌, ◌∷◌, [], List, take, drop, length, refl, sym, subst}
 use Rattle.std.proofs.lemmas.Option.{slice_get_read}
 use Rattle.mdl_key.specs.Keys.{KeyName}
-use Rattle.mdl_stmt.specs.KeyOrder.{placed}
+use Rattle.mdl_rows.specs.KeyOrder.{placed}
 use Rattle.mdl_stmt.proofs.OrderLemmas.{placed-here, placed-there, placed-last}
 use Rattle.mdl_stmt.proofs.key_lists.place.Goals as goal
 

@@ -1,6 +1,6 @@
 -- The key's place is not before the keys so far.
 use Rattle.std.proofs.Common.{◌≡◌, ◌++◌, drop, take}
-use Rattle.mdl_stmt.specs.KeyOrder.{placed}
+use Rattle.mdl_rows.specs.KeyOrder.{placed}
 use Rattle.mdl_stmt.proofs.key_lists.place.Given as goal
 
 abbrev pub invariant-loop-at : goal.invariant-loop-at

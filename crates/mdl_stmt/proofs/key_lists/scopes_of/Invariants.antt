@@ -1,7 +1,7 @@
 -- The keys so far are in their places.
 use Rattle.std.proofs.Common.{◌≡◌, drop, map}
-use Rattle.mdl_stmt.specs.KeyOrder.{placed_all, in_key_order}
-use Rattle.mdl_stmt.specs.Statements.{schema_of}
+use Rattle.mdl_rows.specs.KeyOrder.{placed_all, in_key_order}
+use Rattle.mdl_rows.specs.Statements.{schema_of}
 use Rattle.mdl_stmt.proofs.key_lists.scopes_of.Given as goal
 
 abbrev pub invariant-loop-table : goal.invariant-loop-table

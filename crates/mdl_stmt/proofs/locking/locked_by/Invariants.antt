@@ -1,6 +1,6 @@
 -- The tables so far, before those that are left, are all.
 use Rattle.std.proofs.Common.{◌≡◌, ◌++◌, drop}
-use Rattle.mdl_stmt.specs.Statements.{locked_by}
+use Rattle.mdl_rows.specs.Statements.{locked_by}
 use Rattle.mdl_stmt.proofs.locking.locked_by.Given as goal
 
 abbrev pub invariant-loop-at : goal.invariant-loop-at

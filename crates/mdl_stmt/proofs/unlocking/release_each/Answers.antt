@@ -2,7 +2,7 @@
 use Rattle.std.proofs.Common.{◌∙◌, rules}
 use Rattle.std.proofs.Math.ListN.{drop_of_length-le}
 use Rattle.std.proofs.Math.Seq.{drop-cons}
-use Rattle.mdl_stmt.specs.Rows.{release}
+use Rattle.mdl_rows.specs.Rows.{release}
 use Rattle.mdl_stmt.proofs.DropLemmas.{leaves-then, each-done, each-over}
 use Rattle.mdl_stmt.proofs.RunLemmas.{released}
 use Rattle.mdl_stmt.proofs.UnlockLemmas.{seat}

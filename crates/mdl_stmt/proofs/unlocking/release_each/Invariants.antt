@@ -1,11 +1,11 @@
 -- What was released so far comes to what is left to release.
 use Rattle.std.proofs.Common.{◌≡◌, None, drop}
 use Rattle.mdl_context.specs.Contexts.{Attends, LeavesOthers}
-use Rattle.mdl_stmt.specs.declared.reply.Reply.{Reply}
+use Rattle.mdl_rows.specs.declared.reply.Reply.{Reply}
 use Rattle.mdl_stmt.specs.Gets.{Comes}
-use Rattle.mdl_stmt.specs.Playing.{play}
-use Rattle.mdl_stmt.specs.Rows.{Row, for_each, release, ◌>>=◌}
-use Rattle.mdl_stmt.specs.States.{State}
+use Rattle.mdl_rows.specs.Playing.{play}
+use Rattle.mdl_rows.specs.Rows.{Row, for_each, release, ◌>>=◌}
+use Rattle.mdl_rows.specs.States.{State}
 use Rattle.mdl_stmt.proofs.UnlockLemmas.{seat}
 use Rattle.mdl_stmt.proofs.unlocking.release_each.Given as goal
 

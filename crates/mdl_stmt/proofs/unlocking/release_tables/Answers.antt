@@ -2,8 +2,8 @@
 use Rattle.std.proofs.Common.{◌∙◌, ap, rules}
 use Rattle.std.proofs.Math.ListN.{drop_of_length-le}
 use Rattle.std.proofs.lemmas.List.{drop-map}
-use Rattle.mdl_stmt.specs.declared.explicit.Locked.{Locked}
-use Rattle.mdl_stmt.specs.Rows.{release}
+use Rattle.mdl_rows.specs.declared.state.Locked.{Locked}
+use Rattle.mdl_rows.specs.Rows.{release}
 use Rattle.mdl_stmt.proofs.DropLemmas.{leaves-then, each-done, each-over}
 use Rattle.mdl_stmt.proofs.RunLemmas.{released}
 use Rattle.mdl_stmt.proofs.UnlockLemmas.{seat, ticket-at, tickets_of}

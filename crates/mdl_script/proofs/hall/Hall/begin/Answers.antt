@@ -2,8 +2,8 @@
 use Rattle.std.proofs.Common.{◌≡◌, ◌++◌, List, false, subst}
 use Rattle.std.specs.String.{string_bytes}
 use Rattle.std.proofs.lemmas.Result.{on_ok_weaker}
-use Rattle.mdl_stmt.proofs.RowOutcomes.{sure_rows}
-use Rattle.mdl_stmt.specs.Playing.{starting}
+use Rattle.mdl_rows.proofs.RowOutcomes.{sure_rows}
+use Rattle.mdl_rows.specs.Playing.{starting}
 use Rattle.mdl_stmt.specs.Stages.{session_of}
 use Rattle.mdl_script.specs.declared.told.Told.{Told}
 use Rattle.mdl_script.specs.Texts.{told_text}

@@ -2,7 +2,7 @@
 use Rattle.std.proofs.Common.{◌≡◌, drop}
 use Rattle.std.specs.Prelude.{find}
 use Rattle.mdl_key.specs.Keys.{key_eq}
-use Rattle.mdl_stmt.specs.declared.explicit.Locked.{Locked}
+use Rattle.mdl_rows.specs.declared.state.Locked.{Locked}
 use Rattle.mdl_stmt.proofs.explicit.ExplicitLocks.find.Given as goal
 
 abbrev pub invariant-loop-locked : goal.invariant-loop-locked

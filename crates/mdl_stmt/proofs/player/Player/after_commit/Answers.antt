@@ -1,8 +1,8 @@
 -- Each statement that has something left does it.
 use Rattle.std.proofs.Common.{refl}
-use Rattle.mdl_stmt.specs.declared.reply.Reply.TheVariants as reply
-use Rattle.mdl_stmt.specs.Rows.{Give}
-use Rattle.mdl_stmt.specs.Statements.{after_commit}
+use Rattle.mdl_rows.specs.declared.reply.Reply.TheVariants as reply
+use Rattle.mdl_rows.specs.Rows.{Give}
+use Rattle.mdl_rows.specs.Statements.{after_commit}
 use Rattle.mdl_stmt.proofs.CallLemmas.{comes-row}
 use Rattle.mdl_stmt.proofs.RowLemmas.{after-others}
 use Rattle.mdl_stmt.proofs.player.Player.after_commit.Goals as goal

@@ -2,7 +2,7 @@
 use Rattle.std.proofs.Common.{◌∙◌}
 use Rattle.std.proofs.Math.ListN.{drop_of_length-le}
 use Rattle.std.proofs.Math.Seq.{drop-cons}
-use Rattle.mdl_stmt.specs.Statements.{stands}
+use Rattle.mdl_rows.specs.Statements.{stands}
 use Rattle.mdl_stmt.proofs.DropLemmas.{leaves-then, each-done, each-ends, each-over}
 use Rattle.mdl_stmt.proofs.player.Player.all_stand.Goals as goal
 

@@ -1,11 +1,11 @@
 -- What was done so far comes to what is left to do.
 use Rattle.std.proofs.Common.{◌≡◌, None, drop}
 use Rattle.mdl_context.specs.Contexts.{Attends, LeavesOthers}
-use Rattle.mdl_stmt.specs.declared.reply.Reply.{Reply}
+use Rattle.mdl_rows.specs.declared.reply.Reply.{Reply}
 use Rattle.mdl_stmt.specs.Gets.{Comes}
-use Rattle.mdl_stmt.specs.Playing.{play}
-use Rattle.mdl_stmt.specs.Rows.{Row, for_each, ◌>>=◌}
-use Rattle.mdl_stmt.specs.Statements.{stands}
+use Rattle.mdl_rows.specs.Playing.{play}
+use Rattle.mdl_rows.specs.Rows.{Row, for_each, ◌>>=◌}
+use Rattle.mdl_rows.specs.Statements.{stands}
 use Rattle.mdl_stmt.proofs.player.Player.all_stand.Given as goal
 
 abbrev pub invariant-loop-ticket : goal.invariant-loop-ticket

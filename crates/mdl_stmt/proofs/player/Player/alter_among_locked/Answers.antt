@@ -2,10 +2,10 @@
 use Rattle.std.proofs.Common.{sym, ap, ◌∙◌}
 use Rattle.std.specs.Prelude.{find}
 use Rattle.mdl_key.specs.Keys.{key_eq}
-use Rattle.mdl_stmt.specs.declared.explicit.Locked.{Locked}
-use Rattle.mdl_stmt.specs.Playing.{play}
-use Rattle.mdl_stmt.specs.Sessions.{PlayerView}
-use Rattle.mdl_stmt.specs.Statements.{after_commit, alter_among_locked, commit_first}
+use Rattle.mdl_rows.specs.declared.state.Locked.{Locked}
+use Rattle.mdl_rows.specs.Playing.{play}
+use Rattle.mdl_stmt.specs.Players.{PlayerView}
+use Rattle.mdl_rows.specs.Statements.{after_commit, alter_among_locked, commit_first}
 use Rattle.mdl_stmt.proofs.AlterLemmas.{among-so}
 use Rattle.mdl_stmt.proofs.RunLemmas.{comes-as, comes-played, comes-same}
 use Rattle.mdl_stmt.proofs.player.Player.alter_among_locked.Goals as goal

@@ -1,5 +1,5 @@
 -- The stronger lock is had, waited for, or missed.
-use Rattle.mdl_stmt.specs.Statements.{alter_by_copy, raise_and_change}
+use Rattle.mdl_rows.specs.Statements.{alter_by_copy, raise_and_change}
 use Rattle.mdl_stmt.proofs.RunLemmas.{comes-played}
 use Rattle.mdl_stmt.proofs.player.Player.alter_by_copy.Goals as goal
 

@@ -1,10 +1,10 @@
 -- The session has no global read lock of its own, and locked tables or none.
 use Rattle.std.proofs.Common.{true, false, sym, ap, ◌∙◌}
 use Rattle.std.specs.Prelude.{is_some}
-use Rattle.mdl_stmt.specs.Playing.{play}
-use Rattle.mdl_stmt.specs.Sessions.{PlayerView}
-use Rattle.mdl_stmt.specs.States.{has_locked}
-use Rattle.mdl_stmt.specs.Statements.{after_commit, alter_among_locked, alter_first, commit_first}
+use Rattle.mdl_rows.specs.Playing.{play}
+use Rattle.mdl_stmt.specs.Players.{PlayerView}
+use Rattle.mdl_rows.specs.States.{has_locked}
+use Rattle.mdl_rows.specs.Statements.{after_commit, alter_among_locked, alter_first, commit_first}
 use Rattle.mdl_stmt.proofs.AlterLemmas.{first-so}
 use Rattle.mdl_stmt.proofs.RunLemmas.{comes-as, comes-played, comes-same}
 use Rattle.mdl_stmt.proofs.player.Player.alter_first.Goals as goal

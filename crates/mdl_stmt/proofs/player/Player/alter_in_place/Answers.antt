@@ -1,5 +1,5 @@
 -- The stronger lock is had, waited for, or missed.
-use Rattle.mdl_stmt.specs.Statements.{alter_in_place, reopen_and_change}
+use Rattle.mdl_rows.specs.Statements.{alter_in_place, reopen_and_change}
 use Rattle.mdl_stmt.proofs.RunLemmas.{comes-played}
 use Rattle.mdl_stmt.proofs.player.Player.alter_in_place.Goals as goal
 

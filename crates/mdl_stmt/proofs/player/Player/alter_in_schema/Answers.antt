@@ -1,9 +1,9 @@
 -- Whether the session has locked tables is looked at.
 use Rattle.std.proofs.Common.{true, false, sym, ap, ◌∙◌}
-use Rattle.mdl_stmt.specs.Playing.{play}
-use Rattle.mdl_stmt.specs.Sessions.{PlayerView}
-use Rattle.mdl_stmt.specs.States.{has_locked}
-use Rattle.mdl_stmt.specs.Statements.{alter_in_schema, alter_locked, alter_unlocked}
+use Rattle.mdl_rows.specs.Playing.{play}
+use Rattle.mdl_stmt.specs.Players.{PlayerView}
+use Rattle.mdl_rows.specs.States.{has_locked}
+use Rattle.mdl_rows.specs.Statements.{alter_in_schema, alter_locked, alter_unlocked}
 use Rattle.mdl_stmt.proofs.AlterLemmas.{in_schema-so}
 use Rattle.mdl_stmt.proofs.RunLemmas.{comes-as, comes-played, comes-same}
 use Rattle.mdl_stmt.proofs.player.Player.alter_in_schema.Goals as goal

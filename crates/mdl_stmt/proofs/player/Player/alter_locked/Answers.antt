@@ -1,5 +1,5 @@
 -- The clone of the lock is had, waited for, or missed.
-use Rattle.mdl_stmt.specs.Statements.{alter_locked_under, alter_locked}
+use Rattle.mdl_rows.specs.Statements.{alter_locked_under, alter_locked}
 use Rattle.mdl_stmt.proofs.RunLemmas.{comes-played}
 use Rattle.mdl_stmt.proofs.player.Player.alter_locked.Goals as goal
 

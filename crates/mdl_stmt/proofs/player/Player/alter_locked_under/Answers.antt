@@ -1,7 +1,7 @@
 -- The check, and then the stronger lock, which is had, waited for, or missed.
 use Rattle.mdl_key.specs.declared.mode.Mode.TheVariants.{X}
-use Rattle.mdl_stmt.specs.Rows.{Upgrade}
-use Rattle.mdl_stmt.specs.Statements.{alter_locked_under, change_and_lower}
+use Rattle.mdl_rows.specs.Rows.{Upgrade}
+use Rattle.mdl_rows.specs.Statements.{alter_locked_under, change_and_lower}
 use Rattle.mdl_stmt.proofs.RunLemmas.{comes-played, comes-then, comes-waits}
 use Rattle.mdl_stmt.proofs.player.Player.alter_locked_under.Goals as goal
 

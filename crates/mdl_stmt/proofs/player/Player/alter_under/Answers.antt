@@ -2,7 +2,7 @@
 use Rattle.std.proofs.Common.{sym, subst}
 use Rattle.mdl_syntax.specs.declared.statement.Algorithm.{Algorithm}
 use Rattle.mdl_stmt.specs.Gets.{IsPlayed}
-use Rattle.mdl_stmt.specs.Statements.{alter_by, alter_under}
+use Rattle.mdl_rows.specs.Statements.{alter_by, alter_under}
 use Rattle.mdl_stmt.proofs.RunLemmas.{comes-played}
 use Rattle.mdl_stmt.proofs.player.Player.alter_under.Goals as goal
 

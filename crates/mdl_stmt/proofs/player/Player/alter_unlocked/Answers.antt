@@ -1,5 +1,5 @@
 -- The table's lock is had, waited for, or missed.
-use Rattle.mdl_stmt.specs.Statements.{alter_under, alter_unlocked}
+use Rattle.mdl_rows.specs.Statements.{alter_under, alter_unlocked}
 use Rattle.mdl_stmt.proofs.RunLemmas.{comes-played}
 use Rattle.mdl_stmt.proofs.player.Player.alter_unlocked.Goals as goal
 

@@ -1,14 +1,15 @@
 -- Locked tables are given up, and then a transaction is open.
 use Rattle.std.proofs.Common.{ℕ, List, [], true, sym, ap, ◌∙◌, subst}
-use Rattle.mdl_stmt.specs.declared.ending.Ending.TheVariants.{Answers}
-use Rattle.mdl_stmt.specs.declared.explicit.Locked.{Locked}
-use Rattle.mdl_stmt.specs.declared.reply.Reply.TheVariants as reply
-use Rattle.mdl_stmt.specs.Endings.{closing}
+use Rattle.mdl_rows.specs.declared.ending.Ending.TheVariants.{Answers}
+use Rattle.mdl_rows.specs.declared.state.Locked.{Locked}
+use Rattle.mdl_rows.specs.declared.reply.Reply.TheVariants as reply
+use Rattle.mdl_rows.specs.Endings.{closing}
 use Rattle.mdl_stmt.specs.Gets.{Comes}
-use Rattle.mdl_stmt.specs.Playing.{play}
-use Rattle.mdl_stmt.specs.Rows.{Give, set, ◌>>◌}
-use Rattle.mdl_stmt.specs.Sessions.{PlayerView, player_of}
-use Rattle.mdl_stmt.specs.States.{ExplicitLocks, opened}
+use Rattle.mdl_rows.specs.Playing.{play}
+use Rattle.mdl_rows.specs.Rows.{Give, set, ◌>>◌}
+use Rattle.mdl_stmt.specs.Players.{PlayerView, player_of}
+use Rattle.mdl_rows.specs.States.{opened}
+use Rattle.mdl_stmt.specs.Players.{ExplicitLocks}
 use Rattle.mdl_stmt.proofs.RunLemmas.{comes-then}
 use Rattle.mdl_stmt.proofs.player.Player.begin.Goals as goal
 

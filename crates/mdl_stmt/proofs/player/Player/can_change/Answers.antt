@@ -3,9 +3,9 @@ use Rattle.std.proofs.Common.{◌≡◌, Bool, true, false, ap, arith}
 use Rattle.std.specs.Prelude.{nat_lt}
 use Rattle.std.proofs.lemmas.Bool.Decides.{nat_tests}
 use Rattle.mdl_defs.specs.declared.standing.Standing.{Standing}
-use Rattle.mdl_stmt.specs.declared.error_number.ErrorNumber.TheVariants.{VersionLimit}
-use Rattle.mdl_stmt.specs.Rows.{check, ◌>>=◌}
-use Rattle.mdl_stmt.specs.Statements.{has_version_left}
+use Rattle.mdl_rows.specs.declared.error_number.ErrorNumber.TheVariants.{VersionLimit}
+use Rattle.mdl_rows.specs.Rows.{check, ◌>>=◌}
+use Rattle.mdl_rows.specs.Statements.{has_version_left}
 use Rattle.mdl_stmt.proofs.CallLemmas.{comes-row}
 use Rattle.mdl_stmt.proofs.RunLemmas.{comes-then}
 use Rattle.mdl_stmt.proofs.player.Player.can_change.Goals as goal

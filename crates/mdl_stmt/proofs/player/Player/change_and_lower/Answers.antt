@@ -1,7 +1,7 @@
 -- The change is made and the lock is what it was, or memory is wanting.
 use Rattle.mdl_key.specs.declared.mode.Mode.TheVariants.{SNRW}
-use Rattle.mdl_stmt.specs.declared.reply.Reply.TheVariants as reply
-use Rattle.mdl_stmt.specs.Rows.{Give, downgrade, ◌>>◌}
+use Rattle.mdl_rows.specs.declared.reply.Reply.TheVariants as reply
+use Rattle.mdl_rows.specs.Rows.{Give, downgrade, ◌>>◌}
 use Rattle.mdl_stmt.proofs.RunLemmas.{comes-then}
 use Rattle.mdl_stmt.proofs.player.Player.change_and_lower.Goals as goal
 

@@ -1,6 +1,6 @@
 -- The change is made, or memory is wanting.
-use Rattle.mdl_stmt.specs.declared.reply.Reply.TheVariants as reply
-use Rattle.mdl_stmt.specs.Rows.{Give}
+use Rattle.mdl_rows.specs.declared.reply.Reply.TheVariants as reply
+use Rattle.mdl_rows.specs.Rows.{Give}
 use Rattle.mdl_stmt.proofs.player.Player.change_table.Goals as goal
 
 pub returns-in-Ok-clause-run : goal.returns-in-Ok-clause-run

@@ -3,10 +3,10 @@ use Rattle.std.proofs.Common.{◌∙◌, ◌≡◌, ap, sym, Bool, true, false, 
 use Rattle.std.specs.Prelude.{nat_lt}
 use Rattle.std.proofs.lemmas.Bool.Decides.{nat_tests}
 use Rattle.mdl_defs.specs.declared.standing.Standing.{Standing}
-use Rattle.mdl_stmt.specs.declared.error_number.ErrorNumber.TheVariants.{SchemaExists, VersionLimit}
-use Rattle.mdl_stmt.specs.declared.reply.Reply.{Reply}
-use Rattle.mdl_stmt.specs.Rows.{Row, check, ◌>>=◌, ◌>>◌}
-use Rattle.mdl_stmt.specs.Statements.{is_defined, has_version_left}
+use Rattle.mdl_rows.specs.declared.error_number.ErrorNumber.TheVariants.{SchemaExists, VersionLimit}
+use Rattle.mdl_rows.specs.declared.reply.Reply.{Reply}
+use Rattle.mdl_rows.specs.Rows.{Row, check, ◌>>=◌, ◌>>◌}
+use Rattle.mdl_rows.specs.Statements.{is_defined, has_version_left}
 use Rattle.mdl_stmt.proofs.CallLemmas.{comes-row}
 use Rattle.mdl_stmt.proofs.RunLemmas.{comes-then}
 use Rattle.mdl_stmt.proofs.player.Player.check_new_schema.Goals as goal

@@ -1,14 +1,15 @@
 -- Its tickets go; what it answers is how it ended.
 use Rattle.std.proofs.Common.{List, None, false, sym, subst}
 use Rattle.mdl_calls.specs.Words.{Runs}
-use Rattle.mdl_stmt.specs.declared.ending.Ending.{Ending}
-use Rattle.mdl_stmt.specs.declared.error_number.ErrorNumber.TheVariants.{Deadlock}
-use Rattle.mdl_stmt.specs.declared.reply.Reply.TheVariants as reply
-use Rattle.mdl_stmt.specs.declared.savepoint.Savepoint.{Savepoint}
-use Rattle.mdl_stmt.specs.Endings.{Ends, closing, ended, state_after}
+use Rattle.mdl_rows.specs.declared.ending.Ending.{Ending}
+use Rattle.mdl_rows.specs.declared.error_number.ErrorNumber.TheVariants.{Deadlock}
+use Rattle.mdl_rows.specs.declared.reply.Reply.TheVariants as reply
+use Rattle.mdl_rows.specs.declared.state.Savepoint.{Savepoint}
+use Rattle.mdl_rows.specs.Endings.{Ends, closing, ended, state_after}
 use Rattle.mdl_stmt.specs.Gets.{at_rest}
-use Rattle.mdl_stmt.specs.Sessions.{PlayerView, Session, player_of}
-use Rattle.mdl_stmt.specs.States.{closed}
+use Rattle.mdl_rows.specs.Sessions.{Session}
+use Rattle.mdl_stmt.specs.Players.{PlayerView, player_of}
+use Rattle.mdl_rows.specs.States.{closed}
 use Rattle.mdl_stmt.proofs.EndLemmas.{closes}
 use Rattle.mdl_stmt.proofs.player.Player.close.Goals as goal
 

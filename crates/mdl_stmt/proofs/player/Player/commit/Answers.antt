@@ -1,6 +1,6 @@
 -- Whether a transaction is open, and whether it wrote, decides what is done.
 use Rattle.std.proofs.Common.{sym, ap, ◌∙◌}
-use Rattle.mdl_stmt.specs.Sessions.{PlayerView}
+use Rattle.mdl_stmt.specs.Players.{PlayerView}
 use Rattle.mdl_stmt.proofs.RunLemmas.{commit-looked, commit-plain}
 use Rattle.mdl_stmt.proofs.player.Player.commit.Goals as goal
 

@@ -1,5 +1,5 @@
 -- The statement follows the commit.
-use Rattle.mdl_stmt.specs.Statements.{after_commit, commit_first}
+use Rattle.mdl_rows.specs.Statements.{after_commit, commit_first}
 use Rattle.mdl_stmt.proofs.RunLemmas.{comes-played}
 use Rattle.mdl_stmt.proofs.player.Player.commit_first.Goals as goal
 

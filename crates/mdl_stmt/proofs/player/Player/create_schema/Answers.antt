@@ -4,7 +4,7 @@ use Rattle.mdl_key.specs.Keys.{KeyName, global_key}
 use Rattle.mdl_key.specs.declared.mode.Mode.TheVariants.{IX}
 use Rattle.mdl_key.specs.declared.mode.Duration.TheVariants.{Statement}
 use Rattle.mdl_stmt.specs.Gets.{IsGot}
-use Rattle.mdl_stmt.specs.Statements.{create_schema_after_commit, lock_and_create_schema}
+use Rattle.mdl_rows.specs.Statements.{create_schema_after_commit, lock_and_create_schema}
 use Rattle.mdl_stmt.proofs.RunLemmas.{comes-played}
 use Rattle.mdl_stmt.proofs.player.Player.create_schema.Goals as goal
 

@@ -1,8 +1,8 @@
 -- Each check, and then the change.
 use Rattle.mdl_defs.specs.declared.change.Change.TheVariants.{Create}
 use Rattle.mdl_defs.specs.declared.definition.Definition.TheVariants.{Schema}
-use Rattle.mdl_stmt.specs.declared.reply.Reply.TheVariants as reply
-use Rattle.mdl_stmt.specs.Rows.{Give, redefine, ◌>>◌}
+use Rattle.mdl_rows.specs.declared.reply.Reply.TheVariants as reply
+use Rattle.mdl_rows.specs.Rows.{Give, redefine, ◌>>◌}
 use Rattle.mdl_stmt.proofs.RunLemmas.{comes-then}
 use Rattle.mdl_stmt.proofs.player.Player.create_schema_under.Goals as goal
 

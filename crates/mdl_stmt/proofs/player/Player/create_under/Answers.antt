@@ -1,7 +1,7 @@
 -- Each check, and then the change.
-use Rattle.mdl_stmt.specs.declared.reply.Reply.TheVariants as reply
-use Rattle.mdl_stmt.specs.Rows.{Give, ◌>>◌}
-use Rattle.mdl_stmt.specs.Statements.{check_new, make_table}
+use Rattle.mdl_rows.specs.declared.reply.Reply.TheVariants as reply
+use Rattle.mdl_rows.specs.Rows.{Give, ◌>>◌}
+use Rattle.mdl_rows.specs.Statements.{check_new, make_table}
 use Rattle.mdl_stmt.proofs.RunLemmas.{comes-then}
 use Rattle.mdl_stmt.proofs.player.Player.create_under.Goals as goal
 

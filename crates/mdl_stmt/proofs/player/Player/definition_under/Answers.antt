@@ -1,7 +1,7 @@
 -- What stands is looked at.
 use Rattle.mdl_defs.specs.declared.standing.Standing.{Standing}
-use Rattle.mdl_stmt.specs.Rows.{◌>>=◌}
-use Rattle.mdl_stmt.specs.Statements.{has_definition}
+use Rattle.mdl_rows.specs.Rows.{◌>>=◌}
+use Rattle.mdl_rows.specs.Statements.{has_definition}
 use Rattle.mdl_stmt.proofs.CallLemmas.{found-step}
 use Rattle.mdl_stmt.proofs.player.Player.definition_under.Goals as goal
 

@@ -3,7 +3,7 @@ use Rattle.std.proofs.Common.{◌∙◌}
 use Rattle.std.proofs.Math.ListN.{drop_of_length-le}
 use Rattle.std.proofs.Math.Seq.{drop-cons}
 use Rattle.mdl_defs.specs.declared.change.Change.TheVariants as change
-use Rattle.mdl_stmt.specs.Rows.{redefine}
+use Rattle.mdl_rows.specs.Rows.{redefine}
 use Rattle.mdl_stmt.proofs.DropLemmas.{leaves-then, each-done, each-ends, each-over}
 use Rattle.mdl_stmt.proofs.player.Player.drop_all.Goals as goal
 

@@ -1,12 +1,12 @@
 -- The schema is there, its tables are told, and their locks are asked for.
 use Rattle.std.proofs.Common.{ℕ, List, [], map, subst}
 use Rattle.mdl_key.specs.Keys.{KeyName}
-use Rattle.mdl_stmt.specs.declared.reply.Reply.{Reply}
+use Rattle.mdl_rows.specs.declared.reply.Reply.{Reply}
 use Rattle.mdl_stmt.specs.Gets.{IsPlayed}
 use Rattle.mdl_stmt.specs.LockLists.{LockList}
-use Rattle.mdl_stmt.specs.Rows.{Row, acquire_all, room, ◌>>=◌, ◌>>◌}
+use Rattle.mdl_rows.specs.Rows.{Row, acquire_all, room, ◌>>=◌, ◌>>◌}
 use Rattle.mdl_stmt.specs.Stages.{lock_rest}
-use Rattle.mdl_stmt.specs.Statements.{ddl_lock, drop_schema_under, drop_with, tables_in}
+use Rattle.mdl_rows.specs.Statements.{ddl_lock, drop_schema_under, drop_with, tables_in}
 use Rattle.mdl_stmt.proofs.CallLemmas.{room-found}
 use Rattle.mdl_stmt.proofs.RunLemmas.{comes-then, comes-played}
 use Rattle.mdl_stmt.proofs.ToldKeyLemmas.{room-missed}

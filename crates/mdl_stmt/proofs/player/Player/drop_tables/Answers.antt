@@ -1,13 +1,13 @@
 -- Memory for the keys was there, and their locks were asked for.
 use Rattle.std.proofs.Common.{List, [], ◌∷◌, map, ◌∙◌, ap, subst}
 use Rattle.mdl_key.specs.Keys.{KeyName, global_key}
-use Rattle.mdl_stmt.specs.declared.reply.Reply.{Reply}
+use Rattle.mdl_rows.specs.declared.reply.Reply.{Reply}
 use Rattle.mdl_stmt.specs.Gets.{IsPlayed}
-use Rattle.mdl_stmt.specs.KeyOrder.{in_key_order}
+use Rattle.mdl_rows.specs.KeyOrder.{in_key_order}
 use Rattle.mdl_stmt.specs.LockLists.{LockList}
-use Rattle.mdl_stmt.specs.Rows.{Row, Room}
+use Rattle.mdl_rows.specs.Rows.{Row, Room}
 use Rattle.mdl_stmt.specs.Stages.{lock_rest}
-use Rattle.mdl_stmt.specs.Statements.{lock_and_drop, schema_of}
+use Rattle.mdl_rows.specs.Statements.{lock_and_drop, schema_of}
 use Rattle.mdl_stmt.proofs.CallLemmas.{room-found}
 use Rattle.mdl_stmt.proofs.RunLemmas.{comes-played}
 use Rattle.mdl_stmt.proofs.player.Player.drop_tables.Goals as goal

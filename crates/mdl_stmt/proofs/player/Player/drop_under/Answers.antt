@@ -1,9 +1,9 @@
 -- Each check of each table, and then the changes.
 use Rattle.mdl_defs.specs.declared.change.Change.TheVariants as change
-use Rattle.mdl_stmt.specs.declared.reply.Reply.{Reply}
-use Rattle.mdl_stmt.specs.declared.reply.Reply.TheVariants as reply
-use Rattle.mdl_stmt.specs.Rows.{Row, Give, for_each, redefine, ◌>>◌}
-use Rattle.mdl_stmt.specs.Statements.{can_change}
+use Rattle.mdl_rows.specs.declared.reply.Reply.{Reply}
+use Rattle.mdl_rows.specs.declared.reply.Reply.TheVariants as reply
+use Rattle.mdl_rows.specs.Rows.{Row, Give, for_each, redefine, ◌>>◌}
+use Rattle.mdl_rows.specs.Statements.{can_change}
 use Rattle.mdl_stmt.proofs.RunLemmas.{comes-then}
 use Rattle.mdl_stmt.proofs.player.Player.drop_under.Goals as goal
 

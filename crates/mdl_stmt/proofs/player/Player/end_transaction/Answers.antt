@@ -1,10 +1,10 @@
 -- The tickets go, and then no transaction is open.
 use Rattle.std.proofs.Common.{Ok, sym, subst}
-use Rattle.mdl_stmt.specs.declared.savepoint.Savepoint.{Savepoint}
+use Rattle.mdl_rows.specs.declared.state.Savepoint.{Savepoint}
 use Rattle.std.specs.Prelude.{List, false}
 use Rattle.mdl_stmt.specs.Gets.{IsStep}
-use Rattle.mdl_stmt.specs.Sessions.{PlayerView, player_of}
-use Rattle.mdl_stmt.specs.Statements.{end_transaction}
+use Rattle.mdl_stmt.specs.Players.{PlayerView, player_of}
+use Rattle.mdl_rows.specs.Statements.{end_transaction}
 use Rattle.mdl_stmt.proofs.RunLemmas.{closed-then}
 use Rattle.mdl_stmt.proofs.player.Player.end_transaction.Goals as goal
 

@@ -1,9 +1,9 @@
 -- The transaction ends, and then its lock goes.
 use Rattle.std.proofs.Common.{subst}
 use Rattle.mdl_stmt.specs.Gets.{Comes}
-use Rattle.mdl_stmt.specs.Playing.{play}
-use Rattle.mdl_stmt.specs.Rows as row
-use Rattle.mdl_stmt.specs.Sessions.{PlayerView, player_of}
+use Rattle.mdl_rows.specs.Playing.{play}
+use Rattle.mdl_rows.specs.Rows as row
+use Rattle.mdl_stmt.specs.Players.{PlayerView, player_of}
 use Rattle.mdl_stmt.proofs.RunLemmas.{released, comes-then}
 use Rattle.mdl_stmt.proofs.player.Player.end_under.Goals as goal
 

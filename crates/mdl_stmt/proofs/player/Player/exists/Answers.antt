@@ -1,9 +1,9 @@
 -- What stands is looked at.
 use Rattle.std.proofs.Common.{◌∙◌, ap, Bool, not}
 use Rattle.mdl_defs.specs.declared.standing.Standing.{Standing}
-use Rattle.mdl_stmt.specs.declared.error_number.ErrorNumber.TheVariants.{NoSuchTable}
-use Rattle.mdl_stmt.specs.Rows.{Give, check, ◌>>=◌, ◌>>◌}
-use Rattle.mdl_stmt.specs.Statements.{is_defined}
+use Rattle.mdl_rows.specs.declared.error_number.ErrorNumber.TheVariants.{NoSuchTable}
+use Rattle.mdl_rows.specs.Rows.{Give, check, ◌>>=◌, ◌>>◌}
+use Rattle.mdl_rows.specs.Statements.{is_defined}
 use Rattle.mdl_stmt.proofs.CallLemmas.{comes-row}
 use Rattle.mdl_stmt.proofs.RunLemmas.{comes-then}
 use Rattle.mdl_stmt.proofs.player.Player.exists.Goals as goal

@@ -2,9 +2,9 @@
 use Rattle.std.proofs.Common.{subst}
 use Rattle.mdl_context.specs.Contexts.{ContextView}
 use Rattle.mdl_context.specs.Wishes.{wish_of}
-use Rattle.mdl_stmt.specs.declared.ending.Got.TheVariants.{Had, Ends}
+use Rattle.mdl_stmt.specs.declared.got.Got.TheVariants.{Had, Ends}
 use Rattle.mdl_stmt.specs.Gets.{IsGot}
-use Rattle.mdl_stmt.specs.Sessions.{PlayerView, player_of}
+use Rattle.mdl_stmt.specs.Players.{PlayerView, player_of}
 use Rattle.mdl_stmt.proofs.RunLemmas.{got-had, got-error, got-told}
 use Rattle.mdl_stmt.proofs.player.Player.get.Goals as goal
 

@@ -5,7 +5,7 @@ use Rattle.mdl_key.specs.declared.mode.Mode.TheVariants.{S}
 use Rattle.mdl_key.specs.declared.mode.Duration.TheVariants.{Explicit}
 use Rattle.mdl_context.specs.Wishes.{Wish}
 use Rattle.mdl_stmt.specs.Gets.{IsGot}
-use Rattle.mdl_stmt.specs.Statements.{get_read_lock, lock_commits}
+use Rattle.mdl_rows.specs.Statements.{get_read_lock, lock_commits}
 use Rattle.mdl_stmt.proofs.RunLemmas.{comes-played}
 use Rattle.mdl_stmt.proofs.player.Player.get_read_lock.Goals as goal
 

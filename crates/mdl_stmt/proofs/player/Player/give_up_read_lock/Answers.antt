@@ -1,13 +1,14 @@
 -- The tickets go, and then there is no global read lock.
 use Rattle.std.proofs.Common.{Option, sym, ap, subst, ◌∙◌}
-use Rattle.mdl_stmt.specs.declared.explicit.ReadLock.{ReadLock}
-use Rattle.mdl_stmt.specs.declared.reply.Reply.{Reply}
+use Rattle.mdl_rows.specs.declared.state.ReadLock.{ReadLock}
+use Rattle.mdl_rows.specs.declared.reply.Reply.{Reply}
 use Rattle.mdl_stmt.specs.Gets.{Comes, at_rest}
-use Rattle.mdl_stmt.specs.Playing.{play}
-use Rattle.mdl_stmt.specs.Rows.{Row, set, ◌>>=◌, ◌>>◌}
-use Rattle.mdl_stmt.specs.Sessions.{PlayerView, player_of}
-use Rattle.mdl_stmt.specs.States.{ExplicitLocks, without_read_lock}
-use Rattle.mdl_stmt.specs.Statements.{give_up_read_lock, release_read_lock}
+use Rattle.mdl_rows.specs.Playing.{play}
+use Rattle.mdl_rows.specs.Rows.{Row, set, ◌>>=◌, ◌>>◌}
+use Rattle.mdl_stmt.specs.Players.{PlayerView, player_of}
+use Rattle.mdl_rows.specs.States.{without_read_lock}
+use Rattle.mdl_stmt.specs.Players.{ExplicitLocks}
+use Rattle.mdl_rows.specs.Statements.{give_up_read_lock, release_read_lock}
 use Rattle.mdl_stmt.proofs.RowLemmas.{bind-assoc}
 use Rattle.mdl_stmt.proofs.RunLemmas.{comes-as, comes-then}
 use Rattle.mdl_stmt.proofs.player.Player.give_up_read_lock.Goals as goal

@@ -3,12 +3,12 @@ use Rattle.std.proofs.Common.{Some, Ok, Err, refl, subst}
 use Rattle.mdl_calls.specs.Words.{Runs, ◌>>=◌}
 use Rattle.mdl_context.specs.Contexts.{ContextView}
 use Rattle.mdl_context.specs.declared.request.Resume.TheVariants as resume
-use Rattle.mdl_stmt.specs.declared.ending.Ending.{Ending}
-use Rattle.mdl_stmt.specs.Endings.{Waits_on, closing}
+use Rattle.mdl_rows.specs.declared.ending.Ending.{Ending}
+use Rattle.mdl_rows.specs.Endings.{Waits_on, closing}
 use Rattle.mdl_stmt.specs.Gets.{at_rest, ran}
-use Rattle.mdl_stmt.specs.Keepings.{going_on_kept, keeping}
+use Rattle.mdl_rows.specs.Keepings.{going_on_kept, keeping}
 use Rattle.mdl_stmt.specs.KeptStages.{session_with}
-use Rattle.mdl_stmt.specs.Sessions.{PlayerView, player_of}
+use Rattle.mdl_stmt.specs.Players.{PlayerView, player_of}
 use Rattle.mdl_stmt.proofs.KeepLemmas.{ends-kept, goes-on-kept}
 use Rattle.mdl_stmt.proofs.player.Player.go_on_kept.Goals as goal
 

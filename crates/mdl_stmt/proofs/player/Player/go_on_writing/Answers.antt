@@ -1,12 +1,12 @@
 -- Under the COMMIT lock a write that is a transaction of its own ends, and is done.
 use Rattle.std.proofs.Common.{sym, subst}
-use Rattle.mdl_stmt.specs.declared.ending.Ending.TheVariants.{Answers}
-use Rattle.mdl_stmt.specs.declared.reply.Reply.TheVariants as reply
+use Rattle.mdl_rows.specs.declared.ending.Ending.TheVariants.{Answers}
+use Rattle.mdl_rows.specs.declared.reply.Reply.TheVariants as reply
 use Rattle.mdl_stmt.specs.declared.stage.Writing.{Writing}
-use Rattle.mdl_stmt.specs.Endings.{closing}
+use Rattle.mdl_rows.specs.Endings.{closing}
 use Rattle.mdl_stmt.specs.Gets.{Comes}
-use Rattle.mdl_stmt.specs.Playing.{play}
-use Rattle.mdl_stmt.specs.Rows.{Give}
+use Rattle.mdl_rows.specs.Playing.{play}
+use Rattle.mdl_rows.specs.Rows.{Give}
 use Rattle.mdl_stmt.specs.Stages.{rest_of_writing}
 use Rattle.mdl_stmt.proofs.player.Player.go_on_writing.Goals as goal
 

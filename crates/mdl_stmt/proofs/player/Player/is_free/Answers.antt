@@ -1,9 +1,9 @@
 -- What stands is looked at.
 use Rattle.std.proofs.Common.{◌∙◌, ap, sym, Bool, not}
 use Rattle.mdl_defs.specs.declared.standing.Standing.{Standing}
-use Rattle.mdl_stmt.specs.declared.error_number.ErrorNumber.TheVariants.{TableExists}
-use Rattle.mdl_stmt.specs.Rows.{check, ◌>>=◌}
-use Rattle.mdl_stmt.specs.Statements.{is_defined}
+use Rattle.mdl_rows.specs.declared.error_number.ErrorNumber.TheVariants.{TableExists}
+use Rattle.mdl_rows.specs.Rows.{check, ◌>>=◌}
+use Rattle.mdl_rows.specs.Statements.{is_defined}
 use Rattle.mdl_stmt.proofs.CallLemmas.{comes-row}
 use Rattle.mdl_stmt.proofs.RunLemmas.{comes-then}
 use Rattle.mdl_stmt.proofs.player.Player.is_free.Goals as goal

@@ -2,11 +2,11 @@
 use Rattle.std.proofs.Common.{◌≡◌, None, List, [], drop}
 use Rattle.mdl_key.specs.Keys.{KeyName}
 use Rattle.mdl_context.specs.Contexts.{Attends, LeavesOthers}
-use Rattle.mdl_stmt.specs.declared.reply.Reply.{Reply}
+use Rattle.mdl_rows.specs.declared.reply.Reply.{Reply}
 use Rattle.mdl_stmt.specs.Gets.{Comes}
-use Rattle.mdl_stmt.specs.Playing.{play}
-use Rattle.mdl_stmt.specs.Rows.{Row, ◌>>=◌}
-use Rattle.mdl_stmt.specs.Statements.{keys_of}
+use Rattle.mdl_rows.specs.Playing.{play}
+use Rattle.mdl_rows.specs.Rows.{Row, ◌>>=◌}
+use Rattle.mdl_rows.specs.Statements.{keys_of}
 use Rattle.mdl_stmt.proofs.player.Player.keys_of.Given as goal
 
 abbrev pub invariant-loop-place : goal.invariant-loop-place

@@ -1,5 +1,5 @@
 -- The table's lock is had, waited for, or missed.
-use Rattle.mdl_stmt.specs.Statements.{lock_and_create, create_under}
+use Rattle.mdl_rows.specs.Statements.{lock_and_create, create_under}
 use Rattle.mdl_stmt.proofs.RunLemmas.{comes-played}
 use Rattle.mdl_stmt.proofs.player.Player.lock_and_create.Goals as goal
 

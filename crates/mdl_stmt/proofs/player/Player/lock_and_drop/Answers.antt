@@ -2,11 +2,11 @@
 use Rattle.std.proofs.Common.{List, [], ◌∙◌, ap, subst}
 use Rattle.mdl_key.specs.Keys.{KeyName}
 use Rattle.mdl_stmt.specs.Gets.{IsPlayed}
-use Rattle.mdl_stmt.specs.KeyOrder.{in_key_order}
+use Rattle.mdl_rows.specs.KeyOrder.{in_key_order}
 use Rattle.mdl_stmt.specs.LockLists.{LockList}
-use Rattle.mdl_stmt.specs.Rows.{Room}
+use Rattle.mdl_rows.specs.Rows.{Room}
 use Rattle.mdl_stmt.specs.Stages.{lock_rest}
-use Rattle.mdl_stmt.specs.Statements.{drop_under}
+use Rattle.mdl_rows.specs.Statements.{drop_under}
 use Rattle.mdl_stmt.proofs.CallLemmas.{room-found}
 use Rattle.mdl_stmt.proofs.RunLemmas.{comes-played}
 use Rattle.mdl_stmt.proofs.player.Player.lock_and_drop.Goals as goal

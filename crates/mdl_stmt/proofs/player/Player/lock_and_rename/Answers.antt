@@ -1,13 +1,14 @@
 -- Memory for the keys was there, and their locks were asked for.
 use Rattle.std.proofs.Common.{◌≡◌, ℕ, List, [], ◌∙◌, ap, subst}
 use Rattle.mdl_key.specs.Keys.{KeyName}
-use Rattle.mdl_stmt.specs.declared.reply.Reply.{Reply}
+use Rattle.mdl_rows.specs.declared.reply.Reply.{Reply}
 use Rattle.mdl_stmt.specs.Gets.{IsPlayed}
-use Rattle.mdl_stmt.specs.KeyOrder.{in_key_order}
-use Rattle.mdl_stmt.specs.LockLists.{LockList, ticket_of}
-use Rattle.mdl_stmt.specs.Rows.{Row, Room}
+use Rattle.mdl_rows.specs.KeyOrder.{in_key_order}
+use Rattle.mdl_rows.specs.KeyOrder.{ticket_of}
+use Rattle.mdl_stmt.specs.LockLists.{LockList}
+use Rattle.mdl_rows.specs.Rows.{Row, Room}
 use Rattle.mdl_stmt.specs.Stages.{rename_names}
-use Rattle.mdl_stmt.specs.Statements.{both_names, schema_of}
+use Rattle.mdl_rows.specs.Statements.{both_names, schema_of}
 use Rattle.mdl_stmt.proofs.CallLemmas.{room-found}
 use Rattle.mdl_stmt.proofs.RunLemmas.{comes-played}
 use Rattle.mdl_stmt.proofs.player.Player.lock_and_rename.Goals as goal

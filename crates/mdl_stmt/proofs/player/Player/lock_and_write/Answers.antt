@@ -4,7 +4,7 @@ use Rattle.mdl_key.specs.declared.mode.Mode.{Mode}
 use Rattle.mdl_key.specs.declared.mode.Duration.TheVariants.{Transaction}
 use Rattle.mdl_context.specs.Wishes.{Wish}
 use Rattle.mdl_stmt.specs.Gets.{IsGot}
-use Rattle.mdl_stmt.specs.Statements.{lock_and_write, write_mode, write_under}
+use Rattle.mdl_rows.specs.Statements.{lock_and_write, write_mode, write_under}
 use Rattle.mdl_stmt.proofs.RunLemmas.{comes-played}
 use Rattle.mdl_stmt.proofs.player.Player.lock_and_write.Goals as goal
 

@@ -1,6 +1,6 @@
 -- All locks are had, or one is waited for.
 use Rattle.mdl_stmt.specs.Stages.{lock_rest}
-use Rattle.mdl_stmt.specs.Statements.{lock_named}
+use Rattle.mdl_rows.specs.Statements.{lock_named}
 use Rattle.mdl_stmt.proofs.RunLemmas.{comes-played}
 use Rattle.mdl_stmt.proofs.player.Player.lock_around.Goals as goal
 

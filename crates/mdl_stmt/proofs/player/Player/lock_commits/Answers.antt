@@ -4,13 +4,13 @@ use Rattle.mdl_key.specs.Keys.{KeyName, commit_key}
 use Rattle.mdl_key.specs.declared.mode.Mode.TheVariants.{S}
 use Rattle.mdl_key.specs.declared.mode.Duration.TheVariants.{Explicit}
 use Rattle.mdl_context.specs.Wishes.{Wish}
-use Rattle.mdl_stmt.specs.declared.reply.Reply.{Reply}
+use Rattle.mdl_rows.specs.declared.reply.Reply.{Reply}
 use Rattle.mdl_stmt.specs.Gets.{Comes, IsGot}
-use Rattle.mdl_stmt.specs.Playing.{play}
-use Rattle.mdl_stmt.specs.Rows.{Row, Acquire}
-use Rattle.mdl_stmt.specs.Sessions.{PlayerView, player_of}
-use Rattle.mdl_stmt.specs.States.{ExplicitLocks}
-use Rattle.mdl_stmt.specs.Statements.{lock_commits, read_lock_under}
+use Rattle.mdl_rows.specs.Playing.{play}
+use Rattle.mdl_rows.specs.Rows.{Row, Acquire}
+use Rattle.mdl_stmt.specs.Players.{PlayerView, player_of}
+use Rattle.mdl_stmt.specs.Players.{ExplicitLocks}
+use Rattle.mdl_rows.specs.Statements.{lock_commits, read_lock_under}
 use Rattle.mdl_stmt.proofs.RunLemmas.{comes-then, comes-waits}
 use Rattle.mdl_stmt.proofs.player.Player.lock_commits.Goals as goal
 

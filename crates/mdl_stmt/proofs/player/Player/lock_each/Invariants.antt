@@ -1,10 +1,10 @@
 -- What was had so far comes to what is left to get.
 use Rattle.std.proofs.Common.{◌≡◌, ◌-◌, None, List, ℕ, length}
 use Rattle.mdl_context.specs.Contexts.{Attends, LeavesOthers}
-use Rattle.mdl_stmt.specs.declared.reply.Reply.{Reply}
+use Rattle.mdl_rows.specs.declared.reply.Reply.{Reply}
 use Rattle.mdl_stmt.specs.Gets.{Comes}
-use Rattle.mdl_stmt.specs.Playing.{play}
-use Rattle.mdl_stmt.specs.Rows.{Row}
+use Rattle.mdl_rows.specs.Playing.{play}
+use Rattle.mdl_rows.specs.Rows.{Row}
 use Rattle.mdl_stmt.specs.Stages.{lock_rest_by, wish_by}
 use Rattle.mdl_stmt.proofs.player.Player.lock_each.Given as goal
 

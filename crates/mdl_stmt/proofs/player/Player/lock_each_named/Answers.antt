@@ -1,14 +1,14 @@
 -- All locks are had, or one is waited for, and the list is of the same keys.
 use Rattle.std.proofs.Common.{List, ℕ, sym, subst}
 use Rattle.mdl_key.specs.Keys.{KeyName}
-use Rattle.mdl_stmt.specs.declared.ending.Played.TheVariants as played
-use Rattle.mdl_stmt.specs.declared.reply.Reply.{Reply}
+use Rattle.mdl_stmt.specs.declared.got.Played.TheVariants as played
+use Rattle.mdl_rows.specs.declared.reply.Reply.{Reply}
 use Rattle.mdl_stmt.specs.Gets.{IsPlayed, Waits}
 use Rattle.mdl_stmt.specs.LockLists.{with_ticket}
-use Rattle.mdl_stmt.specs.Playing.{play}
-use Rattle.mdl_stmt.specs.Rows.{Row}
+use Rattle.mdl_rows.specs.Playing.{play}
+use Rattle.mdl_rows.specs.Rows.{Row}
 use Rattle.mdl_stmt.specs.Stages.{lock_rest_by}
-use Rattle.mdl_stmt.specs.Statements.{keep_locked, table_lock}
+use Rattle.mdl_rows.specs.Statements.{keep_locked, table_lock}
 use Rattle.mdl_stmt.proofs.RunLemmas.{comes-then}
 use Rattle.mdl_stmt.proofs.player.Player.lock_each_named.Goals as goal
 

@@ -1,15 +1,15 @@
 -- The read lock is in the way, or not.
 use Rattle.std.proofs.Common.{Bool, not, refl, sym, ap, subst, ◌∙◌}
 use Rattle.std.specs.Prelude.{is_some}
-use Rattle.mdl_stmt.specs.declared.ending.Ending.{Ending}
-use Rattle.mdl_stmt.specs.declared.ending.Ending.TheVariants.{Answers}
-use Rattle.mdl_stmt.specs.declared.error_number.ErrorNumber.TheVariants.{ConflictingReadLock}
-use Rattle.mdl_stmt.specs.declared.reply.Reply.TheVariants as reply
-use Rattle.mdl_stmt.specs.Endings.{closing}
+use Rattle.mdl_rows.specs.declared.ending.Ending.{Ending}
+use Rattle.mdl_rows.specs.declared.ending.Ending.TheVariants.{Answers}
+use Rattle.mdl_rows.specs.declared.error_number.ErrorNumber.TheVariants.{ConflictingReadLock}
+use Rattle.mdl_rows.specs.declared.reply.Reply.TheVariants as reply
+use Rattle.mdl_rows.specs.Endings.{closing}
 use Rattle.mdl_stmt.specs.Gets.{Comes, at_rest}
-use Rattle.mdl_stmt.specs.Playing.{play}
-use Rattle.mdl_stmt.specs.Rows.{check, ◌>>◌}
-use Rattle.mdl_stmt.specs.Statements.{after_commit, commit_first, lock_first, writes_any}
+use Rattle.mdl_rows.specs.Playing.{play}
+use Rattle.mdl_rows.specs.Rows.{check, ◌>>◌}
+use Rattle.mdl_rows.specs.Statements.{after_commit, commit_first, lock_first, writes_any}
 use Rattle.mdl_stmt.proofs.LockTableLemmas.{first-so}
 use Rattle.mdl_stmt.proofs.RunLemmas.{comes-as, comes-played, comes-same}
 use Rattle.mdl_stmt.proofs.player.Player.lock_first.Goals as goal

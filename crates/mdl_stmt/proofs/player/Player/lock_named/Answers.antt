@@ -2,13 +2,13 @@
 use Rattle.std.proofs.Common.{List, [], ◌∙◌, ap, subst}
 use Rattle.mdl_syntax.specs.declared.table_locks.TableLock.{TableLock}
 use Rattle.mdl_syntax.specs.Forms.{tables_of}
-use Rattle.mdl_stmt.specs.declared.reply.Reply.{Reply}
+use Rattle.mdl_rows.specs.declared.reply.Reply.{Reply}
 use Rattle.mdl_stmt.specs.Gets.{IsPlayed}
-use Rattle.mdl_stmt.specs.KeyOrder.{in_key_order}
+use Rattle.mdl_rows.specs.KeyOrder.{in_key_order}
 use Rattle.mdl_stmt.specs.LockLists.{LockList}
-use Rattle.mdl_stmt.specs.Rows.{Row, Room}
+use Rattle.mdl_rows.specs.Rows.{Row, Room}
 use Rattle.mdl_stmt.specs.Stages.{lock_rest_by}
-use Rattle.mdl_stmt.specs.Statements.{keep_locked, table_lock}
+use Rattle.mdl_rows.specs.Statements.{keep_locked, table_lock}
 use Rattle.mdl_stmt.proofs.CallLemmas.{room-found}
 use Rattle.mdl_stmt.proofs.RunLemmas.{comes-played}
 use Rattle.mdl_stmt.proofs.player.Player.lock_named.Goals as goal

@@ -1,13 +1,14 @@
 -- All locks are had, or one is waited for.
 use Rattle.std.proofs.Common.{◌≡◌, ℕ, List, sym, subst}
 use Rattle.mdl_key.specs.Keys.{KeyName}
-use Rattle.mdl_stmt.specs.declared.reply.Reply.{Reply}
+use Rattle.mdl_rows.specs.declared.reply.Reply.{Reply}
 use Rattle.mdl_stmt.specs.Gets.{IsPlayed, Waits}
-use Rattle.mdl_stmt.specs.LockLists.{ticket_of, with_ticket}
-use Rattle.mdl_stmt.specs.Playing.{play}
-use Rattle.mdl_stmt.specs.Rows.{Row}
+use Rattle.mdl_rows.specs.KeyOrder.{ticket_of}
+use Rattle.mdl_stmt.specs.LockLists.{with_ticket}
+use Rattle.mdl_rows.specs.Playing.{play}
+use Rattle.mdl_rows.specs.Rows.{Row}
 use Rattle.mdl_stmt.specs.Stages.{rename_scopes}
-use Rattle.mdl_stmt.specs.Statements.{lock_and_rename, schema_of}
+use Rattle.mdl_rows.specs.Statements.{lock_and_rename, schema_of}
 use Rattle.mdl_stmt.proofs.RunLemmas.{comes-played}
 use Rattle.mdl_stmt.proofs.player.Player.lock_rename_scopes.Goals as goal
 

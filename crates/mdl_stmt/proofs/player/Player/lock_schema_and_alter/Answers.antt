@@ -5,8 +5,8 @@ use Rattle.mdl_key.specs.declared.mode.Mode.TheVariants.{IX}
 use Rattle.mdl_key.specs.declared.mode.Duration.TheVariants.{Transaction}
 use Rattle.mdl_context.specs.Wishes.{Wish}
 use Rattle.mdl_stmt.specs.Gets.{IsGot}
-use Rattle.mdl_stmt.specs.Rows.{Acquire}
-use Rattle.mdl_stmt.specs.Statements.{alter_in_schema, lock_schema_and_alter, schema_of}
+use Rattle.mdl_rows.specs.Rows.{Acquire}
+use Rattle.mdl_rows.specs.Statements.{alter_in_schema, lock_schema_and_alter, schema_of}
 use Rattle.mdl_stmt.proofs.CallLemmas.{room-found, room-waits}
 use Rattle.mdl_stmt.proofs.RunLemmas.{comes-then, comes-played}
 use Rattle.mdl_stmt.proofs.player.Player.lock_schema_and_alter.Goals as goal

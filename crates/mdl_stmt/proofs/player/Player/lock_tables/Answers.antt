@@ -1,6 +1,6 @@
 -- All locks are had, or one is waited for.
 use Rattle.mdl_stmt.specs.Stages.{lock_rest}
-use Rattle.mdl_stmt.specs.Statements.{drop_under}
+use Rattle.mdl_rows.specs.Statements.{drop_under}
 use Rattle.mdl_stmt.proofs.RunLemmas.{comes-played}
 use Rattle.mdl_stmt.proofs.player.Player.lock_tables.Goals as goal
 

@@ -1,12 +1,12 @@
 -- Earlier tables are given up; memory for the keys was there, or not, and their locks were asked for.
 use Rattle.std.proofs.Common.{List, [], ◌∙◌, ap, subst}
 use Rattle.mdl_syntax.specs.declared.table_locks.TableLock.{TableLock}
-use Rattle.mdl_stmt.specs.declared.reply.Reply.{Reply}
+use Rattle.mdl_rows.specs.declared.reply.Reply.{Reply}
 use Rattle.mdl_stmt.specs.Gets.{IsPlayed}
 use Rattle.mdl_stmt.specs.LockLists.{LockList}
-use Rattle.mdl_stmt.specs.Rows.{Row, Room}
+use Rattle.mdl_rows.specs.Rows.{Row, Room}
 use Rattle.mdl_stmt.specs.Stages.{lock_rest}
-use Rattle.mdl_stmt.specs.Statements.{lock_named, lock_tables_after_commit, scopes_around, written_tables}
+use Rattle.mdl_rows.specs.Statements.{lock_named, lock_tables_after_commit, scopes_around, written_tables}
 use Rattle.mdl_stmt.proofs.CallLemmas.{room-found}
 use Rattle.mdl_stmt.proofs.LockTableLemmas.{room-missed}
 use Rattle.mdl_stmt.proofs.RunLemmas.{comes-played, comes-then}

@@ -5,7 +5,7 @@ use Rattle.mdl_key.specs.declared.mode.Mode.TheVariants.{IX}
 use Rattle.mdl_key.specs.declared.mode.Duration.TheVariants.{Statement}
 use Rattle.mdl_context.specs.Wishes.{Wish}
 use Rattle.mdl_stmt.specs.Gets.{IsGot}
-use Rattle.mdl_stmt.specs.Statements.{lock_and_write, lock_writes}
+use Rattle.mdl_rows.specs.Statements.{lock_and_write, lock_writes}
 use Rattle.mdl_stmt.proofs.RunLemmas.{comes-played}
 use Rattle.mdl_stmt.proofs.player.Player.lock_writes.Goals as goal
 

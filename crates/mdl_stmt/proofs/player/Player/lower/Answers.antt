@@ -2,9 +2,9 @@
 use Rattle.std.proofs.Common.{subst}
 use Rattle.mdl_context.specs.Contexts.{ContextView}
 use Rattle.mdl_stmt.specs.Gets.{Comes}
-use Rattle.mdl_stmt.specs.Playing.{play}
-use Rattle.mdl_stmt.specs.Rows.{Downgrade}
-use Rattle.mdl_stmt.specs.Sessions.{PlayerView, player_of}
+use Rattle.mdl_rows.specs.Playing.{play}
+use Rattle.mdl_rows.specs.Rows.{Downgrade}
+use Rattle.mdl_stmt.specs.Players.{PlayerView, player_of}
 use Rattle.mdl_stmt.proofs.RunLemmas.{lowered}
 use Rattle.mdl_stmt.proofs.player.Player.lower.Goals as goal
 

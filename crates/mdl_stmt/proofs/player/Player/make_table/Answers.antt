@@ -3,7 +3,7 @@ use Rattle.std.proofs.Common.{ℕ, List, subst}
 use Rattle.mdl_defs.specs.declared.change.Change.TheVariants.{Create}
 use Rattle.mdl_defs.specs.declared.definition.Definition.TheVariants.{Table}
 use Rattle.mdl_stmt.specs.Gets.{IsStep}
-use Rattle.mdl_stmt.specs.Rows.{redefine}
+use Rattle.mdl_rows.specs.Rows.{redefine}
 use Rattle.mdl_stmt.proofs.CallLemmas.{room-step}
 use Rattle.mdl_stmt.proofs.player.Player.make_table.Goals as goal
 

@@ -1,8 +1,8 @@
 -- The check of both, and then each change.
 use Rattle.mdl_defs.specs.declared.change.Change.TheVariants as change
-use Rattle.mdl_stmt.specs.declared.reply.Reply.{Reply}
-use Rattle.mdl_stmt.specs.declared.reply.Reply.TheVariants as reply
-use Rattle.mdl_stmt.specs.Rows.{Row, Give, redefine, ◌>>◌}
+use Rattle.mdl_rows.specs.declared.reply.Reply.{Reply}
+use Rattle.mdl_rows.specs.declared.reply.Reply.TheVariants as reply
+use Rattle.mdl_rows.specs.Rows.{Row, Give, redefine, ◌>>◌}
 use Rattle.mdl_stmt.proofs.RunLemmas.{comes-then}
 use Rattle.mdl_stmt.proofs.player.Player.move_definition.Goals as goal
 

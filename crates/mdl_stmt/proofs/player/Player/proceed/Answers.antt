@@ -2,9 +2,9 @@
 use Rattle.std.proofs.Common.{sym, subst}
 use Rattle.mdl_stmt.specs.declared.stage.Stage.{Stage}
 use Rattle.mdl_stmt.specs.Gets.{IsPlayed}
-use Rattle.mdl_stmt.specs.Rows.{◌>>◌}
+use Rattle.mdl_rows.specs.Rows.{◌>>◌}
 use Rattle.mdl_stmt.specs.Stages.{rest_of}
-use Rattle.mdl_stmt.specs.Statements.{after_commit, end_under}
+use Rattle.mdl_rows.specs.Statements.{after_commit, end_under}
 use Rattle.mdl_stmt.proofs.RunLemmas.{comes-played}
 use Rattle.mdl_stmt.proofs.player.Player.proceed.Goals as goal
 

@@ -1,11 +1,11 @@
 -- What is lent of a stage leads to the same.
 use Rattle.std.proofs.Common.{ℕ, ap, sym, ◌∙◌, subst}
 use Rattle.mdl_calls.specs.Words.{Runs}
-use Rattle.mdl_stmt.specs.declared.reply.Reply.{Reply}
+use Rattle.mdl_rows.specs.declared.reply.Reply.{Reply}
 use Rattle.mdl_stmt.specs.Gets.{at_rest, ran}
-use Rattle.mdl_stmt.specs.Keepings.{play_kept}
+use Rattle.mdl_rows.specs.Keepings.{play_kept}
 use Rattle.mdl_stmt.specs.KeptStages.{rest_of_kept, session_with}
-use Rattle.mdl_stmt.specs.Rows.{Row}
+use Rattle.mdl_rows.specs.Rows.{Row}
 use Rattle.mdl_stmt.proofs.player.Player.proceed_kept.Goals as goal
 
 pub returns-in-Write-clause-run : goal.returns-in-Write-clause-run

@@ -1,9 +1,9 @@
 -- A stronger mode that is asked for is had, waited for, or missed.
 use Rattle.std.proofs.Common.{subst}
 use Rattle.mdl_context.specs.Contexts.{ContextView}
-use Rattle.mdl_stmt.specs.declared.ending.Got.TheVariants.{Had, Ends}
+use Rattle.mdl_stmt.specs.declared.got.Got.TheVariants.{Had, Ends}
 use Rattle.mdl_stmt.specs.Gets.{IsRaised}
-use Rattle.mdl_stmt.specs.Sessions.{PlayerView, player_of}
+use Rattle.mdl_stmt.specs.Players.{PlayerView, player_of}
 use Rattle.mdl_stmt.proofs.RunLemmas.{raised-had, raised-error, raised-told}
 use Rattle.mdl_stmt.proofs.player.Player.raise.Goals as goal
 

@@ -1,5 +1,5 @@
 -- The stronger lock is had, waited for, or missed.
-use Rattle.mdl_stmt.specs.Statements.{raise_and_change, change_table}
+use Rattle.mdl_rows.specs.Statements.{raise_and_change, change_table}
 use Rattle.mdl_stmt.proofs.RunLemmas.{comes-played}
 use Rattle.mdl_stmt.proofs.player.Player.raise_and_change.Goals as goal
 

@@ -1,8 +1,8 @@
 -- A ticket goes.
 use Rattle.std.proofs.Common.{Ok, subst}
 use Rattle.mdl_stmt.specs.Gets.{IsStep}
-use Rattle.mdl_stmt.specs.Rows.{release}
-use Rattle.mdl_stmt.specs.Sessions.{PlayerView, player_of}
+use Rattle.mdl_rows.specs.Rows.{release}
+use Rattle.mdl_stmt.specs.Players.{PlayerView, player_of}
 use Rattle.mdl_stmt.proofs.RunLemmas.{released}
 use Rattle.mdl_stmt.proofs.player.Player.release.Goals as goal
 

@@ -1,7 +1,7 @@
 -- The ticket goes, where there is one.
 use Rattle.std.proofs.Common.{Ok, Option, ℕ, sym, subst}
 use Rattle.mdl_stmt.specs.Gets.{IsStep}
-use Rattle.mdl_stmt.specs.Statements.{release_commits}
+use Rattle.mdl_rows.specs.Statements.{release_commits}
 use Rattle.mdl_stmt.proofs.player.Player.release_commits.Goals as goal
 
 pub returns-in-Some-clause-run : goal.returns-in-Some-clause-run

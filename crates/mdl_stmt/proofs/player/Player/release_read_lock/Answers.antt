@@ -1,9 +1,9 @@
 -- The ticket of the COMMIT lock goes, and then the other one.
 use Rattle.std.proofs.Common.{Ok, Option, sym, subst}
-use Rattle.mdl_stmt.specs.declared.explicit.ReadLock.{ReadLock}
+use Rattle.mdl_rows.specs.declared.state.ReadLock.{ReadLock}
 use Rattle.mdl_stmt.specs.Gets.{IsStep}
-use Rattle.mdl_stmt.specs.Rows.{release, ◌>>=◌}
-use Rattle.mdl_stmt.specs.Statements.{release_commits, release_read_lock}
+use Rattle.mdl_rows.specs.Rows.{release, ◌>>=◌}
+use Rattle.mdl_rows.specs.Statements.{release_commits, release_read_lock}
 use Rattle.mdl_stmt.proofs.CallLemmas.{comes-row}
 use Rattle.mdl_stmt.proofs.RowLemmas.{bind-assoc}
 use Rattle.mdl_stmt.proofs.RunLemmas.{comes-then}

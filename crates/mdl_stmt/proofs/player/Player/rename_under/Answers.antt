@@ -1,8 +1,8 @@
 -- Each check, and then the definition goes.
 use Rattle.mdl_defs.specs.declared.definition.Definition.{Definition}
-use Rattle.mdl_stmt.specs.declared.reply.Reply.{Reply}
-use Rattle.mdl_stmt.specs.Rows.{Row, ◌>>=◌, ◌>>◌}
-use Rattle.mdl_stmt.specs.Statements.{check_schema, definition_under, move_definition, rename_under}
+use Rattle.mdl_rows.specs.declared.reply.Reply.{Reply}
+use Rattle.mdl_rows.specs.Rows.{Row, ◌>>=◌, ◌>>◌}
+use Rattle.mdl_rows.specs.Statements.{check_schema, definition_under, move_definition, rename_under}
 use Rattle.mdl_stmt.proofs.RunLemmas.{comes-then, comes-played}
 use Rattle.mdl_stmt.proofs.player.Player.rename_under.Goals as goal
 

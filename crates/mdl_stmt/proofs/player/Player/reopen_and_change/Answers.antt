@@ -1,5 +1,5 @@
 -- The lock is what it was before, and then it is raised again.
-use Rattle.mdl_stmt.specs.Statements.{raise_and_change, reopen_and_change}
+use Rattle.mdl_rows.specs.Statements.{raise_and_change, reopen_and_change}
 use Rattle.mdl_stmt.proofs.RunLemmas.{comes-played}
 use Rattle.mdl_stmt.proofs.player.Player.reopen_and_change.Goals as goal
 

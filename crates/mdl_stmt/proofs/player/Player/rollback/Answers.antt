@@ -1,9 +1,9 @@
 -- An open transaction ends.
 use Rattle.std.proofs.Common.{true, sym, ap, ◌∙◌}
-use Rattle.mdl_stmt.specs.Playing.{play}
-use Rattle.mdl_stmt.specs.Rows.{◌>>=◌}
-use Rattle.mdl_stmt.specs.Sessions.{PlayerView}
-use Rattle.mdl_stmt.specs.Statements.{end_transaction, rollback}
+use Rattle.mdl_rows.specs.Playing.{play}
+use Rattle.mdl_rows.specs.Rows.{◌>>=◌}
+use Rattle.mdl_stmt.specs.Players.{PlayerView}
+use Rattle.mdl_rows.specs.Statements.{end_transaction, rollback}
 use Rattle.mdl_stmt.proofs.RunLemmas.{comes-as, rolled-so}
 use Rattle.mdl_stmt.proofs.player.Player.rollback.Goals as goal
 

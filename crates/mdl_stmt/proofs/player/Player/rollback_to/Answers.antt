@@ -1,14 +1,14 @@
 -- The session goes back, where there is such a savepoint.
 use Rattle.std.proofs.Common.{List, sym, subst, ◌∙◌}
-use Rattle.mdl_stmt.specs.declared.ending.Ending.TheVariants.{Answers}
-use Rattle.mdl_stmt.specs.declared.error_number.ErrorNumber.TheVariants.{NoSuchSavepoint}
-use Rattle.mdl_stmt.specs.declared.reply.Reply.TheVariants as reply
-use Rattle.mdl_stmt.specs.declared.savepoint.Savepoint.{Savepoint}
-use Rattle.mdl_stmt.specs.Endings.{closing}
+use Rattle.mdl_rows.specs.declared.ending.Ending.TheVariants.{Answers}
+use Rattle.mdl_rows.specs.declared.error_number.ErrorNumber.TheVariants.{NoSuchSavepoint}
+use Rattle.mdl_rows.specs.declared.reply.Reply.TheVariants as reply
+use Rattle.mdl_rows.specs.declared.state.Savepoint.{Savepoint}
+use Rattle.mdl_rows.specs.Endings.{closing}
 use Rattle.mdl_stmt.specs.Gets.{Comes}
-use Rattle.mdl_stmt.specs.Playing.{play}
-use Rattle.mdl_stmt.specs.Sessions.{PlayerView, player_of}
-use Rattle.mdl_stmt.specs.Statements.{rollback_to}
+use Rattle.mdl_rows.specs.Playing.{play}
+use Rattle.mdl_stmt.specs.Players.{PlayerView, player_of}
+use Rattle.mdl_rows.specs.Statements.{rollback_to}
 use Rattle.mdl_stmt.proofs.RunLemmas.{all-kept, no-savepoint, went-back}
 use Rattle.mdl_stmt.proofs.player.Player.rollback_to.Goals as goal
 

@@ -2,8 +2,8 @@
 use Rattle.std.proofs.Common.{◌≡◌, None, drop}
 use Rattle.mdl_context.specs.Contexts.{Attends, LeavesOthers}
 use Rattle.mdl_stmt.specs.Gets.{Comes}
-use Rattle.mdl_stmt.specs.Playing.{play}
-use Rattle.mdl_stmt.specs.Statements.{lock_to_read, show_all}
+use Rattle.mdl_rows.specs.Playing.{play}
+use Rattle.mdl_rows.specs.Statements.{lock_to_read, show_all}
 use Rattle.mdl_stmt.proofs.player.Player.show_from.Given as goal
 
 abbrev pub invariant-loop-at : goal.invariant-loop-at

@@ -2,8 +2,8 @@
 use Rattle.std.proofs.Common.{sym, ap, ◌∙◌}
 use Rattle.std.specs.Prelude.{find}
 use Rattle.mdl_key.specs.Keys.{key_eq}
-use Rattle.mdl_stmt.specs.declared.explicit.Locked.{Locked}
-use Rattle.mdl_stmt.specs.Sessions.{PlayerView}
+use Rattle.mdl_rows.specs.declared.state.Locked.{Locked}
+use Rattle.mdl_stmt.specs.Players.{PlayerView}
 use Rattle.mdl_stmt.proofs.UnlockLemmas.{held-step}
 use Rattle.mdl_stmt.proofs.player.Player.show_held.Goals as goal
 

@@ -2,8 +2,8 @@
 use Rattle.std.proofs.Common.{◌≡◌, None, [], drop}
 use Rattle.mdl_context.specs.Contexts.{Attends, LeavesOthers}
 use Rattle.mdl_stmt.specs.Gets.{Comes}
-use Rattle.mdl_stmt.specs.Playing.{play}
-use Rattle.mdl_stmt.specs.Statements.{lock_held, show_all}
+use Rattle.mdl_rows.specs.Playing.{play}
+use Rattle.mdl_rows.specs.Statements.{lock_held, show_all}
 use Rattle.mdl_stmt.proofs.player.Player.show_locked.Given as goal
 
 abbrev pub invariant-loop-table : goal.invariant-loop-table

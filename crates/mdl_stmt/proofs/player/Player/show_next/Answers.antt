@@ -1,7 +1,7 @@
 -- The table is shown, and then the others.
 use Rattle.std.proofs.Common.{drop, ◌+◌}
 use Rattle.mdl_stmt.specs.Stages.{show_next}
-use Rattle.mdl_stmt.specs.Statements.{lock_to_read, show_all}
+use Rattle.mdl_rows.specs.Statements.{lock_to_read, show_all}
 use Rattle.mdl_stmt.proofs.ListLemmas.{item-at, next-missed, next-shown}
 use Rattle.mdl_stmt.proofs.RunLemmas.{comes-played}
 use Rattle.mdl_stmt.proofs.player.Player.show_next.Goals as goal

@@ -1,7 +1,7 @@
 -- What stands is looked at.
 use Rattle.mdl_defs.specs.declared.standing.Standing.{Standing}
-use Rattle.mdl_stmt.specs.Rows.{nothing, ◌>>=◌}
-use Rattle.mdl_stmt.specs.Statements.{exists, stands}
+use Rattle.mdl_rows.specs.Rows.{nothing, ◌>>=◌}
+use Rattle.mdl_rows.specs.Statements.{exists, stands}
 use Rattle.mdl_stmt.proofs.CallLemmas.{comes-row}
 use Rattle.mdl_stmt.proofs.RowLemmas.{bind-assoc}
 use Rattle.mdl_stmt.proofs.RunLemmas.{comes-then}

@@ -4,10 +4,10 @@ use Rattle.mdl_calls.specs.Words.{Runs}
 use Rattle.mdl_context.specs.declared.request.Mark.{Mark}
 use Rattle.mdl_context.specs.Contexts.{mark_of}
 use Rattle.mdl_stmt.specs.Gets.{at_rest, ran}
-use Rattle.mdl_stmt.specs.Keepings.{play_kept}
+use Rattle.mdl_rows.specs.Keepings.{play_kept}
 use Rattle.mdl_stmt.specs.KeptStages.{session_with}
-use Rattle.mdl_stmt.specs.Sessions.{PlayerView}
-use Rattle.mdl_stmt.specs.Statements.{row_of}
+use Rattle.mdl_stmt.specs.Players.{PlayerView}
+use Rattle.mdl_rows.specs.Statements.{row_of}
 use Rattle.mdl_stmt.proofs.KeepLemmas.{settled-so}
 use Rattle.mdl_stmt.proofs.player.Player.start_kept.Goals as goal
 

@@ -2,8 +2,8 @@
 use Rattle.std.proofs.Common.{ℕ, List, [], Ok, Err, subst}
 use Rattle.mdl_key.specs.Keys.{KeyName}
 use Rattle.mdl_stmt.specs.Gets.{IsStep, items_told}
-use Rattle.mdl_stmt.specs.Rows.{tables_within, ◌>>=◌}
-use Rattle.mdl_stmt.specs.Statements.{keys_of}
+use Rattle.mdl_rows.specs.Rows.{tables_within, ◌>>=◌}
+use Rattle.mdl_rows.specs.Statements.{keys_of}
 use Rattle.mdl_stmt.proofs.ToldKeyLemmas.{step-then}
 use Rattle.mdl_stmt.proofs.player.Player.tables_in.Goals as goal
 

@@ -1,6 +1,6 @@
 -- The session has what it had.
 use Rattle.std.proofs.Common.{◌∙◌, ap, ◌≡◌, ℕ, Some}
-use Rattle.mdl_stmt.specs.Sessions.{PlayerView}
+use Rattle.mdl_stmt.specs.Players.{PlayerView}
 use Rattle.mdl_stmt.proofs.CallLemmas.{attends-call}
 use Rattle.mdl_stmt.proofs.player.Player.tables_of.Goals as goal
 

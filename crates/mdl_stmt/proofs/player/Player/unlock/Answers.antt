@@ -1,7 +1,7 @@
 -- Locked tables are given up, and then the global read lock.
-use Rattle.mdl_stmt.specs.declared.reply.Reply.TheVariants as reply
-use Rattle.mdl_stmt.specs.Rows.{Give, ◌>>◌}
-use Rattle.mdl_stmt.specs.Statements.{give_up_read_lock}
+use Rattle.mdl_rows.specs.declared.reply.Reply.TheVariants as reply
+use Rattle.mdl_rows.specs.Rows.{Give, ◌>>◌}
+use Rattle.mdl_rows.specs.Statements.{give_up_read_lock}
 use Rattle.mdl_stmt.proofs.RunLemmas.{comes-then}
 use Rattle.mdl_stmt.proofs.player.Player.unlock.Goals as goal
 

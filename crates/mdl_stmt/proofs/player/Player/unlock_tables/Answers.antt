@@ -1,11 +1,12 @@
 -- All tickets go, and then no table is locked.
 use Rattle.std.proofs.Common.{List, ℕ, Ok, sym, subst}
-use Rattle.mdl_stmt.specs.declared.explicit.Locked.{Locked}
+use Rattle.mdl_rows.specs.declared.state.Locked.{Locked}
 use Rattle.mdl_stmt.specs.Gets.{IsStep}
-use Rattle.mdl_stmt.specs.Rows.{for_each, release}
-use Rattle.mdl_stmt.specs.Sessions.{PlayerView, player_of, state_of}
-use Rattle.mdl_stmt.specs.States.{ExplicitLocks, State}
-use Rattle.mdl_stmt.specs.Statements.{unlock_tables}
+use Rattle.mdl_rows.specs.Rows.{for_each, release}
+use Rattle.mdl_stmt.specs.Players.{PlayerView, player_of, state_of}
+use Rattle.mdl_rows.specs.States.{State}
+use Rattle.mdl_stmt.specs.Players.{ExplicitLocks}
+use Rattle.mdl_rows.specs.Statements.{unlock_tables}
 use Rattle.mdl_stmt.proofs.UnlockLemmas.{seat, tickets_of, unlocks}
 use Rattle.mdl_stmt.proofs.player.Player.unlock_tables.Goals as goal
 

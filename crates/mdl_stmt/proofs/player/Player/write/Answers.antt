@@ -1,10 +1,10 @@
 -- No table is locked, and there is no global read lock of one's own.
 use Rattle.std.proofs.Common.{false, sym, ap, ◌∙◌}
 use Rattle.std.specs.Prelude.{is_some}
-use Rattle.mdl_stmt.specs.Playing.{play}
-use Rattle.mdl_stmt.specs.Sessions.{PlayerView}
-use Rattle.mdl_stmt.specs.States.{has_locked}
-use Rattle.mdl_stmt.specs.Statements.{lock_writes, write}
+use Rattle.mdl_rows.specs.Playing.{play}
+use Rattle.mdl_stmt.specs.Players.{PlayerView}
+use Rattle.mdl_rows.specs.States.{has_locked}
+use Rattle.mdl_rows.specs.Statements.{lock_writes, write}
 use Rattle.mdl_stmt.proofs.RowLemmas.{read_lock-so, write-so}
 use Rattle.mdl_stmt.proofs.RunLemmas.{comes-as, comes-played, comes-same}
 use Rattle.mdl_stmt.proofs.player.Player.write.Goals as goal

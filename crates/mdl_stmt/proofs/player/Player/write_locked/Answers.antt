@@ -2,10 +2,10 @@
 use Rattle.std.proofs.Common.{sym, ap, ◌∙◌}
 use Rattle.std.specs.Prelude.{find}
 use Rattle.mdl_key.specs.Keys.{key_eq}
-use Rattle.mdl_stmt.specs.declared.explicit.Locked.{Locked}
-use Rattle.mdl_stmt.specs.Playing.{play}
-use Rattle.mdl_stmt.specs.Sessions.{PlayerView}
-use Rattle.mdl_stmt.specs.Statements.{write_locked, wrote}
+use Rattle.mdl_rows.specs.declared.state.Locked.{Locked}
+use Rattle.mdl_rows.specs.Playing.{play}
+use Rattle.mdl_stmt.specs.Players.{PlayerView}
+use Rattle.mdl_rows.specs.Statements.{write_locked, wrote}
 use Rattle.mdl_stmt.proofs.RunLemmas.{comes-as, comes-played, comes-same}
 use Rattle.mdl_stmt.proofs.UnlockLemmas.{written-so}
 use Rattle.mdl_stmt.proofs.player.Player.write_locked.Goals as goal

@@ -1,5 +1,5 @@
 -- The table is there, and is written.
-use Rattle.mdl_stmt.specs.Statements.{wrote, write_under}
+use Rattle.mdl_rows.specs.Statements.{wrote, write_under}
 use Rattle.mdl_stmt.proofs.RunLemmas.{comes-played}
 use Rattle.mdl_stmt.proofs.player.Player.write_under.Goals as goal
 

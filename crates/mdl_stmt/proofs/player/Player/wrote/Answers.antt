@@ -1,10 +1,10 @@
 -- A write in no transaction is committed.
 use Rattle.std.proofs.Common.{sym, ap, ◌∙◌}
-use Rattle.mdl_stmt.specs.declared.reply.Reply.TheVariants as reply
-use Rattle.mdl_stmt.specs.Playing.{play}
-use Rattle.mdl_stmt.specs.Rows.{Give, ◌>>◌}
-use Rattle.mdl_stmt.specs.Sessions.{PlayerView}
-use Rattle.mdl_stmt.specs.Statements.{commit_writes, wrote}
+use Rattle.mdl_rows.specs.declared.reply.Reply.TheVariants as reply
+use Rattle.mdl_rows.specs.Playing.{play}
+use Rattle.mdl_rows.specs.Rows.{Give, ◌>>◌}
+use Rattle.mdl_stmt.specs.Players.{PlayerView}
+use Rattle.mdl_rows.specs.Statements.{commit_writes, wrote}
 use Rattle.mdl_stmt.proofs.RunLemmas.{comes-as, waits-as, wrote-so}
 use Rattle.mdl_stmt.proofs.player.Player.wrote.Goals as goal
 

@@ -1,10 +1,10 @@
 -- The wait goes on, and then the statement as the wait stands.
 use Rattle.std.proofs.Common.{◌≡◌, IsSome, rules, sym, subst}
 use Rattle.mdl_calls.specs.Words.{Runs}
-use Rattle.mdl_stmt.specs.Endings.{Waits_on}
+use Rattle.mdl_rows.specs.Endings.{Waits_on}
 use Rattle.mdl_stmt.specs.Gets.{ran}
-use Rattle.mdl_stmt.specs.Playing.{going_on}
-use Rattle.mdl_stmt.specs.Sessions.{RunnerView, state_of}
+use Rattle.mdl_rows.specs.Playing.{going_on}
+use Rattle.mdl_stmt.specs.Players.{RunnerView, state_of}
 use Rattle.mdl_stmt.specs.Stages.{session_of}
 use Rattle.mdl_stmt.proofs.EndLemmas.{ends-lost, ends-refused, goes-on-with, waits-still}
 use Rattle.mdl_stmt.proofs.runner.Runner.go_on.Goals as goal

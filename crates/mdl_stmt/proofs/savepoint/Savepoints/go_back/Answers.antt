@@ -1,7 +1,7 @@
 -- The savepoint stands at its place, where there is one.
 use Rattle.std.proofs.Common.{◌≡◌, rules, Some, None, ap, ◌∙◌, ◌+◌, take}
 use Rattle.std.specs.List.{position}
-use Rattle.mdl_stmt.specs.States.{is_named}
+use Rattle.mdl_rows.specs.States.{is_named}
 use Rattle.mdl_stmt.proofs.SavepointLemmas.{up_to-at, up_to-none, mark-at, mark-none}
 use Rattle.mdl_stmt.proofs.savepoint.Savepoints.go_back.Goals as goal
 

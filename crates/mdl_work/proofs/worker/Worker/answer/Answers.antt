@@ -2,9 +2,9 @@
 use Rattle.std.proofs.Common.{◌≡◌, Err, rules}
 use Rattle.mdl_calls.proofs.FaithfulLemmas.{each_reply}
 use Rattle.mdl_calls.proofs.RunLemmas.{runs_bind}
-use Rattle.mdl_stmt.specs.Endings.{Faults}
+use Rattle.mdl_rows.specs.Endings.{Faults}
 use Rattle.mdl_stmt.specs.Gets.{paused}
-use Rattle.mdl_stmt.specs.Playing.{starting}
+use Rattle.mdl_rows.specs.Playing.{starting}
 use Rattle.mdl_stmt.specs.Stages.{session_of}
 use Rattle.mdl_work.specs.Paces.{LeftWhileWaiting}
 use Rattle.mdl_work.specs.Works.{finishing, most_waits}

@@ -5,7 +5,7 @@ use Rattle.mdl_calls.specs.Words.{Runs}
 use Rattle.mdl_context.specs.Contexts.{LeavesOthers}
 use Rattle.mdl_context.proofs.OthersLemmas.{both-leave}
 use Rattle.mdl_syntax.specs.declared.script.Line.{Line}
-use Rattle.mdl_stmt.specs.Endings.{Ends, Faults}
+use Rattle.mdl_rows.specs.Endings.{Ends, Faults}
 use Rattle.mdl_stmt.specs.Stages.{session_of}
 use Rattle.mdl_work.specs.Works.{lines_of, making}
 use Rattle.mdl_work.proofs.WorkLemmas.{follows-all, follows-answered, follows-starved, follows-unkept, next-other, next-own, numbers-on}

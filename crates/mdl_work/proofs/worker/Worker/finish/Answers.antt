@@ -3,8 +3,8 @@ use Rattle.std.proofs.Common.{◌≡◌, ◌-◌, ◌+◌, ℕ, zero, suc, Err, 
 use Rattle.mdl_calls.specs.Words.{Runs}
 use Rattle.mdl_context.specs.Contexts.{LeavesOthers}
 use Rattle.mdl_context.proofs.OthersLemmas.{both-leave}
-use Rattle.mdl_stmt.specs.declared.reply.Progress.{Progress}
-use Rattle.mdl_stmt.specs.Endings.{Ends, Faults}
+use Rattle.mdl_stmt.specs.declared.progress.Progress.{Progress}
+use Rattle.mdl_rows.specs.Endings.{Ends, Faults}
 use Rattle.mdl_stmt.specs.Gets.{paused}
 use Rattle.mdl_stmt.specs.Stages.{session_of}
 use Rattle.mdl_work.specs.Works.{finishing, going_further, most_waits}

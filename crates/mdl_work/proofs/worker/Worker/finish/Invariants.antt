@@ -2,7 +2,7 @@
 use Rattle.std.proofs.Common.{◌≡◌, ◌-◌}
 use Rattle.mdl_calls.specs.Words.{Runs}
 use Rattle.mdl_context.specs.Contexts.{Attends, LeavesOthers}
-use Rattle.mdl_stmt.specs.Endings.{Pause}
+use Rattle.mdl_rows.specs.Endings.{Pause}
 use Rattle.mdl_stmt.specs.Gets.{paused}
 use Rattle.mdl_stmt.specs.Stages.{session_of}
 use Rattle.mdl_work.specs.Paces.{LeftWhileWaiting}

@@ -5,7 +5,7 @@ use Rattle.mdl_calls.proofs.FaithfulLemmas.{each_reply}
 use Rattle.mdl_calls.proofs.RunLemmas.{runs_bind}
 use Rattle.mdl_context.specs.Contexts.{LeavesOthers}
 use Rattle.mdl_context.proofs.OthersLemmas.{both-leave, leaves}
-use Rattle.mdl_stmt.specs.Playing.{going_on}
+use Rattle.mdl_rows.specs.Playing.{going_on}
 use Rattle.mdl_stmt.specs.Stages.{session_of}
 use Rattle.mdl_work.specs.Paces.{LeftWhileWaiting}
 use Rattle.mdl_work.specs.Works.{waiting_out}

@@ -1,0 +1,3 @@
+pub mod RowCalls
+pub mod RowMemory
+pub mod RowOutcomes

@@ -1,0 +1,89 @@
+-- How a statement ends, and what goes then. That a statement whose check failed keeps the locks of its transaction is after MySQL
+-- 5.7, the Reference Manual, "Metadata Locking"; that one which misses a lock goes back to where it began, and that a transaction
+-- stays open whose COMMIT lock was missed, is this project's own choice.
+use Rattle.std.specs.Prelude.{ℕ, Bool, true, List, Option, Some, None}
+use Rattle.mdl_key.specs.declared.mode.Mode.{Mode}
+use Rattle.mdl_key.specs.declared.mode.Duration.TheVariants as for
+use Rattle.mdl_key.specs.Keys.{KeyName}
+use Rattle.mdl_calls.specs.declared.answers.Settled.{Settled}
+use Rattle.mdl_calls.specs.declared.answers.Settled.TheVariants as settled
+use Rattle.mdl_calls.specs.declared.space_error.SpaceError.{SpaceError}
+use Rattle.mdl_calls.specs.declared.space_error.SpaceError.TheVariants as space
+use Rattle.mdl_calls.specs.Words.{Program, Give, ◌>>=◌}
+use Rattle.mdl_context.specs.declared.context_error.ContextError.{ContextError}
+use Rattle.mdl_context.specs.declared.context_error.ContextError.TheVariants.{Space}
+use Rattle.mdl_context.specs.declared.kept.Kept.{Kept}
+use Rattle.mdl_context.specs.declared.request.Mark.{Mark}
+use Rattle.mdl_context.specs.Contexts.{held_for, beyond_mark, of_transaction}
+use Rattle.mdl_context.specs.Releases.{giving_up, releasing}
+use Rattle.mdl_rows.specs.declared.ending.Ending.{Ending}
+use Rattle.mdl_rows.specs.declared.ending.Ending.TheVariants.{Answers, Misses, Falls, Starves}
+use Rattle.mdl_rows.specs.declared.error_number.ErrorNumber.TheVariants.{LockWaitTimeout, Deadlock, Interrupted, NoPlace, Full}
+use Rattle.mdl_rows.specs.declared.reply.Reply.{Reply}
+use Rattle.mdl_rows.specs.declared.reply.Reply.TheVariants as reply
+use Rattle.mdl_rows.specs.Sessions.{Session}
+use Rattle.mdl_rows.specs.States.{State, closed, half_lock, without_read_lock}
+
+-- how far a statement comes: it ends with a reply; it begins to wait, for a lock of this key in this mode; it waits on; or it
+-- ends for want of memory
+pub data Pause : Type 0 where
+  Ends : Reply → Session → Pause
+  Begins_to_wait : KeyName → Mode → Session → Pause
+  Waits_on : Session → Pause
+  Faults : Session → Pause
+
+-- how a statement ends whose wait was lost
+abbrev pub ending_of_loss : Settled → Ending
+ending_of_loss settled.Timeout = Misses LockWaitTimeout
+ending_of_loss settled.Killed = Misses Interrupted
+ending_of_loss _ = Falls
+
+-- how a statement ends that a lock space refuses something. This project's choice is that want of memory and of places are told as
+-- such, and any other refusal as want of room, which no room in a book is, and no number for a ticket or a wait
+abbrev pub ending_of_refusal : SpaceError → Ending
+ending_of_refusal space.OutOfMemory = Starves
+ending_of_refusal space.NoPlace = Misses NoPlace
+ending_of_refusal _ = Misses Full
+
+-- the same, where a context was asked
+abbrev pub ending_of_error : ContextError → Ending
+ending_of_error (Space refusal) = ending_of_refusal refusal
+ending_of_error _ = Misses Full
+
+-- what goes as a statement ends that began at this mark: in an open transaction the tickets of the statement, where it was done
+-- or a check failed; all that it gained for the statement and the transaction, where it missed a lock or memory. Else all tickets of
+-- both. Explicit tickets stay
+abbrev pub gone_at : Ending → Bool → Mark → List Kept → List Kept
+gone_at (Answers reply) true mark = held_for for.Statement
+gone_at (Misses number) true mark = beyond_mark mark
+gone_at Starves true mark = beyond_mark mark
+gone_at _ _ mark = of_transaction
+
+-- what the session keeps then: the victim of a deadlock has lost its transaction
+abbrev pub state_after : Ending → State → State
+state_after Falls state = closed state
+state_after _ state = state
+
+-- how far the statement has come then
+abbrev pub ended : Ending → Session → Pause
+ended (Answers reply) session = Ends reply session
+ended (Misses number) session = Ends (reply.Error number) session
+ended Falls session = Ends (reply.Error Deadlock) session
+ended Starves session = Faults session
+
+-- the tickets go that go as a statement ends
+abbrev pub letting_go : Ending → Mark → Session → Program Pause
+letting_go ending mark session =
+    giving_up (gone_at ending session.state.is_open mark session.context.kept) session.context
+    >>= λ outcome. Give (ended ending (record { context = outcome.1; state = state_after ending session.state; left = None }))
+
+-- the lock of all writes goes first, where it was to become the global read lock
+abbrev pub without_half : Option ℕ → Ending → Mark → Session → Program Pause
+without_half None ending mark session = letting_go ending mark session
+without_half (Some global) ending mark session =
+    releasing global session.context
+    >>= λ outcome. letting_go ending mark (record session { context = outcome.1; state = without_read_lock session.state })
+
+-- a statement ends
+abbrev pub closing : Ending → Mark → Session → Program Pause
+closing ending mark session = without_half (half_lock (state_after ending session.state)) ending mark (record session { left = None })

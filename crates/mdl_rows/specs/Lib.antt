@@ -1,0 +1,11 @@
+pub mod Endings
+pub mod ErrorNumbers
+pub mod Keepings
+pub mod KeyOrder
+pub mod Leavings
+pub mod MemoryLaws
+pub mod Playing
+pub mod Rows
+pub mod Sessions
+pub mod Statements
+pub mod States

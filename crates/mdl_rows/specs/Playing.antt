@@ -1,0 +1,146 @@
+-- How a session plays what its statements ask: as a program of calls of a lock space.
+use Rattle.std.specs.Prelude.{ℕ, Option, Some, None, Ok, Err, map, List}
+use Rattle.mdl_key.specs.declared.mode.Mode.{Mode}
+use Rattle.mdl_key.specs.declared.mode.Duration.TheVariants.{Transaction, Explicit}
+use Rattle.mdl_key.specs.Keys.{KeyName}
+use Rattle.mdl_defs.specs.declared.standing.Standing.{Standing}
+use Rattle.mdl_calls.specs.Words.{Answer, Has_wait, Reads, Changed, Tables, Key_is, Read_definition, Change_definition, Tables_of, Key_of, Wait_of, Program, Give, Ask, Grow, ◌>>=◌, ◌>>◌}
+use Rattle.mdl_calls.specs.Words as call
+use Rattle.mdl_context.specs.declared.request.Acquire.{Acquire}
+use Rattle.mdl_context.specs.declared.request.Acquire.TheVariants as acquire
+use Rattle.mdl_context.specs.declared.request.Mark.{Mark}
+use Rattle.mdl_context.specs.declared.request.Resume.{Resume}
+use Rattle.mdl_context.specs.declared.request.Resume.TheVariants as resume
+use Rattle.mdl_context.specs.Contexts.{ContextView, mark_of}
+use Rattle.mdl_context.specs.Gains.{refusal_of}
+use Rattle.mdl_context.specs.Holdings.{kept_for}
+use Rattle.mdl_context.specs.Releases.{giving_up, releasing}
+use Rattle.mdl_context.specs.Requests.{Outcome, acquiring}
+use Rattle.mdl_context.specs.Upgrades.{upgrading, downgrading}
+use Rattle.mdl_context.specs.Waits.{giving_up_wait, resuming}
+use Rattle.mdl_context.specs.Wishes.{Wish}
+use Rattle.mdl_syntax.specs.declared.statement.Statement.{Statement}
+use Rattle.mdl_rows.specs.declared.ending.Ending.TheVariants.{Answers, Starves}
+use Rattle.mdl_rows.specs.declared.reply.Reply.{Reply}
+use Rattle.mdl_rows.specs.declared.reply.Reply.TheVariants as reply
+use Rattle.mdl_rows.specs.Endings.{Pause, Begins_to_wait, Waits_on, Faults, closing, ending_of_error, ending_of_loss, ending_of_refusal}
+use Rattle.mdl_rows.specs.Rows.{Row}
+use Rattle.mdl_rows.specs.Rows as row
+use Rattle.mdl_rows.specs.Sessions.{Left, Session}
+use Rattle.mdl_rows.specs.Statements.{row_of}
+
+-- a session with this context
+abbrev pub with_context : Session → ContextView → Session
+with_context session context = record session { context = context }
+
+-- a session with something left to do
+abbrev pub with_left : Session → Left → Session
+with_left session left = record session { left = Some left }
+
+-- a wait that can't be told was given up: a ticket that it had gained or upgraded is released, and the statement ends. An upgraded one
+-- would go with the statement
+abbrev pub untold : Mark → Session → Outcome Resume → Program Pause
+untold mark session (Ok (resume.Acquired id), context) =
+    releasing id context >>= (λ outcome. closing Starves mark (with_context session outcome.1))
+untold mark session (Ok resume.Waiting, context) = closing Starves mark (with_context session context)
+untold mark session (Ok (resume.Lost how), context) = closing Starves mark (with_context session context)
+untold mark session (Err error, context) = closing Starves mark (with_context session context)
+
+-- a wait has begun: its key is told, which takes memory; where there is none the wait is given up
+abbrev pub beginning_to_wait : Wish → Left → Session → Program Pause
+beginning_to_wait wish left session =
+    Grow
+    (giving_up_wait session.context >>= untold left.mark session)
+    (Give (Begins_to_wait wish.key wish.mode (with_left session left)))
+
+-- a lock was asked for: it is had, the statement waits for it, or it ends
+abbrev pub acquired : Wish → (ℕ → Row Reply) → Mark → Session → (ℕ → Session → Program Pause) → Outcome Acquire → Program Pause
+acquired wish rest mark session more (Ok (acquire.Acquired id), context) = more id (with_context session context)
+acquired wish rest mark session more (Ok (acquire.MustWait number), context) =
+    beginning_to_wait wish (record { rest = rest; mark = mark }) (with_context session context)
+acquired wish rest mark session more (Err error, context) = closing (ending_of_error error) mark (with_context session context)
+
+-- an upgrade is waited for as a lock of this key in the stronger mode is
+abbrev pub upgrade_wish : KeyName → Mode → Wish
+upgrade_wish key mode = record { key = key; mode = mode; duration = Transaction }
+
+-- what stands was asked for
+abbrev pub read_answered : Mark → Session → (Standing → Program Pause) → Answer → Program Pause
+read_answered mark session more (Reads version definition) = more (record { version = version; definition = definition })
+read_answered mark session more answer = closing (ending_of_refusal (refusal_of answer)) mark session
+
+-- a change of it was asked for
+abbrev pub change_answered : Mark → Session → Program Pause → Answer → Program Pause
+change_answered mark session more (Changed version) = more
+change_answered mark session more answer = closing (ending_of_refusal (refusal_of answer)) mark session
+
+-- the tables of a schema were asked for
+abbrev pub tables_answered : Mark → Session → (List ℕ → Program Pause) → Answer → Program Pause
+tables_answered mark session more (Tables places) = more places
+tables_answered mark session more answer = closing (ending_of_refusal (refusal_of answer)) mark session
+
+-- the key of a place was asked for
+abbrev pub key_answered : Mark → Session → (KeyName → Program Pause) → Answer → Program Pause
+key_answered mark session more (Key_is key) = more key
+key_answered mark session more answer = closing (ending_of_refusal (refusal_of answer)) mark session
+
+-- the number of a session's wait was asked for: if it has one, that is killed
+abbrev pub wait_told : ℕ → Answer → Program (Unit {0})
+wait_told target (Has_wait (Some number)) = Ask (call.Kill target number) (λ _. Give tt)
+wait_told target _ = Give tt
+
+-- the wait that a session has is killed
+abbrev pub killing : ℕ → Program (Unit {0})
+killing target = Ask (Wait_of target) (wait_told target)
+
+-- a session all of whose tickets stay until it gives them up
+abbrev pub all_kept : Session → Session
+all_kept session = with_context session (record session.context { kept = map (kept_for Explicit) session.context.kept })
+
+-- what a statement asks for is played; it began at this mark
+abbrev pub play : Row Reply → Mark → Session → Program Pause
+play (row.Give reply) mark session = closing (Answers reply) mark session
+play (row.Fail number) mark session = closing (Answers (reply.Error number)) mark session
+play (row.Room rest) mark session = Grow (closing Starves mark session) (play rest mark session)
+play (row.Look rest) mark session = play (rest session.state) mark session
+play (row.Set change rest) mark session = play rest mark (record session { state = change session.state })
+play (row.Here rest) mark session = play (rest (mark_of session.context.kept)) mark session
+play (row.Acquire wish rest) mark session =
+    acquiring wish session.context >>= acquired wish rest mark session (λ id after. play (rest id) mark after)
+play (row.Upgrade id key mode rest) mark session =
+    upgrading id mode session.context >>= acquired (upgrade_wish key mode) rest mark session (λ id after. play (rest id) mark after)
+play (row.Downgrade id mode rest) mark session =
+    downgrading id mode session.context >>= (λ outcome. play rest mark (with_context session outcome.1))
+play (row.Give_up which rest) mark session =
+    giving_up (which session.context.kept) session.context >>= (λ outcome. play rest mark (with_context session outcome.1))
+play (row.Release id rest) mark session = releasing id session.context >>= (λ outcome. play rest mark (with_context session outcome.1))
+play (row.Keep rest) mark session = play rest mark (all_kept session)
+play (row.Read id rest) mark session =
+    Ask (Read_definition session.context.who id) (read_answered mark session (λ standing. play (rest standing) mark session))
+play (row.Redefine id change rest) mark session =
+    Ask (Change_definition session.context.who id change) (change_answered mark session (play rest mark session))
+play (row.Tables_of schema rest) mark session =
+    Ask (Tables_of session.context.who schema) (tables_answered mark session (λ places. play (rest places) mark session))
+play (row.Key_of place rest) mark session =
+    Ask (Key_of session.context.who place) (key_answered mark session (λ key. play (rest key) mark session))
+play (row.Kill target rest) mark session = killing target >> play rest mark session
+
+-- a statement starts
+abbrev pub starting : Statement → Session → Program Pause
+starting statement session = play (row_of statement) (mark_of session.context.kept) session
+
+-- the wait of a statement went on: it isn't settled, the lock is had, or the wait is lost
+abbrev pub resumed : Left → Session → Outcome Resume → Program Pause
+resumed left session (Ok resume.Waiting, context) = Give (Waits_on (with_left (with_context session context) left))
+resumed left session (Ok (resume.Acquired id), context) = play (left.rest id) left.mark (with_context session context)
+resumed left session (Ok (resume.Lost how), context) = closing (ending_of_loss how) left.mark (with_context session context)
+resumed left session (Err error, context) = closing (ending_of_error error) left.mark (with_context session context)
+
+-- a statement goes on with what is left of it
+abbrev pub going_on_with : Option Left → Session → Program Pause
+going_on_with None session = Give (Faults session)
+going_on_with (Some left) session = resuming session.context >>= resumed left session
+
+-- a statement goes on: what is left of it is taken up
+abbrev pub going_on : Session → Program Pause
+going_on session = going_on_with session.left (record session { left = None })

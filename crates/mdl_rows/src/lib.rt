@@ -1,0 +1,30 @@
+//! What each statement does, over any lock space, and laws of it.
+//!
+//! # Example
+//!
+//! ```
+//! use mdl_rows::{ErrorNumber, Reply};
+//!
+//! let reply = Reply::Error(ErrorNumber::NoSuchTable);
+//! let number = match &reply {
+//!     Reply::Error(error) => Some(error.number()),
+//!     _ => None,
+//! };
+//! assert_eq!(rt; number, Some(1146));
+//! ```
+#![tactic(auto)]
+
+mod ending;
+mod error_number;
+mod memory_laws;
+mod reply;
+mod state;
+
+pub use ending::Ending;
+pub use error_number::ErrorNumber;
+pub use memory_laws::{
+    sessions_keep_their_number, statements_call_for_their_session, statements_keep_the_space_sound,
+    statements_tell_of_want, sure_statements,
+};
+pub use reply::{Reply, TableShown, TablesShown};
+pub use state::{Locked, ReadLock, Savepoint};

@@ -1,6 +1,0 @@
--- By its lemma.
-use Rattle.mdl_stmt.proofs.RowOutcomes.{sure_rows}
-use Rattle.mdl_stmt.proofs.memory_laws.sure_statements.Goals as goal
-
-pub returns : goal.returns
-returns c = sure_rows

@@ -1,0 +1,41 @@
+-- A session as its player and its runner keep it.
+use Rattle.std.specs.Prelude.{ℕ, Bool, List, Option}
+use Rattle.mdl_context.specs.Contexts.{ContextView}
+use Rattle.mdl_rows.specs.declared.state.Locked.{Locked}
+use Rattle.mdl_rows.specs.declared.state.ReadLock.{ReadLock}
+use Rattle.mdl_rows.specs.declared.state.Savepoint.{Savepoint}
+use Rattle.mdl_rows.specs.States.{State}
+use Rattle.mdl_stmt.specs.declared.runner.Work.{Work}
+
+-- what of its state a session keeps until it gives it up
+pub record ExplicitLocks : Type 0 where
+  pub locked : List Locked
+  pub scopes : List ℕ
+  pub read_lock : Option ReadLock
+
+-- a session between statements, or while a statement of it is run
+pub record PlayerView : Type 0 where
+  pub context : ContextView
+  pub state : State
+
+-- what a session keeps, by what it keeps until it gives it up, and its transaction
+abbrev pub state_of : ExplicitLocks → Bool → Bool → List Savepoint → State
+state_of explicit is_open has_written savepoints =
+    record {
+      is_open = is_open;
+      has_written = has_written;
+      savepoints = savepoints;
+      locked = explicit.locked;
+      scopes = explicit.scopes;
+      read_lock = explicit.read_lock;
+    }
+
+-- a session that keeps this
+abbrev pub player_of : ExplicitLocks → ContextView → Bool → Bool → List Savepoint → PlayerView
+player_of explicit context is_open has_written savepoints = record { context = context; state = state_of explicit is_open has_written savepoints }
+
+-- a session as its runner keeps it
+pub record RunnerView : Type 0 where
+  pub context : ContextView
+  pub state : State
+  pub work : Option Work
