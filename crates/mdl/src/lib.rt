@@ -2,7 +2,7 @@
 //!
 //! The chief types stand here. Each layer is a module with all that its crate has: [`key`], [`word`], [`defs`], [`book`], [`graph`],
 //! [`system`], [`calls`], [`space`], [`context`], [`lines`], [`syntax`], [`stmt`], [`work`], [`script`] and [`shared`]. So `mdl::Key` and
-//! `mdl::key::Key` are one type. Names that two layers have, as `NewError`, stand only in their modules.
+//! `mdl::key::Key` are one type.
 //!
 //! Contracts cite the definitions of a layer by its crate: what is `Rattle.mdl_core.specs.Words` there is `Rattle.mdl.specs.mdl_core.Words`
 //! for a user of this crate. Lemmas are passed on in the same way, as `Rattle.mdl.proofs.mdl_core.CallLaws`.
@@ -50,8 +50,8 @@ pub use mdl_shared as shared;
 pub use mdl_shared::{Manager, Pass, Session};
 pub use mdl_space as space;
 pub use mdl_space::{
-    Attempt, Begun, CoreSpace, Ended, Held, LockSpace, Place, Poll, Search, Settled, SpaceError,
-    TicketId, TimedOut, Upgrade,
+    Attempt, Begun, CoreSpace, Ended, Held, LockSpace, NewError, Place, Poll, Search, Settled,
+    SpaceError, TicketId, TimedOut, Upgrade,
 };
 pub use mdl_stmt as stmt;
 pub use mdl_stmt::{ErrorNumber, OwnedRunner, Progress, Reply, Runner};

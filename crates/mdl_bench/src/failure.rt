@@ -46,12 +46,6 @@ impl From<NewError> for Failure {
     }
 }
 
-impl From<mdl_shared::NewError> for Failure {
-    fn from(_error: mdl_shared::NewError) -> Failure {
-        Failure::Unmade
-    }
-}
-
 impl From<BookError> for Failure {
     fn from(_error: BookError) -> Failure {
         Failure::Refused

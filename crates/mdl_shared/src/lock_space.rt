@@ -10,7 +10,8 @@ ghost use Rattle.mdl_shared.specs.Showings.{Shows};
 
 use crate::Session;
 use mdl_calls::{
-    Attempt, Begun, Ended, Held, LockSpace, Place, Poll, Search, SpaceError, TicketId, TimedOut, Upgrade,
+    Attempt, Begun, Ended, Held, LockSpace, Place, Poll, Search, SpaceError, TicketId, TimedOut,
+    Upgrade,
 };
 use mdl_defs::{Change, Standing};
 use mdl_key::{Key, Mode};

@@ -1,10 +1,9 @@
 //! Sessions as lock spaces, to code that stands on the trait alone.
 use crate::acts::Lock;
 use crate::sessions::closed;
-use mdl_calls::{Attempt, SpaceError};
+use mdl_calls::{Attempt, LockSpace, SpaceError};
 use mdl_key::{Key, Mode};
 use mdl_shared::{Manager, Session};
-use mdl_space::LockSpace;
 use std::alloc::Global;
 use std::sync::Wait;
 use std::test::Fail;
