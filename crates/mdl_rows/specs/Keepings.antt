@@ -8,7 +8,7 @@ use Rattle.mdl_context.specs.Waits.{giving_up_wait}
 use Rattle.mdl_syntax.specs.declared.statement.Statement.{Statement}
 use Rattle.mdl_rows.specs.declared.reply.Reply.{Reply}
 use Rattle.mdl_rows.specs.Endings.{Pause, Ends, Begins_to_wait, Waits_on, Faults}
-use Rattle.mdl_rows.specs.Playing.{going_on, play, starting, untold, with_left}
+use Rattle.mdl_rows.specs.Playing.{going_on, play, starting, untold}
 use Rattle.mdl_rows.specs.Rows.{Row}
 use Rattle.mdl_rows.specs.Sessions.{Left, Session}
 
